@@ -1,0 +1,105 @@
+//! A buffer that is fed in pieces, and gives the frames of the stream.
+ghost use Rattle.std.specs.Prelude.{◌≡◌, ℕ, ◌+◌, ◌-◌, ◌^◌, ◌<◌, ◌≤◌, min, [], ◌++◌, length, take, IfOk};
+ghost use Rattle.fix_frame.specs.Framing.{Framing, IsGiven, given_bytes, GivesNext};
+
+use crate::next::Next;
+use std::alloc::{AllocError, Global};
+use std::marker::Model;
+
+/// How many bytes a framer holds at most.
+const ROOM: usize = 8192;
+
+/// Takes a stream in pieces and gives its frames. Contracts see the bytes taken since the last frame given, the offset
+/// of the first of them in the stream, and the frames given since the last `feed` or `clear`.
+#[derive(Drop)]
+pub struct Framer {
+    /// `ROOM` bytes.
+    buffer: Vec<u8>,
+    /// The frames given lie in `first..start`, and the bytes held in `start..end`.
+    first: usize,
+    start: usize,
+    end: usize,
+    /// Of `start`, in the stream.
+    offset: u64,
+}
+
+impl Model for Framer {
+    ghost use Rattle.fix_frame.specs.Framing.{Framing};
+
+    ghost Value = { Framing };
+
+    ghost use Rattle.std.specs.Prelude.{◌≡◌, ◌+◌, ◌-◌, ◌^◌, ◌<◌, ◌≤◌, [], vec_len, slice_range};
+    ghost use Rattle.fix_frame.specs.Stream.{messages_of, rest_of};
+
+    ghost view = { λ f. record { given = messages_of (slice_range f.buffer.items f.first f.start); first = f.first; rest = slice_range f.buffer.items f.start f.end; offset = f.offset } };
+
+    ghost invariant = { λ f. (vec_len f.buffer ≡ 8192) × (f.first ≤ f.start) × (f.start ≤ f.end) × (f.end ≤ 8192) × (rest_of (slice_range f.buffer.items f.first f.start) ≡ []) × (f.offset + (f.end - f.start) < 2 ^ 63) };
+}
+
+impl Framer {
+    /// An empty framer, with room for 8,192 bytes. An `Err` is want of memory.
+    pub fn new(alloc: Global) -> Result<Framer, AllocError>
+        ensures { IfOk result (λ f. (f.given ≡ []) × (f.rest ≡ []) × (f.offset ≡ 0)) }
+    {
+        Ok(Framer {
+            buffer: vec![in alloc; 0; ROOM]?,
+            first: 0,
+            start: 0,
+            end: 0,
+            offset: 0,
+        })
+    }
+
+    /// Takes bytes from the front, as many as there is room for, and answers how many. The frames given before are
+    /// dropped. After `More` at least 4,096 bytes fit.
+    pub fn feed(&mut self, bytes: &[u8]) -> usize
+        requires { self.old.offset + length self.old.rest + length bytes.now < 2 ^ 63 }
+        ensures count { result ≡ min (length bytes.now) (8192 - length self.old.rest) }
+        ensures rest { self.new.rest ≡ self.old.rest ++ take result bytes.now }
+        ensures given { self.new.given ≡ [] }
+        ensures offset { self.new.offset ≡ self.old.offset }
+    {
+        0
+    }
+
+    /// The frame with which the bytes held begin, or why there is none. `More` comes only where they begin with no
+    /// frame and are fewer than 4,096; `Bad` only where no frame begins so, and it stays.
+    pub fn next(&mut self) -> Next
+        ensures { GivesNext self.old self.new result }
+    {
+        Next::More
+    }
+
+    /// Lends the bytes of a given frame, or of several that follow each other.
+    pub fn frame(&self, start: usize, end: usize) -> &[u8]
+        requires { IsGiven self.now start end }
+        ensures { result.now ≡ given_bytes self.now start end }
+    {
+        &self.buffer[start..end]
+    }
+
+    /// The offset in the stream of the first byte taken since the last frame given.
+    pub fn offset(&self) -> u64
+        ensures { result ≡ self.now.offset }
+    {
+        self.offset
+    }
+
+    /// How many bytes were taken since the last frame given, at most 8,192.
+    pub fn rest(&self) -> usize
+        ensures count { result ≡ length self.now.rest }
+        ensures fits { result ≤ 8192 }
+    {
+        self.end - self.start
+    }
+
+    /// Makes the framer as a new one.
+    pub fn clear(&mut self)
+        ensures { (self.new.given ≡ []) × (self.new.rest ≡ []) × (self.new.offset ≡ 0) }
+    {
+        self.first = 0;
+        self.start = 0;
+        self.end = 0;
+        self.offset = 0;
+    }
+}

@@ -1,0 +1,24 @@
+-- The frame round a body: begin string, body length and checksum (FIX 4.2).
+use Rattle.std.specs.Prelude.{ℕ, ◌%◌, List, [], ◌∷◌, ◌++◌, length, sum, codes, decimal}
+use Prim.Native.String.{String}
+use Rattle.gx_base.specs.Numbers.{fixed_digits}
+
+-- the byte that ends a field
+abbrev pub soh : ℕ
+soh = 1
+
+-- a field: its tag, `=`, its value, and SOH
+abbrev pub field : String → List ℕ → List ℕ
+field tag value = codes tag ++ 61 ∷ value ++ soh ∷ []
+
+-- what stands before a body whose length is written so
+abbrev pub head_of : List ℕ → List ℕ
+head_of length_text = field "8" (codes "FIX.4.2") ++ field "9" length_text
+
+-- the sum of the bytes modulo 256, in three digits
+abbrev pub trailer_of : List ℕ → List ℕ
+trailer_of bytes = field "10" (fixed_digits 3 (sum bytes % 256))
+
+-- the frame of a body, with this text as its length
+abbrev pub frame_of : List ℕ → List ℕ → List ℕ
+frame_of length_text body = let front = head_of length_text ++ body in front ++ trailer_of front

@@ -1,0 +1,8 @@
+pub mod Numbers
+pub mod Texts
+pub mod NameLists
+pub mod Frames
+pub mod Line
+pub mod Told
+pub mod Emits
+pub mod ByteLog

@@ -1,0 +1,110 @@
+//! What takes events.
+ghost use Rattle.std.specs.Prelude.{◌≡◌, ◌+◌, ◌<◌, ◌≤◌, ◌↔◌, [], true, false, IfOk, length};
+ghost use Rattle.gx_base.specs.Line.{line_of};
+ghost use Rattle.gx_base.specs.Emits.{EmitMeanings, Puts};
+
+use crate::event::Event;
+use crate::line::LineBuffer;
+use crate::names::Names;
+use std::alloc::{AllocError, Global};
+use std::marker::Model;
+
+/// Takes events in their order.
+pub trait Emit {
+    ghost meanings: { EmitMeanings Self };
+
+    /// Takes one event. After a failure it does nothing.
+    fn put(&mut self, event: &Event)
+        ensures { Puts meanings self.old self.new event.now };
+
+    /// Whether a put has failed.
+    fn failed(&self) -> bool
+        ensures { result ≡ meanings.has_failed self.now };
+}
+
+/// Sees nothing, and never fails.
+#[derive(Clone, Copy, Debug, PartialEq, Eq)]
+pub struct NullEmit;
+
+impl Emit for NullEmit {
+    ghost use Rattle.gx_base.specs.ByteLog.{null_meanings};
+
+    ghost meanings = { null_meanings };
+
+    fn put(&mut self, _event: &Event) {}
+
+    fn failed(&self) -> bool {
+        false
+    }
+}
+
+/// Keeps the lines of events, one after the other, in fixed room. It fails exactly where a line does not fit.
+#[derive(Drop)]
+pub struct ByteEmit<'a> {
+    names: &'a Names,
+    line: LineBuffer,
+    lines: Vec<u8>,
+    room: usize,
+    full: bool,
+}
+
+impl<'a> Model for ByteEmit<'a> {
+    ghost use Rattle.gx_base.specs.ByteLog.{ByteLog};
+
+    ghost Value = { ByteLog };
+
+    ghost use Rattle.std.specs.Prelude.{◌≤◌, vec_len, vec_capacity};
+
+    ghost view = { λ e. record { names = e.names.now; bytes = e.lines.items; room = e.room; full = e.full } };
+
+    ghost invariant = { λ e. (e.room ≤ vec_capacity e.lines) × (vec_len e.lines ≤ e.room) };
+}
+
+impl<'a> ByteEmit<'a> {
+    /// An empty log with room for so many bytes. An `Err` is want of memory.
+    pub fn new(alloc: Global, names: &'a Names, room: usize) -> Result<ByteEmit<'a>, AllocError>
+        ensures { IfOk result (λ e. e ≡ record { names = names.now; bytes = []; room = room; full = false }) }
+    {
+        let lines = Vec::with_capacity(alloc, room)?;
+        Ok(ByteEmit {
+            names,
+            line: LineBuffer::new(),
+            lines,
+            room,
+            full: false,
+        })
+    }
+
+    /// Lends the lines.
+    pub fn bytes(&self) -> &[u8]
+        ensures { result.now ≡ self.now.bytes }
+    {
+        self.lines.as_slice()
+    }
+}
+
+impl<'a> Emit for ByteEmit<'a> {
+    ghost use Rattle.gx_base.specs.ByteLog.{byte_meanings};
+
+    ghost meanings = { byte_meanings };
+
+    /// Appends the line of the event. Where it does not fit, nothing is appended, now or later.
+    fn put(&mut self, event: &Event)
+        ensures puts { Puts byte_meanings self.old self.new event.now }
+        ensures exactly { self.old.full ≡ false → (self.new.full ≡ true)
+            ↔ (self.old.room < length self.old.bytes + length (line_of self.old.names event.now)) }
+    {
+        if self.full {
+            return;
+        }
+        self.line.write(event, self.names);
+        let line = self.line.bytes();
+        if line.len() > self.room - self.lines.len() || self.lines.extend_from_slice(line).is_err() {
+            self.full = true;
+        }
+    }
+
+    fn failed(&self) -> bool {
+        self.full
+    }
+}

@@ -1,0 +1,55 @@
+//! Names: firms, instruments, the exchange, and the ids that clients give their orders.
+ghost use Rattle.std.specs.Prelude.{◌≡◌, SomeIff, IsTrue, codes};
+ghost use Rattle.gx_base.specs.Texts.{is_name};
+
+use crate::text::Text;
+use std::marker::Model;
+
+/// A name of 1 to 24 bytes, each of them 32 to 126. Contracts see it as its bytes.
+#[derive(Clone, Copy, Debug, PartialEq, Eq)]
+pub struct ShortId {
+    text: Text<24>,
+}
+
+impl Model for ShortId {
+    ghost use Rattle.std.specs.Prelude.{List, ℕ};
+
+    ghost Value = { List ℕ };
+
+    ghost use Rattle.std.specs.Prelude.{IsTrue};
+    ghost use Rattle.gx_base.specs.Texts.{is_name};
+
+    ghost view = { λ id. id.text };
+
+    ghost invariant = { λ id. IsTrue (is_name id.text) };
+
+    ghost inverse = { λ xs. record { text = xs } };
+}
+
+impl ShortId {
+    /// The name with these bytes. `None` exactly where there are not 1 to 24 of them, or one is outside 32..=126.
+    pub fn new(bytes: &[u8]) -> Option<ShortId>
+        ensures { SomeIff result (IsTrue (is_name bytes.now)) bytes.now }
+    {
+        None
+    }
+
+    /// Lends the bytes of the name.
+    pub fn bytes(&self) -> &[u8]
+        ensures bytes { result.now ≡ self.now }
+        ensures name { IsTrue (is_name result.now) }
+    {
+        self.text.bytes()
+    }
+}
+
+/// The name `UNKNOWN`, which stands where no name is known.
+impl Default for ShortId {
+    ghost is_default = { λ id. id ≡ codes "UNKNOWN" };
+
+    fn default() -> ShortId {
+        ShortId {
+            text: Text::new(b"UNKNOWN"),
+        }
+    }
+}

@@ -1,0 +1,23 @@
+//! The plain data that every part of the engine shares: names, prices, orders, events and their report lines.
+#![tactic(auto)]
+
+mod emit;
+mod event;
+mod id;
+mod line;
+mod names;
+mod order;
+mod price;
+mod quantity;
+mod stamp;
+mod text;
+
+pub use emit::{ByteEmit, Emit, NullEmit};
+pub use event::{Event, Head, StepName};
+pub use id::ShortId;
+pub use line::LineBuffer;
+pub use names::{Listed, Names};
+pub use order::{Desk, Kind, Life, LmmShare, Order, Side, Slot, Taker, TopRule};
+pub use price::{Price, PriceFault, read_price, write_price};
+pub use quantity::read_quantity;
+pub use stamp::Stamp;

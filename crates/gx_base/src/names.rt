@@ -1,0 +1,111 @@
+//! The names that a product lists.
+ghost use Rattle.std.specs.Prelude.{◌≡◌, ◌<◌, ◌≤◌, Some, length, position, bytes_eq, slice_get, map, All};
+ghost use Rattle.gx_base.specs.NameLists.{AreRight, instrument_names};
+
+use crate::id::ShortId;
+use arrayvec::ArrayVec;
+use std::marker::Model;
+
+/// An instrument's name, and how many decimals its prices have.
+#[derive(Clone, Copy, Debug, Default, PartialEq, Eq)]
+pub struct Listed {
+    pub name: ShortId,
+    pub decimals: u8,
+}
+
+/// The exchange's name, the firms and the instruments, each numbered from 0 on in the order of its list. There are at
+/// most 64 firms and 16 instruments, no two firms and no two instruments have one name, and an instrument has at most
+/// 8 decimals.
+#[derive(Drop)]
+pub struct Names {
+    exchange: ShortId,
+    firms: ArrayVec<ShortId, 64>,
+    instruments: ArrayVec<Listed, 16>,
+}
+
+impl Model for Names {
+    ghost use Rattle.gx_base.specs.NameLists.{NameLists};
+
+    ghost Value = { NameLists };
+
+    ghost use Rattle.gx_base.specs.NameLists.{AreRight};
+
+    ghost view = { λ names. record { exchange = names.exchange; firms = names.firms.items; instruments = names.instruments.items } };
+
+    ghost invariant = { λ names. AreRight (record { exchange = names.exchange; firms = names.firms.items; instruments = names.instruments.items }) };
+}
+
+impl Names {
+    /// The names with these lists. Takes no memory.
+    pub fn new(exchange: ShortId, firms: &[ShortId], instruments: &[Listed]) -> Names
+        requires { AreRight (record { exchange = exchange; firms = firms.now; instruments = instruments.now }) }
+        ensures { result ≡ record { exchange = exchange; firms = firms.now; instruments = instruments.now } }
+    {
+        let mut names = Names {
+            exchange,
+            firms: ArrayVec::new(),
+            instruments: ArrayVec::new(),
+        };
+        for firm in firms {
+            names.firms.push(*firm);
+        }
+        for listed in instruments {
+            names.instruments.push(*listed);
+        }
+        names
+    }
+
+    /// The exchange's name.
+    pub fn exchange(&self) -> ShortId
+        ensures { result ≡ self.now.exchange }
+    {
+        self.exchange
+    }
+
+    /// How many firms are listed, at most 64.
+    pub fn firm_count(&self) -> usize
+        ensures count { result ≡ length self.now.firms }
+        ensures few { result ≤ 64 }
+    {
+        self.firms.len()
+    }
+
+    /// How many instruments are listed, at most 16.
+    pub fn instrument_count(&self) -> usize
+        ensures count { result ≡ length self.now.instruments }
+        ensures few { result ≤ 16 }
+    {
+        self.instruments.len()
+    }
+
+    /// The name of a firm, by its number.
+    pub fn firm(&self, n: u8) -> ShortId
+        requires { n < length self.now.firms }
+        ensures { slice_get self.now.firms n ≡ Some result }
+    {
+        self.firms[n as usize]
+    }
+
+    /// An instrument, by its number. Its prices have at most 8 decimals.
+    pub fn listed(&self, n: u8) -> Listed
+        requires { n < length self.now.instruments }
+        ensures listed { slice_get self.now.instruments n ≡ Some result }
+        ensures decimals { result.decimals ≤ 8 }
+    {
+        self.instruments[n as usize]
+    }
+
+    /// The number of the firm with this name. `None` exactly where no firm has it.
+    pub fn find_firm(&self, name: &[u8]) -> Option<u8>
+        ensures { result ≡ position (λ firm. bytes_eq firm name.now) self.now.firms }
+    {
+        None
+    }
+
+    /// The number of the instrument with this name. `None` exactly where no instrument has it.
+    pub fn find_instrument(&self, name: &[u8]) -> Option<u8>
+        ensures { result ≡ position (λ listed. bytes_eq listed name.now) (instrument_names self.now.instruments) }
+    {
+        None
+    }
+}

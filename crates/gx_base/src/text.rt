@@ -1,0 +1,46 @@
+//! Short texts in fixed room, which can be copied.
+ghost use Rattle.std.specs.Prelude.{◌≡◌, ◌≤◌, length};
+
+use std::marker::Model;
+
+/// At most `N` bytes. Contracts see it as these bytes.
+#[derive(Clone, Copy, Debug, PartialEq, Eq)]
+pub struct Text<const N: usize> {
+    bytes: [u8; N],
+    len: usize,
+}
+
+impl<const N: usize> Model for Text<N> {
+    ghost use Rattle.std.specs.Prelude.{List, ℕ};
+
+    ghost Value = { List ℕ };
+
+    ghost use Rattle.std.specs.Prelude.{◌≡◌, ◌≤◌, ◌-◌, ◌++◌, length, take, replicate};
+
+    ghost view = { λ t. take t.len t.bytes };
+
+    ghost invariant = { λ t. (t.len ≤ N) × (t.bytes ≡ take t.len t.bytes ++ replicate (N - t.len) 0) × (length t.bytes ≡ N) };
+
+    ghost inverse = { λ xs. record { bytes = xs ++ replicate (N - length xs) 0; len = length xs } };
+}
+
+impl<const N: usize> Text<N> {
+    /// A copy of these bytes, of which there are at most `N`.
+    pub fn new(bytes: &[u8]) -> Text<N>
+        requires { length bytes.now ≤ N }
+        ensures { result ≡ bytes.now }
+    {
+        let mut room = [0; N];
+        room[..bytes.len()].copy_from_slice(bytes);
+        Text {
+            bytes: room,
+            len: bytes.len(),
+        }
+    }
+
+    pub fn bytes(&self) -> &[u8]
+        ensures { result.now ≡ self.now }
+    {
+        &self.bytes[..self.len]
+    }
+}
