@@ -1,6 +1,7 @@
 //! The plain data that every part of the engine shares: names, prices, orders, events and their report lines.
 #![tactic(auto)]
 
+mod digits;
 mod emit;
 mod event;
 mod id;

@@ -1,0 +1,54 @@
+-- Numbers that are read from digits, up to a ceiling.
+use Rattle.std.proofs.Common.{◌≡◌, ℕ, ◌+◌, ◌-◌, ◌*◌, ◌^◌, ◌<◌, ◌≤◌, min, IsTrue, true, List, [], ◌∷◌, length, take, get_or, fold, arith, refl, sym, ◌∙◌}
+use Rattle.std.proofs.lemmas.Bool.{and_parts, true_from_ne_false, true≢false}
+use Rattle.std.proofs.lemmas.Bool.Decides.{nat_tests}
+use Rattle.std.proofs.lemmas.Int.Digits.{digits_value-lt}
+use Rattle.std.proofs.lemmas.List.Folds.{list_all_at}
+use Rattle.std.proofs.lemmas.List.Sums.{fold_more}
+use Rattle.std.proofs.Math.Nat.{pow-le-pow_right}
+use Rattle.std.specs.Char.{digit_value, is_ascii_digit}
+use Rattle.std.specs.Str.Parse.{digits_value, digits_value_after, AllDigits}
+use Rattle.gx_base.specs.Numbers.{are_digits}
+
+-- a digit, and what it is worth
+pub digit_is : (c : ℕ) → is_ascii_digit c ≡ true → (48 ≤ c) × (c ≤ 57) × (digit_value c + 48 ≡ c)
+digit_is c d = grind (arith, nat_tests)
+
+pub digit_at : (ds : List ℕ) (i : ℕ) → are_digits ds ≡ true → i < length ds → is_ascii_digit (get_or ds i 0) ≡ true
+digit_at ds i h low = true_from_ne_false _ (λ f. true≢false (sym h ∙ list_all_at is_ascii_digit ds i 0 low f))
+
+-- digits in the words of `parse`
+pub AllDigits-from_are_digits : (ds : List ℕ) → are_digits ds ≡ true → AllDigits 10 ds
+AllDigits-from_are_digits [] h = tt
+AllDigits-from_are_digits (c ∷ cs) h =
+    let both = and_parts (is_ascii_digit c) (are_digits cs) h in
+    let digit = digit_is c both.0 in
+    (omega arith, AllDigits-from_are_digits cs both.1)
+
+-- at most nine digits are below 10 ^ 9
+pub short_below : (ds : List ℕ) → are_digits ds ≡ true → length ds ≤ 9 → digits_value 10 ds < 10 ^ 9
+short_below ds h short =
+    let below = digits_value-lt 10 ds (AllDigits-from_are_digits ds h) in
+    let power : 10 ^ length ds ≤ 10 ^ 9 = pow-le-pow_right (omega arith) short in
+    omega arith
+
+-- a number grows with the digits behind it
+pub grows : (n : ℕ) (ds : List ℕ) → n ≤ digits_value_after 10 n ds
+grows n [] = omega arith
+grows n (c ∷ cs) = omega (arith, grows (n * 10 + digit_value c) cs)
+
+value_is_fold : (n : ℕ) (ds : List ℕ) → digits_value_after 10 n ds ≡ fold (λ a c. a * 10 + digit_value c) n ds
+value_is_fold n [] = refl
+value_is_fold n (c ∷ cs) = value_is_fold (n * 10 + digit_value c) cs
+
+-- one digit more
+pub value_more : (n : ℕ) (ds : List ℕ) (i : ℕ) → i < length ds → digits_value_after 10 n (take (i + 1) ds) ≡ digits_value_after 10 n (take i ds) * 10 + digit_value (get_or ds i 0)
+value_more n ds i low =
+    rw (value_is_fold n (take (i + 1) ds), value_is_fold n (take i ds)) (fold_more (λ a c. a * 10 + digit_value c) n ds i 0 low)
+
+-- one digit more, up to a ceiling
+pub capped_more : (top n : ℕ) (ds : List ℕ) (i k : ℕ) → are_digits ds ≡ true → i < length ds → k ≡ min top (digits_value_after 10 n (take i ds)) → min top (k * 10 + (get_or ds i 0 - 48)) ≡ min top (digits_value_after 10 n (take (i + 1) ds))
+capped_more top n ds i k h low e =
+    let more : digits_value_after 10 n (take (i + 1) ds) ≡ digits_value_after 10 n (take i ds) * 10 + digit_value (get_or ds i 0) = value_more n ds i low in
+    let digit : (48 ≤ get_or ds i 0) × (get_or ds i 0 ≤ 57) × (digit_value (get_or ds i 0) + 48 ≡ get_or ds i 0) = digit_is _ (digit_at ds i h low) in
+    omega arith

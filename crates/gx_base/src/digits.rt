@@ -1,0 +1,56 @@
+//! Digits in texts.
+ghost use Rattle.std.specs.Prelude.{◌≡◌, ◌≤◌, IsTrue, length, min};
+ghost use Rattle.std.specs.Str.Parse.{digits_value, digits_value_after};
+ghost use Rattle.gx_base.specs.Numbers.{are_digits, are_zeros, fixed_digits};
+
+use std::cmp;
+
+/// One more than the greatest price, and where numbers that are read stop to grow.
+pub(crate) const CEILING: u64 = 1_000_000_000_000;
+
+/// Whether each byte is a digit.
+pub(crate) fn are_digits(text: &[u8]) -> bool
+    ensures { result ≡ are_digits text.now }
+{
+    text.iter().all(|c| c.is_ascii_digit())
+}
+
+/// Whether each byte is the digit 0.
+pub(crate) fn are_zeros(text: &[u8]) -> bool
+    ensures { result ≡ are_zeros text.now }
+{
+    text.iter().all(|c| *c == b'0')
+}
+
+/// The number that these digits write behind those of `front`, or `CEILING` where that is less.
+pub(crate) fn read_on(front: u64, digits: &[u8]) -> u64
+    requires low { front ≤ CEILING }
+    requires digits { IsTrue (are_digits digits.now) }
+    ensures { result ≡ min CEILING (digits_value_after 10 front digits.now) }
+{
+    let mut number = front;
+    for digit in digits {
+        number = cmp::min(CEILING, number * 10 + u64::from(*digit - b'0'));
+    }
+    number
+}
+
+/// The number that at most nine digits write.
+pub(crate) fn read_short(digits: &[u8]) -> u32
+    requires digits { IsTrue (are_digits digits.now) }
+    requires short { length digits.now ≤ 9 }
+    ensures { result ≡ digits_value 10 digits.now }
+{
+    read_on(0, digits) as u32
+}
+
+/// Fills `into` with the last digits of a number, with zeros in front where it has fewer.
+pub(crate) fn write_fixed_digits(n: u64, into: &mut [u8])
+    ensures { into.new ≡ fixed_digits (length into.old) n }
+{
+    let mut front = n;
+    for at in (0..into.len()).rev() {
+        into[at] = b'0' + (front % 10) as u8;
+        front /= 10;
+    }
+}
