@@ -1,7 +1,8 @@
 //! Digits in texts.
-ghost use Rattle.std.specs.Prelude.{◌≡◌, ◌≤◌, IsTrue, length, min};
+ghost use Rattle.std.specs.Prelude.{◌≡◌, ◌≤◌, IsTrue, length, min, position};
 ghost use Rattle.std.specs.Str.Parse.{digits_value, digits_value_after};
-ghost use Rattle.gx_base.specs.Numbers.{are_digits, are_zeros, fixed_digits};
+ghost use Rattle.std.specs.List.{before_first, after_first};
+ghost use Rattle.gx_base.specs.Numbers.{are_digits, are_zeros, is_point, fixed_digits};
 
 use std::cmp;
 
@@ -20,6 +21,24 @@ pub(crate) fn are_zeros(text: &[u8]) -> bool
     ensures { result ≡ are_zeros text.now }
 {
     text.iter().all(|c| *c == b'0')
+}
+
+/// What stands before the first point of a text and what stands behind it, which is nothing where there is no point.
+pub(crate) fn split_at_point(text: &[u8]) -> (&[u8], &[u8])
+    ensures before { result.0.now ≡ before_first is_point text.now }
+    ensures behind { result.1.now ≡ after_first is_point text.now }
+{
+    match find_point(text) {
+        Some(at) => (&text[..at], &text[at + 1..]),
+        None => (text, &[]),
+    }
+}
+
+/// The index of the first point.
+fn find_point(text: &[u8]) -> Option<usize>
+    ensures { result ≡ position is_point text.now }
+{
+    text.iter().position(|c| *c == b'.')
 }
 
 /// The number that these digits write behind those of `front`, or `CEILING` where that is less.

@@ -1,6 +1,7 @@
 //! Names: firms, instruments, the exchange, and the ids that clients give their orders.
 ghost use Rattle.std.specs.Prelude.{◌≡◌, SomeIff, IsTrue, codes};
-ghost use Rattle.gx_base.specs.Texts.{is_name};
+ghost use Rattle.std.specs.List.{list_all};
+ghost use Rattle.gx_base.specs.Texts.{is_name, is_name_byte};
 
 use crate::text::Text;
 use std::marker::Model;
@@ -31,7 +32,10 @@ impl ShortId {
     pub fn new(bytes: &[u8]) -> Option<ShortId>
         ensures { SomeIff result (IsTrue (is_name bytes.now)) bytes.now }
     {
-        None
+        if !is_name(bytes) {
+            return None;
+        }
+        Some(ShortId { text: Text::new(bytes) })
     }
 
     /// Lends the bytes of the name.
@@ -41,6 +45,20 @@ impl ShortId {
     {
         self.text.bytes()
     }
+}
+
+/// Whether there are 1 to 24 bytes, each of them printable ASCII.
+fn is_name(bytes: &[u8]) -> bool
+    ensures { result ≡ is_name bytes.now }
+{
+    !bytes.is_empty() && bytes.len() <= 24 && are_name_bytes(bytes)
+}
+
+/// Whether each byte is printable ASCII.
+fn are_name_bytes(bytes: &[u8]) -> bool
+    ensures { result ≡ list_all is_name_byte bytes.now }
+{
+    bytes.iter().all(|c| (32..=126).contains(c))
 }
 
 /// The name `UNKNOWN`, which stands where no name is known.

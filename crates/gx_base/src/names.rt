@@ -41,18 +41,19 @@ impl Names {
         requires { AreRight (record { exchange = exchange; firms = firms.now; instruments = instruments.now }) }
         ensures { result ≡ record { exchange = exchange; firms = firms.now; instruments = instruments.now } }
     {
-        let mut names = Names {
-            exchange,
-            firms: ArrayVec::new(),
-            instruments: ArrayVec::new(),
-        };
+        let mut kept_firms = ArrayVec::new();
         for firm in firms {
-            names.firms.push(*firm);
+            kept_firms.push(*firm);
         }
+        let mut kept_instruments = ArrayVec::new();
         for listed in instruments {
-            names.instruments.push(*listed);
+            kept_instruments.push(*listed);
         }
-        names
+        Names {
+            exchange,
+            firms: kept_firms,
+            instruments: kept_instruments,
+        }
     }
 
     /// The exchange's name.
@@ -99,13 +100,29 @@ impl Names {
     pub fn find_firm(&self, name: &[u8]) -> Option<u8>
         ensures { result ≡ position (λ firm. bytes_eq firm name.now) self.now.firms }
     {
-        None
+        let n = find_name(&self.firms, name)?;
+        Some(n as u8)
     }
 
     /// The number of the instrument with this name. `None` exactly where no instrument has it.
     pub fn find_instrument(&self, name: &[u8]) -> Option<u8>
         ensures { result ≡ position (λ listed. bytes_eq listed name.now) (instrument_names self.now.instruments) }
     {
-        None
+        let n = find_listed(&self.instruments, name)?;
+        Some(n as u8)
     }
+}
+
+/// The index of the first of these names that has these bytes.
+fn find_name(names: &[ShortId], bytes: &[u8]) -> Option<usize>
+    ensures { result ≡ position (λ name. bytes_eq name bytes.now) names.now }
+{
+    names.iter().position(|name| name.bytes() == bytes)
+}
+
+/// The index of the first of these instruments whose name has these bytes.
+fn find_listed(listed: &[Listed], bytes: &[u8]) -> Option<usize>
+    ensures { result ≡ position (λ l. bytes_eq l.name bytes.now) listed.now }
+{
+    listed.iter().position(|l| l.name.bytes() == bytes)
 }

@@ -1,6 +1,11 @@
 //! Prices in units, and their texts.
-ghost use Rattle.std.specs.Prelude.{◌≡◌, ℕ, ◌+◌, ◌*◌, ◌^◌, ◌<◌, ◌≤◌, min, Bool, List, length, take};
-ghost use Rattle.gx_base.specs.Numbers.{price_of, price_text};
+ghost use Rattle.std.specs.Prelude.{◌≡◌, ◌+◌, ◌-◌, ◌≤◌, ◌++◌, ◌&&◌, nat_le, min, IsTrue, length, take, replicate};
+ghost use Rattle.std.specs.Str.Parse.{digits_value};
+ghost use Rattle.gx_base.specs.Numbers.{are_digits, has_minus, unsigned_text, fraction_text, price_of, price_text};
+
+use crate::digits::{CEILING, are_digits, are_zeros, read_on, split_at_point, write_fixed_digits};
+use itoa::Buffer;
+use std::cmp;
 
 /// A price in units of 10 to the power of minus the instrument's decimals.
 #[derive(Clone, Copy, Debug, PartialEq, Eq)]
@@ -17,13 +22,63 @@ pub enum PriceFault {
     Range,
 }
 
+/// The greatest price in units, either way.
+const LIMIT: u64 = 999_999_999_999;
+
 /// The price that a text writes, in units of 10 to the power of minus `decimals`, or the first fault in the order
 /// of `PriceFault`. Our own rule, within the float format of FIX 4.2.
 pub fn read_price(text: &[u8], decimals: u8) -> Result<Price, PriceFault>
     requires { decimals ≤ 8 }
     ensures { result ≡ price_of text.now decimals }
 {
-    Err(PriceFault::Format)
+    let (whole, fraction) = split_at_point(without_minus(text));
+    if text.len() > 32 || !are_price_digits(whole, fraction) {
+        return Err(PriceFault::Format);
+    }
+    let (kept, rest) = fraction.split_at(cmp::min(fraction.len(), decimals as usize));
+    if !are_zeros(rest) {
+        return Err(PriceFault::Scale);
+    }
+    let units = read_units(whole, kept, decimals);
+    if units > LIMIT {
+        return Err(PriceFault::Range);
+    }
+    let units = units as i64;
+    Ok(Price(if has_minus(text) { -units } else { units }))
+}
+
+/// Whether the first byte is a minus sign.
+fn has_minus(text: &[u8]) -> bool
+    ensures { result ≡ has_minus text.now }
+{
+    !text.is_empty() && text[0] == b'-'
+}
+
+/// The text behind its minus sign, if it has one.
+fn without_minus(text: &[u8]) -> &[u8]
+    ensures { result.now ≡ unsigned_text text.now }
+{
+    if has_minus(text) { &text[1..] } else { text }
+}
+
+/// Whether these are the digits of a price, before its point and behind it: there is at least one of them.
+fn are_price_digits(whole: &[u8], fraction: &[u8]) -> bool
+    ensures { result ≡ (nat_le 1 (length whole.now + length fraction.now) && are_digits whole.now && are_digits fraction.now) }
+{
+    !(whole.is_empty() && fraction.is_empty()) && are_digits(whole) && are_digits(fraction)
+}
+
+/// The number whose digits are these and zeros, so that `decimals` digits follow those of `whole`, or `CEILING` where
+/// that is less.
+fn read_units(whole: &[u8], fraction: &[u8], decimals: u8) -> u64
+    requires few { decimals ≤ 8 }
+    requires fits { length fraction.now ≤ decimals }
+    requires whole_digits { IsTrue (are_digits whole.now) }
+    requires fraction_digits { IsTrue (are_digits fraction.now) }
+    ensures { result ≡ min CEILING (digits_value 10 (whole.now ++ fraction.now ++ replicate (decimals - length fraction.now) 48)) }
+{
+    let zeros = &[b'0'; 8][fraction.len()..decimals as usize];
+    read_on(read_on(read_on(0, whole), fraction), zeros)
 }
 
 /// Writes a price with exactly `decimals` digits behind the point into the front of `into`, and answers how many
@@ -34,5 +89,37 @@ pub fn write_price(price: Price, decimals: u8, into: &mut [u8; 24]) -> usize
     ensures count { result ≡ length (price_text price decimals) }
     ensures short { result ≤ 24 }
 {
-    0
+    let units = price.0.unsigned_abs();
+    let sign: &[u8] = if price.0 < 0 { b"-" } else { b"" };
+    let whole = units / 10u64.pow(decimals as u32);
+    let end = append(into, 0, sign);
+    let end = append(into, end, Buffer::new().format(whole).as_bytes());
+    append_fraction(into, end, units, decimals)
+}
+
+/// Writes these bytes behind the first `end` of `into`, and answers where they end.
+fn append(into: &mut [u8; 24], end: usize, bytes: &[u8]) -> usize
+    requires { end + length bytes.now ≤ 24 }
+    ensures text { take result into.new ≡ take end into.old ++ bytes.now }
+    ensures end { result ≡ end + length bytes.now }
+{
+    into[end..end + bytes.len()].copy_from_slice(bytes);
+    end + bytes.len()
+}
+
+/// Writes a point and the last `decimals` digits of a number behind the first `end` bytes of `into`, or nothing where
+/// `decimals` is 0. Answers where they end.
+fn append_fraction(into: &mut [u8; 24], end: usize, units: u64, decimals: u8) -> usize
+    requires few { decimals ≤ 8 }
+    requires room { end + length (fraction_text decimals units) ≤ 24 }
+    ensures text { take result into.new ≡ take end into.old ++ fraction_text decimals units }
+    ensures end { result ≡ end + length (fraction_text decimals units) }
+{
+    if decimals == 0 {
+        return end;
+    }
+    let mut text = [b'.'; 9];
+    let len = 1 + decimals as usize;
+    write_fixed_digits(units, &mut text[1..len]);
+    append(into, end, &text[..len])
 }

@@ -1,7 +1,8 @@
 //! Times as messages write them.
-ghost use Rattle.std.specs.Prelude.{◌≡◌, SomeIff, IsTrue, codes};
-ghost use Rattle.gx_base.specs.Texts.{is_time_text, is_stamp};
+ghost use Rattle.std.specs.Prelude.{◌≡◌, ◌+◌, ◌≤◌, SomeIff, IsTrue, length, codes};
+ghost use Rattle.gx_base.specs.Texts.{is_time_text, is_time_of_seconds, has_two_digits, is_stamp};
 
+use crate::digits::{are_digits, read_short};
 use crate::text::Text;
 use std::marker::Model;
 
@@ -33,7 +34,10 @@ impl Stamp {
     pub fn new(text: &[u8]) -> Option<Stamp>
         ensures { SomeIff result (IsTrue (is_time_text text.now)) text.now }
     {
-        None
+        if !is_time_text(text) {
+            return None;
+        }
+        Some(Stamp { text: Text::new(text) })
     }
 
     /// The text `00000000-00:00:00`, which stands where there is no time. `new` refuses it.
@@ -52,4 +56,44 @@ impl Stamp {
     {
         self.text.bytes()
     }
+}
+
+/// Whether a text is a time, without or with milliseconds.
+fn is_time_text(text: &[u8]) -> bool
+    ensures { result ≡ is_time_text text.now }
+{
+    match text.len() {
+        17 => is_time_of_seconds(text),
+        21 => text[17] == b'.' && are_digits(&text[18..21]) && is_time_of_seconds(text),
+        _ => false,
+    }
+}
+
+/// Whether a text begins with `YYYYMMDD-HH:MM:SS`.
+fn is_time_of_seconds(text: &[u8]) -> bool
+    requires { 17 ≤ length text.now }
+    ensures { result ≡ is_time_of_seconds text.now }
+{
+    are_digits(&text[..4])
+        && has_two_digits(text, 4, 1, 12)
+        && has_two_digits(text, 6, 1, 31)
+        && text[8] == b'-'
+        && has_two_digits(text, 9, 0, 23)
+        && text[11] == b':'
+        && has_two_digits(text, 12, 0, 59)
+        && text[14] == b':'
+        && has_two_digits(text, 15, 0, 60)
+}
+
+/// Whether the two bytes from `start` on are digits of a number from `low` to `high`.
+fn has_two_digits(text: &[u8], start: usize, low: u32, high: u32) -> bool
+    requires { start + 2 ≤ length text.now }
+    ensures { result ≡ has_two_digits text.now start low high }
+{
+    let part = &text[start..start + 2];
+    if !are_digits(part) {
+        return false;
+    }
+    let value = read_short(part);
+    low <= value && value <= high
 }
