@@ -1,6 +1,6 @@
 -- Numbers that are read from digits, up to a ceiling.
-use Rattle.std.proofs.Common.{◌≡◌, ℕ, ◌+◌, ◌-◌, ◌*◌, ◌^◌, ◌<◌, ◌≤◌, min, IsTrue, true, List, [], ◌∷◌, length, take, get_or, fold, arith, refl, sym, ◌∙◌}
-use Rattle.std.proofs.lemmas.Bool.{and_parts, true_from_ne_false, true≢false}
+use Rattle.std.proofs.Common.{◌≡◌, ℕ, ◌+◌, ◌-◌, ◌*◌, ◌^◌, ◌<◌, ◌≤◌, min, true, List, [], ◌∷◌, ◌++◌, length, take, get_or, fold, arith, refl, sym, ap, ◌∙◌, ⊎_elim}
+use Rattle.std.proofs.lemmas.Bool.{and_parts, cases_lt, true_from_ne_false, true≢false}
 use Rattle.std.proofs.lemmas.Bool.Decides.{nat_tests}
 use Rattle.std.proofs.lemmas.Int.Digits.{digits_value-lt}
 use Rattle.std.proofs.lemmas.List.Folds.{list_all_at}
@@ -52,3 +52,24 @@ capped_more top n ds i k h low e =
     let more : digits_value_after 10 n (take (i + 1) ds) ≡ digits_value_after 10 n (take i ds) * 10 + digit_value (get_or ds i 0) = value_more n ds i low in
     let digit : (48 ≤ get_or ds i 0) × (get_or ds i 0 ≤ 57) × (digit_value (get_or ds i 0) + 48 ≡ get_or ds i 0) = digit_is _ (digit_at ds i h low) in
     omega arith
+
+value_append : (n : ℕ) (ds es : List ℕ) → digits_value_after 10 n (ds ++ es) ≡ digits_value_after 10 (digits_value_after 10 n ds) es
+value_append n [] es = refl
+value_append n (d ∷ ds) es = value_append (n * 10 + digit_value d) ds es
+
+-- digits behind a number that is capped already
+capped_again : (top n : ℕ) (ds : List ℕ) → min top (digits_value_after 10 (min top n) ds) ≡ min top (digits_value_after 10 n ds)
+capped_again top n ds =
+    ⊎_elim
+        (λ (above : top < n).
+            let one : min top n ≡ top = omega arith in
+            let far : n ≤ digits_value_after 10 n ds = grows n ds in
+            let near : top ≤ digits_value_after 10 top ds = grows top ds in
+            rw one (omega arith))
+        (λ (within : n ≤ top). let one : min top n ≡ n = omega arith in rw one)
+        (cases_lt top n)
+
+-- a number that is read in two parts
+pub capped_append : (top n k m : ℕ) (ds es : List ℕ) → k ≡ min top (digits_value_after 10 n ds) → m ≡ min top (digits_value_after 10 k es) → m ≡ min top (digits_value_after 10 n (ds ++ es))
+capped_append top n k m ds es e f =
+    f ∙ ap (λ j. min top (digits_value_after 10 j es)) e ∙ capped_again top (digits_value_after 10 n ds) es ∙ ap (min top) (sym (value_append n ds es))

@@ -1,3 +1,4 @@
 pub mod Capped
 pub mod Places
+pub mod PriceTexts
 pub mod Times

@@ -22,3 +22,6 @@ pub use order::{Desk, Kind, Life, LmmShare, Order, Side, Slot, Taker, TopRule};
 pub use price::{Price, PriceFault, read_price, write_price};
 pub use quantity::read_quantity;
 pub use stamp::Stamp;
+
+#[cfg(test)]
+mod tests;

@@ -1,7 +1,7 @@
 //! Prices in units, and their texts.
-ghost use Rattle.std.specs.Prelude.{◌≡◌, ◌+◌, ◌-◌, ◌≤◌, ◌++◌, ◌&&◌, nat_le, min, IsTrue, length, take, replicate};
+ghost use Rattle.std.specs.Prelude.{◌≡◌, ◌+◌, ◌-◌, ◌≤◌, ◌++◌, ◌&&◌, nat_le, min, IsTrue, length, take, drop, replicate};
 ghost use Rattle.std.specs.Str.Parse.{digits_value};
-ghost use Rattle.gx_base.specs.Numbers.{are_digits, has_minus, unsigned_text, fraction_text, price_of, price_text};
+ghost use Rattle.gx_base.specs.Numbers.{are_digits, are_zeros, has_minus, signed_units, unsigned_text, fraction_text, price_of, price_text};
 
 use crate::digits::{CEILING, are_digits, are_zeros, read_on, split_at_point, write_fixed_digits};
 use itoa::Buffer;
@@ -35,16 +35,14 @@ pub fn read_price(text: &[u8], decimals: u8) -> Result<Price, PriceFault>
     if text.len() > 32 || !are_price_digits(whole, fraction) {
         return Err(PriceFault::Format);
     }
-    let (kept, rest) = fraction.split_at(cmp::min(fraction.len(), decimals as usize));
-    if !are_zeros(rest) {
+    if !are_zeros_behind(fraction, decimals) {
         return Err(PriceFault::Scale);
     }
-    let units = read_units(whole, kept, decimals);
+    let units = read_units(whole, fraction, decimals);
     if units > LIMIT {
         return Err(PriceFault::Range);
     }
-    let units = units as i64;
-    Ok(Price(if has_minus(text) { -units } else { units }))
+    Ok(Price(with_sign(units, has_minus(text))))
 }
 
 /// Whether the first byte is a minus sign.
@@ -68,17 +66,35 @@ fn are_price_digits(whole: &[u8], fraction: &[u8]) -> bool
     !(whole.is_empty() && fraction.is_empty()) && are_digits(whole) && are_digits(fraction)
 }
 
-/// The number whose digits are these and zeros, so that `decimals` digits follow those of `whole`, or `CEILING` where
-/// that is less.
+/// Whether each digit behind the first `decimals` is 0.
+fn are_zeros_behind(fraction: &[u8], decimals: u8) -> bool
+    ensures { result ≡ are_zeros (drop decimals fraction.now) }
+{
+    let kept = cmp::min(fraction.len(), decimals as usize);
+    are_zeros(&fraction[kept..])
+}
+
+/// The number whose digits are those of `whole` and the first `decimals` of `fraction`, filled up with zeros, or
+/// `CEILING` where that is less.
 fn read_units(whole: &[u8], fraction: &[u8], decimals: u8) -> u64
     requires few { decimals ≤ 8 }
-    requires fits { length fraction.now ≤ decimals }
     requires whole_digits { IsTrue (are_digits whole.now) }
     requires fraction_digits { IsTrue (are_digits fraction.now) }
-    ensures { result ≡ min CEILING (digits_value 10 (whole.now ++ fraction.now ++ replicate (decimals - length fraction.now) 48)) }
+    ensures { result ≡ min CEILING (digits_value 10 (whole.now ++ take decimals (fraction.now ++ replicate decimals 48))) }
 {
-    let zeros = &[b'0'; 8][fraction.len()..decimals as usize];
-    read_on(read_on(read_on(0, whole), fraction), zeros)
+    let kept = cmp::min(fraction.len(), decimals as usize);
+    let zeros = [b'0'; 8];
+    let units = read_on(read_on(0, whole), &fraction[..kept]);
+    read_on(units, &zeros[..decimals as usize - kept])
+}
+
+/// So many units, or as many below zero.
+fn with_sign(units: u64, negative: bool) -> i64
+    requires { units ≤ LIMIT }
+    ensures { result ≡ signed_units negative units }
+{
+    let units = units as i64;
+    if negative { -units } else { units }
 }
 
 /// Writes a price with exactly `decimals` digits behind the point into the front of `into`, and answers how many
