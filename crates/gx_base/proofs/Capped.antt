@@ -61,13 +61,13 @@ value_append n (d ∷ ds) es = value_append (n * 10 + digit_value d) ds es
 capped_again : (top n : ℕ) (ds : List ℕ) → min top (digits_value_after 10 (min top n) ds) ≡ min top (digits_value_after 10 n ds)
 capped_again top n ds =
     ⊎_elim
-        (λ (above : top < n).
-            let one : min top n ≡ top = omega arith in
-            let far : n ≤ digits_value_after 10 n ds = grows n ds in
-            let near : top ≤ digits_value_after 10 top ds = grows top ds in
-            rw one (omega arith))
-        (λ (within : n ≤ top). let one : min top n ≡ n = omega arith in rw one)
-        (cases_lt top n)
+    (λ (above : top < n).
+    let one : min top n ≡ top = omega arith in
+    let far : n ≤ digits_value_after 10 n ds = grows n ds in
+    let near : top ≤ digits_value_after 10 top ds = grows top ds in
+    rw one (omega arith))
+    (λ (within : n ≤ top). let one : min top n ≡ n = omega arith in rw one)
+    (cases_lt top n)
 
 -- a number that is read in two parts
 pub capped_append : (top n k m : ℕ) (ds es : List ℕ) → k ≡ min top (digits_value_after 10 n ds) → m ≡ min top (digits_value_after 10 k es) → m ≡ min top (digits_value_after 10 n (ds ++ es))

@@ -34,8 +34,8 @@ filled_up decimals kept ds e = same_lists _ _ (search (rules, places)) (λ k d h
 pub units_are : (top decimals kept a b r : ℕ) (whole ds zeros : List ℕ) → kept ≡ min (length ds) decimals → zeros ≡ replicate (decimals - kept) 48 → a ≡ min top (digits_value_after 10 0 whole) → b ≡ min top (digits_value_after 10 a (take kept ds)) → r ≡ min top (digits_value_after 10 b zeros) → r ≡ min top (digits_value 10 (whole ++ take decimals (ds ++ replicate decimals 48)))
 units_are top decimals kept a b r whole ds zeros e z p q s =
     capped_append top 0 b r (whole ++ take kept ds) zeros (capped_append top 0 a b whole (take kept ds) p q) s
-        ∙ ap (λ es. min top (digits_value 10 es)) (append_assoc whole (take kept ds) zeros)
-        ∙ ap (λ es. min top (digits_value 10 (whole ++ es))) (ap (λ ys. take kept ds ++ ys) z ∙ sym (filled_up decimals kept ds e))
+    ∙ ap (λ es. min top (digits_value 10 es)) (append_assoc whole (take kept ds) zeros)
+    ∙ ap (λ es. min top (digits_value 10 (whole ++ es))) (ap (λ ys. take kept ds ++ ys) z ∙ sym (filled_up decimals kept ds e))
 
 abbrev are_price_digits : List ℕ → List ℕ → Bool
 are_price_digits whole fraction = nat_le 1 (length whole + length fraction) && are_digits whole && are_digits fraction
@@ -69,8 +69,8 @@ module _ {text : List ℕ} {decimals : ℕ} {rest whole fraction : List ℕ} {un
   is_text : not (is_price_text text) ≡ false
   is_text =
       not_from_true _ (is_price_text-from text read.short (sym (read.digits
-          ∙ ap (λ ws. are_price_digits ws fraction) whole_same
-          ∙ ap (are_price_digits (whole_digits text)) fraction_same)))
+      ∙ ap (λ ws. are_price_digits ws fraction) whole_same
+      ∙ ap (are_price_digits (whole_digits text)) fraction_same)))
 
   fits : not (are_zeros (drop decimals (fraction_digits text))) ≡ false
   fits = not_from_true _ (sym (read.zeros ∙ ap (λ fs. are_zeros (drop decimals fs)) fraction_same))
@@ -81,16 +81,16 @@ module _ {text : List ℕ} {decimals : ℕ} {rest whole fraction : List ℕ} {un
   pub price_of-range : price_limit < units → Err Range ≡ price_of text decimals
   price_of-range above =
       sym (cond-false _ _ _ is_text
-          ∙ cond-false _ _ _ fits
-          ∙ cond-true _ _ _ (lt-ltb price_limit (units_of text decimals) (omega (arith, capped))))
+      ∙ cond-false _ _ _ fits
+      ∙ cond-true _ _ _ (lt-ltb price_limit (units_of text decimals) (omega (arith, capped))))
 
   pub price_of-units : units ≤ price_limit → Ok (record { 0 = signed_units (has_minus text) units }) ≡ price_of text decimals
   price_of-units within =
       let same : units ≡ units_of text decimals = omega (arith, capped) in
       sym (cond-false _ _ _ is_text
-          ∙ cond-false _ _ _ fits
-          ∙ cond-false _ _ _ (le-ltb price_limit (units_of text decimals) (omega (arith, capped)))
-          ∙ ap (λ n. Ok (record { 0 = signed_units (has_minus text) n })) (sym same))
+      ∙ cond-false _ _ _ fits
+      ∙ cond-false _ _ _ (le-ltb price_limit (units_of text decimals) (omega (arith, capped)))
+      ∙ ap (λ n. Ok (record { 0 = signed_units (has_minus text) n })) (sym same))
 
 -- the room that a price takes
 length-fixed_digits : (width n : ℕ) → length (fixed_digits width n) ≡ width

@@ -35,7 +35,9 @@ impl ShortId {
         if !is_name(bytes) {
             return None;
         }
-        Some(ShortId { text: Text::new(bytes) })
+        Some(ShortId {
+            text: Text::new(bytes),
+        })
     }
 
     /// Lends the bytes of the name.

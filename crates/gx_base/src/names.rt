@@ -1,5 +1,5 @@
 //! The names that a product lists.
-ghost use Rattle.std.specs.Prelude.{◌≡◌, ◌<◌, ◌≤◌, Some, length, position, bytes_eq, slice_get, map, All};
+ghost use Rattle.std.specs.Prelude.{◌≡◌, ◌<◌, ◌≤◌, Some, length, position, bytes_eq, slice_get};
 ghost use Rattle.gx_base.specs.NameLists.{AreRight, instrument_names};
 
 use crate::id::ShortId;

@@ -37,7 +37,9 @@ impl Stamp {
         if !is_time_text(text) {
             return None;
         }
-        Some(Stamp { text: Text::new(text) })
+        Some(Stamp {
+            text: Text::new(text),
+        })
     }
 
     /// The text `00000000-00:00:00`, which stands where there is no time. `new` refuses it.

@@ -1,5 +1,4 @@
-use Rattle.std.proofs.Common.{◌≡◌, ◌<◌, ◌^◌, arith}
-use Rattle.std.specs.Str.Parse.{digits_value}
+use Rattle.std.proofs.Common.{arith}
 use Rattle.gx_base.proofs.Capped.{short_below}
 use Rattle.gx_base.proofs.digits.read_short.Goals as goal
 

@@ -1,5 +1,4 @@
-use Rattle.std.proofs.Common.{arith, rules}
-use Rattle.gx_base.proofs.PriceTexts.{IsRead, price_of-range, price_of-units}
+use Rattle.gx_base.proofs.PriceTexts.{IsRead, price_of-range}
 use Rattle.gx_base.proofs.price.read_price.Goals as goal
 
 pub returns-then-units-gt-LIMIT : goal.returns-then-units-gt-LIMIT

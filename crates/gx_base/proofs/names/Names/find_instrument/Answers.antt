@@ -1,7 +1,5 @@
-use Rattle.std.proofs.Common.{◌≡◌, position, bytes_eq, sym, ◌∙◌, ap, arith, rules}
-use Rattle.std.proofs.lemmas.Grind.{common_steps}
+use Rattle.std.proofs.Common.{bytes_eq, rules}
 use Rattle.gx_base.proofs.Places.{position-map}
-use Rattle.gx_base.specs.NameLists.{NameLists, instrument_names}
 use Rattle.gx_base.specs.declared.names.Listed.{Listed}
 use Rattle.gx_base.proofs.names.Names.find_instrument.Goals as goal
 
