@@ -1,8 +1,10 @@
 //! The plain data that every part of the engine shares: names, prices, orders, events and their report lines.
 #![tactic(auto)]
 
+mod body;
 mod emit;
 mod event;
+mod fields;
 mod id;
 mod line;
 mod names;
