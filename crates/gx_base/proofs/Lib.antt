@@ -1,2 +1,3 @@
 pub mod Putting
 pub mod Lines
+mod Framing

@@ -12,7 +12,7 @@ use crate::price::Price;
 impl Fields {
     /// Appends the body of an event.
     pub(crate) fn body(&mut self, event: &Event, names: &Names)
-        requires { length self.old ≤ 30 }
+        requires { length self.old + 810 ≤ 1024 }
         ensures body { self.new ≡ self.old ++ body_of names.now event.now }
         ensures short { length self.new ≤ length self.old + 810 }
     {
@@ -48,7 +48,7 @@ impl Fields {
 
     /// Message type, line, sender, time and addressee.
     fn line_head(&mut self, names: &Names, message_type: &[u8], head: &Head)
-        requires room { length self.old ≤ 750 }
+        requires room { length self.old + 150 ≤ 1024 }
         requires short_type { length message_type.now ≤ 24 }
         ensures fields { self.new ≡ self.old ++ line_head names.now message_type.now head.now }
         ensures short { length self.new ≤ length self.old + 150 }
@@ -64,7 +64,7 @@ impl Fields {
 
     /// Which order, which report, and what it tells.
     fn report_fields(&mut self, head: &Head, order: &Order, status: &[u8])
-        requires room { length self.old ≤ 720 }
+        requires room { length self.old + 180 ≤ 1024 }
         requires short_status { length status.now ≤ 24 }
         ensures fields { self.new ≡ self.old ++ report_fields head.now order.now status.now }
         ensures short { length self.new ≤ length self.old + 180 }
@@ -79,7 +79,7 @@ impl Fields {
 
     /// What was ordered.
     fn order_fields(&mut self, names: &Names, order: &Order)
-        requires { length self.old ≤ 690 }
+        requires { length self.old + 210 ≤ 1024 }
         ensures fields { self.new ≡ self.old ++ order_fields names.now order.now }
         ensures short { length self.new ≤ length self.old + 210 }
     {
@@ -94,7 +94,7 @@ impl Fields {
 
     /// The price and the stop price, as far as the kind has them.
     fn price_fields(&mut self, kind: Kind, price: Price, trigger: Price, decimals: u8)
-        requires room { length self.old ≤ 840 }
+        requires room { length self.old + 60 ≤ 1024 }
         requires decimals { decimals ≤ 8 }
         ensures fields { self.new ≡ self.old ++ price_fields kind price trigger decimals }
         ensures short { length self.new ≤ length self.old + 60 }
@@ -111,7 +111,7 @@ impl Fields {
 
     /// What is open and filled of it now.
     fn state_fields(&mut self, head: &Head, order: &Order)
-        requires { length self.old ≤ 780 }
+        requires { length self.old + 120 ≤ 1024 }
         ensures fields { self.new ≡ self.old ++ state_fields head.now order.now }
         ensures short { length self.new ≤ length self.old + 120 }
     {

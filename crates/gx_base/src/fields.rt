@@ -70,7 +70,7 @@ impl Fields {
 
     /// Appends the trailer of the bytes from `start` on.
     pub(crate) fn put_trailer(&mut self, start: usize)
-        requires room { length self.old ≤ 900 }
+        requires room { length self.old + 30 ≤ 1024 }
         requires start { start ≤ length self.old }
         ensures trailer { self.new ≡ self.old ++ trailer_of (drop start self.old) }
         ensures short { length self.new ≤ length self.old + 30 }
@@ -82,7 +82,7 @@ impl Fields {
 
     /// Appends a field: its tag, `=`, its value, and SOH.
     pub(crate) fn field(&mut self, tag: &[u8], value: &[u8])
-        requires room { length self.old ≤ 900 }
+        requires room { length self.old + 30 ≤ 1024 }
         requires tag { length tag.now ≤ 4 }
         requires value { length value.now ≤ 24 }
         ensures field { self.new ≡ self.old ++ (tag.now ++ 61 ∷ value.now ++ soh ∷ []) }
@@ -96,7 +96,7 @@ impl Fields {
 
     /// Appends a field whose value is a number.
     pub(crate) fn number(&mut self, tag: &[u8], n: u64)
-        requires room { length self.old ≤ 900 }
+        requires room { length self.old + 30 ≤ 1024 }
         requires tag { length tag.now ≤ 4 }
         ensures field { self.new ≡ self.old ++ (tag.now ++ 61 ∷ decimal n ++ soh ∷ []) }
         ensures short { length self.new ≤ length self.old + 30 }
@@ -107,7 +107,7 @@ impl Fields {
 
     /// Appends a field whose value is a price.
     pub(crate) fn price(&mut self, tag: &[u8], price: Price, decimals: u8)
-        requires room { length self.old ≤ 900 }
+        requires room { length self.old + 30 ≤ 1024 }
         requires tag { length tag.now ≤ 4 }
         requires decimals { decimals ≤ 8 }
         ensures field { self.new ≡ self.old ++ (tag.now ++ 61 ∷ price_text price decimals ++ soh ∷ []) }
