@@ -7,11 +7,10 @@ use borrow.Rule.Slice.PartMut.{put_mid}
 use Rattle.gx_base.specs.Frames.{head_of, trailer_of, frame_of}
 
 -- the length of a body has at most three digits
-pub few_digits : (len : ℕ) → len ≤ 1000 → length (decimal (len - 16)) ≤ 3
-few_digits len short =
-    let few : len - 16 < 1000 = omega arith in
-    let fits : len - 16 < 2 ^ 64 = omega arith in
-    length-decimal-le 3 (len - 16) (omega arith) few fits
+pub few_digits : (n : ℕ) → n < 1000 → length (decimal n) ≤ 3
+few_digits n few =
+    let fits : n < 2 ^ 64 = omega arith in
+    length-decimal-le 3 n (omega arith) few fits
 
 -- what stands before the body is replaced, and the body stays
 behind : (before front bytes : List ℕ) (len : ℕ) → length before + length front ≡ 16 → 16 ≤ len
@@ -56,7 +55,7 @@ pub head_is_put : (bytes buf begin old : List ℕ) (at len : ℕ) → take len b
     → drop (at - 12) (take len (put_mid (at - 12) (at - (at - 12)) buf begin)) ≡ head_of (decimal (length old - 16)) ++ drop 16 old
 head_is_put bytes buf begin old at len view len_fits bytes_fit buf_fits gap short sum written begin_is =
     let len_is : len ≡ length old = sym (length-take-le len bytes (omega arith)) ∙ ap length view in
-    let few : length (decimal (len - 16)) ≤ 3 = few_digits len (omega arith) in
+    let few : length (decimal (len - 16)) ≤ 3 = few_digits (len - 16) (omega arith) in
     let digits : List ℕ = decimal (len - 16) in
     head_put bytes buf digits begin at len sum (ap length begin_is) (omega arith) (omega arith) (omega arith) (omega arith) written
     ∙ ap (λ (l : List ℕ). l ++ (digits ++ 1 ∷ drop 16 (take len bytes))) begin_is

@@ -7,6 +7,8 @@ mod event;
 mod fields;
 mod id;
 mod line;
+#[cfg(test)]
+mod line_tests;
 mod names;
 mod order;
 mod price;
