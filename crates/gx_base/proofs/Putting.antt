@@ -22,7 +22,7 @@ pub seen_after-append : (f : List ℕ → Event → List ℕ) (s : Option (List 
 seen_after-append f None xs ys = refl
 seen_after-append f (Some a) xs ys = ap Some (fold-append f a xs ys)
 
-seen_after_one : (f : List ℕ → Event → List ℕ) (s : Option (List ℕ)) (x : Event) → option_map (λ a. f a x) s ≡ seen_after f s (x ∷ [])
+pub seen_after_one : (f : List ℕ → Event → List ℕ) (s : Option (List ℕ)) (x : Event) → option_map (λ a. f a x) s ≡ seen_after f s (x ∷ [])
 seen_after_one f None x = refl
 seen_after_one f (Some a) x = refl
 
