@@ -99,7 +99,9 @@ impl<'a> Emit for ByteEmit<'a> {
         }
         self.line.write(event, self.names);
         let line = self.line.bytes();
-        if line.len() > self.room - self.lines.len() || self.lines.extend_from_slice(line).is_err() {
+        if line.len() > self.room - self.lines.len()
+            || self.lines.extend_from_slice(line).is_err()
+        {
             self.full = true;
         }
     }

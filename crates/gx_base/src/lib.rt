@@ -1,11 +1,15 @@
 //! The plain data that every part of the engine shares: names, prices, orders, events and their report lines.
 #![tactic(auto)]
 
+mod body;
 mod digits;
 mod emit;
 mod event;
+mod fields;
 mod id;
 mod line;
+#[cfg(test)]
+mod line_tests;
 mod names;
 mod order;
 mod price;

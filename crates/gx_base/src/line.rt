@@ -3,24 +3,26 @@ ghost use Rattle.std.specs.Prelude.{◌≡◌, ◌≤◌, [], length};
 ghost use Rattle.gx_base.specs.Line.{line_of};
 
 use crate::event::Event;
+use crate::fields::Fields;
 use crate::names::Names;
 use std::marker::Model;
 
 /// Room for one report line, of at most 1,024 bytes. Contracts see it as the line.
 #[derive(Drop)]
 pub struct LineBuffer {
-    bytes: [u8; 1024],
-    len: usize,
+    fields: Fields,
+    /// Where the line begins: its head stands right before its body, whose length is known last.
+    start: usize,
 }
 
 impl Model for LineBuffer {
-    ghost use Rattle.std.specs.Prelude.{List, ℕ, ◌≡◌, ◌≤◌, length, take};
+    ghost use Rattle.std.specs.Prelude.{List, ℕ, ◌≤◌, length, drop};
 
     ghost Value = { List ℕ };
 
-    ghost view = { λ line. take line.len line.bytes };
+    ghost view = { λ line. drop line.start line.fields };
 
-    ghost invariant = { λ line. line.len ≤ 1024 };
+    ghost invariant = { λ line. line.start ≤ length line.fields };
 }
 
 impl LineBuffer {
@@ -29,8 +31,8 @@ impl LineBuffer {
         ensures { result ≡ [] }
     {
         LineBuffer {
-            bytes: [0; 1024],
-            len: 0,
+            fields: Fields::new(),
+            start: 0,
         }
     }
 
@@ -40,13 +42,16 @@ impl LineBuffer {
         ensures line { self.new ≡ line_of names.now event.now }
         ensures short { length self.new ≤ 1024 }
     {
-        self.len = 0;
+        self.fields.leave_gap();
+        self.fields.body(event, names);
+        self.start = self.fields.put_head();
+        self.fields.put_trailer(self.start);
     }
 
     /// Lends the bytes of the line.
     pub fn bytes(&self) -> &[u8]
         ensures { result.now ≡ self.now }
     {
-        &self.bytes[..self.len]
+        &self.fields.bytes()[self.start..]
     }
 }

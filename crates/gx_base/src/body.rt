@@ -1,0 +1,201 @@
+//! The bodies of report lines, field by field.
+ghost use Rattle.std.specs.Prelude.{◌≡◌, ◌+◌, ◌≤◌, ◌++◌, length};
+ghost use Rattle.gx_base.specs.Line.{addressee, instrument_name, decimals_of, side_text, kind_text, life_text, step_text, fill_status, line_head, report_fields, price_fields, order_fields, state_fields, body_of};
+
+use crate::event::{Event, Head, StepName};
+use crate::fields::Fields;
+use crate::id::ShortId;
+use crate::names::{Listed, Names};
+use crate::order::{Kind, Life, Order, Side};
+use crate::price::Price;
+
+impl Fields {
+    /// Appends the body of an event.
+    pub(crate) fn body(&mut self, event: &Event, names: &Names)
+        requires { length self.old + 810 ≤ 1024 }
+        ensures body { self.new ≡ self.old ++ body_of names.now event.now }
+        ensures short { length self.new ≤ length self.old + 810 }
+    {
+        match event {
+            Event::Accepted { head, order } => {
+                self.line_head(names, b"8", head);
+                self.report_fields(head, order, b"0");
+                self.order_fields(names, order);
+                self.state_fields(head, order);
+                self.field(b"9003", b"0");
+            }
+            Event::Fill {
+                head,
+                order,
+                lots,
+                price,
+                step,
+                trade,
+            } => {
+                let decimals = listed(names, order.instrument).decimals;
+                self.line_head(names, b"8", head);
+                self.report_fields(head, order, fill_status(order.leaves));
+                self.order_fields(names, order);
+                self.number(b"32", u64::from(*lots));
+                self.price(b"31", *price, decimals);
+                self.state_fields(head, order);
+                self.field(b"9001", step_text(*step));
+                self.number(b"9002", *trade);
+                self.field(b"9003", b"0");
+            }
+        }
+    }
+
+    /// Message type, line, sender, time and addressee.
+    fn line_head(&mut self, names: &Names, message_type: &[u8], head: &Head)
+        requires room { length self.old + 150 ≤ 1024 }
+        requires short_type { length message_type.now ≤ 24 }
+        ensures fields { self.new ≡ self.old ++ line_head names.now message_type.now head.now }
+        ensures short { length self.new ≤ length self.old + 150 }
+    {
+        let exchange = names.exchange();
+        let firm = addressee(names, head.firm);
+        self.field(b"35", message_type);
+        self.number(b"34", head.line);
+        self.field(b"49", exchange.bytes());
+        self.field(b"52", head.time.bytes());
+        self.field(b"56", firm.bytes());
+    }
+
+    /// Which order, which report, and what it tells.
+    fn report_fields(&mut self, head: &Head, order: &Order, status: &[u8])
+        requires room { length self.old + 180 ≤ 1024 }
+        requires short_status { length status.now ≤ 24 }
+        ensures fields { self.new ≡ self.old ++ report_fields head.now order.now status.now }
+        ensures short { length self.new ≤ length self.old + 180 }
+    {
+        self.number(b"37", order.number);
+        self.field(b"11", order.id.bytes());
+        self.number(b"17", head.report);
+        self.field(b"20", b"0");
+        self.field(b"150", status);
+        self.field(b"39", status);
+    }
+
+    /// What was ordered.
+    fn order_fields(&mut self, names: &Names, order: &Order)
+        requires { length self.old + 210 ≤ 1024 }
+        ensures fields { self.new ≡ self.old ++ order_fields names.now order.now }
+        ensures short { length self.new ≤ length self.old + 210 }
+    {
+        let instrument = listed(names, order.instrument);
+        self.field(b"55", instrument.name.bytes());
+        self.field(b"54", side_text(order.side));
+        self.number(b"38", u64::from(order.quantity));
+        self.field(b"40", kind_text(order.kind));
+        self.price_fields(order.kind, order.price, order.trigger, instrument.decimals);
+        self.field(b"59", life_text(order.life));
+    }
+
+    /// The price and the stop price, as far as the kind has them.
+    fn price_fields(&mut self, kind: Kind, price: Price, trigger: Price, decimals: u8)
+        requires room { length self.old + 60 ≤ 1024 }
+        requires decimals { decimals ≤ 8 }
+        ensures fields { self.new ≡ self.old ++ price_fields kind price trigger decimals }
+        ensures short { length self.new ≤ length self.old + 60 }
+    {
+        match kind {
+            Kind::Market => {}
+            Kind::Limit => self.price(b"44", price, decimals),
+            Kind::StopLimit => {
+                self.price(b"44", price, decimals);
+                self.price(b"99", trigger, decimals);
+            }
+        }
+    }
+
+    /// What is open and filled of it now.
+    fn state_fields(&mut self, head: &Head, order: &Order)
+        requires { length self.old + 120 ≤ 1024 }
+        ensures fields { self.new ≡ self.old ++ state_fields head.now order.now }
+        ensures short { length self.new ≤ length self.old + 120 }
+    {
+        self.number(b"151", u64::from(order.leaves));
+        self.number(b"14", u64::from(order.filled));
+        self.field(b"6", b"0");
+        self.field(b"60", head.time.bytes());
+    }
+}
+
+/// The name of a report's addressee, `UNKNOWN` where it is not known.
+fn addressee(names: &Names, firm: Option<u8>) -> ShortId
+    ensures { result ≡ addressee names.now firm }
+{
+    match firm {
+        Some(firm) if (firm as usize) < names.firm_count() => names.firm(firm),
+        _ => ShortId::default(),
+    }
+}
+
+/// An instrument. One that is not listed has the name `UNKNOWN` and no decimals.
+fn listed(names: &Names, instrument: u8) -> Listed
+    ensures name { result.name ≡ instrument_name names.now instrument }
+    ensures decimals { result.decimals ≡ decimals_of names.now instrument }
+    ensures few { result.decimals ≤ 8 }
+{
+    if (instrument as usize) < names.instrument_count() {
+        names.listed(instrument)
+    } else {
+        Listed::default()
+    }
+}
+
+fn side_text(side: Side) -> &'static [u8]
+    ensures text { result.now ≡ side_text side }
+    ensures short { length result.now ≤ 24 }
+{
+    match side {
+        Side::Buy => b"1",
+        Side::Sell => b"2",
+    }
+}
+
+fn kind_text(kind: Kind) -> &'static [u8]
+    ensures text { result.now ≡ kind_text kind }
+    ensures short { length result.now ≤ 24 }
+{
+    match kind {
+        Kind::Market => b"1",
+        Kind::Limit => b"2",
+        Kind::StopLimit => b"4",
+    }
+}
+
+fn life_text(life: Life) -> &'static [u8]
+    ensures text { result.now ≡ life_text life }
+    ensures short { length result.now ≤ 24 }
+{
+    match life {
+        Life::Day => b"0",
+        Life::Gtc => b"1",
+        Life::Fak => b"3",
+        Life::Fok => b"4",
+    }
+}
+
+fn step_text(step: StepName) -> &'static [u8]
+    ensures text { result.now ≡ step_text step }
+    ensures short { length result.now ≤ 24 }
+{
+    match step {
+        StepName::Top => b"TOP",
+        StepName::Lmm => b"LMM",
+        StepName::Split => b"SPLIT",
+        StepName::ProRata => b"PRORATA",
+        StepName::Leveling => b"LEVELING",
+        StepName::Fifo => b"FIFO",
+    }
+}
+
+/// A fill that leaves something open, or nothing.
+fn fill_status(leaves: u32) -> &'static [u8]
+    ensures text { result.now ≡ fill_status leaves }
+    ensures short { length result.now ≤ 24 }
+{
+    if leaves == 0 { b"2" } else { b"1" }
+}
