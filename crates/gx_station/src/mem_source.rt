@@ -39,7 +39,12 @@ impl Model for MemSource {
 
 impl MemSource {
     /// A source of these bytes. Each piece has at least one byte. An `Err` is want of memory.
-    pub fn new(_alloc: Global, bytes: Vec<u8>, pieces: Vec<usize>, fail: Vec<u64>) -> Result<MemSource, AllocError>
+    pub fn new(
+        _alloc: Global,
+        bytes: Vec<u8>,
+        pieces: Vec<usize>,
+        fail: Vec<u64>,
+    ) -> Result<MemSource, AllocError>
         requires { AllByRecursion (λ size. 1 ≤ size) pieces.items }
         ensures { IfOk result (λ s. s ≡ record { bytes = bytes.items; pieces = pieces.items; fail = fail.items; calls = 0; faults = 0; reads = 0 }) }
     {

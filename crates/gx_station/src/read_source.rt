@@ -25,6 +25,13 @@ impl<R: Read> ReadSource<R> {
             reads: 0,
         }
     }
+
+    #[cfg(test)]
+    pub(crate) fn faults(&self) -> u64
+        ensures { result ≡ self.now.faults }
+    {
+        self.faults
+    }
 }
 
 impl<R: Read> Source for ReadSource<R> {
