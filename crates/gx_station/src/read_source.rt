@@ -1,5 +1,6 @@
 //! The adapter to a std reader.
 ghost use Rattle.std.specs.Prelude.{◌≡◌, ◌≤◌, IfOk, length};
+ghost use Rattle.std.specs.Io.KnownBytes.{ReadConsumes};
 
 use crate::count::{count_read, count_up};
 use crate::source::Source;
@@ -59,7 +60,8 @@ impl<R: Read> Source for ReadSource<R> {
 
 /// Reads, and reads again where the read was interrupted before it took anything.
 fn read_uninterrupted<R: Read>(reader: &mut R, into: &mut [u8]) -> io::Result<usize>
-    ensures { IfOk result (λ n. n ≤ length into.new) }
+    ensures within { IfOk result (λ n. n ≤ length into.new) }
+    ensures bytes { ReadConsumes (R.remaining reader.old) (R.remaining reader.new) result into.new }
 {
     for _ in 0..u64::MAX {
         match reader.read(into) {
