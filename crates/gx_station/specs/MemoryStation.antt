@@ -1,5 +1,5 @@
 -- A station in memory.
-use Rattle.std.specs.Prelude.{◌≡◌, ℕ, ◌+◌, ◌≤◌, Bool, true, false, ◌&&◌, nat_le, nat_lt, ◌⊎◌, List, ◌++◌, length, Some, Result, Ok, Err}
+use Rattle.std.specs.Prelude.{◌≡◌, ℕ, ◌+◌, Bool, true, false, ◌&&◌, nat_le, nat_lt, ◌⊎◌, List, ◌++◌, length, Some, Result, Ok, Err}
 use Rattle.gx_station.specs.Counts.{counted}
 use Rattle.gx_station.specs.Stations.{StationMeanings}
 use Rattle.gx_station.specs.MemorySource.{fails_next}

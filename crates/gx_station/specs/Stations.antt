@@ -1,5 +1,5 @@
 -- Where reports go.
-use Rattle.std.specs.Prelude.{◌≡◌, ℕ, ◌≤◌, List, ◌++◌, Option, option_map, Result, OnOk, OnErr, refl}
+use Rattle.std.specs.Prelude.{◌≡◌, ℕ, ◌≤◌, List, ◌++◌, Option, option_map, Result, OnOk, OnErr}
 use Rattle.std.proofs.Common.{arith}
 use Rattle.gx_base.specs.Told.{TellsPrefix, tells_itself, tells_then}
 use Rattle.gx_station.specs.Counts.{HasCause}

@@ -1,9 +1,11 @@
 //! The adapter to a journal file and a std writer.
-ghost use Rattle.std.specs.Prelude.{◌≡◌};
+ghost use Rattle.std.specs.Prelude.{OnOk};
+ghost use Rattle.std.specs.Io.KnownBytes.{Appends};
 
 use crate::count::count_up;
 use crate::station::{Failed, Station};
 use std::fs::File;
+use std::io;
 use std::io::Write;
 
 /// Keeps the journal in a std file, and sends to a std writer. It tells nothing of either.
@@ -31,7 +33,7 @@ impl<W: Write> Station for FileStation<W> {
     ghost meanings = { file_meanings };
 
     fn send(&mut self, bytes: &[u8]) -> Result<(), Failed> {
-        match self.out.write_all(bytes).and_then(|()| self.out.flush()) {
+        match write_out(&mut self.out, bytes) {
             Ok(()) => Ok(()),
             Err(_) => {
                 self.send_faults = count_up(self.send_faults);
@@ -39,4 +41,12 @@ impl<W: Write> Station for FileStation<W> {
             }
         }
     }
+}
+
+/// Writes all of the bytes, and leaves none in a buffer.
+fn write_out<W: Write>(out: &mut W, bytes: &[u8]) -> io::Result<()>
+    ensures { OnOk result (Appends (W.contents out.old) (W.contents out.new) bytes.now) }
+{
+    out.write_all(bytes)?;
+    out.flush()
 }

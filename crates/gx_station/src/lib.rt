@@ -8,6 +8,8 @@ mod mem_station;
 mod read_source;
 mod source;
 mod station;
+#[cfg(test)]
+mod tests;
 
 pub use file_station::FileStation;
 pub use mem_source::MemSource;

@@ -1,5 +1,5 @@
 //! A station in memory, for tests.
-ghost use Rattle.std.specs.Prelude.{◌≡◌, ◌≤◌, [], IfOk, vec_len};
+ghost use Rattle.std.specs.Prelude.{◌≡◌, ◌+◌, ◌≤◌, [], ◌++◌, IfOk, length, vec_capacity, vec_len};
 ghost use Rattle.gx_station.specs.Stations.{Sends};
 ghost use Rattle.gx_station.specs.MemoryStation.{MemoryStation, station_meanings, SendsMemory};
 
@@ -78,6 +78,15 @@ impl MemStation {
     }
 }
 
+/// Appends to what was sent, which has the room.
+fn append(output: &mut Vec<u8>, bytes: &[u8])
+    requires { vec_len output.old + length bytes.now ≤ vec_capacity output.old }
+    ensures items { output.new.items ≡ output.old.items ++ bytes.now }
+    ensures capacity { vec_capacity output.old ≤ vec_capacity output.new }
+{
+    let _ = output.extend_from_slice(bytes);
+}
+
 impl Station for MemStation {
     ghost meanings = { station_meanings };
 
@@ -86,7 +95,19 @@ impl Station for MemStation {
         ensures sends { Sends station_meanings self.old self.new bytes.now result }
         ensures exactly { SendsMemory self.old self.new bytes.now result }
     {
+        let fails = is_to_fail(self.fail.as_slice(), self.calls);
         self.calls = count_up(self.calls);
-        Err(Failed)
+        if self.listed.len() >= self.most || self.output.len() + bytes.len() > self.sends {
+            self.send_faults = count_up(self.send_faults);
+            return Err(Failed);
+        }
+        if fails {
+            self.listed.push_reserved(self.output.len());
+            self.send_faults = count_up(self.send_faults);
+            return Err(Failed);
+        }
+        append(&mut self.output, bytes);
+        self.listed.push_reserved(self.output.len());
+        Ok(())
     }
 }

@@ -1,13 +1,15 @@
 //! The adapter to a std reader.
-ghost use Rattle.std.specs.Prelude.{◌≡◌};
+ghost use Rattle.std.specs.Prelude.{◌≡◌, ◌≤◌, IfOk, length};
+ghost use Rattle.std.specs.Io.KnownBytes.{ReadConsumes};
 
-use crate::count::count_up;
+use crate::count::{count_read, count_up};
 use crate::source::Source;
 use crate::station::Failed;
-use std::io::Read;
+use std::io;
+use std::io::{ErrorKind, Read};
 
-/// Reads a std reader. `None` stands for one that could not be opened: each read is then `Failed`. It tells nothing
-/// of the bytes.
+/// Reads a std reader. `None` stands for one that could not be opened: each read is then `Failed`. A read that was
+/// interrupted is tried again. It tells nothing of the bytes.
 #[derive(Drop)]
 pub struct ReadSource<R> {
     reader: Option<R>,
@@ -16,12 +18,20 @@ pub struct ReadSource<R> {
 }
 
 impl<R: Read> ReadSource<R> {
+    /// A source over this reader.
     pub fn new(reader: Option<R>) -> ReadSource<R> {
         ReadSource {
             reader,
             faults: 0,
             reads: 0,
         }
+    }
+
+    #[cfg(test)]
+    pub(crate) fn faults(&self) -> u64
+        ensures { result ≡ self.now.faults }
+    {
+        self.faults
     }
 }
 
@@ -35,11 +45,9 @@ impl<R: Read> Source for ReadSource<R> {
             self.faults = count_up(self.faults);
             return Err(Failed);
         };
-        match reader.read(into) {
+        match read_uninterrupted(reader, into) {
             Ok(n) => {
-                if n > 0 {
-                    self.reads = count_up(self.reads);
-                }
+                self.reads = count_read(self.reads, n);
                 Ok(n)
             }
             Err(_) => {
@@ -48,4 +56,18 @@ impl<R: Read> Source for ReadSource<R> {
             }
         }
     }
+}
+
+/// Reads, and reads again where the read was interrupted before it took anything.
+fn read_uninterrupted<R: Read>(reader: &mut R, into: &mut [u8]) -> io::Result<usize>
+    ensures within { IfOk result (λ n. n ≤ length into.new) }
+    ensures bytes { ReadConsumes (R.remaining reader.old) (R.remaining reader.new) result into.new }
+{
+    for _ in 0..u64::MAX {
+        match reader.read(into) {
+            Err(e) if e.kind() == ErrorKind::Interrupted => {}
+            done => return done,
+        }
+    }
+    Err(io::Error::from(ErrorKind::Interrupted))
 }
