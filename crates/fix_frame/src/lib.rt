@@ -2,7 +2,10 @@
 #![tactic(auto)]
 
 mod framer;
+mod front;
+mod head;
 mod next;
+mod trailer;
 
 pub use framer::Framer;
 pub use next::Next;
