@@ -1,6 +1,7 @@
 -- What a head says of the bytes behind it, and which bytes begin with none.
-use Rattle.std.proofs.Common.{◌≡◌, ℕ, zero, suc, ◌+◌, ◌-◌, ◌*◌, ◌<◌, ◌≤◌, ◌⊎◌, Bool, true, false, cond, true≢false, List, [], ◌∷◌, ◌++◌, length, get_or, take, drop, refl, sym, ap, subst, ◌∙◌, inl, inr, arith, append_assoc, length-append, length-drop, take-take, below_more}
-use Rattle.std.proofs.lemmas.Bool.{cases_lt, cases_Bool}
+use Rattle.std.proofs.Common.{◌≡◌, ℕ, zero, suc, ◌+◌, ◌-◌, ◌*◌, ◌<◌, ◌≤◌, ◌⊎◌, Bool, true, false, not, bytes_eq, true≢false, List, [], ◌∷◌, ◌++◌, length, get_or, take, drop, refl, sym, ap, subst, ◌∙◌, inl, inr, arith, append_assoc, length-append, length-drop, take-take, below_more}
+use Rattle.std.proofs.lemmas.Bool.{cases_lt, true_from_ne_false}
+use Rattle.std.proofs.lemmas.Slice.Eq.{bytes_eq-Decides}
 use Rattle.std.proofs.lemmas.Bool.Decides.{nat_tests}
 use Rattle.std.proofs.lemmas.List.{get_or_append_left, get_or_past, take-append-le, drop-append-le, take_more, length-take-le, take_all}
 use Rattle.std.proofs.lemmas.List.Sums.{prefix_len-le-length, prefix_len_is, prefix_len_passes, prefix_len_stops}
@@ -9,7 +10,9 @@ use Rattle.std.proofs.lemmas.Str.Parse.{digits_value-take-le}
 use Rattle.std.specs.Char.{is_ascii_digit, digit_value}
 use Rattle.std.specs.List.{prefix_len}
 use Rattle.std.specs.Str.Parse.{digits_value}
-use Rattle.fix_frame.specs.Heads.{IsLength, HasHead, begin_text}
+use Rattle.fix_frame.specs.Heads.{IsLength, HasHead, begin_text, GivesLength, GivesHead}
+use Rattle.fix_frame.specs.declared.head.Head.{Head}
+use Rattle.fix_frame.specs.declared.head.Head.TheVariants.{Whole, NeedsMore, Broken}
 
 -- the bytes before place i are digits, which write n
 pub record DigitsSoFar (bytes : List ℕ) (i n : ℕ) : Type 0 where
@@ -162,3 +165,19 @@ no_head_from_begin bytes count within short apart more d n has =
 
 pub no_head_from_text : (bytes : List ℕ) → 12 ≤ length bytes → ((more : List ℕ) (d n : ℕ) → IsLength (drop 12 bytes ++ more) d n → ⊥) → (more : List ℕ) (d n : ℕ) → HasHead (bytes ++ more) d n → ⊥
 no_head_from_text bytes within none more d n has = none more d n (subst (λ (x : List ℕ). IsLength x d n) (drop-append-le 12 bytes more within) has.text)
+
+-- ---- what the functions find
+
+pub apart_from_ne : (xs ys : List ℕ) (r : Bool) → r ≡ not (bytes_eq xs ys) → r ≡ true → xs ≡ ys → ⊥
+apart_from_ne xs ys r is ne same =
+    let equal : bytes_eq xs ys ≡ true = (bytes_eq-Decides xs ys).1 same in
+    true≢false (sym ne ∙ (is ∙ ap not equal))
+
+pub same_from_ne : (xs ys : List ℕ) (r : Bool) → r ≡ not (bytes_eq xs ys) → r ≡ false → xs ≡ ys
+same_from_ne xs ys r is ne = (bytes_eq-Decides xs ys).0 (true_from_ne_false (bytes_eq xs ys) (λ apart. true≢false (sym (is ∙ ap not apart) ∙ ne)))
+
+pub head_from_text : (bytes rest : List ℕ) (head : Head) → 12 ≤ length bytes → take 12 bytes ≡ begin_text → rest ≡ drop 12 bytes → GivesLength rest head → GivesHead bytes head
+head_from_text bytes rest (Whole d n) within begin is text = record { begin = begin; text = subst (λ (x : List ℕ). IsLength x d n) is text }
+head_from_text bytes rest NeedsMore within begin is short = omega (arith, ap length is, length-drop 12 bytes)
+head_from_text bytes rest Broken within begin is none =
+    no_head_from_text bytes within (λ more d n. subst (λ (x : List ℕ). IsLength (x ++ more) d n → ⊥) is (none more d n))
