@@ -1,5 +1,5 @@
 -- What a head says of the bytes behind it, and which bytes begin with none.
-use Rattle.std.proofs.Common.{◌≡◌, ℕ, zero, suc, ◌+◌, ◌-◌, ◌*◌, ◌<◌, ◌≤◌, ◌⊎◌, Bool, true, false, not, bytes_eq, true≢false, List, [], ◌∷◌, ◌++◌, length, get_or, take, drop, refl, sym, ap, subst, ◌∙◌, inl, inr, arith, append_assoc, length-append, length-drop, take-take, below_more}
+use Rattle.std.proofs.Common.{◌≡◌, ℕ, zero, suc, ◌+◌, ◌-◌, ◌*◌, ◌<◌, ◌≤◌, ◌⊎◌, Bool, true, false, not, bytes_eq, true≢false, List, [], ◌∷◌, ◌++◌, length, get_or, take, drop, refl, sym, ap, subst, ◌∙◌, inl, inr, arith, append_assoc, length-append, length-drop, take-append-drop, take-take, below_more}
 use Rattle.std.proofs.lemmas.Bool.{cases_lt, true_from_ne_false}
 use Rattle.std.proofs.lemmas.Slice.Eq.{bytes_eq-Decides}
 use Rattle.std.proofs.lemmas.Bool.Decides.{nat_tests}
@@ -149,6 +149,39 @@ head_goes_on bytes more d n has =
       begin = take-append-le 12 bytes more (omega arith) ∙ has.begin;
       text = subst (λ (x : List ℕ). IsLength x d n) (sym behind) (length_goes_on (drop 12 bytes) more d n has.text);
     }
+
+-- so a front of the bytes in which it ends has it too
+length_before : (bytes more : List ℕ) (d n : ℕ) → d < length bytes → IsLength (bytes ++ more) d n → IsLength bytes d n
+length_before bytes more d n within is =
+    let stop : get_or bytes d 0 ≡ 1 = sym (get_or_append_left bytes more 0 d within) ∙ is.stop in
+    record {
+      count = prefix_len_is is_ascii_digit bytes d 0 (omega arith)
+        (λ k lt.
+          let below : k < prefix_len is_ascii_digit (bytes ++ more) = subst (λ (x : ℕ). k < x) (sym is.count) lt in
+          ap is_ascii_digit (sym (get_or_append_left bytes more 0 k (omega arith))) ∙ prefix_len_passes is_ascii_digit (bytes ++ more) k 0 below)
+        (λ _. ap is_ascii_digit stop);
+      stop = stop;
+      value = ap (λ (x : List ℕ). digits_value 10 x) (sym (take-append-le d bytes more (omega arith))) ∙ is.value;
+      some = is.some;
+      few = is.few;
+      least = is.least;
+      most = is.most;
+    }
+
+head_before : (bytes more : List ℕ) (d n : ℕ) → 12 + d < length bytes → HasHead (bytes ++ more) d n → HasHead bytes d n
+head_before bytes more d n within has =
+    let behind : drop 12 (bytes ++ more) ≡ drop 12 bytes ++ more = drop-append-le 12 bytes more (omega arith) in
+    let text = subst (λ (x : List ℕ). IsLength x d n) behind has.text in
+    record {
+      begin = sym (take-append-le 12 bytes more (omega arith)) ∙ has.begin;
+      text = length_before (drop 12 bytes) more d n (omega (arith, length-drop 12 bytes)) text;
+    }
+
+pub head_in_front : (bytes : List ℕ) (d n k : ℕ) → 12 + d < k → k ≤ length bytes → HasHead bytes d n → HasHead (take k bytes) d n
+head_in_front bytes d n k long within has =
+    let whole = subst (λ (x : List ℕ). HasHead x d n) (sym (take-append-drop k bytes)) has in
+    let size : length (take k bytes) ≡ k = length-take-le k bytes within in
+    head_before (take k bytes) (drop k bytes) d n (omega arith) whole
 
 -- bytes have one head
 pub one_head : (bytes : List ℕ) (d n d' n' : ℕ) → HasHead bytes d n → HasHead bytes d' n' → (d ≡ d') × (n ≡ n')
