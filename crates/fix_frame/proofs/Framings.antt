@@ -1,7 +1,9 @@
 -- What a framer holds, seen in its buffer.
-use Rattle.std.proofs.Common.{◌≡◌, ℕ, ◌+◌, ◌-◌, ◌^◌, ◌<◌, ◌≤◌, List, [], ◌∷◌, ◌++◌, length, take, drop, slice_range, refl, sym, ap, ap₂, subst, ◌∙◌, arith, append_assoc, append-nil, length-append, length-drop, length-take-le, take-append-drop, take-take, take-add}
-use Rattle.std.proofs.lemmas.List.{take_at, drop_at, drop-drop, drop-take, take_all}
-use Rattle.std.specs.List.{concat}
+use Rattle.std.proofs.Common.{◌≡◌, ℕ, ◌+◌, ◌-◌, ◌^◌, ◌<◌, ◌≤◌, List, [], ◌∷◌, ◌++◌, length, take, drop, slice_range, refl, sym, ap, ap₂, subst, ◌∙◌, arith, append_assoc, append-nil, length-append, length-drop, length-take, length-take-le, take-append-drop, take-take, take-add}
+use Rattle.std.proofs.lemmas.List.{take_at, drop_at, drop-drop, drop-take, take_all, drop-append-le}
+use Rattle.std.proofs.lemmas.Slice.{between_is}
+use borrow.Rule.Slice.PartMut.{put_mid}
+use Rattle.std.specs.List.{concat, copy_within}
 use Rattle.fix_frame.specs.Grammar.{IsFrame, IsFrameFront, BeginsWithNone}
 use Rattle.fix_frame.specs.Stream.{messages_of, rest_of}
 use Rattle.fix_frame.specs.Framing.{Framing, place_of, IsGiven, given_bytes, GivesFrame}
@@ -131,3 +133,47 @@ pub lies_in_seen : (f : Framing) (buffer : List ℕ) (first held end offset from
 lies_in_seen f buffer first held end offset from to seen below room whole is =
     subst (λ (x : Framing). LiesIn buffer x held from to) seen
       (lies_in buffer first held end offset from to below room whole (subst (λ (x : Framing). IsGiven x from to) (sym seen) is))
+
+-- ---- bytes behind those held
+
+pub slice_range-written : (buffer new behind : List ℕ) (start end count : ℕ) → start ≤ end → end ≤ length buffer → length new ≡ count → slice_range (take end buffer ++ (new ++ behind)) start (end + count) ≡ slice_range buffer start end ++ new
+slice_range-written buffer new behind start end count order within long =
+    let front = take end buffer in
+    let held = slice_range buffer start end in
+    let front_long : length front ≡ end = length-take-le end buffer within in
+    let held_long = length-slice_range buffer start end within in
+    let rest : drop start (front ++ (new ++ behind)) ≡ (held ++ new) ++ behind =
+      drop-append-le start front (new ++ behind) (omega arith)
+      ∙ (ap (λ (x : List ℕ). x ++ (new ++ behind)) (sym (between_is buffer start end)) ∙ sym (append_assoc held new behind)) in
+    ap (λ (x : List ℕ). take (end + count - start) x) rest ∙ take_at (held ++ new) behind (end + count - start) (omega (arith, length-append held new))
+
+-- what a lent buffer leaves when it is given back
+pub given_back : (buffer written : List ℕ) (len : ℕ) → length written ≡ len → take len (written ++ drop (length written) buffer) ≡ written
+given_back buffer written len long = take_at written (drop (length written) buffer) len long
+
+-- the bytes held, moved to the front
+pub slice_range-moved : (buffer moved : List ℕ) (start end : ℕ) → start ≤ end → end ≤ length buffer → moved ≡ copy_within buffer start end 0 → slice_range moved 0 (end - start) ≡ slice_range buffer start end
+slice_range-moved buffer moved start end order within is =
+    let held = slice_range buffer start end in
+    let held_long = length-slice_range buffer start end within in
+    ap (λ (x : List ℕ). slice_range x 0 (end - start)) is ∙ take_at held _ ((end - start) - 0) (omega arith)
+
+-- the bytes held lay within the buffer, since it is as long as before
+pub held_within : (buffer moved : List ℕ) (start end n : ℕ) → start ≤ end → end ≤ n → moved ≡ copy_within buffer start end 0 → length moved ≡ n → end ≤ length buffer
+held_within buffer moved start end n order within is long =
+    let held = take (end - start) (drop start buffer) in
+    let after = drop (0 + (end - start)) buffer in
+    let total : length moved ≡ length held + length after = ap length is ∙ length-append held after in
+    omega (arith, length-take (end - start) (drop start buffer), length-drop start buffer, length-drop (0 + (end - start)) buffer)
+
+-- the buffer was lent, and new bytes were written behind those held
+pub slice_range-fed : (items lent new : List ℕ) (len start end count : ℕ) → lent ≡ items → length lent ≡ len → start ≤ end → end + count ≤ len → length new ≡ count → slice_range (take len (put_mid end (end + count - end) lent new ++ drop (length (put_mid end (end + count - end) lent new)) items)) start (end + count) ≡ slice_range items start end ++ new
+slice_range-fed items lent new len start end count same whole order room long =
+    let behind = drop (end + count - end) (drop end lent) in
+    let front = take end lent in
+    let written = front ++ (new ++ behind) in
+    let front_long : length front ≡ end = length-take-le end lent (omega arith) in
+    let total : length written ≡ len = omega (arith, length-append front (new ++ behind), length-append new behind, length-drop (end + count - end) (drop end lent), length-drop end lent) in
+    ap (λ (x : List ℕ). slice_range x start (end + count)) (given_back items written len total)
+    ∙ (slice_range-written lent new behind start end count order (omega arith) long
+    ∙ ap (λ (x : List ℕ). slice_range x start end ++ new) same)
