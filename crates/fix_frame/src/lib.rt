@@ -5,6 +5,8 @@ mod framer;
 mod front;
 mod head;
 mod next;
+#[cfg(test)]
+mod tests;
 mod trailer;
 
 pub use framer::Framer;
