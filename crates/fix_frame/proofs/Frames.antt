@@ -1,5 +1,5 @@
 -- The parts of a frame, and that its head fixes its length.
-use Rattle.std.proofs.Common.{◌≡◌, ℕ, zero, suc, ◌+◌, ◌-◌, ◌*◌, ◌<◌, ◌≤◌, ◌⊎◌, Bool, true, false, ◌&&◌, ◌==◌, nat_le, bytes_eq, IsTrue, true≢false, List, [], ◌∷◌, ◌++◌, length, get_or, slice_index, take, drop, refl, sym, ap, ap₂, subst, ◌∙◌, inl, inr, arith, append_assoc, append-nil, length-append, length-drop, length-take-le, take-append-drop, le-leb, leb-true, eq-eqb, eqb-true}
+use Rattle.std.proofs.Common.{◌≡◌, ℕ, ◌+◌, ◌-◌, ◌<◌, ◌≤◌, Bool, true, false, ◌&&◌, ◌==◌, nat_le, bytes_eq, true≢false, List, [], ◌∷◌, ◌++◌, length, get_or, slice_index, take, drop, refl, sym, ap, ap₂, subst, ◌∙◌, inl, inr, arith, append_assoc, append-nil, length-append, length-drop, length-take-le, take-append-drop, le-leb, leb-true, eq-eqb, eqb-true}
 use Rattle.std.proofs.lemmas.Bool.{and_parts, and_from, cases_lt}
 use Rattle.std.proofs.lemmas.List.{take_at, drop_at, get_or_at, get_or-take, drop_more, drop-drop, get_or-append_right, get_or_append_left, nil_from_length, take_all, take-append-le, length-take}
 use Rattle.std.proofs.lemmas.List.Sums.{prefix_len-le-length, prefix_len_is, prefix_len_passes}
@@ -8,9 +8,9 @@ use Rattle.std.specs.Char.{is_ascii_digit}
 use Rattle.std.specs.List.{prefix_len}
 use Rattle.std.specs.Str.Parse.{digits_value}
 use Rattle.gx_base.specs.Frames.{soh, head_of, trailer_of, frame_of}
-use Rattle.fix_frame.specs.Grammar.{IsFrame, is_frame, IsFrameFront, BeginsWithNone, length_text, body_length, body_in, longest_body}
-use Rattle.fix_frame.specs.Heads.{IsLength, HasHead, begin_text, ends_frame}
-use Rattle.fix_frame.proofs.Heads.{stop_within, head_within, head_goes_on, head_in_front, one_head}
+use Rattle.fix_frame.specs.Grammar.{IsFrame, IsFrameFront, BeginsWithNone, length_text, body_length, body_in, longest_body}
+use Rattle.fix_frame.specs.Heads.{IsLength, HasHead, ends_frame}
+use Rattle.fix_frame.proofs.Heads.{stop_within, head_goes_on, head_in_front, one_head}
 
 -- b is the frame of this body, with these digits as its length
 pub record IsMade (digits body b : List ℕ) : Type 0 where
@@ -72,8 +72,8 @@ length_made digits rest n each value some few least most =
     let stop : get_or text (length digits) 0 ≡ 1 = get_or_at digits 1 rest 0 (length digits) refl in
     record {
       count = prefix_len_is is_ascii_digit text (length digits) 0 (omega (arith, length-append digits (1 ∷ rest)))
-        (λ k lt. ap is_ascii_digit (get_or_append_left digits (1 ∷ rest) 0 k lt) ∙ each k lt)
-        (λ _. ap is_ascii_digit stop);
+          (λ k lt. ap is_ascii_digit (get_or_append_left digits (1 ∷ rest) 0 k lt) ∙ each k lt)
+          (λ _. ap is_ascii_digit stop);
       stop = stop;
       value = ap (λ (x : List ℕ). digits_value 10 x) (take_at digits (1 ∷ rest) (length digits) refl) ∙ value;
       some = some;
@@ -238,10 +238,10 @@ frame_alone a b h longer =
 same_front : (bytes : List ℕ) (k total : ℕ) → total ≤ length bytes → length (take k bytes) ≡ total → take k bytes ≡ take total bytes
 same_front bytes k total within long =
     elim (cases_lt k (length bytes)) [
-      inl lt ↦ let same : k ≡ total = omega (arith, length-take k bytes) in ap (λ (x : ℕ). take x bytes) same
-    | inr le ↦
-        let all : take k bytes ≡ bytes = take_all k bytes le in
-        all ∙ sym (take_all total bytes (omega (arith, ap length all)))
+      | inl lt ↦ let same : k ≡ total = omega (arith, length-take k bytes) in ap (λ (x : ℕ). take x bytes) same
+      | inr le ↦
+          let all : take k bytes ≡ bytes = take_all k bytes le in
+          all ∙ sym (take_all total bytes (omega (arith, ap length all)))
     ]
 
 -- with a head, every front that is a frame has one length

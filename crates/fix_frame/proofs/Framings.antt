@@ -1,12 +1,12 @@
 -- What a framer holds, seen in its buffer.
-use Rattle.std.proofs.Common.{◌≡◌, ℕ, ◌+◌, ◌-◌, ◌^◌, ◌<◌, ◌≤◌, List, [], ◌∷◌, ◌++◌, length, take, drop, slice_range, refl, sym, ap, ap₂, subst, ◌∙◌, arith, append_assoc, append-nil, length-append, length-drop, length-take, length-take-le, take-append-drop, take-take, take-add}
+use Rattle.std.proofs.Common.{◌≡◌, ℕ, ◌+◌, ◌-◌, ◌≤◌, List, [], ◌∷◌, ◌++◌, length, take, drop, slice_range, refl, sym, ap, subst, ◌∙◌, arith, append_assoc, length-append, length-drop, length-take, length-take-le, take-append-drop, take-take, take-add}
 use Rattle.std.proofs.lemmas.List.{take_at, drop_at, drop-drop, drop-take, take_all, drop-append-le}
 use Rattle.std.proofs.lemmas.Slice.{between_is}
 use borrow.Rule.Slice.PartMut.{put_mid}
 use Rattle.std.specs.List.{concat, copy_within}
-use Rattle.fix_frame.specs.Grammar.{IsFrame, IsFrameFront, BeginsWithNone}
+use Rattle.fix_frame.specs.Grammar.{IsFrame}
 use Rattle.fix_frame.specs.Stream.{messages_of, rest_of}
-use Rattle.fix_frame.specs.Framing.{Framing, place_of, IsGiven, given_bytes, GivesFrame}
+use Rattle.fix_frame.specs.Framing.{Framing, IsGiven, given_bytes, GivesFrame}
 use Rattle.fix_frame.proofs.Streams.{messages_of-frame-append, messages_of-push, rest_of-push, concat-messages_of-whole}
 
 -- what is seen of a framer's fields
@@ -119,7 +119,7 @@ lies_in buffer first held end offset from to below room whole is =
     let within : to ≤ held = omega arith in
     let count : held - first ≡ (from - first) + (held - from) = omega arith in
     let cut : drop (from - first) all ≡ take (held - from) (drop from buffer) = ap (λ (x : ℕ). drop (from - first) (take x (drop first buffer))) count
-        ∙ (drop-take (from - first) (held - from) (drop first buffer) ∙ ap (λ (x : List ℕ). take (held - from) x) (drop-drop (from - first) first buffer ∙ ap (λ (x : ℕ). drop x buffer) (omega arith))) in
+    ∙ (drop-take (from - first) (held - from) (drop first buffer) ∙ ap (λ (x : List ℕ). take (held - from) x) (drop-drop (from - first) first buffer ∙ ap (λ (x : ℕ). drop x buffer) (omega arith))) in
     let shorter : take (to - from) (take (held - from) (drop from buffer)) ≡ take (to - from) (drop from buffer) = take-take (to - from) (held - from) (drop from buffer) (omega arith) in
     record {
       above = above;
@@ -132,7 +132,7 @@ lies_in buffer first held end offset from to below room whole is =
 pub lies_in_seen : (f : Framing) (buffer : List ℕ) (first held end offset from to : ℕ) → framing buffer first held end offset ≡ f → first ≤ held → held ≤ length buffer → rest_of (slice_range buffer first held) ≡ [] → IsGiven f from to → LiesIn buffer f held from to
 lies_in_seen f buffer first held end offset from to seen below room whole is =
     subst (λ (x : Framing). LiesIn buffer x held from to) seen
-      (lies_in buffer first held end offset from to below room whole (subst (λ (x : Framing). IsGiven x from to) (sym seen) is))
+    (lies_in buffer first held end offset from to below room whole (subst (λ (x : Framing). IsGiven x from to) (sym seen) is))
 
 -- ---- bytes behind those held
 
@@ -143,8 +143,8 @@ slice_range-written buffer new behind start end count order within long =
     let front_long : length front ≡ end = length-take-le end buffer within in
     let held_long = length-slice_range buffer start end within in
     let rest : drop start (front ++ (new ++ behind)) ≡ (held ++ new) ++ behind =
-      drop-append-le start front (new ++ behind) (omega arith)
-      ∙ (ap (λ (x : List ℕ). x ++ (new ++ behind)) (sym (between_is buffer start end)) ∙ sym (append_assoc held new behind)) in
+    drop-append-le start front (new ++ behind) (omega arith)
+    ∙ (ap (λ (x : List ℕ). x ++ (new ++ behind)) (sym (between_is buffer start end)) ∙ sym (append_assoc held new behind)) in
     ap (λ (x : List ℕ). take (end + count - start) x) rest ∙ take_at (held ++ new) behind (end + count - start) (omega (arith, length-append held new))
 
 -- what a lent buffer leaves when it is given back

@@ -1,10 +1,10 @@
 -- What a head says of the bytes behind it, and which bytes begin with none.
-use Rattle.std.proofs.Common.{◌≡◌, ℕ, zero, suc, ◌+◌, ◌-◌, ◌*◌, ◌<◌, ◌≤◌, ◌⊎◌, Bool, true, false, not, bytes_eq, true≢false, List, [], ◌∷◌, ◌++◌, length, get_or, take, drop, refl, sym, ap, subst, ◌∙◌, inl, inr, arith, append_assoc, length-append, length-drop, take-append-drop, take-take, below_more}
+use Rattle.std.proofs.Common.{◌≡◌, ℕ, zero, suc, ◌+◌, ◌-◌, ◌*◌, ◌<◌, ◌≤◌, ◌⊎◌, Bool, true, false, not, bytes_eq, true≢false, List, ◌++◌, length, get_or, take, drop, sym, ap, subst, ◌∙◌, inl, inr, arith, length-append, length-drop, take-append-drop, take-take, below_more}
 use Rattle.std.proofs.lemmas.Bool.{cases_lt, true_from_ne_false}
 use Rattle.std.proofs.lemmas.Slice.Eq.{bytes_eq-Decides}
 use Rattle.std.proofs.lemmas.Bool.Decides.{nat_tests}
-use Rattle.std.proofs.lemmas.List.{get_or_append_left, get_or_past, take-append-le, drop-append-le, take_more, length-take-le, take_all}
-use Rattle.std.proofs.lemmas.List.Sums.{prefix_len-le-length, prefix_len_is, prefix_len_passes, prefix_len_stops}
+use Rattle.std.proofs.lemmas.List.{get_or_append_left, get_or_past, take-append-le, drop-append-le, length-take-le}
+use Rattle.std.proofs.lemmas.List.Sums.{prefix_len_is, prefix_len_passes}
 use Rattle.std.proofs.lemmas.Int.Digits.{digits_value_more}
 use Rattle.std.proofs.lemmas.Str.Parse.{digits_value-take-le}
 use Rattle.std.specs.Char.{is_ascii_digit, digit_value}
@@ -55,10 +55,10 @@ length_from_stop bytes i n so_far stop least =
 pub digits_within : (bytes more : List ℕ) (i d n : ℕ) → i ≤ length bytes → ((k : ℕ) → k < i → is_ascii_digit (get_or bytes k 0) ≡ true) → IsLength (bytes ++ more) d n → i ≤ d
 digits_within bytes more i d n within each is =
     elim (cases_lt d i) [
-      inl lt ↦
-        let reads : get_or (bytes ++ more) d 0 ≡ get_or bytes d 0 = get_or_append_left bytes more 0 d (omega arith) in
-        absurd (soh_is_no_digit (get_or bytes d 0) (sym reads ∙ is.stop) (each d lt))
-    | inr le ↦ le
+      | inl lt ↦
+          let reads : get_or (bytes ++ more) d 0 ≡ get_or bytes d 0 = get_or_append_left bytes more 0 d (omega arith) in
+          absurd (soh_is_no_digit (get_or bytes d 0) (sym reads ∙ is.stop) (each d lt))
+      | inr le ↦ le
     ]
 
 -- it ends at the first byte that is no digit
@@ -66,12 +66,12 @@ pub digits_end : (bytes more : List ℕ) (i d n : ℕ) → i < length bytes → 
 digits_end bytes more i d n within each stops is =
     let passed : i ≤ d = digits_within bytes more i d n (omega arith) each is in
     elim (cases_lt i d) [
-      inl lt ↦
-        let reads : get_or (bytes ++ more) i 0 ≡ get_or bytes i 0 = get_or_append_left bytes more 0 i within in
-        let below : i < prefix_len is_ascii_digit (bytes ++ more) = subst (λ (x : ℕ). i < x) (sym is.count) lt in
-        let passes = prefix_len_passes is_ascii_digit (bytes ++ more) i 0 below in
-        absurd (true≢false (sym passes ∙ (ap is_ascii_digit reads ∙ stops)))
-    | inr le ↦ omega arith
+      | inl lt ↦
+          let reads : get_or (bytes ++ more) i 0 ≡ get_or bytes i 0 = get_or_append_left bytes more 0 i within in
+          let below : i < prefix_len is_ascii_digit (bytes ++ more) = subst (λ (x : ℕ). i < x) (sym is.count) lt in
+          let passes = prefix_len_passes is_ascii_digit (bytes ++ more) i 0 below in
+          absurd (true≢false (sym passes ∙ (ap is_ascii_digit reads ∙ stops)))
+      | inr le ↦ omega arith
     ]
 
 pub no_length_from_stop : (bytes : List ℕ) (i n : ℕ) → DigitsSoFar bytes i n → i < length bytes → is_ascii_digit (get_or bytes i 0) ≡ false → (get_or bytes i 0 ≡ 1 → n ≡ 0) → (more : List ℕ) (d m : ℕ) → IsLength (bytes ++ more) d m → ⊥
@@ -93,14 +93,14 @@ no_length_from_digits bytes i n within each value over more d m is =
     let few = is.few in
     let most = is.most in
     elim over [
-      inl many ↦ omega arith
-    | inr large ↦
-        let text = take d (bytes ++ more) in
-        let front : take i text ≡ take i bytes = take-take i d (bytes ++ more) passed ∙ take-append-le i bytes more within in
-        let larger : digits_value 10 (take i text) ≤ digits_value 10 text = digits_value-take-le 10 text i (omega arith) in
-        let first : digits_value 10 (take i text) ≡ n = ap (λ (x : List ℕ). digits_value 10 x) front ∙ sym value in
-        let last : digits_value 10 text ≡ m = is.value in
-        omega arith
+      | inl many ↦ omega arith
+      | inr large ↦
+          let text = take d (bytes ++ more) in
+          let front : take i text ≡ take i bytes = take-take i d (bytes ++ more) passed ∙ take-append-le i bytes more within in
+          let larger : digits_value 10 (take i text) ≤ digits_value 10 text = digits_value-take-le 10 text i (omega arith) in
+          let first : digits_value 10 (take i text) ≡ n = ap (λ (x : List ℕ). digits_value 10 x) front ∙ sym value in
+          let last : digits_value 10 text ≡ m = is.value in
+          omega arith
     ]
 
 digit_value_is : (b : ℕ) → is_ascii_digit b ≡ true → (48 ≤ b) × (b ≤ 57) × (digit_value b ≡ b - 48)
@@ -125,10 +125,10 @@ length_goes_on bytes more d n is =
     let total : d ≤ length (bytes ++ more) = omega (arith, length-append bytes more) in
     record {
       count = prefix_len_is is_ascii_digit (bytes ++ more) d 0 total
-        (λ k lt.
+          (λ k lt.
           let below : k < prefix_len is_ascii_digit bytes = subst (λ (x : ℕ). k < x) (sym is.count) lt in
           ap is_ascii_digit (get_or_append_left bytes more 0 k (omega arith)) ∙ prefix_len_passes is_ascii_digit bytes k 0 below)
-        (λ _. ap is_ascii_digit stop);
+          (λ _. ap is_ascii_digit stop);
       stop = stop;
       value = ap (λ (x : List ℕ). digits_value 10 x) (take-append-le d bytes more (omega arith)) ∙ is.value;
       some = is.some;
@@ -156,10 +156,10 @@ length_before bytes more d n within is =
     let stop : get_or bytes d 0 ≡ 1 = sym (get_or_append_left bytes more 0 d within) ∙ is.stop in
     record {
       count = prefix_len_is is_ascii_digit bytes d 0 (omega arith)
-        (λ k lt.
+          (λ k lt.
           let below : k < prefix_len is_ascii_digit (bytes ++ more) = subst (λ (x : ℕ). k < x) (sym is.count) lt in
           ap is_ascii_digit (sym (get_or_append_left bytes more 0 k (omega arith))) ∙ prefix_len_passes is_ascii_digit (bytes ++ more) k 0 below)
-        (λ _. ap is_ascii_digit stop);
+          (λ _. ap is_ascii_digit stop);
       stop = stop;
       value = ap (λ (x : List ℕ). digits_value 10 x) (sym (take-append-le d bytes more (omega arith))) ∙ is.value;
       some = is.some;

@@ -1,9 +1,9 @@
 -- How a stream falls into messages.
-use Rattle.std.proofs.Common.{◌≡◌, ◌≢◌, ℕ, zero, suc, ◌+◌, ◌<◌, ◌≤◌, ◌⊎◌, Bool, true, false, cond, true≢false, List, [], ◌∷◌, ◌++◌, length, take, drop, refl, sym, ap, subst, ◌∙◌, inl, inr, arith, append_assoc, append-nil, take-append-drop}
+use Rattle.std.proofs.Common.{◌≡◌, ℕ, suc, ◌<◌, true, false, cond, true≢false, List, [], ◌∷◌, ◌++◌, length, take, drop, refl, sym, ap, subst, ◌∙◌, inl, inr, arith, append_assoc, append-nil, take-append-drop}
 use Rattle.std.proofs.lemmas.Bool.{cond-true, cond-false, false_from_ne_true, cases_Bool, cases_lt}
 use Rattle.std.proofs.lemmas.List.{nil_from_length}
 use Rattle.std.specs.List.{concat}
-use Rattle.fix_frame.specs.Grammar.{is_frame, IsFrame, IsFrameFront, BeginsWithNone}
+use Rattle.fix_frame.specs.Grammar.{is_frame, IsFrame, BeginsWithNone}
 use Rattle.fix_frame.specs.Stream.{messages_from, rest_from, messages_of, rest_of}
 use Rattle.fix_frame.proofs.Frames.{frame_alone, frame_least}
 
@@ -14,8 +14,8 @@ messages_from-append front [] v = refl
 messages_from-append front (b ∷ u) v =
     let front' = front ++ b ∷ [] in
     elim (is_frame front') as (λ t. cond t (front' ∷ messages_from [] (u ++ v)) (messages_from front' (u ++ v)) ≡ cond t (front' ∷ messages_from [] u) (messages_from front' u) ++ messages_from (cond t (rest_from [] u) (rest_from front' u)) v) [
-      true ↦ ap (λ ms. front' ∷ ms) (messages_from-append [] u v)
-    | false ↦ messages_from-append front' u v
+      | true ↦ ap (λ ms. front' ∷ ms) (messages_from-append [] u v)
+      | false ↦ messages_from-append front' u v
     ]
 
 pub rest_from-append : (front u v : List ℕ) → rest_from front (u ++ v) ≡ rest_from (rest_from front u) v
@@ -23,8 +23,8 @@ rest_from-append front [] v = refl
 rest_from-append front (b ∷ u) v =
     let front' = front ++ b ∷ [] in
     elim (is_frame front') as (λ t. cond t (rest_from [] (u ++ v)) (rest_from front' (u ++ v)) ≡ rest_from (cond t (rest_from [] u) (rest_from front' u)) v) [
-      true ↦ rest_from-append [] u v
-    | false ↦ rest_from-append front' u v
+      | true ↦ rest_from-append [] u v
+      | false ↦ rest_from-append front' u v
     ]
 
 -- a stream is its messages and its rest
@@ -34,8 +34,8 @@ concat-messages_from front (b ∷ u) =
     let front' = front ++ b ∷ [] in
     let whole : front' ++ u ≡ front ++ b ∷ u = append_assoc front (b ∷ []) u in
     elim (is_frame front') as (λ t. concat (cond t (front' ∷ messages_from [] u) (messages_from front' u)) ++ cond t (rest_from [] u) (rest_from front' u) ≡ front ++ b ∷ u) [
-      true ↦ append_assoc front' (concat (messages_from [] u)) (rest_from [] u) ∙ (ap (λ x. front' ++ x) (concat-messages_from [] u) ∙ whole)
-    | false ↦ concat-messages_from front' u ∙ whole
+      | true ↦ append_assoc front' (concat (messages_from [] u)) (rest_from [] u) ∙ (ap (λ x. front' ++ x) (concat-messages_from [] u) ∙ whole)
+      | false ↦ concat-messages_from front' u ∙ whole
     ]
 
 pub concat-messages_of : (u : List ℕ) → concat (messages_of u) ++ rest_of u ≡ u
@@ -51,18 +51,23 @@ messages_from-frame front (b ∷ f) u some h =
     let whole : front' ++ f ≡ front ++ b ∷ f = append_assoc front (b ∷ []) f in
     let longer : IsFrame (front' ++ f) = subst (λ (x : List ℕ). IsFrame x) (sym whole) h in
     elim (cases_Bool (is_frame front')) [
-      inl is ↦
-        let none : f ≡ [] = frame_alone front' f is longer in
-        (cond-true (is_frame front') (front' ∷ messages_of (f ++ u)) (messages_from front' (f ++ u)) is ∙ (ap (λ (x : List ℕ). front' ∷ messages_of (x ++ u)) none ∙ ap (λ (x : List ℕ). (front ++ b ∷ x) ∷ messages_of u) (sym none)),
-            cond-true (is_frame front') (rest_of (f ++ u)) (rest_from front' (f ++ u)) is ∙ ap (λ (x : List ℕ). rest_of (x ++ u)) none)
-    | inr no_frame ↦
-        let behind : 0 < length f = elim (cases_lt 0 (length f)) [ inl lt ↦ lt | inr le ↦
-          let none : f ≡ [] = nil_from_length f (omega arith) in
-          let ends : IsFrame front' = subst (λ (x : List ℕ). IsFrame (front ++ b ∷ x)) none h in
-          absurd (true≢false (sym ends ∙ no_frame)) ] in
-        let next = messages_from-frame front' f u behind longer in
-        (cond-false (is_frame front') (front' ∷ messages_of (f ++ u)) (messages_from front' (f ++ u)) no_frame ∙ (next.0 ∙ ap (λ (x : List ℕ). x ∷ messages_of u) whole),
-            cond-false (is_frame front') (rest_of (f ++ u)) (rest_from front' (f ++ u)) no_frame ∙ next.1)
+      | inl is ↦
+          let none : f ≡ [] = frame_alone front' f is longer in (
+            cond-true (is_frame front') (front' ∷ messages_of (f ++ u)) (messages_from front' (f ++ u)) is ∙ (ap (λ (x : List ℕ). front' ∷ messages_of (x ++ u)) none ∙ ap (λ (x : List ℕ). (front ++ b ∷ x) ∷ messages_of u) (sym none)),
+            cond-true (is_frame front') (rest_of (f ++ u)) (rest_from front' (f ++ u)) is ∙ ap (λ (x : List ℕ). rest_of (x ++ u)) none,
+          )
+      | inr no_frame ↦
+          let behind : 0 < length f = elim (cases_lt 0 (length f)) [
+            | inl lt ↦ lt
+            | inr le ↦
+                let none : f ≡ [] = nil_from_length f (omega arith) in
+                let ends : IsFrame front' = subst (λ (x : List ℕ). IsFrame (front ++ b ∷ x)) none h in
+                absurd (true≢false (sym ends ∙ no_frame))
+          ] in
+          let next = messages_from-frame front' f u behind longer in (
+            cond-false (is_frame front') (front' ∷ messages_of (f ++ u)) (messages_from front' (f ++ u)) no_frame ∙ (next.0 ∙ ap (λ (x : List ℕ). x ∷ messages_of u) whole),
+            cond-false (is_frame front') (rest_of (f ++ u)) (rest_from front' (f ++ u)) no_frame ∙ next.1,
+          )
     ]
 
 pub messages_of-frame-append : (f u : List ℕ) → IsFrame f → messages_of (f ++ u) ≡ f ∷ messages_of u
@@ -96,9 +101,10 @@ messages_from-none front [] none = (refl, sym (append-nil front))
 messages_from-none front (b ∷ u) none =
     let front' = front ++ b ∷ [] in
     let no_frame : is_frame front' ≡ false = false_from_ne_true (is_frame front') (λ is. none 1 (omega arith) is) in
-    let next = messages_from-none front' u (λ n some h. none (suc n) (omega arith) (subst (λ (x : List ℕ). IsFrame x) (append_assoc front (b ∷ []) (take n u)) h)) in
-    (cond-false (is_frame front') (front' ∷ messages_of u) (messages_from front' u) no_frame ∙ next.0,
-        cond-false (is_frame front') (rest_of u) (rest_from front' u) no_frame ∙ (next.1 ∙ append_assoc front (b ∷ []) u))
+    let next = messages_from-none front' u (λ n some h. none (suc n) (omega arith) (subst (λ (x : List ℕ). IsFrame x) (append_assoc front (b ∷ []) (take n u)) h)) in (
+      cond-false (is_frame front') (front' ∷ messages_of u) (messages_from front' u) no_frame ∙ next.0,
+      cond-false (is_frame front') (rest_of u) (rest_from front' u) no_frame ∙ (next.1 ∙ append_assoc front (b ∷ []) u),
+    )
 
 pub messages_of-none : (u : List ℕ) → BeginsWithNone u → messages_of u ≡ []
 messages_of-none u none = (messages_from-none [] u (λ n _ h. none n h)).0

@@ -22,8 +22,12 @@ pub fn find_front(bytes: &[u8]) -> Front
     ensures { GivesFront bytes.now result }
 {
     match read_head(bytes) {
-        Head::Whole { digits, body_length } => {
-            close_front(bytes, HEAD_WITHOUT_DIGITS + digits + body_length + TRAILER_LENGTH)
+        Head::Whole {
+            digits,
+            body_length,
+        } => {
+            let length = HEAD_WITHOUT_DIGITS + digits + body_length + TRAILER_LENGTH;
+            close_front(bytes, length)
         }
         Head::NeedsMore => Front::NeedsMore,
         Head::Broken => Front::Broken,

@@ -45,7 +45,10 @@ fn read_length(bytes: &[u8]) -> Head
     for (digits, byte) in bytes.iter().enumerate() {
         if !byte.is_ascii_digit() {
             return if *byte == SOH && body_length > 0 {
-                Head::Whole { digits, body_length }
+                Head::Whole {
+                    digits,
+                    body_length,
+                }
             } else {
                 Head::Broken
             };

@@ -4,12 +4,15 @@ use std::alloc::Global;
 use std::process::Abort;
 use std::test::Fail;
 
-const FIRST: &[u8] = b"8=FIX.4.2\x019=89\x0135=D\x0149=AAA\x0156=GX\x0134=1\x0152=20240102-09:30:00\x0111=a1\x0155=ESZ4\x0154=2\x0138=10\x0140=2\x0144=100.00\x0159=0\x0110=210\x01";
+const FIRST: &[u8] =
+    b"8=FIX.4.2\x019=89\x0135=D\x0149=AAA\x0156=GX\x0134=1\x0152=20240102-09:30:00\x0111=a1\x0155=ESZ4\x0154=2\x0138=10\x0140=2\x0144=100.00\x0159=0\x0110=210\x01";
 
-const SECOND: &[u8] = b"8=FIX.4.2\x019=88\x0135=D\x0149=BBB\x0156=GX\x0134=1\x0152=20240102-09:30:01\x0111=b1\x0155=ESZ4\x0154=1\x0138=4\x0140=2\x0144=100.00\x0159=0\x0110=168\x01";
+const SECOND: &[u8] =
+    b"8=FIX.4.2\x019=88\x0135=D\x0149=BBB\x0156=GX\x0134=1\x0152=20240102-09:30:01\x0111=b1\x0155=ESZ4\x0154=1\x0138=4\x0140=2\x0144=100.00\x0159=0\x0110=168\x01";
 
 /// The second frame with a checksum one too high.
-const WRONG_SECOND: &[u8] = b"8=FIX.4.2\x019=88\x0135=D\x0149=BBB\x0156=GX\x0134=1\x0152=20240102-09:30:01\x0111=b1\x0155=ESZ4\x0154=1\x0138=4\x0140=2\x0144=100.00\x0159=0\x0110=169\x01";
+const WRONG_SECOND: &[u8] =
+    b"8=FIX.4.2\x019=88\x0135=D\x0149=BBB\x0156=GX\x0134=1\x0152=20240102-09:30:01\x0111=b1\x0155=ESZ4\x0154=1\x0138=4\x0140=2\x0144=100.00\x0159=0\x0110=169\x01";
 
 /// Feeds all the bytes.
 fn put(rt: &impl Abort, framer: &mut Framer, bytes: &[u8]) {
@@ -81,11 +84,26 @@ fn stays_at_a_wrong_checksum(rt: HostRuntime) -> Result<(), Fail> {
 
 #[test]
 fn answers_at_the_head(rt: HostRuntime) -> Result<(), Fail> {
-    assert_eq!(rt; answer(&rt, rt.alloc(), b"8=FIX.4.2\x019=4000")?, Next::More);
-    assert_eq!(rt; answer(&rt, rt.alloc(), b"8=FIX.4.2\x019=4001")?, Next::Bad(0));
-    assert_eq!(rt; answer(&rt, rt.alloc(), b"8=FIX.4.2\x019=00000")?, Next::More);
-    assert_eq!(rt; answer(&rt, rt.alloc(), b"8=FIX.4.2\x019=0000001")?, Next::Bad(0));
-    assert_eq!(rt; answer(&rt, rt.alloc(), b"8=FIX.4.2\x019=0\x01")?, Next::Bad(0));
+    assert_eq!(rt;
+        answer(&rt, rt.alloc(), b"8=FIX.4.2\x019=4000")?,
+        Next::More
+    );
+    assert_eq!(rt;
+        answer(&rt, rt.alloc(), b"8=FIX.4.2\x019=4001")?,
+        Next::Bad(0)
+    );
+    assert_eq!(rt;
+        answer(&rt, rt.alloc(), b"8=FIX.4.2\x019=00000")?,
+        Next::More
+    );
+    assert_eq!(rt;
+        answer(&rt, rt.alloc(), b"8=FIX.4.2\x019=0000001")?,
+        Next::Bad(0)
+    );
+    assert_eq!(rt;
+        answer(&rt, rt.alloc(), b"8=FIX.4.2\x019=0\x01")?,
+        Next::Bad(0)
+    );
     assert_eq!(rt; answer(&rt, rt.alloc(), b"8=FIX.4.4")?, Next::Bad(0));
     Ok(())
 }

@@ -1,4 +1,4 @@
-use Rattle.std.proofs.Common.{◌≡◌, ℕ, ◌+◌, ◌<◌, ◌≤◌, false, true, length, take, sym, ◌∙◌, arith}
+use Rattle.std.proofs.Common.{◌≡◌, false, take, sym, ◌∙◌, arith}
 use Rattle.fix_frame.specs.Heads.{ends_frame}
 use Rattle.fix_frame.proofs.Frames.{frame_from_front, none_from_head, none_from_open, no_front_from_open}
 use Rattle.fix_frame.proofs.front.close_front.Goals as goal

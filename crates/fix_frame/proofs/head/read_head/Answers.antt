@@ -1,4 +1,4 @@
-use Rattle.std.proofs.Common.{◌≡◌, ℕ, ◌+◌, ◌-◌, ◌*◌, ◌<◌, ◌≤◌, true, false, length, take, drop, ap, ◌∙◌, sym, subst, List, arith}
+use Rattle.std.proofs.Common.{◌≡◌, ℕ, take, drop, ap, ◌∙◌, subst, arith}
 use Rattle.std.proofs.lemmas.List.{take_rest}
 use Rattle.fix_frame.specs.Heads.{begin_text}
 use Rattle.fix_frame.proofs.Heads.{no_head_from_begin, apart_from_ne, same_from_ne, head_from_text}

@@ -1,4 +1,4 @@
-use Rattle.std.proofs.Common.{◌≡◌, ℕ, ◌+◌, ◌-◌, ◌<◌, ◌≤◌, List, length, take, drop, slice_range, refl, sym, ap, subst, ◌∙◌, arith}
+use Rattle.std.proofs.Common.{◌≡◌, ℕ, ◌+◌, ◌-◌, ◌≤◌, List, length, take, drop, slice_range, refl, ap, subst, ◌∙◌, arith}
 use Rattle.fix_frame.specs.Grammar.{IsFrame, IsFrameFront, BeginsWithNone}
 use Rattle.fix_frame.specs.Stream.{rest_of}
 use Rattle.fix_frame.specs.Framing.{Framing, GivesFrame}
@@ -37,7 +37,7 @@ returns-in-Frame c =
     let long = length-slice_range s.buffer.items s.start s.end room in
     let fits : s.start + n ≤ s.end = omega (arith, found.0, ap length rest) in
     subst (λ (old : Framing). GivesFrame old (framing s.buffer.items s.first (s.start + n) s.end (s.offset + n)) s.start (s.start + n)) c.self.view_is
-      (gives_frame s.buffer.items s.first s.start s.end n s.offset (omega arith) fits room c.self.invariant.4 h)
+    (gives_frame s.buffer.items s.first s.start s.end n s.offset (omega arith) fits room c.self.invariant.4 h)
 
 pub returns-in-NeedsMore : goal.returns-in-NeedsMore
 returns-in-NeedsMore c =
