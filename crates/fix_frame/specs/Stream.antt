@@ -1,5 +1,5 @@
 -- A stream is its messages, one behind the other, and a rest that begins with no frame.
-use Rattle.std.specs.Prelude.{◌≡◌, ◌≢◌, ℕ, List, [], ◌∷◌, ◌++◌, if◌then◌else◌}
+use Rattle.std.specs.Prelude.{◌≢◌, ℕ, List, [], ◌∷◌, ◌++◌, if◌then◌else◌}
 use Rattle.fix_frame.specs.Grammar.{is_frame, IsFrameFront}
 
 -- `front` is what has come since the last message. No frame is the front of another, so the first front that is a

@@ -2,6 +2,7 @@
 ghost use Rattle.std.specs.Prelude.{◌≡◌, ℕ, ◌+◌, ◌-◌, ◌^◌, ◌<◌, ◌≤◌, min, [], ◌++◌, length, take, IfOk};
 ghost use Rattle.fix_frame.specs.Framing.{Framing, IsGiven, given_bytes, GivesNext};
 
+use crate::front::{Front, find_front};
 use crate::next::Next;
 use std::alloc::{AllocError, Global};
 use std::marker::Model;
@@ -59,7 +60,17 @@ impl Framer {
         ensures given { self.new.given ≡ [] }
         ensures offset { self.new.offset ≡ self.old.offset }
     {
-        0
+        if self.start > 0 {
+            self.buffer.copy_within(self.start..self.end, 0);
+            self.end -= self.start;
+            self.first = 0;
+            self.start = 0;
+        }
+        let count = bytes.len().min(ROOM - self.end);
+        let end = self.end + count;
+        self.buffer[self.end..end].copy_from_slice(&bytes[..count]);
+        self.end = end;
+        count
     }
 
     /// The frame with which the bytes held begin, or why there is none. `More` comes only where they begin with no
@@ -67,7 +78,16 @@ impl Framer {
     pub fn next(&mut self) -> Next
         ensures { GivesNext self.old self.new result }
     {
-        Next::More
+        match find_front(&self.buffer[self.start..self.end]) {
+            Front::Frame(length) => {
+                let start = self.start;
+                self.start += length;
+                self.offset += length as u64;
+                Next::Frame(start, self.start)
+            }
+            Front::NeedsMore => Next::More,
+            Front::Broken => Next::Bad(self.offset),
+        }
     }
 
     /// Lends the bytes of a given frame, or of several that follow each other.

@@ -2,7 +2,12 @@
 #![tactic(auto)]
 
 mod framer;
+mod front;
+mod head;
 mod next;
+#[cfg(test)]
+mod tests;
+mod trailer;
 
 pub use framer::Framer;
 pub use next::Next;

@@ -1,0 +1,216 @@
+-- What a head says of the bytes behind it, and which bytes begin with none.
+use Rattle.std.proofs.Common.{◌≡◌, ℕ, zero, suc, ◌+◌, ◌-◌, ◌*◌, ◌<◌, ◌≤◌, ◌⊎◌, Bool, true, false, not, bytes_eq, true≢false, List, ◌++◌, length, get_or, take, drop, sym, ap, subst, ◌∙◌, inl, inr, arith, length-append, length-drop, take-append-drop, take-take, below_more}
+use Rattle.std.proofs.lemmas.Bool.{cases_lt, true_from_ne_false}
+use Rattle.std.proofs.lemmas.Slice.Eq.{bytes_eq-Decides}
+use Rattle.std.proofs.lemmas.Bool.Decides.{nat_tests}
+use Rattle.std.proofs.lemmas.List.{get_or_append_left, get_or_past, take-append-le, drop-append-le, length-take-le}
+use Rattle.std.proofs.lemmas.List.Sums.{prefix_len_is, prefix_len_passes}
+use Rattle.std.proofs.lemmas.Int.Digits.{digits_value_more}
+use Rattle.std.proofs.lemmas.Str.Parse.{digits_value-take-le}
+use Rattle.std.specs.Char.{is_ascii_digit, digit_value}
+use Rattle.std.specs.List.{prefix_len}
+use Rattle.std.specs.Str.Parse.{digits_value}
+use Rattle.fix_frame.specs.Heads.{IsLength, HasHead, begin_text, GivesLength, GivesHead}
+use Rattle.fix_frame.specs.declared.head.Head.{Head}
+use Rattle.fix_frame.specs.declared.head.Head.TheVariants.{Whole, NeedsMore, Broken}
+
+-- the bytes before place i are digits, which write n
+pub record DigitsSoFar (bytes : List ℕ) (i n : ℕ) : Type 0 where
+  pub few : i ≤ 6
+  pub most : n ≤ 4000
+  pub each : (k : ℕ) → k < i → is_ascii_digit (get_or bytes k 0) ≡ true
+  pub value : n ≡ digits_value 10 (take i bytes)
+
+-- ---- a length in digits
+
+-- SOH is no byte past the end
+pub stop_within : (bytes : List ℕ) (d : ℕ) → get_or bytes d 0 ≡ 1 → d < length bytes
+stop_within bytes d stop =
+    elim (cases_lt d (length bytes)) [ inl lt ↦ lt | inr le ↦ let past = get_or_past bytes d 0 le in absurd (let zero_is_one : 0 ≡ 1 = sym past ∙ stop in omega arith) ]
+
+-- and no digit
+soh_is_no_digit : (b : ℕ) → b ≡ 1 → is_ascii_digit b ≡ true → ⊥
+soh_is_no_digit b e digit = let at_one = subst (λ (x : ℕ). is_ascii_digit x ≡ true) e digit in true≢false (sym at_one)
+
+-- no digits write 0
+some_digit : (bytes : List ℕ) (i n : ℕ) → n ≡ digits_value 10 (take i bytes) → 0 < n → 1 ≤ i
+some_digit bytes zero n value least = absurd (let none : n ≡ 0 = value in omega arith)
+some_digit bytes (suc i) n value least = omega arith
+
+pub length_from_stop : (bytes : List ℕ) (i n : ℕ) → DigitsSoFar bytes i n → get_or bytes i 0 ≡ 1 → 0 < n → IsLength bytes i n
+length_from_stop bytes i n so_far stop least =
+    let within : i < length bytes = stop_within bytes i stop in
+    let no_digit : is_ascii_digit (get_or bytes i 0) ≡ false = ap is_ascii_digit stop in
+    record {
+      count = prefix_len_is is_ascii_digit bytes i 0 (omega arith) so_far.each (λ _. no_digit);
+      stop = stop;
+      value = sym so_far.value;
+      some = some_digit bytes i n so_far.value least;
+      few = so_far.few;
+      least = omega arith;
+      most = so_far.most;
+    }
+
+-- a length has all the digits that were passed
+pub digits_within : (bytes more : List ℕ) (i d n : ℕ) → i ≤ length bytes → ((k : ℕ) → k < i → is_ascii_digit (get_or bytes k 0) ≡ true) → IsLength (bytes ++ more) d n → i ≤ d
+digits_within bytes more i d n within each is =
+    elim (cases_lt d i) [
+      | inl lt ↦
+          let reads : get_or (bytes ++ more) d 0 ≡ get_or bytes d 0 = get_or_append_left bytes more 0 d (omega arith) in
+          absurd (soh_is_no_digit (get_or bytes d 0) (sym reads ∙ is.stop) (each d lt))
+      | inr le ↦ le
+    ]
+
+-- it ends at the first byte that is no digit
+pub digits_end : (bytes more : List ℕ) (i d n : ℕ) → i < length bytes → ((k : ℕ) → k < i → is_ascii_digit (get_or bytes k 0) ≡ true) → is_ascii_digit (get_or bytes i 0) ≡ false → IsLength (bytes ++ more) d n → d ≡ i
+digits_end bytes more i d n within each stops is =
+    let passed : i ≤ d = digits_within bytes more i d n (omega arith) each is in
+    elim (cases_lt i d) [
+      | inl lt ↦
+          let reads : get_or (bytes ++ more) i 0 ≡ get_or bytes i 0 = get_or_append_left bytes more 0 i within in
+          let below : i < prefix_len is_ascii_digit (bytes ++ more) = subst (λ (x : ℕ). i < x) (sym is.count) lt in
+          let passes = prefix_len_passes is_ascii_digit (bytes ++ more) i 0 below in
+          absurd (true≢false (sym passes ∙ (ap is_ascii_digit reads ∙ stops)))
+      | inr le ↦ omega arith
+    ]
+
+pub no_length_from_stop : (bytes : List ℕ) (i n : ℕ) → DigitsSoFar bytes i n → i < length bytes → is_ascii_digit (get_or bytes i 0) ≡ false → (get_or bytes i 0 ≡ 1 → n ≡ 0) → (more : List ℕ) (d m : ℕ) → IsLength (bytes ++ more) d m → ⊥
+no_length_from_stop bytes i n so_far within stops apart more d m is =
+    let end : d ≡ i = digits_end bytes more i d m within so_far.each stops is in
+    let reads : get_or (bytes ++ more) i 0 ≡ get_or bytes i 0 = get_or_append_left bytes more 0 i within in
+    let stop : get_or (bytes ++ more) i 0 ≡ 1 = subst (λ (x : ℕ). get_or (bytes ++ more) x 0 ≡ 1) end is.stop in
+    let nothing : n ≡ 0 = apart (sym reads ∙ stop) in
+    let value : digits_value 10 (take i (bytes ++ more)) ≡ m = subst (λ (x : ℕ). digits_value 10 (take x (bytes ++ more)) ≡ m) end is.value in
+    let same : digits_value 10 (take i (bytes ++ more)) ≡ digits_value 10 (take i bytes) = ap (λ (x : List ℕ). digits_value 10 x) (take-append-le i bytes more (omega arith)) in
+    let zero_is_m : 0 ≡ m = sym nothing ∙ (so_far.value ∙ (sym same ∙ value)) in
+    let least = is.least in
+    omega arith
+
+-- more digits than six, or a value above the longest body, which more digits only make larger
+pub no_length_from_digits : (bytes : List ℕ) (i n : ℕ) → i ≤ length bytes → ((k : ℕ) → k < i → is_ascii_digit (get_or bytes k 0) ≡ true) → n ≡ digits_value 10 (take i bytes) → (6 < i) ⊎ (4000 < n) → (more : List ℕ) (d m : ℕ) → IsLength (bytes ++ more) d m → ⊥
+no_length_from_digits bytes i n within each value over more d m is =
+    let passed : i ≤ d = digits_within bytes more i d m within each is in
+    let few = is.few in
+    let most = is.most in
+    elim over [
+      | inl many ↦ omega arith
+      | inr large ↦
+          let text = take d (bytes ++ more) in
+          let front : take i text ≡ take i bytes = take-take i d (bytes ++ more) passed ∙ take-append-le i bytes more within in
+          let larger : digits_value 10 (take i text) ≤ digits_value 10 text = digits_value-take-le 10 text i (omega arith) in
+          let first : digits_value 10 (take i text) ≡ n = ap (λ (x : List ℕ). digits_value 10 x) front ∙ sym value in
+          let last : digits_value 10 text ≡ m = is.value in
+          omega arith
+    ]
+
+digit_value_is : (b : ℕ) → is_ascii_digit b ≡ true → (48 ≤ b) × (b ≤ 57) × (digit_value b ≡ b - 48)
+digit_value_is b digit = grind (arith, nat_tests)
+
+-- one more digit
+pub digits_more : (bytes : List ℕ) (i n b : ℕ) → DigitsSoFar bytes i n → i < length bytes → b ≡ get_or bytes i 0 → is_ascii_digit b ≡ true → ((k : ℕ) → k < i + 1 → is_ascii_digit (get_or bytes k 0) ≡ true) × (n * 10 + (b - 48) ≡ digits_value 10 (take (i + 1) bytes))
+digits_more bytes i n b so_far within read digit =
+    let here : is_ascii_digit (get_or bytes i 0) ≡ true = subst (λ (x : ℕ). is_ascii_digit x ≡ true) read digit in
+    let is = digit_value_is b digit in
+    let step = digits_value_more 10 bytes i within in
+    let worth : digit_value b ≡ digit_value (get_or bytes i 0) = ap digit_value read in
+    let value = so_far.value in
+    (below_more _ _ so_far.each here, omega (arith, is.2))
+
+-- ---- a head, and more bytes behind it
+
+pub length_goes_on : (bytes more : List ℕ) (d n : ℕ) → IsLength bytes d n → IsLength (bytes ++ more) d n
+length_goes_on bytes more d n is =
+    let within : d < length bytes = stop_within bytes d is.stop in
+    let stop : get_or (bytes ++ more) d 0 ≡ 1 = get_or_append_left bytes more 0 d within ∙ is.stop in
+    let total : d ≤ length (bytes ++ more) = omega (arith, length-append bytes more) in
+    record {
+      count = prefix_len_is is_ascii_digit (bytes ++ more) d 0 total
+          (λ k lt.
+          let below : k < prefix_len is_ascii_digit bytes = subst (λ (x : ℕ). k < x) (sym is.count) lt in
+          ap is_ascii_digit (get_or_append_left bytes more 0 k (omega arith)) ∙ prefix_len_passes is_ascii_digit bytes k 0 below)
+          (λ _. ap is_ascii_digit stop);
+      stop = stop;
+      value = ap (λ (x : List ℕ). digits_value 10 x) (take-append-le d bytes more (omega arith)) ∙ is.value;
+      some = is.some;
+      few = is.few;
+      least = is.least;
+      most = is.most;
+    }
+
+-- a head ends within the bytes
+pub head_within : (bytes : List ℕ) (d n : ℕ) → HasHead bytes d n → 12 + d < length bytes
+head_within bytes d n has = let within : d < length (drop 12 bytes) = stop_within (drop 12 bytes) d has.text.stop in omega (arith, length-drop 12 bytes)
+
+pub head_goes_on : (bytes more : List ℕ) (d n : ℕ) → HasHead bytes d n → HasHead (bytes ++ more) d n
+head_goes_on bytes more d n has =
+    let within : 12 + d < length bytes = head_within bytes d n has in
+    let behind : drop 12 (bytes ++ more) ≡ drop 12 bytes ++ more = drop-append-le 12 bytes more (omega arith) in
+    record {
+      begin = take-append-le 12 bytes more (omega arith) ∙ has.begin;
+      text = subst (λ (x : List ℕ). IsLength x d n) (sym behind) (length_goes_on (drop 12 bytes) more d n has.text);
+    }
+
+-- so a front of the bytes in which it ends has it too
+length_before : (bytes more : List ℕ) (d n : ℕ) → d < length bytes → IsLength (bytes ++ more) d n → IsLength bytes d n
+length_before bytes more d n within is =
+    let stop : get_or bytes d 0 ≡ 1 = sym (get_or_append_left bytes more 0 d within) ∙ is.stop in
+    record {
+      count = prefix_len_is is_ascii_digit bytes d 0 (omega arith)
+          (λ k lt.
+          let below : k < prefix_len is_ascii_digit (bytes ++ more) = subst (λ (x : ℕ). k < x) (sym is.count) lt in
+          ap is_ascii_digit (sym (get_or_append_left bytes more 0 k (omega arith))) ∙ prefix_len_passes is_ascii_digit (bytes ++ more) k 0 below)
+          (λ _. ap is_ascii_digit stop);
+      stop = stop;
+      value = ap (λ (x : List ℕ). digits_value 10 x) (sym (take-append-le d bytes more (omega arith))) ∙ is.value;
+      some = is.some;
+      few = is.few;
+      least = is.least;
+      most = is.most;
+    }
+
+head_before : (bytes more : List ℕ) (d n : ℕ) → 12 + d < length bytes → HasHead (bytes ++ more) d n → HasHead bytes d n
+head_before bytes more d n within has =
+    let behind : drop 12 (bytes ++ more) ≡ drop 12 bytes ++ more = drop-append-le 12 bytes more (omega arith) in
+    let text = subst (λ (x : List ℕ). IsLength x d n) behind has.text in
+    record {
+      begin = sym (take-append-le 12 bytes more (omega arith)) ∙ has.begin;
+      text = length_before (drop 12 bytes) more d n (omega (arith, length-drop 12 bytes)) text;
+    }
+
+pub head_in_front : (bytes : List ℕ) (d n k : ℕ) → 12 + d < k → k ≤ length bytes → HasHead bytes d n → HasHead (take k bytes) d n
+head_in_front bytes d n k long within has =
+    let whole = subst (λ (x : List ℕ). HasHead x d n) (sym (take-append-drop k bytes)) has in
+    let size : length (take k bytes) ≡ k = length-take-le k bytes within in
+    head_before (take k bytes) (drop k bytes) d n (omega arith) whole
+
+-- bytes have one head
+pub one_head : (bytes : List ℕ) (d n d' n' : ℕ) → HasHead bytes d n → HasHead bytes d' n' → (d ≡ d') × (n ≡ n')
+one_head bytes d n d' n' has other =
+    let digits : d ≡ d' = sym has.text.count ∙ other.text.count in
+    (digits, sym has.text.value ∙ (ap (λ (x : ℕ). digits_value 10 (take x (drop 12 bytes))) digits ∙ other.text.value))
+
+-- ---- bytes that begin with no head
+
+pub no_head_from_begin : (bytes : List ℕ) (count : ℕ) → count ≤ length bytes → count ≤ 12 → (take count bytes ≡ take count begin_text → ⊥) → (more : List ℕ) (d n : ℕ) → HasHead (bytes ++ more) d n → ⊥
+no_head_from_begin bytes count within short apart more d n has =
+    let front : take count (take 12 (bytes ++ more)) ≡ take count bytes = take-take count 12 (bytes ++ more) short ∙ take-append-le count bytes more within in
+    apart (sym front ∙ ap (λ (x : List ℕ). take count x) has.begin)
+
+pub no_head_from_text : (bytes : List ℕ) → 12 ≤ length bytes → ((more : List ℕ) (d n : ℕ) → IsLength (drop 12 bytes ++ more) d n → ⊥) → (more : List ℕ) (d n : ℕ) → HasHead (bytes ++ more) d n → ⊥
+no_head_from_text bytes within none more d n has = none more d n (subst (λ (x : List ℕ). IsLength x d n) (drop-append-le 12 bytes more within) has.text)
+
+-- ---- what the functions find
+
+pub apart_from_ne : (xs ys : List ℕ) (r : Bool) → r ≡ not (bytes_eq xs ys) → r ≡ true → xs ≡ ys → ⊥
+apart_from_ne xs ys r is ne same =
+    let equal : bytes_eq xs ys ≡ true = (bytes_eq-Decides xs ys).1 same in
+    true≢false (sym ne ∙ (is ∙ ap not equal))
+
+pub same_from_ne : (xs ys : List ℕ) (r : Bool) → r ≡ not (bytes_eq xs ys) → r ≡ false → xs ≡ ys
+same_from_ne xs ys r is ne = (bytes_eq-Decides xs ys).0 (true_from_ne_false (bytes_eq xs ys) (λ apart. true≢false (sym (is ∙ ap not apart) ∙ ne)))
+
+pub head_from_text : (bytes rest : List ℕ) (head : Head) → 12 ≤ length bytes → take 12 bytes ≡ begin_text → rest ≡ drop 12 bytes → GivesLength rest head → GivesHead bytes head
+head_from_text bytes rest (Whole d n) within begin is text = record { begin = begin; text = subst (λ (x : List ℕ). IsLength x d n) is text }
+head_from_text bytes rest NeedsMore within begin is short = omega (arith, ap length is, length-drop 12 bytes)
+head_from_text bytes rest Broken within begin is none =
+    no_head_from_text bytes within (λ more d n. subst (λ (x : List ℕ). IsLength (x ++ more) d n → ⊥) is (none more d n))
