@@ -1,5 +1,5 @@
 -- What a framer holds, seen in its buffer.
-use Rattle.std.proofs.Common.{◌≡◌, ℕ, ◌+◌, ◌-◌, ◌≤◌, List, [], ◌∷◌, ◌++◌, length, take, drop, slice_range, refl, sym, ap, subst, ◌∙◌, arith, append_assoc, length-append, length-drop, length-take, length-take-le, take-append-drop, take-take, take-add}
+use Rattle.std.proofs.Common.{append_assoc, ◌≡◌, ℕ, ◌+◌, ◌-◌, ◌≤◌, List, [], ◌∷◌, ◌++◌, length, take, drop, slice_range, refl, sym, ap, subst, ◌∙◌, arith, append_assoc, length-append, length-drop, length-take, length-take-le, take-append-drop, take-take, take-add}
 use Rattle.std.proofs.lemmas.List.{take_at, drop_at, drop-drop, drop-take, take_all, drop-append-le}
 use Rattle.std.proofs.lemmas.Slice.{between_is}
 use borrow.Rule.Slice.PartMut.{put_mid}
@@ -7,7 +7,7 @@ use Rattle.std.specs.List.{concat, copy_within}
 use Rattle.fix_frame.specs.Grammar.{IsFrame}
 use Rattle.fix_frame.specs.Stream.{messages_of, rest_of}
 use Rattle.fix_frame.specs.Framing.{Framing, IsGiven, given_bytes, GivesFrame}
-use Rattle.fix_frame.proofs.Streams.{messages_of-frame-append, messages_of-push, rest_of-push, concat-messages_of-whole}
+use Rattle.fix_frame.proofs.Streams.{rest_of-frame-append, messages_of-frame-append, messages_of-push, rest_of-push, concat-messages_of-whole}
 
 -- what is seen of a framer's fields
 abbrev pub framing : List ℕ → ℕ → ℕ → ℕ → ℕ → Framing
@@ -78,7 +78,8 @@ gives_frame buffer first start end n offset below within room whole h =
         ends = omega arith;
       };
       bytes = ap (λ (x : List ℕ). take ((start + n) - start) x) cut ∙ take_all ((start + n) - start) frame (omega arith);
-      message = ap messages_of split ∙ messages_of-frame-append frame left h;
+      message = λ more. ap (λ (x : List ℕ). messages_of (x ++ more)) split ∙ ap messages_of (append_assoc frame left more) ∙ messages_of-frame-append frame (left ++ more) h;
+      behind = λ more. ap (λ (x : List ℕ). rest_of (x ++ more)) split ∙ ap rest_of (append_assoc frame left more) ∙ rest_of-frame-append frame (left ++ more) h;
     }
 
 -- ---- a given frame lies in the buffer

@@ -2,3 +2,4 @@ pub mod Heads
 pub mod Frames
 pub mod Streams
 pub mod Framings
+pub mod Bodies

@@ -96,7 +96,7 @@ concat-messages_of-whole u whole =
 
 -- ---- a stream that begins with none
 
-messages_from-none : (front u : List ℕ) → ((n : ℕ) → 0 < n → IsFrame (front ++ take n u) → ⊥) → (messages_from front u ≡ []) × (rest_from front u ≡ front ++ u)
+pub messages_from-none : (front u : List ℕ) → ((n : ℕ) → 0 < n → IsFrame (front ++ take n u) → ⊥) → (messages_from front u ≡ []) × (rest_from front u ≡ front ++ u)
 messages_from-none front [] none = (refl, sym (append-nil front))
 messages_from-none front (b ∷ u) none =
     let front' = front ++ b ∷ [] in

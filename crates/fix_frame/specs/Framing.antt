@@ -2,7 +2,7 @@
 use Rattle.std.specs.Prelude.{◌≡◌, ℕ, ◌+◌, ◌-◌, ◌<◌, ◌≤◌, List, [], ◌∷◌, ◌++◌, length, take, drop}
 use Rattle.std.specs.List.{concat}
 use Rattle.fix_frame.specs.Grammar.{IsFrame, IsFrameFront, BeginsWithNone}
-use Rattle.fix_frame.specs.Stream.{messages_of}
+use Rattle.fix_frame.specs.Stream.{messages_of, rest_of}
 use Rattle.fix_frame.specs.declared.next.Next.{Next}
 use Rattle.fix_frame.specs.declared.next.Next.TheVariants.{Frame, More, Bad}
 
@@ -45,8 +45,9 @@ pub record GivesFrame (old new : Framing) (start end : ℕ) : Type 0 where
   -- so it can be asked for
   pub is_given : IsGiven new start end
   pub bytes : given_bytes new start end ≡ frame
-  -- and it is the next message
-  pub message : messages_of old.rest ≡ frame ∷ messages_of new.rest
+  -- and it is the next message, however the stream goes on
+  pub message : (more : List ℕ) → messages_of (old.rest ++ more) ≡ frame ∷ messages_of (new.rest ++ more)
+  pub behind : (more : List ℕ) → rest_of (old.rest ++ more) ≡ rest_of (new.rest ++ more)
 
 -- what `next` answers
 abbrev pub GivesNext : Framing → Framing → Next → Type 0

@@ -1,6 +1,7 @@
 //! Frames out of a stream that comes in any pieces.
 #![tactic(auto)]
 
+mod body;
 mod framer;
 mod front;
 mod head;
@@ -9,5 +10,6 @@ mod next;
 mod tests;
 mod trailer;
 
+pub use body::frame_body;
 pub use framer::Framer;
 pub use next::Next;

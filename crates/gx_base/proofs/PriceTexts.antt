@@ -1,19 +1,16 @@
 -- Prices as texts.
-use Rattle.std.proofs.Common.{◌≡◌, ℕ, zero, suc, ◌+◌, ◌-◌, ◌*◌, ◌/◌, ◌^◌, ◌<◌, ◌≤◌, ◌&&◌, Bool, true, false, min, not, nat_le, nat_lt, List, [], ◌∷◌, ◌++◌, length, take, drop, replicate, Result, Ok, Err, decimal, arith, rules, refl, sym, ap, ◌∙◌}
-use Rattle.std.proofs.lemmas.Bool.{and_parts, and_from, cond-true, cond-false, le-leb, lt-ltb, le-ltb, not_from_true}
+use Rattle.std.proofs.Common.{◌≡◌, ℕ, zero, suc, ◌+◌, ◌-◌, ◌*◌, ◌/◌, ◌^◌, ◌<◌, ◌≤◌, ◌&&◌, Bool, true, false, min, not, nat_le, List, [], ◌∷◌, ◌++◌, length, take, drop, replicate, Err, decimal, arith, rules, refl, sym, ap, ◌∙◌}
+use Rattle.std.proofs.lemmas.Bool.{and_parts, and_from, cond-true, cond-false, le-leb, lt-ltb, not_from_true}
 use Rattle.std.proofs.lemmas.Fmt.{length-decimal-le}
 use Rattle.std.proofs.lemmas.List.{append_assoc, length_push, places, same_lists}
-use Rattle.std.proofs.lemmas.List.Folds.{list_all-append}
 use Rattle.std.proofs.lemmas.Nat.{pow-add}
 use Rattle.std.proofs.Math.Nat.{div-le_self, div-lt_iff_lt-mul, one-le-pow}
 use Rattle.std.specs.List.{before_first, after_first}
 use Rattle.std.specs.Char.{is_ascii_digit}
 use Rattle.std.specs.Str.Parse.{digits_value, digits_value_after}
 use Rattle.gx_base.proofs.Capped.{capped_append}
-use Rattle.gx_base.specs.Numbers.{are_digits, are_zeros, is_point, has_minus, unsigned_text, is_price_text, whole_digits, fraction_digits, units_of, signed_units, price_limit, price_of, fixed_digits, fraction_text}
-use Rattle.gx_base.specs.declared.price.Price.{Price}
-use Rattle.gx_base.specs.declared.price.PriceFault.{PriceFault}
-use Rattle.gx_base.specs.declared.price.PriceFault.TheVariants.{Scale, Range}
+use Rattle.gx_base.specs.Numbers.{are_digits, are_zeros, is_point, unsigned_text, is_price_text, whole_digits, fraction_digits, units_of, price_limit, price_of, fixed_digits, fraction_text}
+use Rattle.gx_base.specs.declared.price.PriceFault.TheVariants.{Range}
 
 pub are_digits-take : (n : ℕ) (ds : List ℕ) → are_digits ds ≡ true → are_digits (take n ds) ≡ true
 are_digits-take zero ds h = refl
@@ -27,7 +24,7 @@ are_digits-zeros zero = refl
 are_digits-zeros (suc n) = are_digits-zeros n
 
 -- digits filled up with zeros
-pub filled_up : (decimals kept : ℕ) (ds : List ℕ) → kept ≡ min (length ds) decimals → take decimals (ds ++ replicate decimals 48) ≡ take kept ds ++ replicate (decimals - kept) 48
+filled_up : (decimals kept : ℕ) (ds : List ℕ) → kept ≡ min (length ds) decimals → take decimals (ds ++ replicate decimals 48) ≡ take kept ds ++ replicate (decimals - kept) 48
 filled_up decimals kept ds e = same_lists _ _ (search (rules, places)) (λ k d h. grind (arith, places))
 
 -- what is read in three parts
@@ -83,14 +80,6 @@ module _ {text : List ℕ} {decimals : ℕ} {rest whole fraction : List ℕ} {un
       sym (cond-false _ _ _ is_text
       ∙ cond-false _ _ _ fits
       ∙ cond-true _ _ _ (lt-ltb price_limit (units_of text decimals) (omega (arith, capped))))
-
-  pub price_of-units : units ≤ price_limit → Ok (record { 0 = signed_units (has_minus text) units }) ≡ price_of text decimals
-  price_of-units within =
-      let same : units ≡ units_of text decimals = omega (arith, capped) in
-      sym (cond-false _ _ _ is_text
-      ∙ cond-false _ _ _ fits
-      ∙ cond-false _ _ _ (le-ltb price_limit (units_of text decimals) (omega (arith, capped)))
-      ∙ ap (λ n. Ok (record { 0 = signed_units (has_minus text) n })) (sym same))
 
 -- the room that a price takes
 length-fixed_digits : (width n : ℕ) → length (fixed_digits width n) ≡ width

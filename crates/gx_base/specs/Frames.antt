@@ -1,5 +1,5 @@
 -- The frame round a body: begin string, body length and checksum (FIX 4.2).
-use Rattle.std.specs.Prelude.{ℕ, ◌%◌, List, [], ◌∷◌, ◌++◌, length, sum, codes, decimal}
+use Rattle.std.specs.Prelude.{ℕ, ◌%◌, List, [], ◌∷◌, ◌++◌, sum, codes}
 use Prim.Native.String.{String}
 use Rattle.gx_base.specs.Numbers.{fixed_digits}
 

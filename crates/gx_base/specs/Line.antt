@@ -1,5 +1,5 @@
 -- The bytes of a report: execution reports (35=8) after FIX 4.2. Tags 9001 to 9003 are our own.
-use Rattle.std.specs.Prelude.{ℕ, ◌+◌, List, [], ◌∷◌, ◌++◌, length, Option, Some, None, option_map, unwrap_or, slice_get, codes, decimal, if◌then◌else◌, ◌==◌}
+use Rattle.std.specs.Prelude.{ℕ, List, [], ◌++◌, length, Option, Some, None, option_map, unwrap_or, slice_get, codes, decimal, if◌then◌else◌, ◌==◌}
 use Rattle.gx_base.specs.Frames.{field, frame_of}
 use Rattle.gx_base.specs.Numbers.{price_text}
 use Rattle.gx_base.specs.NameLists.{NameLists}

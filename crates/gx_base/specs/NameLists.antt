@@ -1,5 +1,5 @@
 -- The names that a product lists.
-use Rattle.std.specs.Prelude.{◌≡◌, ℕ, ◌≤◌, false, List, map, length, bytes_eq}
+use Rattle.std.specs.Prelude.{ℕ, ◌≤◌, List, map, length, bytes_eq}
 use Rattle.std.specs.List.{IsDistinct, AllByRecursion}
 use Rattle.gx_base.specs.declared.names.Listed.{Listed}
 

@@ -10,7 +10,7 @@ use crate::order::{Kind, Life, Order, Side};
 use crate::price::Price;
 
 impl Fields {
-    /// Appends the body of an event.
+    /// Appends the body of an event: at most 27 fields.
     pub(crate) fn body(&mut self, event: &Event, names: &Names)
         requires { length self.old + 810 ≤ 1024 }
         ensures body { self.new ≡ self.old ++ body_of names.now event.now }
@@ -122,7 +122,7 @@ impl Fields {
     }
 }
 
-/// The name of a report's addressee, `UNKNOWN` where it is not known.
+/// The name of a report's addressee, `UNKNOWN` where it is not known or not listed.
 fn addressee(names: &Names, firm: Option<u8>) -> ShortId
     ensures { result ≡ addressee names.now firm }
 {
@@ -145,6 +145,7 @@ fn listed(names: &Names, instrument: u8) -> Listed
     }
 }
 
+/// The value of tag 54 in FIX 4.2.
 fn side_text(side: Side) -> &'static [u8]
     ensures text { result.now ≡ side_text side }
     ensures short { length result.now ≤ 24 }
@@ -155,6 +156,7 @@ fn side_text(side: Side) -> &'static [u8]
     }
 }
 
+/// The value of tag 40 in FIX 4.2.
 fn kind_text(kind: Kind) -> &'static [u8]
     ensures text { result.now ≡ kind_text kind }
     ensures short { length result.now ≤ 24 }
@@ -166,6 +168,7 @@ fn kind_text(kind: Kind) -> &'static [u8]
     }
 }
 
+/// The value of tag 59 in FIX 4.2.
 fn life_text(life: Life) -> &'static [u8]
     ensures text { result.now ≡ life_text life }
     ensures short { length result.now ≤ 24 }
@@ -178,6 +181,7 @@ fn life_text(life: Life) -> &'static [u8]
     }
 }
 
+/// The value of our tag 9001.
 fn step_text(step: StepName) -> &'static [u8]
     ensures text { result.now ≡ step_text step }
     ensures short { length result.now ≤ 24 }
@@ -192,7 +196,7 @@ fn step_text(step: StepName) -> &'static [u8]
     }
 }
 
-/// A fill that leaves something open, or nothing.
+/// The value of tags 39 and 150 in FIX 4.2 for a fill: partly filled, or filled where nothing is open.
 fn fill_status(leaves: u32) -> &'static [u8]
     ensures text { result.now ≡ fill_status leaves }
     ensures short { length result.now ≤ 24 }

@@ -6,7 +6,7 @@ ghost use Rattle.gx_base.specs.Numbers.{are_digits, are_zeros, is_point, fixed_d
 
 use std::cmp;
 
-/// One more than the greatest price, and where numbers that are read stop to grow.
+/// One more than the greatest price in units. Numbers that are read stop growing there, so that no text overflows.
 pub(crate) const CEILING: u64 = 1_000_000_000_000;
 
 /// Whether each byte is a digit.

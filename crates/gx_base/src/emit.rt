@@ -9,11 +9,12 @@ use crate::names::Names;
 use std::alloc::{AllocError, Global};
 use std::marker::Model;
 
-/// Takes events in their order.
+/// Takes events in their order, and may fail, as where its room is used up. A failure is for good.
 pub trait Emit {
     ghost meanings: { EmitMeanings Self };
 
-    /// Takes one event. After a failure it does nothing.
+    /// Takes one event: what is seen becomes what the meanings make of it, or a part from the front of that where this
+    /// put fails. After a failure it does nothing.
     fn put(&mut self, event: &Event)
         ensures { Puts meanings self.old self.new event.now };
 
@@ -38,7 +39,8 @@ impl Emit for NullEmit {
     }
 }
 
-/// Keeps the lines of events, one after the other, in fixed room. It fails exactly where a line does not fit.
+/// Keeps the lines of events, one after the other, in fixed room. It fails exactly where a line does not fit. Contracts
+/// see it as the names, the bytes so far, the room in bytes, and whether it is full, which is to have failed.
 #[derive(Drop)]
 pub struct ByteEmit<'a> {
     names: &'a Names,
@@ -61,7 +63,7 @@ impl<'a> Model for ByteEmit<'a> {
 }
 
 impl<'a> ByteEmit<'a> {
-    /// An empty log with room for so many bytes. An `Err` is want of memory.
+    /// An empty log with room for `room` bytes, which writes these names. An `Err` is want of memory.
     pub fn new(alloc: Global, names: &'a Names, room: usize) -> Result<ByteEmit<'a>, AllocError>
         ensures { IfOk result (λ e. e ≡ record { names = names.now; bytes = []; room = room; full = false }) }
     {
@@ -75,7 +77,7 @@ impl<'a> ByteEmit<'a> {
         })
     }
 
-    /// Lends the lines.
+    /// Lends the lines so far, each whole.
     pub fn bytes(&self) -> &[u8]
         ensures { result.now ≡ self.now.bytes }
     {
@@ -93,6 +95,8 @@ impl<'a> Emit for ByteEmit<'a> {
         ensures puts { Puts byte_meanings self.old self.new event.now }
         ensures exactly { self.old.full ≡ false → (self.new.full ≡ true)
             ↔ (self.old.room < length self.old.bytes + length (line_of self.old.names event.now)) }
+        ensures whole { self.new.full ≡ true → self.new.bytes ≡ self.old.bytes }
+        ensures room { self.new.room ≡ self.old.room }
     {
         if self.full {
             return;

@@ -10,7 +10,7 @@ use std::marker::Model;
 const GAP: usize = 16;
 
 /// Fields, one after the other, of at most 1,024 bytes in all. A field takes at most 30 of them: its tag 4, its value
-/// 24. Contracts see it as the bytes.
+/// 24, and one each for `=` and SOH. Contracts see it as the bytes.
 #[derive(Drop)]
 pub(crate) struct Fields {
     bytes: [u8; 1024],
@@ -28,6 +28,7 @@ impl Model for Fields {
 }
 
 impl Fields {
+    /// No fields.
     pub(crate) fn new() -> Fields
         ensures { result ≡ [] }
     {
@@ -37,6 +38,7 @@ impl Fields {
         }
     }
 
+    /// Lends the bytes.
     pub(crate) fn bytes(&self) -> &[u8]
         ensures { result.now ≡ self.now }
     {
@@ -60,6 +62,7 @@ impl Fields {
         ensures same_length { length self.new ≡ length self.old }
     {
         const BEGIN: &[u8; 12] = b"8=FIX.4.2\x019=";
+        // SOH, which ends the length of the body.
         self.bytes[GAP - 1] = 1;
         let count = (self.len - GAP) as u64;
         let digits = itoa::write_digits(count, &mut self.bytes, GAP - 1);
@@ -118,6 +121,7 @@ impl Fields {
         self.field(tag, &text[..count]);
     }
 
+    /// Appends these bytes, for which there is room.
     fn append(&mut self, bytes: &[u8])
         requires { length self.old + length bytes.now ≤ 1024 }
         ensures { self.new ≡ self.old ++ bytes.now }

@@ -6,7 +6,7 @@ ghost use Rattle.gx_base.specs.Texts.{is_name, is_name_byte};
 use crate::text::Text;
 use std::marker::Model;
 
-/// A name of 1 to 24 bytes, each of them 32 to 126. Contracts see it as its bytes.
+/// A name of 1 to 24 bytes, each of them 32 to 126 (our own rule). Contracts see it as its bytes.
 #[derive(Clone, Copy, Debug, PartialEq, Eq)]
 pub struct ShortId {
     text: Text<24>,

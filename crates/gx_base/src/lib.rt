@@ -15,6 +15,8 @@ mod order;
 mod price;
 mod quantity;
 mod stamp;
+#[cfg(test)]
+mod tests;
 mod text;
 
 pub use emit::{ByteEmit, Emit, NullEmit};
@@ -26,6 +28,3 @@ pub use order::{Desk, Kind, Life, LmmShare, Order, Side, Slot, Taker, TopRule};
 pub use price::{Price, PriceFault, read_price, write_price};
 pub use quantity::read_quantity;
 pub use stamp::Stamp;
-
-#[cfg(test)]
-mod tests;

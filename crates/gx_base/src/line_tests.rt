@@ -1,3 +1,4 @@
+//! Report lines byte by byte, and a log that is full.
 ghost use Rattle.std.specs.Prelude.{◌≡◌};
 
 use crate::emit::{ByteEmit, Emit};

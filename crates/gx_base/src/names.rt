@@ -10,12 +10,13 @@ use std::marker::Model;
 #[derive(Clone, Copy, Debug, Default, PartialEq, Eq)]
 pub struct Listed {
     pub name: ShortId,
+    /// A price unit is 10 to the power of minus this.
     pub decimals: u8,
 }
 
 /// The exchange's name, the firms and the instruments, each numbered from 0 on in the order of its list. There are at
 /// most 64 firms and 16 instruments, no two firms and no two instruments have one name, and an instrument has at most
-/// 8 decimals.
+/// 8 decimals (our own limits). Contracts see it as the name and the two lists.
 #[derive(Drop)]
 pub struct Names {
     exchange: ShortId,
@@ -79,21 +80,21 @@ impl Names {
         self.instruments.len()
     }
 
-    /// The name of a firm, by its number.
-    pub fn firm(&self, n: u8) -> ShortId
-        requires { n < length self.now.firms }
-        ensures { slice_get self.now.firms n ≡ Some result }
+    /// The name of the firm with this number, which is below `firm_count`.
+    pub fn firm(&self, number: u8) -> ShortId
+        requires { number < length self.now.firms }
+        ensures { slice_get self.now.firms number ≡ Some result }
     {
-        self.firms[n as usize]
+        self.firms[number as usize]
     }
 
-    /// An instrument, by its number. Its prices have at most 8 decimals.
-    pub fn listed(&self, n: u8) -> Listed
-        requires { n < length self.now.instruments }
-        ensures listed { slice_get self.now.instruments n ≡ Some result }
+    /// The instrument with this number, which is below `instrument_count`. Its prices have at most 8 decimals.
+    pub fn listed(&self, number: u8) -> Listed
+        requires { number < length self.now.instruments }
+        ensures listed { slice_get self.now.instruments number ≡ Some result }
         ensures decimals { result.decimals ≤ 8 }
     {
-        self.instruments[n as usize]
+        self.instruments[number as usize]
     }
 
     /// The number of the firm with this name. `None` exactly where no firm has it.

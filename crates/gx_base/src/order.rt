@@ -3,14 +3,14 @@ use crate::id::ShortId;
 use crate::price::Price;
 use crate::stamp::Stamp;
 
-/// Side (54).
+/// Side (54 in FIX 4.2).
 #[derive(Clone, Copy, Debug, PartialEq, Eq)]
 pub enum Side {
     Buy,
     Sell,
 }
 
-/// Order type (40). A market order is one with protection.
+/// Order type (40 in FIX 4.2). A market order is one with protection: it trades within a range of prices.
 #[derive(Clone, Copy, Debug, PartialEq, Eq)]
 pub enum Kind {
     Limit,
@@ -18,7 +18,7 @@ pub enum Kind {
     StopLimit,
 }
 
-/// Time in force (59).
+/// Time in force (59 in FIX 4.2).
 #[derive(Clone, Copy, Debug, PartialEq, Eq)]
 pub enum Life {
     /// Good for the day.
@@ -35,7 +35,7 @@ pub enum Life {
 #[derive(Clone, Copy, Debug, PartialEq, Eq)]
 pub struct Slot(pub u32);
 
-/// An order. Quantities are in lots.
+/// An order. Quantities are in lots, prices in units of its instrument.
 #[derive(Clone, Copy, Debug, PartialEq, Eq)]
 pub struct Order {
     /// The number that the engine gave it, from 1 on.
@@ -48,12 +48,16 @@ pub struct Order {
     /// The client's id (11).
     pub id: ShortId,
     pub kind: Kind,
+    /// The limit: it buys at no higher price, and sells at no lower one. Reports write it (44) where the kind is not
+    /// `Market`.
     pub price: Price,
-    /// The stop price. 0 where the kind is not `StopLimit`.
+    /// The stop price (99). 0 where the kind is not `StopLimit`.
     pub trigger: Price,
+    /// What was ordered (38).
     pub quantity: u32,
+    /// What was traded of it (14).
     pub filled: u32,
-    /// What is open.
+    /// What is open (151).
     pub leaves: u32,
     /// How much of it is shown at a time, 0 for all.
     pub show: u32,
@@ -62,17 +66,20 @@ pub struct Order {
     /// The least quantity that has to be filled at once, 0 for none.
     pub min: u32,
     pub life: Life,
-    /// The share that a pro rata step last gave it.
+    /// The share that a pro rata step last gave it, in lots.
     pub prorated: u32,
 }
 
-/// The counters.
+/// The counters of the engine, each from the start on.
 #[derive(Clone, Copy, Debug, PartialEq, Eq)]
 pub struct Desk {
+    /// Messages applied.
     pub messages: u64,
+    /// Orders accepted, which is the number of the last one.
     pub orders: u64,
     /// Execution reports.
     pub reports: u64,
+    /// Trades, which is the number of the last one.
     pub trades: u64,
     /// Report lines, by the number of the firm that they go to. The last one counts those to nobody known.
     pub lines: [u64; 65],
@@ -88,16 +95,20 @@ pub struct Taker {
     pub range: Option<(Price, Price)>,
 }
 
-/// Limits of the step TOP, in lots.
+/// Limits of the step that favors the order that bettered the market, in lots.
 #[derive(Clone, Copy, Debug, PartialEq, Eq)]
 pub struct TopRule {
+    /// The least open quantity of an order that it favors.
     pub min: u32,
+    /// The most that it gives to one incoming order.
     pub max: u32,
 }
 
-/// What a lead market maker gets first.
+/// What a lead market maker gets of an incoming order.
 #[derive(Clone, Copy, Debug, PartialEq, Eq)]
 pub struct LmmShare {
+    /// The number of its firm in the product's list.
     pub firm: u8,
+    /// How many hundredths of what is wanted at a price.
     pub percent: u8,
 }

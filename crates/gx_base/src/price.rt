@@ -7,7 +7,7 @@ use crate::digits::{CEILING, are_digits, are_zeros, read_on, split_at_point, wri
 use itoa::Buffer;
 use std::cmp;
 
-/// A price in units of 10 to the power of minus the instrument's decimals.
+/// A price in units, which are 10 to the power of minus the instrument's decimals.
 #[derive(Clone, Copy, Debug, PartialEq, Eq)]
 pub struct Price(pub i64);
 
@@ -23,10 +23,10 @@ pub enum PriceFault {
 }
 
 /// The greatest price in units, either way.
-const LIMIT: u64 = 999_999_999_999;
+const LIMIT: u64 = CEILING - 1;
 
-/// The price that a text writes, in units of 10 to the power of minus `decimals`, or the first fault in the order
-/// of `PriceFault`. Our own rule, within the float format of FIX 4.2.
+/// The price that a text writes, in units of 10 to the power of minus `decimals`, of which there are at most 8; or the
+/// first fault in the order of `PriceFault`. Our own rule, within the float format of FIX 4.2.
 pub fn read_price(text: &[u8], decimals: u8) -> Result<Price, PriceFault>
     requires { decimals ≤ 8 }
     ensures { result ≡ price_of text.now decimals }
@@ -97,8 +97,9 @@ fn with_sign(units: u64, negative: bool) -> i64
     if negative { -units } else { units }
 }
 
-/// Writes a price with exactly `decimals` digits behind the point into the front of `into`, and answers how many
-/// bytes that takes. There is at least one digit before the point, and no point where `decimals` is 0.
+/// Writes a price with exactly `decimals` digits behind the point, at most 8, into the front of `into`, and answers how
+/// many bytes that takes; what stands behind them is left open. There is at least one digit before the point, and no
+/// point where `decimals` is 0. It takes every `i64`, also those that `read_price` refuses.
 pub fn write_price(price: Price, decimals: u8, into: &mut [u8; 24]) -> usize
     requires { decimals ≤ 8 }
     ensures text { take result into.new ≡ price_text price decimals }

@@ -38,6 +38,7 @@ impl<const N: usize> Text<N> {
         }
     }
 
+    /// Lends the bytes.
     pub fn bytes(&self) -> &[u8]
         ensures { result.now ≡ self.now }
     {

@@ -1,7 +1,5 @@
-use Rattle.std.proofs.Common.{◌≡◌, ℕ, List, [], ◌∷◌, codes, bytes_eq, refl, sym, subst, arith, rules}
-use Rattle.std.specs.List.{IsDistinct, AllByRecursion}
-use Rattle.gx_base.specs.NameLists.{AreRight}
-use Rattle.gx_base.specs.declared.names.Listed.{Listed}
+use Rattle.std.proofs.Common.{◌≡◌, ℕ, List, [], ◌∷◌, codes, bytes_eq, refl, subst, arith}
+use Rattle.std.specs.List.{IsDistinct}
 use Rattle.gx_base.proofs.line_tests.product_names.Goals as goal
 
 four_differ : (a b c d : List ℕ) → a ≡ codes "AAA" → b ≡ codes "BBB" → c ≡ codes "CCC" → d ≡ codes "DDD" → IsDistinct bytes_eq (a ∷ b ∷ c ∷ d ∷ [])
