@@ -1,0 +1,15 @@
+pub mod Products
+pub mod PlainOrder
+pub mod State
+pub mod Book
+pub mod Match
+pub mod Step
+pub mod Fit
+pub mod Pushes
+pub mod Outgoing
+pub mod Outcomes
+pub mod Words
+pub mod Serving
+pub mod Endings
+pub mod Rooms
+pub mod PlainViews
