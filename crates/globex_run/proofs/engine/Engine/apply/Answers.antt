@@ -1,0 +1,30 @@
+use Rattle.std.proofs.Common.{◌+◌, ◌*◌, ◌^◌, ℕ, ap, sym, subst, arith}
+use Rattle.gx_base.specs.declared.order.Desk.{Desk}
+use Rattle.globex_run.specs.State.{State}
+use Rattle.globex_run.specs.Fit.{HasRoom, counter_limit}
+use Rattle.globex_run.proofs.Serving.{room-message, room-wider}
+use Rattle.globex_run.proofs.engine.Engine.apply.Goals as goal
+
+pub enter_new-requires-clause-room : goal.enter_new-requires-clause-room
+enter_new-requires-clause-room g c =
+    let was = c.self.invariant in
+    let desk : Desk = record c.self.inside.desk { messages = c.self.inside.desk.messages + 1 } in
+    let fit : HasRoom desk 0 (c.self.inside.desk.messages * 2 ^ 38) = record { trades = was.counters_fit.trades; reports = was.counters_fit.reports; lines = was.counters_fit.lines } in
+    room-wider desk _ _ counter_limit (room-message desk c.self.inside.desk.messages (c.args.new.now.quantity + 1) fit (omega (arith, c.requires.order.small))) (omega (arith, was.bounded))
+
+pub invariant_of-self : goal.invariant_of-self
+invariant_of-self g c =
+    let was = c.self.invariant in
+    let made = c.enter_new.ensures in
+    let now = ap (λ (s : State). s.desk.messages) c.self.view_is in
+    let desk : Desk = record c.self.inside.desk { messages = c.self.inside.desk.messages + 1 } in
+    let fit : HasRoom desk 0 (c.self.inside.desk.messages * 2 ^ 38) = record { trades = was.counters_fit.trades; reports = was.counters_fit.reports; lines = was.counters_fit.lines } in
+    record {
+      right = made.right;
+      counted = omega (arith, was.counted, made.messages, made.numbers);
+      few = omega (arith, was.few, made.few, made.numbers);
+      bounded = omega (arith, made.messages, now, c.requires.few);
+      enough = omega (arith, made.capacity, was.enough);
+      counters_fit = subst (λ (n : ℕ). HasRoom c.enter_new.new.desk 0 (n * 2 ^ 38)) (sym made.messages)
+          (made.room ((c.self.inside.desk.messages + 1) * 2 ^ 38) (room-message desk c.self.inside.desk.messages (c.args.new.now.quantity + 1) fit (omega (arith, c.requires.order.small))));
+    }

@@ -1,0 +1,48 @@
+//! How a call ends.
+ghost use Rattle.std.specs.Prelude.{◌≡◌};
+ghost use Rattle.globex_run.specs.Outcomes.{outcome_of};
+
+/// How a call ended: its status, the place that the status speaks of, and how many messages were applied.
+///
+/// | Status | Name | `at` |
+/// |---|---|---|
+/// | 0 | Ok | 0 |
+/// | 1 | NoMemory | 0 |
+/// | 2 | BadWords | 0 |
+/// | 4 | ReadFault | how many bytes of the input were read |
+/// | 6 | SendFault | 0 |
+/// | 7 | BadFrame | the offset of the bytes that are no frame, or of the frame that is not served |
+/// | 8 | Truncated | the offset of the rest |
+/// | 12 | JournalFull | the offset of the next message |
+#[derive(Clone, Copy, Debug, PartialEq, Eq)]
+pub struct Outcome {
+    pub status: u8,
+    pub at: u64,
+    pub messages: u64,
+}
+
+/// Why serving ended.
+#[derive(Clone, Copy, Debug, PartialEq, Eq)]
+pub enum Status {
+    Ok = 0,
+    NoMemory = 1,
+    BadWords = 2,
+    ReadFault = 4,
+    SendFault = 6,
+    BadFrame = 7,
+    Truncated = 8,
+    JournalFull = 12,
+}
+
+impl Status {
+    /// The outcome with this status, at a place, after so many messages.
+    pub fn outcome(self, at: u64, messages: u64) -> Outcome
+        ensures { result ≡ outcome_of self at messages }
+    {
+        Outcome {
+            status: self as u8,
+            at,
+            messages,
+        }
+    }
+}

@@ -1,0 +1,148 @@
+//! Serving the input: frames in, reports out, one message after the other.
+ghost use Rattle.std.specs.Prelude.{◌≡◌, ◌≢◌, ◌+◌, ◌*◌, ◌^◌, ◌<◌, ◌≤◌, [], OnOk, IfErr, IsOk, vec_len, length};
+ghost use Rattle.gx_station.specs.Stations.{Sends};
+ghost use Rattle.fix_frame.specs.Grammar.{IsFrame};
+ghost use Rattle.globex_run.specs.Step.{with_message, new_of, lines_of};
+ghost use Rattle.globex_run.specs.Fit.{IsOrder};
+ghost use Rattle.globex_run.specs.State.{empty_state};
+ghost use Rattle.globex_run.specs.Outcomes.{place_of};
+ghost use Rattle.globex_run.specs.Serving.{TakesMore, CausedBy, ServesFrame, EndsServing, IsEmptyFramer};
+
+use crate::engine::{Engine, MESSAGE_LIMIT};
+use crate::outcome::Status;
+use crate::outgoing::{Outgoing, SendFault};
+use crate::product::Product;
+use crate::report_buffer::ReportBuffer;
+use crate::request::{NewOrder, plain_order_of};
+use fix_frame::{Framer, Next};
+use gx_station::{Failed, Source, Station};
+
+/// Why serving ended, and the place that the status speaks of.
+#[derive(Clone, Copy, Debug, PartialEq, Eq)]
+pub struct Ending {
+    pub status: Status,
+    pub at: u64,
+}
+
+impl Ending {
+    ghost use Rattle.globex_run.specs.Endings.{ending_of};
+
+    /// The ending with this status. Only some statuses have a place.
+    fn new(status: Status, at: u64) -> Ending
+        ensures { result ≡ ending_of status at }
+    {
+        match status {
+            Status::Ok | Status::NoMemory | Status::BadWords | Status::SendFault => {
+                Ending { status, at: 0 }
+            }
+            _ => Ending { status, at },
+        }
+    }
+}
+
+/// Applies a message, and sends its reports.
+fn serve_order<S: Station>(
+    product: &Product,
+    engine: &mut Engine,
+    buffer: &mut ReportBuffer,
+    station: &mut S,
+    new: &NewOrder,
+) -> Result<(), SendFault>
+    requires few { engine.old.desk.messages < 10000 }
+    requires order { IsOrder new.now }
+    requires empty { buffer.old ≡ [] }
+    ensures state { engine.new ≡ (new_of new.now (with_message engine.old)).state }
+    ensures count { engine.new.desk.messages ≡ engine.old.desk.messages + 1 }
+    ensures sends { Sends S.meanings station.old station.new (lines_of product.now (new_of new.now (with_message engine.old)).events) result }
+    ensures empty { OnOk result (buffer.new ≡ []) }
+{
+    let mut out = Outgoing::new(buffer, station, product.names());
+    engine.apply(new, &mut out);
+    out.flush()
+}
+
+/// Reads once, and feeds what was read.
+fn take_more<I: Source>(
+    framer: &mut Framer,
+    chunk: &mut Vec<u8>,
+    input: &mut I,
+) -> Result<usize, Failed>
+    requires chunk { vec_len chunk.old ≡ 4096 }
+    requires room { length framer.old.rest < 4096 }
+    requires offset { framer.old.offset < 2 ^ 62 }
+    ensures takes { TakesMore I.meanings input.old input.new framer.old framer.new result }
+    ensures chunk { vec_len chunk.new ≡ 4096 }
+{
+    let n = input.read(chunk.as_mut_slice())?;
+    let _ = framer.feed(&chunk.as_slice()[..n]);
+    Ok(n)
+}
+
+/// Serves one frame, or says why it is not served.
+fn serve_frame<S: Station>(
+    product: &Product,
+    engine: &mut Engine,
+    buffer: &mut ReportBuffer,
+    station: &mut S,
+    frame: &[u8],
+) -> Result<(), Status>
+    requires frame { IsFrame frame.now }
+    requires empty { buffer.old ≡ [] }
+    ensures served { ServesFrame S.meanings product.now engine.old engine.new station.old station.new frame.now result }
+    ensures empty { OnOk result (buffer.new ≡ []) }
+{
+    let Some(new) = plain_order_of(frame, product) else {
+        return Err(Status::BadFrame);
+    };
+    if engine.is_live(new.firm, &new.id) {
+        return Err(Status::BadFrame);
+    }
+    if engine.messages() == MESSAGE_LIMIT {
+        return Err(Status::JournalFull);
+    }
+    if serve_order(product, engine, buffer, station, &new).is_err() {
+        return Err(Status::SendFault);
+    }
+    Ok(())
+}
+
+/// Serves the input to its end, or as far as it can be served: each message is applied, and its reports are sent, before
+/// the next one. It ends since each frame counts towards the limit of messages, and each read that does not end the input
+/// takes at least one byte into a bounded buffer.
+pub fn serve<I: Source, S: Station>(
+    product: &Product,
+    engine: &mut Engine,
+    framer: &mut Framer,
+    chunk: &mut Vec<u8>,
+    buffer: &mut ReportBuffer,
+    input: &mut I,
+    station: &mut S,
+) -> Ending
+    requires start { engine.old ≡ empty_state }
+    requires framer { IsEmptyFramer framer.old }
+    requires chunk { vec_len chunk.old ≡ 4096 }
+    requires buffer { buffer.old ≡ [] }
+    ensures cause { CausedBy result.status (I.meanings.faults input.old) (I.meanings.faults input.new) (S.meanings.send_faults station.old) (S.meanings.send_faults station.new) }
+    ensures ends { EndsServing result.status }
+    ensures place { result.at ≡ place_of result.status result.at }
+{
+    'turns: loop {
+        let at = framer.offset();
+        let held = framer.rest();
+        match framer.next() {
+            Next::Frame(start, end) => {
+                let frame = framer.frame(start, end);
+                if let Err(status) = serve_frame(product, engine, buffer, station, frame) {
+                    return Ending::new(status, at);
+                }
+            }
+            Next::More => match take_more(framer, chunk, input) {
+                Ok(0) if held == 0 => return Ending::new(Status::Ok, at),
+                Ok(0) => return Ending::new(Status::Truncated, at),
+                Ok(_) => {}
+                Err(Failed) => return Ending::new(Status::ReadFault, at + held as u64),
+            },
+            Next::Bad(at) => return Ending::new(Status::BadFrame, at),
+        }
+    }
+}

@@ -1,0 +1,89 @@
+//! Runs over a source and a station in memory.
+ghost use Rattle.std.specs.Prelude.{◌≤◌};
+ghost use Rattle.std.specs.List.{AllByRecursion};
+
+use crate::{Outcome, globex};
+use gx_station::{MemSource, MemStation};
+use std::alloc::{AllocError, Global};
+use std::process::Abort;
+use std::test::Fail;
+
+const ORDERS: &str =
+    "8=FIX.4.2|9=89|35=D|49=AAA|56=GX|34=1|52=20240102-09:30:00|11=a1|55=ESZ4|54=2|38=10|40=2|44=100.00|59=0|10=210|8=FIX.4.2|9=88|35=D|49=BBB|56=GX|34=1|52=20240102-09:30:01|11=b1|55=ESZ4|54=1|38=4|40=2|44=100.00|59=0|10=168|";
+
+const REPORTS: &str =
+    "8=FIX.4.2|9=159|35=8|34=1|49=GX|52=20240102-09:30:00|56=AAA|37=1|11=a1|17=1|20=0|150=0|39=0|55=ESZ4|54=2|38=10|40=2|44=100.00|59=0|151=10|14=0|6=0|60=20240102-09:30:00|9003=0|10=053|8=FIX.4.2|9=157|35=8|34=1|49=GX|52=20240102-09:30:01|56=BBB|37=2|11=b1|17=2|20=0|150=0|39=0|55=ESZ4|54=1|38=4|40=2|44=100.00|59=0|151=4|14=0|6=0|60=20240102-09:30:01|9003=0|10=224|8=FIX.4.2|9=190|35=8|34=2|49=GX|52=20240102-09:30:01|56=AAA|37=1|11=a1|17=3|20=0|150=1|39=1|55=ESZ4|54=2|38=10|40=2|44=100.00|59=0|32=4|31=100.00|151=6|14=4|6=0|60=20240102-09:30:01|9001=FIFO|9002=1|9003=0|10=014|8=FIX.4.2|9=189|35=8|34=2|49=GX|52=20240102-09:30:01|56=BBB|37=2|11=b1|17=4|20=0|150=2|39=2|55=ESZ4|54=1|38=4|40=2|44=100.00|59=0|32=4|31=100.00|151=0|14=4|6=0|60=20240102-09:30:01|9001=FIFO|9002=1|9003=0|10=234|";
+
+/// The bytes of a text in which `|` stands for SOH.
+fn bytes_of(alloc: Global, text: &str) -> Result<Vec<u8>, AllocError> {
+    text.as_bytes()
+        .iter()
+        .map(|c| if *c == b'|' { 1 } else { *c })
+        .collect(alloc)
+}
+
+/// Runs these words over this input, read in these pieces, and looks at the outcome and at what was sent.
+fn expect_run(
+    rt: &(impl Abort + AllocGlobal),
+    word: &str,
+    input: &str,
+    pieces: Vec<usize>,
+    outcome: Outcome,
+    sent: &str,
+) -> Result<(), Fail>
+    requires { AllByRecursion (λ size. 1 ≤ size) pieces.items }
+{
+    let alloc = rt.alloc();
+    let words = vec![in alloc; String::from_str(alloc, word)?]?;
+    let none = Vec::new(alloc);
+    let mut product = MemSource::new(alloc, Vec::new(alloc), Vec::new(alloc), Vec::new(alloc))?;
+    let mut source = MemSource::new(alloc, bytes_of(alloc, input)?, pieces, Vec::new(alloc))?;
+    let mut station = MemStation::new(alloc, none, 0, 65_536, 100, Vec::new(alloc))?;
+    let got = globex(
+        alloc,
+        words.as_slice(),
+        &mut product,
+        &mut source,
+        &mut station,
+    );
+    assert_eq!(rt; got, outcome);
+    assert_eq!(rt; station.output(), bytes_of(alloc, sent)?.as_slice());
+    Ok(())
+}
+
+const DONE: Outcome = Outcome {
+    status: 0,
+    at: 0,
+    messages: 2,
+};
+
+#[test]
+fn plainest_run(rt: HostRuntime) -> Result<(), Fail> {
+    expect_run(&rt, "run", ORDERS, Vec::new(rt.alloc()), DONE, REPORTS)
+}
+
+#[test]
+fn plainest_run_byte_by_byte(rt: HostRuntime) -> Result<(), Fail> {
+    let pieces = vec![in rt.alloc(); 1; 221]?;
+    expect_run(&rt, "run", ORDERS, pieces, DONE, REPORTS)
+}
+
+#[test]
+fn empty_input(rt: HostRuntime) -> Result<(), Fail> {
+    let outcome = Outcome {
+        status: 0,
+        at: 0,
+        messages: 0,
+    };
+    expect_run(&rt, "run", "", Vec::new(rt.alloc()), outcome, "")
+}
+
+#[test]
+fn other_words(rt: HostRuntime) -> Result<(), Fail> {
+    let outcome = Outcome {
+        status: 2,
+        at: 0,
+        messages: 0,
+    };
+    expect_run(&rt, "serve", ORDERS, Vec::new(rt.alloc()), outcome, "")
+}
