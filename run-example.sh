@@ -1,0 +1,45 @@
+#!/bin/sh
+# Builds the program, runs the stored example in a folder of its own, and shows the reports: `|` stands for SOH, and
+# each report has a line. Ends with a status other than 0 where anything differs from what is stored.
+set -u
+
+fail() {
+    echo "run-example: $1" >&2
+    exit 1
+}
+
+top=$(CDPATH='' cd -- "$(dirname -- "$0")" && pwd) || exit 1
+crate=$top/crates/globex_cli
+program=$crate/out/globex_cli
+journal=$crate/journal.gxj
+
+command -v rt >/dev/null 2>&1 || fail 'rt, the command of the toolchain, is not on the PATH'
+folder=$(mktemp -d) || exit 1
+
+# `rt run` runs the program in the crate's folder, where it makes an empty journal.
+had_journal=no
+if [ -e "$journal" ]; then had_journal=yes; fi
+tidy() {
+    rm -rf -- "$folder"
+    if [ "$had_journal" = no ]; then rm -f -- "$journal"; fi
+}
+trap tidy EXIT
+trap 'exit 1' HUP INT TERM
+
+# Proves and builds what has changed since the last build, and runs the program over an empty input.
+(cd "$crate" && rt run -- run </dev/null) || fail 'the program was not built, or its run over an empty input failed'
+[ -x "$program" ] || fail "there is no program at $program"
+
+cp -- "$crate/data/product.toml" "$crate/stdin" "$folder/" || exit 1
+(cd "$folder" && "$program" run <stdin >reports)
+status=$?
+[ "$status" -eq 0 ] || fail "the program ended with status $status"
+
+{
+    tr '\001' '|' <"$folder/reports"
+    echo
+} | sed 's/|8=FIX\.4\.2|/|\
+8=FIX.4.2|/g'
+
+cmp -- "$folder/reports" "$crate/stdout" || fail 'these are not the stored reports'
+echo 'run-example: the stored reports, byte for byte'
