@@ -14,9 +14,12 @@ use Rattle.gx_base.specs.declared.order.Life.{Life}
 use Rattle.gx_base.specs.declared.order.Life.TheVariants.{Day, Gtc, Fak, Fok}
 use Rattle.gx_base.specs.declared.event.StepName.{StepName}
 use Rattle.gx_base.specs.declared.event.StepName.TheVariants.{Top, Lmm, Split, ProRata, Leveling, Fifo}
+use Rattle.gx_base.specs.declared.event.NewFault.{NewFault}
+use Rattle.gx_base.specs.declared.event.NewFault.TheVariants as faults
+use Rattle.gx_base.specs.declared.event.NewRefused.{NewRefused}
 use Rattle.gx_base.specs.declared.event.Head.{Head}
 use Rattle.gx_base.specs.declared.event.Event.{Event}
-use Rattle.gx_base.specs.declared.event.Event.TheVariants.{Accepted, Fill}
+use Rattle.gx_base.specs.declared.event.Event.TheVariants.{Accepted, Fill, RefusedNew}
 
 -- ---- names, where a number that is not listed is written as UNKNOWN
 
@@ -63,6 +66,33 @@ step_text Fifo = codes "FIFO"
 abbrev pub fill_status : ℕ → List ℕ
 fill_status leaves = if leaves == 0 then codes "2" else codes "1"
 
+-- our own words for why a new order is refused (58)
+abbrev pub fault_text : NewFault → List ℕ
+fault_text faults.Symbol = codes "SYMBOL"
+fault_text faults.Duplicate = codes "DUPLICATE"
+fault_text faults.Quantity = codes "QUANTITY"
+fault_text faults.Tick = codes "TICK"
+fault_text faults.StopLimit = codes "STOP LIMIT"
+fault_text faults.StopReached = codes "STOP REACHED"
+fault_text faults.MinQty = codes "MINQTY"
+fault_text faults.Show = codes "SHOW"
+fault_text faults.BookFull = codes "BOOK FULL"
+fault_text faults.NoMarket = codes "NO MARKET"
+
+-- the reason of a refusal (103) in FIX 4.2: 0 exchange option, 1 unknown symbol, 3 order exceeds limit, 6 duplicate
+-- order. Which fault has which of them is our own rule
+abbrev pub reject_reason : NewFault → List ℕ
+reject_reason faults.Symbol = codes "1"
+reject_reason faults.Duplicate = codes "6"
+reject_reason faults.Quantity = codes "3"
+reject_reason faults.Tick = codes "0"
+reject_reason faults.StopLimit = codes "0"
+reject_reason faults.StopReached = codes "0"
+reject_reason faults.MinQty = codes "0"
+reject_reason faults.Show = codes "0"
+reject_reason faults.BookFull = codes "3"
+reject_reason faults.NoMarket = codes "0"
+
 -- ---- the parts of a body, in their order
 
 -- message type, line, sender, time and addressee
@@ -108,6 +138,38 @@ state_fields head order =
     ++ field "6" (codes "0")
     ++ field "60" head.time
 
+-- which new order is refused, and with which reason. It has no number
+abbrev pub refused_fields : Head → NewRefused → NewFault → List ℕ
+refused_fields head order fault =
+    field "37" (codes "0")
+    ++ field "11" order.id
+    ++ field "17" (decimal head.report)
+    ++ field "20" (codes "0")
+    ++ field "150" (codes "8")
+    ++ field "39" (codes "8")
+    ++ field "103" (reject_reason fault)
+
+-- what a refused new order wanted, without its prices
+abbrev pub wanted_fields : NewRefused → List ℕ
+wanted_fields order =
+    field "55" order.symbol
+    ++ field "54" (side_text order.side)
+    ++ field "38" (decimal order.quantity)
+    ++ field "40" (kind_text order.kind)
+    ++ field "59" (life_text order.life)
+
+-- nothing is open or filled
+abbrev pub nothing_fields : Head → List ℕ
+nothing_fields head =
+    field "151" (codes "0")
+    ++ field "14" (codes "0")
+    ++ field "6" (codes "0")
+    ++ field "60" head.time
+
+-- why a new order is refused, and how much of it ends with that
+abbrev pub fault_fields : NewRefused → NewFault → List ℕ
+fault_fields order fault = field "58" (fault_text fault) ++ field "9003" (decimal order.quantity)
+
 abbrev pub body_of : NameLists → Event → List ℕ
 body_of names (Accepted head order) =
     line_head names (codes "8") head
@@ -125,6 +187,12 @@ body_of names (Fill head order lots price step trade) =
     ++ field "9001" (step_text step)
     ++ field "9002" (decimal trade)
     ++ field "9003" (codes "0")
+body_of names (RefusedNew head order fault) =
+    line_head names (codes "8") head
+    ++ refused_fields head order fault
+    ++ wanted_fields order
+    ++ nothing_fields head
+    ++ fault_fields order fault
 
 -- the line of an event: the frame of its body, whose length is written without leading zeros
 abbrev pub line_of : NameLists → Event → List ℕ

@@ -1,8 +1,8 @@
 //! The bodies of report lines, field by field.
 ghost use Rattle.std.specs.Prelude.{◌≡◌, ◌+◌, ◌≤◌, ◌++◌, length};
-ghost use Rattle.gx_base.specs.Line.{addressee, instrument_name, decimals_of, side_text, kind_text, life_text, step_text, fill_status, line_head, report_fields, price_fields, order_fields, state_fields, body_of};
+ghost use Rattle.gx_base.specs.Line.{addressee, instrument_name, decimals_of, side_text, kind_text, life_text, step_text, fill_status, fault_text, reject_reason, line_head, report_fields, price_fields, order_fields, state_fields, refused_fields, wanted_fields, nothing_fields, fault_fields, body_of};
 
-use crate::event::{Event, Head, StepName};
+use crate::event::{Event, Head, NewFault, NewRefused, StepName};
 use crate::fields::Fields;
 use crate::id::ShortId;
 use crate::names::{Listed, Names};
@@ -42,6 +42,13 @@ impl Fields {
                 self.field(b"9001", step_text(*step));
                 self.number(b"9002", *trade);
                 self.field(b"9003", b"0");
+            }
+            Event::RefusedNew { head, order, fault } => {
+                self.line_head(names, b"8", head);
+                self.refused_fields(head, order, *fault);
+                self.wanted_fields(order);
+                self.nothing_fields(head);
+                self.fault_fields(order, *fault);
             }
         }
     }
@@ -120,6 +127,56 @@ impl Fields {
         self.field(b"6", b"0");
         self.field(b"60", head.time.bytes());
     }
+
+    /// Which new order is refused, and with which reason.
+    fn refused_fields(&mut self, head: &Head, order: &NewRefused, fault: NewFault)
+        requires { length self.old + 210 ≤ 1024 }
+        ensures fields { self.new ≡ self.old ++ refused_fields head.now order.now fault }
+        ensures short { length self.new ≤ length self.old + 210 }
+    {
+        self.field(b"37", b"0");
+        self.field(b"11", order.id.bytes());
+        self.number(b"17", head.report);
+        self.field(b"20", b"0");
+        self.field(b"150", b"8");
+        self.field(b"39", b"8");
+        self.field(b"103", reject_reason(fault));
+    }
+
+    /// What a refused new order wanted, without its prices.
+    fn wanted_fields(&mut self, order: &NewRefused)
+        requires { length self.old + 150 ≤ 1024 }
+        ensures fields { self.new ≡ self.old ++ wanted_fields order.now }
+        ensures short { length self.new ≤ length self.old + 150 }
+    {
+        self.field(b"55", order.symbol.bytes());
+        self.field(b"54", side_text(order.side));
+        self.number(b"38", u64::from(order.quantity));
+        self.field(b"40", kind_text(order.kind));
+        self.field(b"59", life_text(order.life));
+    }
+
+    /// Nothing is open or filled.
+    fn nothing_fields(&mut self, head: &Head)
+        requires { length self.old + 120 ≤ 1024 }
+        ensures fields { self.new ≡ self.old ++ nothing_fields head.now }
+        ensures short { length self.new ≤ length self.old + 120 }
+    {
+        self.field(b"151", b"0");
+        self.field(b"14", b"0");
+        self.field(b"6", b"0");
+        self.field(b"60", head.time.bytes());
+    }
+
+    /// Why a new order is refused, and how much of it ends with that.
+    fn fault_fields(&mut self, order: &NewRefused, fault: NewFault)
+        requires { length self.old + 60 ≤ 1024 }
+        ensures fields { self.new ≡ self.old ++ fault_fields order.now fault }
+        ensures short { length self.new ≤ length self.old + 60 }
+    {
+        self.field(b"58", fault_text(fault));
+        self.number(b"9003", u64::from(order.quantity));
+    }
 }
 
 /// The name of a report's addressee, `UNKNOWN` where it is not known or not listed.
@@ -193,6 +250,43 @@ fn step_text(step: StepName) -> &'static [u8]
         StepName::ProRata => b"PRORATA",
         StepName::Leveling => b"LEVELING",
         StepName::Fifo => b"FIFO",
+    }
+}
+
+/// The value of tag 58 for a refused new order, in our own words.
+fn fault_text(fault: NewFault) -> &'static [u8]
+    ensures text { result.now ≡ fault_text fault }
+    ensures short { length result.now ≤ 24 }
+{
+    match fault {
+        NewFault::Symbol => b"SYMBOL",
+        NewFault::Duplicate => b"DUPLICATE",
+        NewFault::Quantity => b"QUANTITY",
+        NewFault::Tick => b"TICK",
+        NewFault::StopLimit => b"STOP LIMIT",
+        NewFault::StopReached => b"STOP REACHED",
+        NewFault::MinQty => b"MINQTY",
+        NewFault::Show => b"SHOW",
+        NewFault::BookFull => b"BOOK FULL",
+        NewFault::NoMarket => b"NO MARKET",
+    }
+}
+
+/// The value of tag 103 in FIX 4.2 for a refused new order. Which fault has which reason is our own rule.
+fn reject_reason(fault: NewFault) -> &'static [u8]
+    ensures text { result.now ≡ reject_reason fault }
+    ensures short { length result.now ≤ 24 }
+{
+    match fault {
+        NewFault::Symbol => b"1",
+        NewFault::Duplicate => b"6",
+        NewFault::Quantity | NewFault::BookFull => b"3",
+        NewFault::Tick
+        | NewFault::StopLimit
+        | NewFault::StopReached
+        | NewFault::MinQty
+        | NewFault::Show
+        | NewFault::NoMarket => b"0",
     }
 }
 

@@ -1,5 +1,6 @@
 //! What happened to orders, and is reported.
-use crate::order::Order;
+use crate::id::ShortId;
+use crate::order::{Kind, Life, Order, Side};
 use crate::price::Price;
 use crate::stamp::Stamp;
 
@@ -33,6 +34,45 @@ pub struct Head {
     pub time: Stamp,
 }
 
+/// Why a new order is refused.
+#[derive(Clone, Copy, Debug, PartialEq, Eq)]
+pub enum NewFault {
+    /// No instrument has the name.
+    Symbol,
+    /// A live order of the firm has this ClOrdID (11).
+    Duplicate,
+    /// The quantity is 0 or above 999,999.
+    Quantity,
+    /// A price has a non-zero digit below the decimals, or is no multiple of the tick.
+    Tick,
+    /// The price of a stop limit is on the wrong side of its stop price.
+    StopLimit,
+    /// The stop price is reached already.
+    StopReached,
+    /// MinQty (110) is above the quantity, or above 0 for a Day or GTC order.
+    MinQty,
+    /// MaxShow (210) is above the quantity.
+    Show,
+    /// The live orders are as many as there may be.
+    BookFull,
+    /// It is a market order, and the other side is empty.
+    NoMarket,
+}
+
+/// What is said of a refused new order.
+#[derive(Clone, Copy, Debug, PartialEq, Eq)]
+pub struct NewRefused {
+    /// The client's id (11).
+    pub id: ShortId,
+    /// The name of the instrument (55), as the client wrote it.
+    pub symbol: ShortId,
+    pub side: Side,
+    /// What was to be ordered (38), in lots.
+    pub quantity: u32,
+    pub kind: Kind,
+    pub life: Life,
+}
+
 /// One thing that happened to an order.
 #[derive(Clone, Copy, Debug, PartialEq, Eq)]
 pub enum Event {
@@ -52,5 +92,11 @@ pub enum Event {
         step: StepName,
         /// The number of the trade, which its two reports share (9002).
         trade: u64,
+    },
+    /// A new order is refused. It gets no number, and nothing of it is open.
+    RefusedNew {
+        head: Head,
+        order: NewRefused,
+        fault: NewFault,
     },
 }

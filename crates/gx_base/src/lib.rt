@@ -20,7 +20,7 @@ mod tests;
 mod text;
 
 pub use emit::{ByteEmit, Emit, NullEmit};
-pub use event::{Event, Head, StepName};
+pub use event::{Event, Head, NewFault, NewRefused, StepName};
 pub use id::ShortId;
 pub use line::LineBuffer;
 pub use names::{Listed, Names};

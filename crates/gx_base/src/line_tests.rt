@@ -2,7 +2,7 @@
 ghost use Rattle.std.specs.Prelude.{◌≡◌};
 
 use crate::emit::{ByteEmit, Emit};
-use crate::event::{Event, Head, StepName};
+use crate::event::{Event, Head, NewFault, NewRefused, StepName};
 use crate::id::ShortId;
 use crate::names::{Listed, Names};
 use crate::order::{Kind, Life, Order, Side};
@@ -17,6 +17,9 @@ const ACCEPTED: &[u8] =
 
 const FILLED: &[u8] =
     b"8=FIX.4.2|9=190|35=8|34=2|49=GX|52=20240102-09:30:01|56=AAA|37=1|11=a1|17=3|20=0|150=1|39=1|55=ESZ4|54=2|38=10|40=2|44=100.00|59=0|32=4|31=100.00|151=6|14=4|6=0|60=20240102-09:30:01|9001=FIFO|9002=1|9003=0|10=014|";
+
+const REFUSED: &[u8] =
+    b"8=FIX.4.2|9=168|35=8|34=2|49=GX|52=20240102-09:30:00|56=AAA|37=0|11=a1|17=2|20=0|150=8|39=8|103=6|55=ESZ4|54=2|38=10|40=2|59=0|151=0|14=0|6=0|60=20240102-09:30:00|58=DUPLICATE|9003=10|10=207|";
 
 fn name(rt: &impl Abort, text: &[u8]) -> ShortId
     ensures { result ≡ text.now }
@@ -95,6 +98,26 @@ fn filled(rt: &impl Abort) -> Event {
     }
 }
 
+fn refused(rt: &impl Abort) -> Event {
+    Event::RefusedNew {
+        head: Head {
+            firm: Some(0),
+            line: 2,
+            report: 2,
+            time: stamp(rt, b"20240102-09:30:00"),
+        },
+        order: NewRefused {
+            id: name(rt, b"a1"),
+            symbol: name(rt, b"ESZ4"),
+            side: Side::Sell,
+            quantity: 10,
+            kind: Kind::Limit,
+            life: Life::Day,
+        },
+        fault: NewFault::Duplicate,
+    }
+}
+
 /// The lines with a bar for each SOH.
 fn with_bars(alloc: Global, lines: &[u8]) -> Result<Vec<u8>, AllocError> {
     lines
@@ -118,6 +141,16 @@ fn writes_the_lines_of_an_order(rt: HostRuntime) -> Result<(), Fail> {
         with_bars(rt.alloc(), lines.bytes())?.as_slice(),
         both.as_slice()
     );
+    Ok(())
+}
+
+#[test]
+fn writes_the_line_of_a_refused_new_order(rt: HostRuntime) -> Result<(), Fail> {
+    let names = product_names(&rt);
+    let mut lines = ByteEmit::new(rt.alloc(), &names, REFUSED.len())?;
+    lines.put(&refused(&rt));
+    assert!(rt; !lines.failed());
+    assert_eq!(rt; with_bars(rt.alloc(), lines.bytes())?.as_slice(), REFUSED);
     Ok(())
 }
 
