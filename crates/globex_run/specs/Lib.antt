@@ -10,6 +10,8 @@ pub mod Outgoing
 pub mod Outcomes
 pub mod Words
 pub mod Serving
+pub mod Served
+pub mod Ran
 pub mod Endings
 pub mod Rooms
 pub mod PlainViews
