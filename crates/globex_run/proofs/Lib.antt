@@ -13,6 +13,12 @@ pub mod Pushing
 pub mod Serving
 pub mod Served
 pub mod Statuses
+pub mod Running
 pub mod PlainValues
 pub mod PlainSteps
 pub mod PlainOrders
+pub mod Fronts
+pub mod Ends
+pub mod Steps
+pub mod Complete
+pub mod Runs

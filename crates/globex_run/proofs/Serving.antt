@@ -1,9 +1,11 @@
 -- What holds between two messages, at the start and after one more.
-use Rattle.std.proofs.Common.{◌≡◌, ℕ, zero, suc, ◌+◌, ◌*◌, ◌^◌, ◌≤◌, List, [], slice_index, replicate, refl, sym, subst, arith}
+use Rattle.std.proofs.Common.{◌≡◌, ℕ, zero, suc, ◌+◌, ◌*◌, ◌^◌, ◌<◌, ◌≤◌, List, [], slice_index, replicate, refl, sym, subst, arith}
 use Rattle.gx_base.specs.declared.order.Order.{Order}
 use Rattle.gx_base.specs.declared.order.Desk.{Desk}
 use Rattle.globex_run.specs.State.{empty_desk}
+use Rattle.globex_run.specs.Match.{reported}
 use Rattle.globex_run.specs.Fit.{HasRoom, IsServing}
+use Rattle.globex_run.proofs.Rooms.{room-reported}
 
 no_line : (n i : ℕ) → slice_index (replicate n 0) i ≡ 0
 no_line zero i = refl
@@ -34,3 +36,18 @@ room-wider desk lots bound wider room le = record {
   reports = omega (arith, room.reports);
   lines = λ i. omega (arith, room.lines i);
 }
+
+-- a message was counted, and its one report
+pub serving-refused : (orders : List Order) (desk after : Desk) (firm room : ℕ) → IsServing orders desk room → desk.messages < 10000
+    → after ≡ reported (record desk { messages = desk.messages + 1 }) firm → IsServing orders after room
+serving-refused orders desk after firm room was few is =
+    let counted : Desk = record desk { messages = desk.messages + 1 } in
+    let fit : HasRoom counted 0 (desk.messages * 2 ^ 38) = record { trades = was.counters_fit.trades; reports = was.counters_fit.reports; lines = was.counters_fit.lines } in
+    subst (λ (d : Desk). IsServing orders d room) (sym is) (record {
+      right = was.right;
+      counted = omega (arith, was.counted);
+      few = was.few;
+      bounded = omega (arith, few);
+      enough = was.enough;
+      counters_fit = room-reported counted desk.orders firm 0 ((desk.messages + 1) * 2 ^ 38) (room-message counted desk.messages 1 fit (omega arith));
+    })

@@ -6,7 +6,7 @@ use Rattle.gx_base.specs.Numbers.{are_digits, price_of, price_text}
 use Rattle.gx_base.specs.Texts.{is_name, is_time_text}
 use Rattle.gx_base.specs.Frames.{soh}
 use Rattle.gx_base.specs.NameLists.{NameLists, instrument_names}
-use Rattle.gx_base.specs.Line.{decimals_of}
+use Rattle.gx_base.specs.Line.{instrument_name, decimals_of}
 use Rattle.gx_base.specs.declared.price.Price.{Price}
 use Rattle.gx_base.specs.declared.price.PriceFault.{PriceFault}
 use Rattle.gx_base.specs.declared.order.Side.{Side}
@@ -131,7 +131,7 @@ order_of_texts product head order = do
   side ← side_of_text order'.side
   quantity ← plain_quantity order'.quantity
   price ← plain_price (decimals_of product.names instrument) (tick_of product instrument) order'.price
-  Some (record { firm = firm; time = time; id = id; instrument = instrument; side = side; quantity = quantity; price = price })
+  Some (record { firm = firm; time = time; id = id; symbol = instrument_name product.names instrument; instrument = instrument; side = side; quantity = quantity; price = price })
 
 -- the order of a body, of which nothing may stand behind the last field
 unfoldable pub order_of_body : ProductLists → List ℕ → Option NewOrder

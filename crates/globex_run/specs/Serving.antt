@@ -1,5 +1,5 @@
 -- What the steps of serving do: reading, and what may have failed.
-use Rattle.std.specs.Prelude.{◌≡◌, ℕ, ◌+◌, ◌<◌, ◌≤◌, true, List, ◌++◌, length, Option, Some, None, IsSome, Result, Ok, Err, IfOk, OnErr, []}
+use Rattle.std.specs.Prelude.{◌≡◌, ℕ, ◌+◌, ◌<◌, ◌≤◌, List, ◌++◌, length, None, IsSome, Result, Ok, Err, IfOk, OnErr, []}
 use Rattle.gx_base.specs.Told.{TellsPrefix}
 use Rattle.gx_station.specs.Counts.{Rose, HasCause}
 use Rattle.gx_station.specs.Sources.{SourceMeanings, and_left, IsAtEnd}
@@ -7,10 +7,8 @@ use Rattle.gx_station.specs.Stations.{StationMeanings, sent_and}
 use Rattle.fix_frame.specs.Framing.{Framing}
 use Rattle.globex_run.specs.Products.{ProductLists}
 use Rattle.globex_run.specs.State.{State}
-use Rattle.globex_run.specs.Book.{is_live}
 use Rattle.globex_run.specs.PlainOrder.{plain_order}
 use Rattle.globex_run.specs.Step.{step_of, lines_of}
-use Rattle.globex_run.specs.declared.request.NewOrder.{NewOrder}
 use Rattle.globex_run.specs.declared.outcome.Status.{Status}
 use Rattle.globex_run.specs.declared.outcome.Status.TheVariants as status
 
@@ -37,11 +35,6 @@ CausedBy status.BadFrame read reads send sends = (reads ≡ read) × (sends ≡ 
 CausedBy status.Truncated read reads send sends = (reads ≡ read) × (sends ≡ send)
 CausedBy status.JournalFull read reads send sends = (reads ≡ read) × (sends ≡ send)
 
--- no plain order, or one with the id of a live order of its firm
-abbrev pub IsNotServed : Option NewOrder → State → Type 0
-IsNotServed None state = Unit {0}
-IsNotServed (Some new) state = is_live new.firm new.id state.resting ≡ true
-
 -- a frame was served, and its reports were sent; or it was not, and nothing was; or a send has failed, after a part of
 -- the reports
 abbrev pub ServesFrame : {S : Type 0} → StationMeanings S → ProductLists → State → State → S → S → List ℕ → Result (Unit {0}) Status → Type 0
@@ -54,10 +47,11 @@ ServesFrame m product old new before after frame (Ok t) =
     × (m.send_faults after ≡ m.send_faults before)
 ServesFrame m product old new before after frame (Err status.SendFault) =
     (old.desk.messages < 10000)
+    × (new.desk.messages ≡ old.desk.messages + 1)
     × IsSome (plain_order product frame)
     × TellsPrefix (m.sent after) (sent_and (m.sent before) (lines_of product (step_of product old frame).1))
     × Rose (m.send_faults before) (m.send_faults after)
-ServesFrame m product old new before after frame (Err status.BadFrame) = (new ≡ old) × (after ≡ before) × IsNotServed (plain_order product frame) old
+ServesFrame m product old new before after frame (Err status.BadFrame) = (new ≡ old) × (after ≡ before) × (plain_order product frame ≡ None)
 ServesFrame m product old new before after frame (Err status.JournalFull) =
     (new ≡ old) × (after ≡ before) × (10000 ≤ old.desk.messages) × IsSome (plain_order product frame)
 ServesFrame m product old new before after frame (Err status.Ok) = ⊥

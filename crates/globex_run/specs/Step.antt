@@ -2,16 +2,20 @@
 use Rattle.std.specs.Prelude.{ℕ, ◌+◌, ◌==◌, if◌then◌else◌, List, [], ◌∷◌, ◌++◌, flat_map, Option, Some, None, pos}
 use Rattle.gx_base.specs.Line.{line_of}
 use Rattle.gx_base.specs.declared.order.Order.{Order}
+use Rattle.gx_base.specs.declared.order.Desk.{Desk}
 use Rattle.gx_base.specs.declared.order.Taker.{Taker}
 use Rattle.gx_base.specs.declared.order.Kind.TheVariants.{Limit}
 use Rattle.gx_base.specs.declared.order.Life.TheVariants.{Day}
 use Rattle.gx_base.specs.declared.event.Event.{Event}
-use Rattle.gx_base.specs.declared.event.Event.TheVariants.{Accepted}
+use Rattle.gx_base.specs.declared.event.Event.TheVariants.{Accepted, RefusedNew}
+use Rattle.gx_base.specs.declared.event.NewFault.{NewFault}
+use Rattle.gx_base.specs.declared.event.NewFault.TheVariants.{Duplicate}
+use Rattle.gx_base.specs.declared.event.NewRefused.{NewRefused}
 use Rattle.globex_run.specs.Products.{ProductLists}
 use Rattle.globex_run.specs.PlainOrder.{plain_order}
 use Rattle.globex_run.specs.State.{State, empty_state}
-use Rattle.globex_run.specs.Book.{placed}
-use Rattle.globex_run.specs.Match.{Moment, moment, report, sweep}
+use Rattle.globex_run.specs.Book.{is_live, placed}
+use Rattle.globex_run.specs.Match.{Moment, moment, report, reported, next_head, sweep}
 use Rattle.globex_run.specs.declared.request.NewOrder.{NewOrder}
 
 -- what is left of an order that has matched comes to rest
@@ -56,6 +60,26 @@ new_of new state =
     let counted = record state { desk = record state.desk { orders = number } } in
     entered (report Accepted taker.order (moment counted taker))
 
+-- what is said of a refused new order
+abbrev pub refused_of : NewOrder → NewRefused
+refused_of new = record { id = new.id; symbol = new.symbol; side = new.side; quantity = new.quantity; kind = Limit; life = Day }
+
+abbrev pub refusal : NewFault → NewOrder → Desk → Event
+refusal fault new desk = RefusedNew (next_head desk new.firm new.time) (refused_of new) fault
+
+-- a refused new order is reported, gets no number, and changes nothing else
+abbrev pub refused : NewFault → NewOrder → State → State × List Event
+refused fault new state = (record state { desk = reported state.desk new.firm }, refusal fault new state.desk ∷ [])
+
+abbrev pub accepted : NewOrder → State → State × List Event
+accepted new state = let m = new_of new state in (m.state, m.events)
+
+-- a new order is refused where a live order of its firm has its id, and else accepted
+abbrev pub new_step : NewOrder → State → State × List Event
+new_step new state =
+    if is_live new.firm new.id state.resting then refused Duplicate new state
+    else accepted new state
+
 -- every message counts
 abbrev pub with_message : State → State
 with_message state = record state { desk = record state.desk { messages = state.desk.messages + 1 } }
@@ -63,7 +87,7 @@ with_message state = record state { desk = record state.desk { messages = state.
 -- what a message does: the state after it, and its events
 abbrev pub request_step : Option NewOrder → State → State × List Event
 request_step None state = (state, [])
-request_step (Some new) state = let m = new_of new state in (m.state, m.events)
+request_step (Some new) state = new_step new state
 
 abbrev pub step_of : ProductLists → State → List ℕ → State × List Event
 step_of product state frame = request_step (plain_order product frame) (with_message state)

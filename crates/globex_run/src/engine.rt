@@ -2,14 +2,13 @@
 ghost use Rattle.std.specs.Prelude.{◌≡◌, ◌+◌, ◌<◌, ◌≤◌, IfOk};
 ghost use Rattle.gx_base.specs.Emits.{Emits};
 ghost use Rattle.globex_run.specs.State.{empty_state};
-ghost use Rattle.globex_run.specs.Book.{is_live};
-ghost use Rattle.globex_run.specs.Step.{with_message, new_of};
+ghost use Rattle.globex_run.specs.Step.{with_message, new_step};
 ghost use Rattle.globex_run.specs.Fit.{IsOrder};
 
 use crate::book::has_id;
-use crate::entry::enter_new;
+use crate::entry::{enter_new, refuse_new};
 use crate::request::NewOrder;
-use gx_base::{Desk, Emit, Order, ShortId};
+use gx_base::{Desk, Emit, NewFault, Order};
 use std::alloc::{AllocError, Global};
 use std::marker::Model;
 
@@ -61,22 +60,20 @@ impl Engine {
         self.desk.messages
     }
 
-    /// Whether a live order of the firm has this id.
-    pub fn is_live(&self, firm: u8, id: &ShortId) -> bool
-        ensures { result ≡ is_live firm id.now self.now.resting }
-    {
-        has_id(self.orders.as_slice(), firm, id)
-    }
-
-    /// Applies a message with a new order, and puts its events.
+    /// Applies a message with a new order, and puts its events. It is refused where a live order of its firm has its id,
+    /// and else accepted.
     pub fn apply<E: Emit>(&mut self, new: &NewOrder, out: &mut E)
         requires few { self.old.desk.messages < 10000 }
         requires order { IsOrder new.now }
-        ensures state { self.new ≡ (new_of new.now (with_message self.old)).state }
-        ensures told { Emits E.meanings out.old out.new (new_of new.now (with_message self.old)).events }
+        ensures state { self.new ≡ (new_step new.now (with_message self.old)).0 }
+        ensures told { Emits E.meanings out.old out.new (new_step new.now (with_message self.old)).1 }
         ensures count { self.new.desk.messages ≡ self.old.desk.messages + 1 }
     {
         self.desk.messages += 1;
-        enter_new(&mut self.orders, &mut self.desk, new, out);
+        if has_id(self.orders.as_slice(), new.firm, &new.id) {
+            refuse_new(&mut self.desk, new, NewFault::Duplicate, out);
+        } else {
+            enter_new(&mut self.orders, &mut self.desk, new, out);
+        }
     }
 }

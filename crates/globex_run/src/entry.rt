@@ -1,13 +1,14 @@
-//! New orders: accepted, reported and entered.
-ghost use Rattle.std.specs.Prelude.{◌≡◌, ◌+◌, ◌<◌, ◌≤◌, ℕ, vec_len, vec_capacity};
+//! New orders: accepted, reported and entered, or refused.
+ghost use Rattle.std.specs.Prelude.{◌≡◌, ◌+◌, ◌<◌, ◌≤◌, ℕ, [], ◌∷◌, vec_len, vec_capacity};
 ghost use Rattle.gx_base.specs.Emits.{Emits};
-ghost use Rattle.globex_run.specs.Step.{order_of, new_of};
+ghost use Rattle.globex_run.specs.Step.{order_of, new_of, refused_of, refusal};
+ghost use Rattle.globex_run.specs.Match.{reported};
 ghost use Rattle.globex_run.specs.Fit.{IsRight, HasRoom, IsState, state_of, IsOrder, counter_limit};
 
 use crate::book::place;
 use crate::matching::{count_report, match_all};
 use crate::request::NewOrder;
-use gx_base::{Desk, Emit, Event, Kind, Life, Order, Price, Taker};
+use gx_base::{Desk, Emit, Event, Kind, Life, NewFault, NewRefused, Order, Price, Taker};
 
 /// The order that a message asks for, with its number.
 fn new_order(new: &NewOrder, number: u64) -> Order
@@ -65,4 +66,33 @@ pub fn enter_new<E: Emit>(orders: &mut Vec<Order>, desk: &mut Desk, new: &NewOrd
     if taker.order.leaves > 0 {
         place(orders, taker.order);
     }
+}
+
+/// What is said of a refused new order.
+fn new_refused(new: &NewOrder) -> NewRefused
+    ensures { result ≡ refused_of new.now }
+{
+    NewRefused {
+        id: new.id,
+        symbol: new.symbol,
+        side: new.side,
+        quantity: new.quantity,
+        kind: Kind::Limit,
+        life: Life::Day,
+    }
+}
+
+/// A new order is refused. Only its report is counted.
+pub fn refuse_new<E: Emit>(desk: &mut Desk, new: &NewOrder, fault: NewFault, out: &mut E)
+    requires firm { new.now.firm < 64 }
+    requires room { HasRoom desk.old 1 counter_limit }
+    ensures desk { desk.new ≡ reported desk.old new.now.firm }
+    ensures told { Emits E.meanings out.old out.new (refusal fault new.now desk.old ∷ []) }
+{
+    let head = count_report(desk, new.firm, new.time);
+    out.put(&Event::RefusedNew {
+        head,
+        order: new_refused(new),
+        fault,
+    });
 }

@@ -2,6 +2,8 @@
 #![tactic(auto)]
 
 mod book;
+#[cfg(test)]
+mod book_tests;
 mod engine;
 mod entry;
 mod matching;

@@ -22,7 +22,10 @@ pub struct NewOrder {
     /// The number of the sender in the product's list of firms.
     pub firm: u8,
     pub time: Stamp,
+    /// The client's id of the order (11).
     pub id: ShortId,
+    /// The instrument's name (55), and its number in the product's list.
+    pub symbol: ShortId,
     pub instrument: u8,
     pub side: Side,
     /// In lots.
@@ -71,12 +74,13 @@ fn order_of_texts(product: &Product, head: &HeadTexts, order: &OrderTexts) -> Op
     let instrument = names.find_instrument(order.symbol)?;
     let side = side_of_text(order.side)?;
     let quantity = plain_quantity(order.quantity)?;
-    let decimals = names.listed(instrument).decimals;
-    let price = plain_price(decimals, product.tick(instrument), order.price)?;
+    let listed = names.listed(instrument);
+    let price = plain_price(listed.decimals, product.tick(instrument), order.price)?;
     Some(NewOrder {
         firm,
         time,
         id,
+        symbol: listed.name,
         instrument,
         side,
         quantity,

@@ -2,10 +2,11 @@
 ghost use Rattle.std.specs.Prelude.{◌≡◌, ◌≢◌, ◌+◌, ◌*◌, ◌^◌, ◌<◌, ◌≤◌, [], OnOk, IfErr, IsOk, vec_len, length};
 ghost use Rattle.gx_station.specs.Stations.{Sends};
 ghost use Rattle.fix_frame.specs.Grammar.{IsFrame};
-ghost use Rattle.globex_run.specs.Step.{with_message, new_of, lines_of};
+ghost use Rattle.globex_run.specs.Step.{with_message, new_step, lines_of};
 ghost use Rattle.globex_run.specs.Fit.{IsOrder};
 ghost use Rattle.globex_run.specs.State.{empty_state};
 ghost use Rattle.globex_run.specs.Outcomes.{place_of};
+ghost use Rattle.globex_run.specs.Ran.{Ran};
 ghost use Rattle.globex_run.specs.Serving.{TakesMore, CausedBy, ServesFrame, EndsServing, IsEmptyFramer};
 
 use crate::engine::{Engine, MESSAGE_LIMIT};
@@ -51,9 +52,9 @@ fn serve_order<S: Station>(
     requires few { engine.old.desk.messages < 10000 }
     requires order { IsOrder new.now }
     requires empty { buffer.old ≡ [] }
-    ensures state { engine.new ≡ (new_of new.now (with_message engine.old)).state }
+    ensures state { engine.new ≡ (new_step new.now (with_message engine.old)).0 }
     ensures count { engine.new.desk.messages ≡ engine.old.desk.messages + 1 }
-    ensures sends { Sends S.meanings station.old station.new (lines_of product.now (new_of new.now (with_message engine.old)).events) result }
+    ensures sends { Sends S.meanings station.old station.new (lines_of product.now (new_step new.now (with_message engine.old)).1) result }
     ensures empty { OnOk result (buffer.new ≡ []) }
 {
     let mut out = Outgoing::new(buffer, station, product.names());
@@ -94,9 +95,6 @@ fn serve_frame<S: Station>(
     let Some(new) = plain_order_of(frame, product) else {
         return Err(Status::BadFrame);
     };
-    if engine.is_live(new.firm, &new.id) {
-        return Err(Status::BadFrame);
-    }
     if engine.messages() == MESSAGE_LIMIT {
         return Err(Status::JournalFull);
     }
@@ -125,6 +123,7 @@ pub fn serve<I: Source, S: Station>(
     ensures cause { CausedBy result.status (I.meanings.faults input.old) (I.meanings.faults input.new) (S.meanings.send_faults station.old) (S.meanings.send_faults station.new) }
     ensures ends { EndsServing result.status }
     ensures place { result.at ≡ place_of result.status result.at }
+    ensures ran { Ran I.meanings S.meanings product.now input.old input.new station.old station.new result.status result.at engine.new.desk.messages }
 {
     'turns: loop {
         let at = framer.offset();

@@ -14,6 +14,17 @@ const ORDERS: &str =
 const REPORTS: &str =
     "8=FIX.4.2|9=159|35=8|34=1|49=GX|52=20240102-09:30:00|56=AAA|37=1|11=a1|17=1|20=0|150=0|39=0|55=ESZ4|54=2|38=10|40=2|44=100.00|59=0|151=10|14=0|6=0|60=20240102-09:30:00|9003=0|10=053|8=FIX.4.2|9=157|35=8|34=1|49=GX|52=20240102-09:30:01|56=BBB|37=2|11=b1|17=2|20=0|150=0|39=0|55=ESZ4|54=1|38=4|40=2|44=100.00|59=0|151=4|14=0|6=0|60=20240102-09:30:01|9003=0|10=224|8=FIX.4.2|9=190|35=8|34=2|49=GX|52=20240102-09:30:01|56=AAA|37=1|11=a1|17=3|20=0|150=1|39=1|55=ESZ4|54=2|38=10|40=2|44=100.00|59=0|32=4|31=100.00|151=6|14=4|6=0|60=20240102-09:30:01|9001=FIFO|9002=1|9003=0|10=014|8=FIX.4.2|9=189|35=8|34=2|49=GX|52=20240102-09:30:01|56=BBB|37=2|11=b1|17=4|20=0|150=2|39=2|55=ESZ4|54=1|38=4|40=2|44=100.00|59=0|32=4|31=100.00|151=0|14=4|6=0|60=20240102-09:30:01|9001=FIFO|9002=1|9003=0|10=234|";
 
+const ORDER: &str =
+    "8=FIX.4.2|9=89|35=D|49=AAA|56=GX|34=1|52=20240102-09:30:00|11=a1|55=ESZ4|54=2|38=10|40=2|44=100.00|59=0|10=210|";
+
+const HEARTBEAT: &str = "8=FIX.4.2|9=49|35=0|49=AAA|56=GX|34=1|52=20240102-09:30:00|58=x|10=133|";
+
+const ACCEPTED: &str =
+    "8=FIX.4.2|9=159|35=8|34=1|49=GX|52=20240102-09:30:00|56=AAA|37=1|11=a1|17=1|20=0|150=0|39=0|55=ESZ4|54=2|38=10|40=2|44=100.00|59=0|151=10|14=0|6=0|60=20240102-09:30:00|9003=0|10=053|";
+
+const DUPLICATE: &str =
+    "8=FIX.4.2|9=168|35=8|34=2|49=GX|52=20240102-09:30:00|56=AAA|37=0|11=a1|17=2|20=0|150=8|39=8|103=6|55=ESZ4|54=2|38=10|40=2|59=0|151=0|14=0|6=0|60=20240102-09:30:00|58=DUPLICATE|9003=10|10=207|";
+
 /// The bytes of a text in which `|` stands for SOH.
 fn bytes_of(alloc: Global, text: &str) -> Result<Vec<u8>, AllocError> {
     text.as_bytes()
@@ -48,6 +59,23 @@ fn expect_run(
     );
     assert_eq!(rt; got, outcome);
     assert_eq!(rt; station.output(), bytes_of(alloc, sent)?.as_slice());
+    Ok(())
+}
+
+/// Runs over these texts, one behind the other, cut at every place into two reads.
+fn expect_each_cut(
+    rt: &(impl Abort + AllocGlobal),
+    first: &str,
+    second: &str,
+    outcome: Outcome,
+    sent: &str,
+) -> Result<(), Fail> {
+    let mut input = String::from_str(rt.alloc(), first)?;
+    input.push_str(second)?;
+    for cut in 1..input.len() {
+        let pieces = vec![in rt.alloc(); cut]?;
+        expect_run(rt, "run", input.as_str(), pieces, outcome, sent)?;
+    }
     Ok(())
 }
 
@@ -86,4 +114,26 @@ fn other_words(rt: HostRuntime) -> Result<(), Fail> {
         messages: 0,
     };
     expect_run(&rt, "serve", ORDERS, Vec::new(rt.alloc()), outcome, "")
+}
+
+#[test]
+fn plainest_run_at_each_cut(rt: HostRuntime) -> Result<(), Fail> {
+    expect_each_cut(&rt, ORDERS, "", DONE, REPORTS)
+}
+
+#[test]
+fn heartbeat_after_an_order(rt: HostRuntime) -> Result<(), Fail> {
+    let outcome = Outcome {
+        status: 7,
+        at: 111,
+        messages: 1,
+    };
+    expect_each_cut(&rt, ORDER, HEARTBEAT, outcome, ACCEPTED)
+}
+
+#[test]
+fn same_order_twice(rt: HostRuntime) -> Result<(), Fail> {
+    let mut sent = String::from_str(rt.alloc(), ACCEPTED)?;
+    sent.push_str(DUPLICATE)?;
+    expect_each_cut(&rt, ORDER, ORDER, DONE, sent.as_str())
 }

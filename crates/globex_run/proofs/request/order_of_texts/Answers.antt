@@ -1,7 +1,7 @@
 use Rattle.std.proofs.Common.{refl, Some, None}
 use Rattle.gx_base.specs.Texts.{is_name, is_time_text}
 use Rattle.globex_run.specs.PlainOrder.{order_of_texts}
-use Rattle.globex_run.proofs.PlainSteps.{passes, decimals_of_listed}
+use Rattle.globex_run.proofs.PlainSteps.{passes, name_of_listed, decimals_of_listed}
 use Rattle.globex_run.proofs.request.order_of_texts.Goals as goal
 
 pub returns-in_err-firm : goal.returns-in_err-firm
@@ -48,7 +48,7 @@ unfolding order_of_texts
 returns-in_err-price c =
     let time = passes is_time_text c.args.head.now.time.now (Some c.in_ok-time.time) c.in_ok-time.ensures in
     let id = passes is_name c.args.order.now.id.now (Some c.in_ok-id.id) c.in_ok-id.ensures in
-    let decimals = decimals_of_listed c.names-names.result.now c.in_ok-instrument.instrument c.listed-decimals.result c.listed-decimals.ensures.listed in
+    let decimals = decimals_of_listed c.names-names.result.now c.in_ok-instrument.instrument c.listed-listed.result c.listed-listed.ensures.listed in
     rw (c.from_residual-in_err-price.ensures, ← c.names-names.ensures, ← c.if-not-is_plain_head.ensures, ← c.if-not-is_plain_kind.ensures, ← c.in_ok-firm.ensures, time, id, ← c.in_ok-instrument.ensures, ← c.in_ok-side.ensures, ← c.in_ok-quantity.ensures, decimals, ← c.tick.ensures.tick, ← c.in_err-price.ensures) refl
 
 pub returns : goal.returns
@@ -56,5 +56,6 @@ unfolding order_of_texts
 returns c =
     let time = passes is_time_text c.args.head.now.time.now (Some c.in_ok-time.time) c.in_ok-time.ensures in
     let id = passes is_name c.args.order.now.id.now (Some c.in_ok-id.id) c.in_ok-id.ensures in
-    let decimals = decimals_of_listed c.names-names.result.now c.in_ok-instrument.instrument c.listed-decimals.result c.listed-decimals.ensures.listed in
-    rw (← c.names-names.ensures, ← c.if-not-is_plain_head.ensures, ← c.if-not-is_plain_kind.ensures, ← c.in_ok-firm.ensures, time, id, ← c.in_ok-instrument.ensures, ← c.in_ok-side.ensures, ← c.in_ok-quantity.ensures, decimals, ← c.tick.ensures.tick, ← c.in_ok-price.ensures) refl
+    let decimals = decimals_of_listed c.names-names.result.now c.in_ok-instrument.instrument c.listed-listed.result c.listed-listed.ensures.listed in
+    let name = name_of_listed c.names-names.result.now c.in_ok-instrument.instrument c.listed-listed.result c.listed-listed.ensures.listed in
+    rw (← c.names-names.ensures, ← c.if-not-is_plain_head.ensures, ← c.if-not-is_plain_kind.ensures, ← c.in_ok-firm.ensures, time, id, ← c.in_ok-instrument.ensures, ← c.in_ok-side.ensures, ← c.in_ok-quantity.ensures, decimals, ← c.tick.ensures.tick, ← c.in_ok-price.ensures, name) refl

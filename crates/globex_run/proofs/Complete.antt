@@ -1,0 +1,183 @@
+-- Where all of the input is plain order frames, a run takes them all.
+use Rattle.std.proofs.Common.{◌≡◌, ◌≢◌, inl, inr, ℕ, ◌≤◌, List, [], ◌∷◌, ◌++◌, length, take, drop, Option, Some, None, IsTrue, IsFalse, refl, sym, ap, subst, ◌∙◌, length-append, take-append-drop, arith}
+use Rattle.std.specs.List.{concat, take_while, AllByRecursion}
+use Rattle.std.proofs.lemmas.Bool.{cond-true, cond-false, cases_Bool, cases_lt}
+use Rattle.std.proofs.lemmas.List.{append-nil, drop_at, take_at, take_all, take-append-le, nil_from_length}
+use Rattle.std.proofs.lemmas.Option.{none-some, same_Some}
+use Rattle.gx_station.specs.Sources.{SourceMeanings, and_left, IsAtEnd}
+use Rattle.gx_station.specs.Stations.{StationMeanings}
+use Rattle.gx_base.specs.Frames.{frame_of}
+use Rattle.fix_frame.specs.Grammar.{is_frame, IsFrame, IsFrameFront, BeginsWithNone}
+use Rattle.fix_frame.specs.Stream.{messages_from, rest_from, messages_of, rest_of}
+use Rattle.fix_frame.proofs.Streams.{messages_from-append, rest_from-append, concat-messages_from, concat-messages_of, messages_of-frame-append, rest_of-frame-append, none_from_messages_of}
+use Rattle.globex_run.specs.Products.{ProductLists}
+use Rattle.globex_run.specs.Served.{is_plain, ArePlain, ArePlainFrames}
+use Rattle.globex_run.specs.Ran.{Ran, EndsAs, BeginsWith, first_messages, plain_front, bytes_at}
+use Rattle.globex_run.specs.declared.outcome.Status.{Status}
+use Rattle.globex_run.specs.declared.outcome.Status.TheVariants as status
+use Rattle.globex_run.proofs.Fronts.{front-none}
+
+-- ---- what is left of some input
+
+left_parts : (left : Option (List ℕ)) (all taken : List ℕ) → Some all ≡ and_left taken left → (rest : List ℕ) × (left ≡ Some rest) × (all ≡ taken ++ rest)
+left_parts None all taken h = absurd (none-some all (sym h))
+left_parts (Some rest) all taken h = (rest, refl, same_Some all (taken ++ rest) h)
+
+nil_from_end : (left : Option (List ℕ)) (rest : List ℕ) → left ≡ Some rest → IsAtEnd left → rest ≡ []
+nil_from_end left rest is end = subst (λ (l : Option (List ℕ)). IsAtEnd l) is end
+
+-- ---- the rest of a stream begins with no frame
+
+rest_from-none : (front u : List ℕ) → messages_of front ≡ [] → rest_of front ≡ front → messages_of (rest_from front u) ≡ []
+rest_from-none front [] none same = none
+rest_from-none front (b ∷ u) none same =
+    let front' = front ++ b ∷ [] in
+    elim (cases_Bool (is_frame front')) [
+      | inl is ↦ ap messages_of (cond-true (is_frame front') (rest_of u) (rest_from front' u) is) ∙ rest_from-none [] u refl refl
+      | inr no_frame ↦
+          ap messages_of (cond-false (is_frame front') (rest_of u) (rest_from front' u) no_frame)
+          ∙ rest_from-none front' u
+          (messages_from-append [] front (b ∷ [])
+          ∙ ap (λ (ms : List (List ℕ)). ms ++ messages_from (rest_of front) (b ∷ [])) none
+          ∙ ap (λ (x : List ℕ). messages_from x (b ∷ [])) same
+          ∙ cond-false (is_frame front') (front' ∷ []) [] no_frame)
+          (rest_from-append [] front (b ∷ [])
+          ∙ ap (λ (x : List ℕ). rest_from x (b ∷ [])) same
+          ∙ cond-false (is_frame front') [] front' no_frame)
+    ]
+
+messages_of-rest_of : (u : List ℕ) → messages_of (rest_of u) ≡ []
+messages_of-rest_of u = rest_from-none [] u refl refl
+
+-- ---- a stream of frames
+
+abbrev AreFrames : List (List ℕ) → Type 0
+AreFrames frames = AllByRecursion (λ (frame : List ℕ). IsFrame frame) frames
+
+messages_of-concat : (frames : List (List ℕ)) → AreFrames frames → messages_of (concat frames) ≡ frames
+messages_of-concat [] all = refl
+messages_of-concat (f ∷ frames) all = messages_of-frame-append f (concat frames) all.0 ∙ ap (λ (l : List (List ℕ)). f ∷ l) (messages_of-concat frames all.1)
+
+rest_of-concat : (frames : List (List ℕ)) → AreFrames frames → rest_of (concat frames) ≡ []
+rest_of-concat [] all = refl
+rest_of-concat (f ∷ frames) all = rest_of-frame-append f (concat frames) all.0 ∙ rest_of-concat frames all.1
+
+frames-behind : (front behind : List (List ℕ)) → AreFrames (front ++ behind) → AreFrames behind
+frames-behind [] behind all = all
+frames-behind (f ∷ front) behind all = frames-behind front behind all.1
+
+are_frames : (product : ProductLists) (frames : List (List ℕ)) → ArePlainFrames product frames → AreFrames frames
+are_frames product [] all = tt
+are_frames product (f ∷ frames) all = (all.0.0, are_frames product frames all.1)
+
+plain-front : (product : ProductLists) (front behind : List (List ℕ)) → ArePlainFrames product (front ++ behind) → ArePlain product front
+plain-front product [] behind all = tt
+plain-front product (f ∷ front) behind all = (all.0.1, plain-front product front behind all.1)
+
+-- these bytes are a frame
+least_frame : IsFrame (frame_of (49 ∷ []) (1 ∷ []))
+least_frame = refl
+
+-- bytes that begin with no frame, and stand at the front of frames, are the front of a frame
+front_of_frames : (frames : List (List ℕ)) (bytes more : List ℕ) → AreFrames frames → BeginsWithNone bytes → concat frames ≡ bytes ++ more → IsFrameFront bytes
+front_of_frames [] bytes more all none is =
+    let empty : bytes ≡ [] = nil_from_length bytes (omega (arith, length-append bytes more, ap (λ (l : List ℕ). length l) is)) in
+    subst (λ (l : List ℕ). IsFrameFront l) (sym empty) (frame_of (49 ∷ []) (1 ∷ []), least_frame)
+front_of_frames (f ∷ frames) bytes more all none is =
+    elim (cases_lt (length bytes) (length f)) [
+      | inl lt ↦
+          let front : take (length bytes) f ≡ bytes =
+          sym (take-append-le (length bytes) f (concat frames) (omega arith)) ∙ ap (λ (l : List ℕ). take (length bytes) l) is ∙ take_at bytes more (length bytes) refl in
+          let whole : bytes ++ drop (length bytes) f ≡ f = ap (λ (l : List ℕ). l ++ drop (length bytes) f) (sym front) ∙ take-append-drop (length bytes) f in
+          (drop (length bytes) f, subst (λ (l : List ℕ). IsFrame l) (sym whole) all.0)
+      | inr le ↦
+          let front : take (length f) bytes ≡ f =
+          sym (take-append-le (length f) bytes more le) ∙ ap (λ (l : List ℕ). take (length f) l) (sym is) ∙ take_at f (concat frames) (length f) refl in
+          absurd (none (length f) (subst (λ (l : List ℕ). IsFrame l) (sym front) all.0))
+    ]
+
+-- ---- a stream of which the bytes taken are the front
+
+module _ (taken rest : List ℕ) (frames : List (List ℕ)) (are : AreFrames frames) (all : concat frames ≡ taken ++ rest) where
+  abbrev behind : List (List ℕ)
+  behind = messages_from (rest_of taken) rest
+
+  in_two : frames ≡ messages_of taken ++ behind
+  in_two = sym (messages_of-concat frames are) ∙ ap messages_of all ∙ messages_from-append [] taken rest
+
+  are_behind : AreFrames behind
+  are_behind = frames-behind (messages_of taken) behind (subst (λ (l : List (List ℕ)). AreFrames l) in_two are)
+
+  concat-behind : concat behind ≡ rest_of taken ++ rest
+  concat-behind =
+      let whole : rest_from (rest_of taken) rest ≡ [] = sym (rest_from-append [] taken rest) ∙ ap rest_of (sym all) ∙ rest_of-concat frames are in
+      sym (append-nil (concat behind)) ∙ ap (λ (l : List ℕ). concat behind ++ l) (sym whole) ∙ concat-messages_from (rest_of taken) rest
+
+  rest_is_front : IsFrameFront (rest_of taken)
+  rest_is_front = front_of_frames behind (rest_of taken) rest are_behind (none_from_messages_of (rest_of taken) (messages_of-rest_of taken)) concat-behind
+
+  rest_is_none : rest ≡ [] → rest_of taken ≡ []
+  rest_is_none empty = ap rest_of (sym (append-nil taken) ∙ ap (λ (l : List ℕ). taken ++ l) (sym empty) ∙ sym all) ∙ rest_of-concat frames are
+
+-- ---- what stands behind all messages
+
+module _ (taken : List ℕ) (count place : ℕ) (counted : count ≡ length (messages_of taken)) (placed : place ≡ length (concat (first_messages count taken))) where
+  all_first : first_messages count taken ≡ messages_of taken
+  all_first = take_all count (messages_of taken) (omega (arith, counted))
+
+  bytes-behind : bytes_at place taken ≡ rest_of taken
+  bytes-behind =
+      let at : place ≡ length (concat (messages_of taken)) = placed ∙ ap (λ (l : List (List ℕ)). length (concat l)) all_first in
+      ap (λ (l : List ℕ). drop place l) (sym (concat-messages_of taken)) ∙ drop_at (concat (messages_of taken)) (rest_of taken) place (sym at)
+
+  begins-none : (P : List ℕ → Type 0) → BeginsWith P (bytes_at place taken) → ⊥
+  begins-none P begins =
+      let front : rest_of taken ≡ begins.frame ++ begins.more = sym bytes-behind ∙ begins.front in
+      let first : [] ≡ begins.frame ∷ messages_of begins.more = sym (messages_of-rest_of taken) ∙ ap messages_of front ∙ messages_of-frame-append begins.frame begins.more begins.is_frame in
+      let long = ap (λ (l : List (List ℕ)). length l) first in
+      absurd (omega (arith, long))
+
+all_plain : (product : ProductLists) (taken : List ℕ) → ArePlain product (messages_of taken) → plain_front product taken ≡ messages_of taken
+all_plain product taken plain =
+    ap (λ (l : List (List ℕ)). take_while (is_plain product) l) (sym (append-nil (messages_of taken))) ∙ front-none product (messages_of taken) [] plain refl ∙ append-nil (messages_of taken)
+
+-- ---- the endings
+
+module _ (product : ProductLists) (frames : List (List ℕ)) (plain : ArePlainFrames product frames) (few : length frames ≤ 10000) (taken rest : List ℕ) (all : concat frames ≡ taken ++ rest) (place count : ℕ) (some : count ≤ length (messages_of taken)) where
+  are : AreFrames frames
+  are = are_frames product frames plain
+
+  whole_front : plain_front product taken ≡ messages_of taken
+  whole_front = all_plain product taken (plain-front product (messages_of taken) (behind taken rest frames are all) (subst (λ (l : List (List ℕ)). ArePlainFrames product l) (in_two taken rest frames are all) plain))
+
+  counts : count ≡ length (plain_front product taken) → count ≡ length (messages_of taken)
+  counts h = h ∙ ap (λ (l : List (List ℕ)). length l) whole_front
+
+  ends-ok : (how : Status) (AtEnd : Type 0) → (AtEnd → rest ≡ []) → EndsAs product how place count taken AtEnd → how ≢ status.ReadFault → how ≢ status.SendFault → how ≡ status.Ok
+  ends-ok status.Ok AtEnd end ends read send = refl
+  ends-ok status.ReadFault AtEnd end ends read send = absurd (read refl)
+  ends-ok status.SendFault AtEnd end ends read send = absurd (send refl)
+  ends-ok status.BadFrame AtEnd end ends read send =
+      let counted = counts ends.1 in
+      elim ends.2 [
+        | inl begins ↦ absurd (begins-none taken count place counted ends.0 (λ frame. IsFalse (is_plain product frame)) begins)
+        | inr broken ↦ absurd (broken (subst (λ (l : List ℕ). IsFrameFront l) (sym (bytes-behind taken count place counted ends.0)) (rest_is_front taken rest frames are all)))
+      ]
+  ends-ok status.Truncated AtEnd end ends read send =
+      let counted = counts ends.2 in
+      absurd (ends.3 (bytes-behind taken count place counted ends.1 ∙ rest_is_none taken rest frames are all (end ends.0)))
+  ends-ok status.JournalFull AtEnd end ends read send =
+      let total = ap (λ (l : List (List ℕ)). length l) (in_two taken rest frames are all) in
+      let counted : count ≡ length (messages_of taken) = omega (arith, some, few, ends.0, total, length-append (messages_of taken) (behind taken rest frames are all)) in
+      absurd (begins-none taken count place counted ends.1 (λ frame. IsTrue (is_plain product frame)) ends.2)
+  ends-ok status.NoMemory AtEnd end ends read send = absurd ends
+  ends-ok status.BadWords AtEnd end ends read send = absurd ends
+
+-- where all of the input is plain order frames, at most 10,000, a run ends early only at a fault
+pub ran-all : {I S : Type 0} (inputs : SourceMeanings I) (stations : StationMeanings S) (product : ProductLists) (old new : I) (before after : S) (how : Status) (place count : ℕ)
+    → Ran inputs stations product old new before after how place count
+    → (frames : List (List ℕ)) → ArePlainFrames product frames → length frames ≤ 10000 → inputs.left old ≡ Some (concat frames)
+    → how ≢ status.ReadFault → how ≢ status.SendFault → how ≡ status.Ok
+ran-all inputs stations product old new before after how place count ran frames plain few input read send =
+    let parts = left_parts (inputs.left new) (concat frames) ran.taken (sym input ∙ ran.took) in
+    ends-ok product frames plain few ran.taken parts.0 parts.2 place count ran.some how (IsAtEnd (inputs.left new)) (nil_from_end (inputs.left new) parts.0 parts.1) ran.ends read send

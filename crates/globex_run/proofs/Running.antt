@@ -1,0 +1,131 @@
+-- How the messages served grow, turn by turn.
+use Rattle.std.proofs.Common.{◌≡◌, ℕ, ◌+◌, ◌*◌, ◌≤◌, List, [], ◌∷◌, ◌++◌, length, Option, Some, None, Result, Ok, IsTrue, refl, sym, ap, subst, ◌∙◌, append_assoc, length-append, arith}
+use Rattle.std.specs.List.{concat}
+use Rattle.std.proofs.lemmas.List.{append-nil}
+use Rattle.std.proofs.lemmas.Grind.{flat_map-append}
+use Rattle.gx_base.specs.Line.{line_of}
+use Rattle.gx_base.specs.declared.event.Event.{Event}
+use Rattle.gx_station.specs.Sources.{SourceMeanings, and_left}
+use Rattle.gx_station.specs.Stations.{StationMeanings, sent_and}
+use Rattle.fix_frame.specs.Framing.{Framing, GivesFrame, given_bytes}
+use Rattle.fix_frame.specs.Stream.{messages_of, rest_of}
+use Rattle.globex_run.specs.Products.{ProductLists}
+use Rattle.globex_run.specs.State.{State, empty_state}
+use Rattle.globex_run.specs.Step.{step_of, state_after, events_from, reports_of, lines_of}
+use Rattle.globex_run.specs.Serving.{TakesMore, ServesFrame, IsEmptyFramer}
+use Rattle.globex_run.specs.Served.{is_plain, ArePlain, IsServed}
+use Rattle.globex_run.proofs.Sent.{sent_and-append, sent_and_none}
+
+-- ---- lists of frames
+
+pub concat-push : (frames : List (List ℕ)) (frame : List ℕ) → concat (frames ++ frame ∷ []) ≡ concat frames ++ frame
+concat-push [] frame = append-nil frame
+concat-push (f ∷ frames) frame = ap (λ (l : List ℕ). f ++ l) (concat-push frames frame) ∙ sym (append_assoc f (concat frames) frame)
+
+pub plain-push : (product : ProductLists) (frames : List (List ℕ)) (frame : List ℕ) → ArePlain product frames → IsTrue (is_plain product frame) → ArePlain product (frames ++ frame ∷ [])
+plain-push product [] frame all one = (one, tt)
+plain-push product (f ∷ frames) frame all one = (all.0, plain-push product frames frame all.1 one)
+
+-- one message more
+state-push : (product : ProductLists) (state : State) (frames : List (List ℕ)) (frame : List ℕ) → state_after product state (frames ++ frame ∷ []) ≡ (step_of product (state_after product state frames) frame).0
+state-push product state [] frame = refl
+state-push product state (f ∷ frames) frame = state-push product (step_of product state f).0 frames frame
+
+events-push : (product : ProductLists) (state : State) (frames : List (List ℕ)) (frame : List ℕ) → events_from product state (frames ++ frame ∷ []) ≡ events_from product state frames ++ (step_of product (state_after product state frames) frame).1
+events-push product state [] frame = append-nil (step_of product state frame).1
+events-push product state (f ∷ frames) frame =
+    ap (λ (l : List Event). (step_of product state f).1 ++ l) (events-push product (step_of product state f).0 frames frame)
+    ∙ sym (append_assoc (step_of product state f).1 (events_from product (step_of product state f).0 frames) (step_of product (state_after product (step_of product state f).0 frames) frame).1)
+
+pub reports-push : (product : ProductLists) (frames : List (List ℕ)) (frame : List ℕ) → reports_of product (frames ++ frame ∷ []) ≡ reports_of product frames ++ lines_of product (step_of product (state_after product empty_state frames) frame).1
+reports-push product frames frame =
+    ap (λ (l : List Event). lines_of product l) (events-push product empty_state frames frame)
+    ∙ flat_map-append (line_of product.names) (events_from product empty_state frames) (step_of product (state_after product empty_state frames) frame).1
+
+and_left-then : (bytes more : List ℕ) (left : Option (List ℕ)) → and_left bytes (and_left more left) ≡ and_left (bytes ++ more) left
+and_left-then bytes more None = refl
+and_left-then bytes more (Some rest) = ap Some (sym (append_assoc bytes more rest))
+
+pub and_left-none : (left : Option (List ℕ)) → left ≡ and_left [] left
+and_left-none None = refl
+and_left-none (Some rest) = refl
+
+module _ {I S : Type 0} (inputs : SourceMeanings I) (stations : StationMeanings S) (product : ProductLists) (old : I) (before : S) where
+  abbrev Run : I → S → Framing → State → Type 0
+  Run now after framing state = IsServed inputs stations product old now before after framing state
+
+  pub served-first : (framing : Framing) (state : State) → IsEmptyFramer framing → state ≡ empty_state → Run old before framing state
+  served-first framing state empty start = record {
+    served = [];
+    plain = tt;
+    left = subst (λ (l : List ℕ). inputs.left old ≡ and_left l (inputs.left old)) (sym empty.rest) (and_left-none (inputs.left old));
+    messages = λ more. refl;
+    behind = λ more. refl;
+    offset = empty.offset;
+    is_state = start;
+    count = ap (λ (s : State). s.desk.messages) start;
+    sent = sym (sent_and_none (stations.sent before));
+    reads = refl;
+    sends = refl;
+  }
+
+  -- a frame was given and served
+  pub served-more : (now : I) (after then : S) (framing next : Framing) (state state' : State) (start end : ℕ) → Run now after framing state
+      → (given : GivesFrame framing next start end) → ServesFrame stations product state state' after then given.frame (Ok tt) → Run now then next state'
+  served-more now after then framing next state state' start end run given did =
+      let frame = given.frame in
+      let all = run.served ++ frame ∷ [] in
+      let bytes : concat all ++ next.rest ≡ concat run.served ++ framing.rest =
+      ap (λ (l : List ℕ). l ++ next.rest) (concat-push run.served frame) ∙ append_assoc (concat run.served) frame next.rest ∙ ap (λ (l : List ℕ). concat run.served ++ l) (sym given.front) in
+      let stepped : step_of product state frame ≡ step_of product (state_after product empty_state run.served) frame = ap (λ (s : State). step_of product s frame) run.is_state in
+      record {
+        served = all;
+        plain = plain-push product run.served frame run.plain did.3;
+        left = run.left ∙ ap (λ (l : List ℕ). and_left l (inputs.left now)) (sym bytes);
+        messages = λ more.
+            ap (λ (l : List ℕ). messages_of (l ++ more)) bytes ∙ run.messages more ∙ ap (λ (l : List (List ℕ)). run.served ++ l) (given.message more) ∙ sym (append_assoc run.served (frame ∷ []) (messages_of (next.rest ++ more)));
+        behind = λ more. ap (λ (l : List ℕ). rest_of (l ++ more)) bytes ∙ run.behind more ∙ given.behind more;
+        offset = given.offset ∙ ap (λ (n : ℕ). n + length frame) run.offset ∙ sym (ap length (concat-push run.served frame) ∙ length-append (concat run.served) frame);
+        is_state = did.0 ∙ ap (λ (s : State × List Event). s.0) stepped ∙ sym (state-push product empty_state run.served frame);
+        count = did.2 ∙ ap (λ (n : ℕ). n + 1) run.count ∙ sym (length-append run.served (frame ∷ []));
+        sent =
+            did.4
+            ∙ ap (λ (s : Option (List ℕ)). sent_and s (lines_of product (step_of product state frame).1)) run.sent
+            ∙ sym (sent_and-append (stations.sent before) (reports_of product run.served) (lines_of product (step_of product state frame).1))
+            ∙ ap (λ (l : List ℕ). sent_and (stations.sent before) l) (ap (λ (s : State × List Event). reports_of product run.served ++ lines_of product s.1) stepped ∙ sym (reports-push product run.served frame));
+        reads = run.reads;
+        sends = did.5 ∙ run.sends;
+      }
+
+  pub served-next : (now : I) (after then : S) (framing next : Framing) (state state' : State) (start end : ℕ) (frame : List ℕ) (t : Unit {0}) → Run now after framing state
+      → (given : GivesFrame framing next start end) → frame ≡ given_bytes next start end → ServesFrame stations product state state' after then frame (Ok t) → Run now then next state'
+  served-next now after then framing next state state' start end frame t run given lent did =
+      served-more now after then framing next state state' start end run given (subst (λ (f : List ℕ). ServesFrame stations product state state' after then f (Ok tt)) (lent ∙ given.bytes) did)
+
+  pub place-next : (framing next : Framing) (start end count : ℕ) → GivesFrame framing next start end → length framing.rest ≤ 8192 → framing.offset ≤ count * 8192 → next.offset ≤ (count + 1) * 8192
+  place-next framing next start end count given fits below =
+      omega (arith, given.offset, ap (λ (l : List ℕ). length l) given.front, length-append given.frame next.rest, fits, below)
+
+  -- more was read
+  pub served-taken : {F : Type 0} (now then : I) (after : S) (framing next : Framing) (state : State) (result : Result ℕ F) → Run now after framing state
+      → TakesMore inputs now then framing next result → inputs.faults then ≡ inputs.faults now → Run then after next state
+  served-taken now then after framing next state result run takes same =
+      let bytes : concat run.served ++ next.rest ≡ (concat run.served ++ framing.rest) ++ takes.taken =
+      ap (λ (l : List ℕ). concat run.served ++ l) takes.rest ∙ sym (append_assoc (concat run.served) framing.rest takes.taken) in
+      let further : (more : List ℕ) → (concat run.served ++ next.rest) ++ more ≡ (concat run.served ++ framing.rest) ++ (takes.taken ++ more) =
+      λ more. ap (λ (l : List ℕ). l ++ more) bytes ∙ append_assoc (concat run.served ++ framing.rest) takes.taken more in
+      let held : (more : List ℕ) → framing.rest ++ (takes.taken ++ more) ≡ next.rest ++ more =
+      λ more. sym (ap (λ (l : List ℕ). l ++ more) takes.rest ∙ append_assoc framing.rest takes.taken more) in
+      record {
+        served = run.served;
+        plain = run.plain;
+        left = run.left ∙ ap (λ (l : Option (List ℕ)). and_left (concat run.served ++ framing.rest) l) takes.left ∙ and_left-then (concat run.served ++ framing.rest) takes.taken (inputs.left then) ∙ ap (λ (l : List ℕ). and_left l (inputs.left then)) (sym bytes);
+        messages = λ more. ap messages_of (further more) ∙ run.messages (takes.taken ++ more) ∙ ap (λ (l : List ℕ). run.served ++ messages_of l) (held more);
+        behind = λ more. ap rest_of (further more) ∙ run.behind (takes.taken ++ more) ∙ ap rest_of (held more);
+        offset = takes.offset ∙ run.offset;
+        is_state = run.is_state;
+        count = run.count;
+        sent = run.sent;
+        reads = same ∙ run.reads;
+        sends = run.sends;
+      }
