@@ -105,7 +105,7 @@ pub struct TopRule {
 }
 
 /// What a lead market maker gets of an incoming order.
-#[derive(Clone, Copy, Debug, PartialEq, Eq)]
+#[derive(Clone, Copy, Debug, Default, PartialEq, Eq)]
 pub struct LmmShare {
     /// The number of its firm in the product's list.
     pub firm: u8,

@@ -1,0 +1,5 @@
+pub mod NoFault
+pub mod Repeats
+pub mod Places
+pub mod FewSteps
+pub mod Right

@@ -1,0 +1,15 @@
+//! The steps by which an instrument's orders share an incoming order: which lists of them are right, and the exchange's
+//! own algorithms as such lists.
+#![tactic(auto)]
+
+mod faults;
+mod presets;
+mod share_faults;
+mod step;
+mod steps;
+#[cfg(test)]
+mod tests;
+
+pub use presets::{Letter, Params, preset};
+pub use step::{Step, StepFault};
+pub use steps::Steps;
