@@ -1,0 +1,86 @@
+//! A product: the names, the limits, and what each instrument's orders are held to.
+ghost use Rattle.std.specs.Prelude.{◌≡◌, ◌<◌, ◌≤◌, Some, length, slice_get};
+ghost use Rattle.product_file.specs.Products.{IsRightProduct};
+
+use arrayvec::ArrayVec;
+use gx_base::Names;
+use std::marker::Model;
+use step_config::{Letter, Steps};
+
+/// What the orders of one instrument are held to, and how they share an incoming order.
+#[derive(Debug, Drop)]
+pub struct InstrumentRule {
+    /// The least step of its prices, in price units: 1 to 1,000,000.
+    pub tick: i64,
+    /// How far from the best opposite price a market order trades, in ticks: 0 to 10,000.
+    pub protection: u32,
+    /// The exchange's name of its algorithm.
+    pub letter: Letter,
+    /// The steps of that algorithm.
+    pub steps: Steps,
+}
+
+/// The names, the limits, and a rule for each instrument, in the order of the names. There are at least one firm and one
+/// instrument, each firm of an LMM step is listed, and each number is within its limits (our own). Contracts see it as
+/// these lists and numbers.
+#[derive(Drop)]
+pub struct Product {
+    names: Names,
+    max_orders: u32,
+    journal_limit: u64,
+    rules: ArrayVec<InstrumentRule, 16>,
+}
+
+impl Model for Product {
+    ghost use Rattle.product_file.specs.Products.{ProductLists};
+
+    ghost Value = { ProductLists };
+
+    ghost use Rattle.product_file.specs.Products.{IsRightProduct};
+
+    ghost view = { λ p. record { names = p.names; max_orders = p.max_orders; journal_limit = p.journal_limit; rules = p.rules.items } };
+
+    ghost invariant = { λ p. IsRightProduct (record { names = p.names; max_orders = p.max_orders; journal_limit = p.journal_limit; rules = p.rules.items }) };
+}
+
+impl Product {
+    /// Lends the names.
+    pub fn names(&self) -> &Names
+        ensures { result.now ≡ self.now.names }
+    {
+        &self.names
+    }
+
+    /// How many orders may be live at once, 1 to 100,000.
+    pub fn max_orders(&self) -> u32
+        ensures most { result ≡ self.now.max_orders }
+        ensures some { 1 ≤ result }
+        ensures few { result ≤ 100000 }
+    {
+        self.max_orders
+    }
+
+    /// How many bytes the journal may have, 131,072 to 268,435,456.
+    pub fn journal_limit(&self) -> u64
+        ensures limit { result ≡ self.now.journal_limit }
+        ensures some { 131072 ≤ result }
+        ensures few { result ≤ 268435456 }
+    {
+        self.journal_limit
+    }
+
+    /// The rule of the instrument with this number, which is below the number of instruments.
+    pub fn rule(&self, number: u8) -> &InstrumentRule
+        requires { number < length self.now.names.instruments }
+        ensures { slice_get self.now.rules number ≡ Some result.now }
+    {
+        &self.rules[number as usize]
+    }
+
+    /// What holds of each product.
+    pub fn limits(&self)
+        ensures { IsRightProduct self.now }
+    {
+        let _ = &self.names;
+    }
+}
