@@ -1,1 +1,9 @@
 pub mod Products
+pub mod Faults
+pub mod Keys
+pub mod FirmNames
+pub mod Shares
+pub mod Algorithms
+pub mod StepLists
+pub mod Instruments
+pub mod ProductTexts
