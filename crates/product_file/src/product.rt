@@ -8,7 +8,7 @@ use std::marker::Model;
 use step_config::{Letter, Steps};
 
 /// What the orders of one instrument are held to, and how they share an incoming order.
-#[derive(Debug, Drop)]
+#[derive(Debug, Default, Drop)]
 pub struct InstrumentRule {
     /// The least step of its prices, in price units: 1 to 1,000,000.
     pub tick: i64,
@@ -44,6 +44,24 @@ impl Model for Product {
 }
 
 impl Product {
+    /// The product of these parts, which are right together. Takes no memory.
+    pub(crate) fn new(
+        names: Names,
+        max_orders: u32,
+        journal_limit: u64,
+        rules: ArrayVec<InstrumentRule, 16>,
+    ) -> Product
+        requires { IsRightProduct (record { names = names; max_orders = max_orders; journal_limit = journal_limit; rules = rules.items }) }
+        ensures { result ≡ record { names = names; max_orders = max_orders; journal_limit = journal_limit; rules = rules.items } }
+    {
+        Product {
+            names,
+            max_orders,
+            journal_limit,
+            rules,
+        }
+    }
+
     /// Lends the names.
     pub fn names(&self) -> &Names
         ensures { result.now ≡ self.now.names }

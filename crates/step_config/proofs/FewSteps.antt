@@ -57,5 +57,8 @@ few_after earlier (step ∷ rest) e =
     let parts = none_from_cond (has_name (name_of step) earlier) (name_of step) (first_twice_after is_same_name name_of (earlier ++ step ∷ []) rest) e in
     omega (arith, few_after (earlier ++ step ∷ []) rest (parts.1), room-push earlier step (parts.0))
 
+pub few_once : (steps : List Step) → first_twice_after is_same_name name_of [] steps ≡ None → length steps ≤ 6
+few_once steps e = few_after [] steps e
+
 pub few_steps : (steps : List Step) → fault_of steps ≡ None → length steps ≤ 6
-few_steps steps e = few_after [] steps (no_fault steps e).once
+few_steps steps e = few_once steps (no_fault steps e).once

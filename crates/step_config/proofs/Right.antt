@@ -32,7 +32,7 @@ apart {X} {K} same key front x back (y ∷ rest) e =
       apart same key front x (back ++ y ∷ []) rest (rw (append_assoc (front ++ x ∷ []) back (y ∷ [])) at (parts.1)),
     )
 
-distinct : {X K : Type 0} (same : K → K → Bool) (key : X → K) (earlier items : List X) → first_twice_after same key earlier items ≡ None → IsDistinct same (map key items)
+pub distinct : {X K : Type 0} (same : K → K → Bool) (key : X → K) (earlier items : List X) → first_twice_after same key earlier items ≡ None → IsDistinct same (map key items)
 unfolding IsDistinct
 distinct {X} {K} same key earlier [] e = tt
 distinct {X} {K} same key earlier (x ∷ rest) e =

@@ -9,9 +9,10 @@ use arrayvec::ArrayVec;
 use gx_base::{LmmShare, TopRule};
 
 /// The exchange's own names of its algorithms, which are single letters in its published outline.
-#[derive(Clone, Copy, Debug, PartialEq, Eq)]
+#[derive(Clone, Copy, Debug, Default, PartialEq, Eq)]
 pub enum Letter {
     /// By priority alone.
+    #[default]
     F,
     /// In proportion, and the rest by priority.
     C,

@@ -66,6 +66,20 @@ impl Steps {
     }
 }
 
+/// FIFO alone, the list of the preset `F`.
+impl Default for Steps {
+    ghost use Rattle.std.specs.Prelude.{[], ◌∷◌};
+    ghost use Rattle.step_config.specs.declared.step.Step.TheVariants.{Fifo};
+
+    ghost is_default = { λ steps. steps ≡ Fifo ∷ [] };
+
+    fn default() -> Steps {
+        Steps {
+            steps: copy_steps(&[Step::Fifo]),
+        }
+    }
+}
+
 /// The same steps again. Takes no memory.
 fn copy_steps(steps: &[Step]) -> ArrayVec<Step, 6>
     requires { length steps.now ≤ 6 }

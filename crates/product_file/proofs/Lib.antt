@@ -1,0 +1,12 @@
+pub mod Mapped
+pub mod Repeats
+pub mod Given
+pub mod Lists
+pub mod RightFirms
+pub mod RightShares
+pub mod RightRules
+pub mod RightInstruments
+pub mod Seven
+pub mod SharesAfter
+pub mod InstrumentsAfter
+pub mod RightProduct

@@ -1,0 +1,77 @@
+//! Reading a product file.
+ghost use Rattle.std.specs.Prelude.{◌≡◌, ◌≢◌, Ok, Err, Some, None, option_map, ok_or, IfOk, IfErr};
+ghost use Rattle.toml.specs.View.{view};
+ghost use Rattle.product_file.specs.declared.faults.ProductFault.TheVariants.{NoMemory, Text};
+ghost use Rattle.toml.specs.Data.{table};
+ghost use Rattle.toml.specs.Parse.{parse_document};
+ghost use Rattle.product_file.specs.ProductTexts.{document_of, product_of_document, product_of};
+
+use crate::faults::{Key, ProductFault};
+use crate::firms::firms_of;
+use crate::instruments::instruments_of;
+use crate::keys::{name_at, number_if};
+use crate::product::Product;
+use gx_base::Names;
+use std::alloc::Global;
+use toml::Value;
+
+/// The most bytes of a product file.
+const MOST_BYTES: usize = 65_536;
+
+/// The product of a text (our own format), or its first fault in the order of the keys, and for each key of its rules:
+/// `ProductFault` says when each comes. Only `NoMemory` depends on anything but the text, and comes where the document
+/// does not fit into memory. Takes memory.
+#[tactic(auto, unfolding(crate::specs::ProductTexts::product_of))]
+pub fn read_product(alloc: Global, text: &[u8]) -> Result<Product, ProductFault>
+    ensures read { IfOk result (λ product. product_of text.now ≡ Ok product) }
+    ensures refused { IfErr result (λ fault. fault ≢ NoMemory → product_of text.now ≡ Err fault) }
+{
+    if text.len() > MOST_BYTES {
+        return Err(ProductFault::TooLong);
+    }
+    let document = document_of(alloc, text)?;
+    product_of_document(&document)
+}
+
+/// The TOML document of a text, which is UTF-8.
+#[tactic(auto, unfolding(crate::specs::ProductTexts::document_of))]
+fn document_of(alloc: Global, text: &[u8]) -> Result<Value, ProductFault>
+    ensures read { IfOk result (λ document. document_of text.now ≡ Some (view document)) }
+    ensures refused { IfErr result (λ fault. fault ≢ NoMemory → (fault ≡ Text) × (document_of text.now ≡ None)) }
+{
+    match std::str::from_utf8(text) {
+        Ok(text) => parsed(alloc, text),
+        Err(_) => Err(ProductFault::Text),
+    }
+}
+
+/// The TOML document of a UTF-8 text.
+fn parsed(alloc: Global, text: &str) -> Result<Value, ProductFault>
+    ensures read { IfOk result (λ document. option_map table (parse_document text.now) ≡ Some (view document)) }
+    ensures refused { IfErr result (λ fault. fault ≢ NoMemory → (fault ≡ Text) × (parse_document text.now ≡ None)) }
+{
+    match toml::table_from_str(alloc, text) {
+        Ok(table) => Ok(Value::Table(table)),
+        Err(error) if error.is_memory() => Err(ProductFault::NoMemory),
+        Err(_) => Err(ProductFault::Text),
+    }
+}
+
+/// The product of a document.
+#[tactic(auto, unfolding(crate::specs::ProductTexts::product_of_document))]
+fn product_of_document(document: &Value) -> Result<Product, ProductFault>
+    ensures { result ≡ product_of_document (view document.now) }
+{
+    let exchange = name_at(document, Key::Exchange)?;
+    let firms = firms_of(document)?;
+    let max_orders = number_if(false, document, Key::MaxOrders, 1, 100_000)?;
+    let journal_limit = number_if(false, document, Key::JournalLimit, 131_072, 268_435_456)?;
+    let instruments = instruments_of(&firms, document)?;
+    let names = Names::new(exchange, &firms, &instruments.listed);
+    Ok(Product::new(
+        names,
+        max_orders.unwrap_or(10_000),
+        journal_limit.unwrap_or(16_777_216) as u64,
+        instruments.rules,
+    ))
+}
