@@ -9,8 +9,13 @@ use Rattle.std.specs.List.{prefix_len}
 use Rattle.std.specs.Str.Parse.{digits_value}
 use Rattle.gx_base.specs.Frames.{soh, head_of, trailer_of, frame_of}
 use Rattle.fix_frame.specs.Grammar.{IsFrame, IsFrameFront, BeginsWithNone, length_text, body_length, body_in, longest_body}
-use Rattle.fix_frame.specs.Heads.{IsLength, HasHead, ends_frame}
-use Rattle.fix_frame.proofs.Heads.{stop_within, head_goes_on, head_in_front, one_head}
+use Rattle.fix_frame.proofs.Heads.{IsLength, HasHead, stop_within, head_goes_on, one_head}
+
+-- the last seven bytes are the trailer of those before them, of which the last is SOH
+abbrev pub ends_frame : List ℕ → Bool
+ends_frame bytes =
+    let front = take (length bytes - 7) bytes in
+    (slice_index front (length front - 1) == soh) && bytes_eq (drop (length bytes - 7) bytes) (trailer_of front)
 
 -- b is the frame of this body, with these digits as its length
 pub record IsMade (digits body b : List ℕ) : Type 0 where
@@ -231,68 +236,3 @@ frame_alone a b h longer =
     let short = frame_length a d n h has in
     let total = frame_length (a ++ b) d n longer (head_goes_on a b d n has) in
     nil_from_length b (omega (arith, length-append a b))
-
--- ---- what stands at the front of some bytes
-
--- two fronts of one length are one
-same_front : (bytes : List ℕ) (k total : ℕ) → total ≤ length bytes → length (take k bytes) ≡ total → take k bytes ≡ take total bytes
-same_front bytes k total within long =
-    elim (cases_lt k (length bytes)) [
-      | inl lt ↦ let same : k ≡ total = omega (arith, length-take k bytes) in ap (λ (x : ℕ). take x bytes) same
-      | inr le ↦
-          let all : take k bytes ≡ bytes = take_all k bytes le in
-          all ∙ sym (take_all total bytes (omega (arith, ap length all)))
-    ]
-
--- with a head, every front that is a frame has one length
-pub front_length : (bytes : List ℕ) (d n k : ℕ) → HasHead bytes d n → IsFrame (take k bytes) → length (take k bytes) ≡ 13 + d + n + 7
-front_length bytes d n k has h =
-    let front = take k bytes in
-    let d' = length (length_text front) in
-    let n' = length (body_in front) in
-    let mine = frame_head front h in
-    let whole = head_goes_on front (drop k bytes) d' n' mine in
-    let here : HasHead bytes d' n' = subst (λ (x : List ℕ). HasHead x d' n') (take-append-drop k bytes) whole in
-    let same = one_head bytes d' n' d n here has in
-    let total = frame_length front d' n' h mine in
-    omega arith
-
-pub none_from_short : (bytes : List ℕ) → length bytes < 22 → BeginsWithNone bytes
-none_from_short bytes short k h = let least = frame_least (take k bytes) h in absurd (omega (arith, length-take k bytes))
-
-pub none_from_no_head : (bytes : List ℕ) → ((more : List ℕ) (d n : ℕ) → HasHead (bytes ++ more) d n → ⊥) → BeginsWithNone bytes
-none_from_no_head bytes none k h =
-    let front = take k bytes in
-    let d = length (length_text front) in
-    let n = length (body_in front) in
-    let whole = head_goes_on front (drop k bytes) d n (frame_head front h) in
-    let same : front ++ drop k bytes ≡ bytes ++ [] = take-append-drop k bytes ∙ sym (append-nil bytes) in
-    none [] d n (subst (λ (x : List ℕ). HasHead x d n) same whole)
-
-pub no_front_from_no_head : (bytes : List ℕ) → ((more : List ℕ) (d n : ℕ) → HasHead (bytes ++ more) d n → ⊥) → IsFrameFront bytes → ⊥
-no_front_from_no_head bytes none (more, h) = none more _ _ (frame_head (bytes ++ more) h)
-
--- the frame that the head asks for is not all there
-pub none_from_head : (bytes : List ℕ) (d n : ℕ) → HasHead bytes d n → length bytes < 13 + d + n + 7 → BeginsWithNone bytes
-none_from_head bytes d n has short k h = let total = front_length bytes d n k has h in absurd (omega (arith, length-take k bytes))
-
--- it is all there, and is none
-pub none_from_open : (bytes : List ℕ) (d n total : ℕ) → HasHead bytes d n → total ≡ 13 + d + n + 7 → total ≤ length bytes → ends_frame (take total bytes) ≡ false → BeginsWithNone bytes
-none_from_open bytes d n total has is within unclosed k h =
-    let front = take k bytes in
-    let long = front_length bytes d n k has h in
-    let same : front ≡ take total bytes = same_front bytes k total within (long ∙ sym is) in
-    true≢false (sym (frame_ends front h) ∙ (ap ends_frame same ∙ unclosed))
-
-pub no_front_from_open : (bytes : List ℕ) (d n total : ℕ) → HasHead bytes d n → total ≡ 13 + d + n + 7 → total ≤ length bytes → ends_frame (take total bytes) ≡ false → IsFrameFront bytes → ⊥
-no_front_from_open bytes d n total has is within unclosed (more, h) =
-    let long = frame_length (bytes ++ more) d n h (head_goes_on bytes more d n has) in
-    let all : take total (bytes ++ more) ≡ bytes ++ more = take_all total (bytes ++ more) (omega arith) in
-    let here : take total bytes ≡ bytes ++ more = sym (take-append-le total bytes more within) ∙ all in
-    true≢false (sym (frame_ends (bytes ++ more) h) ∙ (ap ends_frame (sym here) ∙ unclosed))
-
--- it is all there, and is one
-pub frame_from_front : (bytes : List ℕ) (d n total : ℕ) → HasHead bytes d n → total ≡ 13 + d + n + 7 → total ≤ length bytes → ends_frame (take total bytes) ≡ true → IsFrame (take total bytes)
-frame_from_front bytes d n total has is within closed =
-    let has' = head_in_front bytes d n total (omega arith) within has in
-    frame_from_head (take total bytes) d n has' (length-take-le total bytes within ∙ is) closed

@@ -10,9 +10,23 @@ use Rattle.std.proofs.lemmas.Str.Parse.{digits_value-take-le}
 use Rattle.std.specs.Char.{is_ascii_digit, digit_value}
 use Rattle.std.specs.List.{prefix_len}
 use Rattle.std.specs.Str.Parse.{digits_value}
-use Rattle.fix_frame.specs.Heads.{IsLength, HasHead, begin_text, GivesLength, GivesHead}
-use Rattle.fix_frame.specs.declared.head.Head.{Head}
-use Rattle.fix_frame.specs.declared.head.Head.TheVariants.{Whole, NeedsMore, Broken}
+use Rattle.fix_frame.specs.Grammar.{longest_body}
+use Rattle.fix_frame.specs.Scans.{begin_text}
+
+-- these bytes begin with so many digits, which write n, and SOH
+pub record IsLength (bytes : List ℕ) (digits n : ℕ) : Type 0 where
+  pub count : prefix_len is_ascii_digit bytes ≡ digits
+  pub stop : get_or bytes digits 0 ≡ 1
+  pub value : digits_value 10 (take digits bytes) ≡ n
+  pub some : 1 ≤ digits
+  pub few : digits ≤ 6
+  pub least : 1 ≤ n
+  pub most : n ≤ longest_body
+
+-- these bytes begin with the head of a frame whose body has n bytes, a length written in so many digits
+pub record HasHead (bytes : List ℕ) (digits n : ℕ) : Type 0 where
+  pub begin : take 12 bytes ≡ begin_text
+  pub text : IsLength (drop 12 bytes) digits n
 
 -- the bytes before place i are digits, which write n
 pub record DigitsSoFar (bytes : List ℕ) (i n : ℕ) : Type 0 where
@@ -198,19 +212,3 @@ no_head_from_begin bytes count within short apart more d n has =
 
 pub no_head_from_text : (bytes : List ℕ) → 12 ≤ length bytes → ((more : List ℕ) (d n : ℕ) → IsLength (drop 12 bytes ++ more) d n → ⊥) → (more : List ℕ) (d n : ℕ) → HasHead (bytes ++ more) d n → ⊥
 no_head_from_text bytes within none more d n has = none more d n (subst (λ (x : List ℕ). IsLength x d n) (drop-append-le 12 bytes more within) has.text)
-
--- ---- what the functions find
-
-pub apart_from_ne : (xs ys : List ℕ) (r : Bool) → r ≡ not (bytes_eq xs ys) → r ≡ true → xs ≡ ys → ⊥
-apart_from_ne xs ys r is ne same =
-    let equal : bytes_eq xs ys ≡ true = (bytes_eq-Decides xs ys).1 same in
-    true≢false (sym ne ∙ (is ∙ ap not equal))
-
-pub same_from_ne : (xs ys : List ℕ) (r : Bool) → r ≡ not (bytes_eq xs ys) → r ≡ false → xs ≡ ys
-same_from_ne xs ys r is ne = (bytes_eq-Decides xs ys).0 (true_from_ne_false (bytes_eq xs ys) (λ apart. true≢false (sym (is ∙ ap not apart) ∙ ne)))
-
-pub head_from_text : (bytes rest : List ℕ) (head : Head) → 12 ≤ length bytes → take 12 bytes ≡ begin_text → rest ≡ drop 12 bytes → GivesLength rest head → GivesHead bytes head
-head_from_text bytes rest (Whole d n) within begin is text = record { begin = begin; text = subst (λ (x : List ℕ). IsLength x d n) is text }
-head_from_text bytes rest NeedsMore within begin is short = omega (arith, ap length is, length-drop 12 bytes)
-head_from_text bytes rest Broken within begin is none =
-    no_head_from_text bytes within (λ more d n. subst (λ (x : List ℕ). IsLength (x ++ more) d n → ⊥) is (none more d n))

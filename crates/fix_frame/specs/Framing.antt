@@ -49,8 +49,10 @@ pub record GivesFrame (old new : Framing) (start end : ℕ) : Type 0 where
   pub message : (more : List ℕ) → messages_of (old.rest ++ more) ≡ frame ∷ messages_of (new.rest ++ more)
   pub behind : (more : List ℕ) → rest_of (old.rest ++ more) ≡ rest_of (new.rest ++ more)
 
--- what `next` answers
+-- What `next` answers: a frame where the bytes held begin with one; More where they are the front of one, and no front
+-- of theirs is one; Bad where they begin with none and are the front of none. The three exclude each other, so each
+-- comes exactly there.
 abbrev pub GivesNext : Framing → Framing → Next → Type 0
 GivesNext old new (Frame start end) = GivesFrame old new start end
-GivesNext old new More = (new ≡ old) × BeginsWithNone old.rest × (length old.rest < 4096) × (messages_of old.rest ≡ [])
-GivesNext old new (Bad offset) = (new ≡ old) × (offset ≡ old.offset) × (IsFrameFront old.rest → ⊥) × (messages_of old.rest ≡ [])
+GivesNext old new More = (new ≡ old) × BeginsWithNone old.rest × (length old.rest < 4096) × (messages_of old.rest ≡ []) × IsFrameFront old.rest
+GivesNext old new (Bad offset) = (new ≡ old) × (offset ≡ old.offset) × (IsFrameFront old.rest → ⊥) × (messages_of old.rest ≡ []) × BeginsWithNone old.rest

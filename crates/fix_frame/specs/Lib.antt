@@ -1,4 +1,4 @@
 pub mod Grammar
 pub mod Stream
-pub mod Heads
+pub mod Scans
 pub mod Framing

@@ -2,7 +2,7 @@
 ghost use Rattle.std.specs.Prelude.{◌≡◌};
 ghost use Rattle.fix_frame.specs.Grammar.{IsFrame, body_in};
 
-use crate::head::{Head, read_head};
+use crate::place::{BEGIN, SOH};
 use crate::trailer::TRAILER_LENGTH;
 
 /// Lends the body of a frame: the bytes between the SOH behind BodyLength and the `10=` of the trailer.
@@ -10,13 +10,9 @@ pub fn frame_body(frame: &[u8]) -> &[u8]
     requires { IsFrame frame.now }
     ensures { result.now ≡ body_in frame.now }
 {
-    let body_length = match read_head(frame) {
-        Head::Whole {
-            digits: _,
-            body_length,
-        } => body_length,
-        Head::NeedsMore | Head::Broken => unreachable!(),
-    };
-    let end = frame.len() - TRAILER_LENGTH;
-    &frame[end - body_length..end]
+    let mut start = BEGIN.len();
+    while frame[start] != SOH {
+        start += 1;
+    }
+    &frame[start + 1..frame.len() - TRAILER_LENGTH]
 }

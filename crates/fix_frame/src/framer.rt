@@ -2,8 +2,8 @@
 ghost use Rattle.std.specs.Prelude.{◌≡◌, ℕ, ◌+◌, ◌-◌, ◌^◌, ◌<◌, ◌≤◌, min, [], ◌++◌, length, take, IfOk};
 ghost use Rattle.fix_frame.specs.Framing.{Framing, IsGiven, given_bytes, GivesNext};
 
-use crate::front::{Front, find_front};
 use crate::next::Next;
+use crate::scan::{Front, Scan};
 use std::alloc::{AllocError, Global};
 use std::marker::Model;
 
@@ -22,6 +22,8 @@ pub struct Framer {
     end: usize,
     /// Of `start`, in the stream.
     offset: u64,
+    /// Of the bytes held.
+    scan: Scan,
 }
 
 impl Model for Framer {
@@ -31,10 +33,11 @@ impl Model for Framer {
 
     ghost use Rattle.std.specs.Prelude.{◌≡◌, ◌+◌, ◌-◌, ◌^◌, ◌<◌, ◌≤◌, [], vec_len, slice_range};
     ghost use Rattle.fix_frame.specs.Stream.{messages_of, rest_of};
+    ghost use Rattle.fix_frame.specs.Scans.{IsScanOf};
 
     ghost view = { λ f. record { given = messages_of (slice_range f.buffer.items f.first f.start); first = f.first; rest = slice_range f.buffer.items f.start f.end; offset = f.offset } };
 
-    ghost invariant = { λ f. (vec_len f.buffer ≡ 8192) × (f.first ≤ f.start) × (f.start ≤ f.end) × (f.end ≤ 8192) × (rest_of (slice_range f.buffer.items f.first f.start) ≡ []) × (f.offset + (f.end - f.start) < 2 ^ 63) };
+    ghost invariant = { λ f. (vec_len f.buffer ≡ 8192) × (f.first ≤ f.start) × (f.start ≤ f.end) × (f.end ≤ 8192) × (rest_of (slice_range f.buffer.items f.first f.start) ≡ []) × (f.offset + (f.end - f.start) < 2 ^ 63) × IsScanOf f.scan (slice_range f.buffer.items f.start f.end) };
 }
 
 impl Framer {
@@ -48,6 +51,7 @@ impl Framer {
             start: 0,
             end: 0,
             offset: 0,
+            scan: Scan::new(),
         })
     }
 
@@ -73,16 +77,18 @@ impl Framer {
         count
     }
 
-    /// The frame with which the bytes held begin, or why there is none. `More` comes only where they begin with no
-    /// frame and are fewer than 4,096; `Bad` only where no frame begins so, and it stays.
+    /// The frame with which the bytes held begin; `More` exactly where they are the front of a frame and not all of it,
+    /// and so fewer than 4,096; `Bad`, with the offset of the first of them, exactly where they begin with no frame and
+    /// are the front of none, and then it stays until `clear`. Each byte is looked at once, however the stream is cut.
     pub fn next(&mut self) -> Next
         ensures { GivesNext self.old self.new result }
     {
-        match find_front(&self.buffer[self.start..self.end]) {
+        match self.scan.go_on(&self.buffer[self.start..self.end]) {
             Front::Frame(length) => {
                 let start = self.start;
                 self.start += length;
                 self.offset += length as u64;
+                self.scan = Scan::new();
                 Next::Frame(start, self.start)
             }
             Front::NeedsMore => Next::More,
@@ -121,5 +127,6 @@ impl Framer {
         self.start = 0;
         self.end = 0;
         self.offset = 0;
+        self.scan = Scan::new();
     }
 }

@@ -3,13 +3,15 @@
 
 mod body;
 mod framer;
-mod front;
-mod head;
+mod laws;
 mod next;
+mod place;
+mod scan;
 #[cfg(test)]
 mod tests;
 mod trailer;
 
 pub use body::frame_body;
 pub use framer::Framer;
+pub use laws::{cuts_change_nothing, no_frame_begins_another, streams_end_one_way};
 pub use next::Next;

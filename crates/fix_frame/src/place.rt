@@ -1,0 +1,100 @@
+//! How far some bytes have come in a frame, and where the next ones lead.
+ghost use Rattle.std.specs.Prelude.{◌≡◌, ℕ, ◌+◌, ◌%◌, ◌<◌, ◌≤◌, List, [], ◌∷◌, ◌++◌, length, sum};
+ghost use Rattle.fix_frame.specs.Scans.{InBegin, InLength, InBody, InTrailer, IsAt};
+
+use crate::trailer::{TRAILER_LENGTH, trailer_with};
+
+/// The byte that ends a field.
+pub const SOH: u8 = 1;
+
+/// What stands before the digits of the body's length.
+pub const BEGIN: &[u8; 12] = b"8=FIX.4.2\x019=";
+
+/// How many digits the body's length has at most.
+const MOST_DIGITS: usize = 6;
+
+/// How many bytes a body has at most.
+const LONGEST_BODY: usize = 4000;
+
+/// What some bytes are, and so what may follow them.
+#[derive(Clone, Copy)]
+pub enum Place {
+    /// So many bytes of `BEGIN`, and not all.
+    Begin(usize),
+    /// `BEGIN` and so many digits, which write this number.
+    Length { digits: usize, number: usize },
+    /// A head and a part of its body, of which so many bytes are left.
+    Body(usize),
+    /// A head, its body, and so many bytes of the trailer, and not all.
+    Trailer(usize),
+    /// A frame.
+    Whole,
+    /// Bytes with which no frame begins.
+    Broken,
+}
+
+/// The place behind one more byte of the begin string.
+pub fn after_begin(count: usize, byte: u8) -> Place
+    requires { count < 12 }
+    ensures { (before : List ℕ) (checksum : ℕ) → InBegin before count checksum → IsAt (before ++ byte ∷ []) result ((checksum + byte) % 256) }
+{
+    if byte != BEGIN[count] {
+        Place::Broken
+    } else if count + 1 < BEGIN.len() {
+        Place::Begin(count + 1)
+    } else {
+        Place::Length {
+            digits: 0,
+            number: 0,
+        }
+    }
+}
+
+/// The place behind one more byte of the body's length, a digit or the SOH that ends it.
+pub fn after_length(digits: usize, number: usize, byte: u8) -> Place
+    requires { (digits ≤ 6) × (number ≤ 4000) }
+    ensures { (before : List ℕ) (checksum : ℕ) → InLength before digits number checksum → IsAt (before ++ byte ∷ []) result ((checksum + byte) % 256) }
+{
+    if byte == SOH && number > 0 {
+        return Place::Body(number);
+    }
+    if !byte.is_ascii_digit() {
+        return Place::Broken;
+    }
+    let digits = digits + 1;
+    let number = number * 10 + (byte - b'0') as usize;
+    let is_full = digits == MOST_DIGITS;
+    if digits > MOST_DIGITS || number > LONGEST_BODY || (is_full && number == 0) {
+        Place::Broken
+    } else {
+        Place::Length { digits, number }
+    }
+}
+
+/// The place behind more bytes of the body, of which so many were left.
+pub fn after_body(left: usize, part: &[u8]) -> Place
+    requires { (0 < length part.now) × (length part.now ≤ left) }
+    ensures { (before : List ℕ) (checksum : ℕ) → InBody before left checksum → IsAt (before ++ part.now) result ((checksum + sum part.now % 256) % 256) }
+{
+    if part.len() < left {
+        Place::Body(left - part.len())
+    } else if part[part.len() - 1] == SOH {
+        Place::Trailer(0)
+    } else {
+        Place::Broken
+    }
+}
+
+/// The place behind one more byte of the trailer of bytes with this checksum.
+pub fn after_trailer(count: usize, checksum: u8, byte: u8) -> Place
+    requires { count < 7 }
+    ensures { (before : List ℕ) → InTrailer before count checksum → IsAt (before ++ byte ∷ []) result checksum }
+{
+    if byte != trailer_with(checksum)[count] {
+        Place::Broken
+    } else if count + 1 < TRAILER_LENGTH {
+        Place::Trailer(count + 1)
+    } else {
+        Place::Whole
+    }
+}
