@@ -1,4 +1,4 @@
-//! Two orders as they come over a connection, and bytes that begin no frame.
+//! Two orders as they come over a connection, in any pieces, and bytes that no frame begins with.
 use crate::{Framer, Next};
 use std::alloc::Global;
 use std::process::Abort;
@@ -16,8 +16,8 @@ const WRONG_SECOND: &[u8] =
 
 /// Feeds all the bytes.
 fn put(rt: &impl Abort, framer: &mut Framer, bytes: &[u8]) {
-    assert!(rt; framer.offset() < 1000);
-    assert!(rt; framer.rest() + bytes.len() < 1000);
+    assert!(rt; framer.offset() < 5000);
+    assert!(rt; framer.rest() + bytes.len() < 5000);
     assert_eq!(rt; framer.feed(bytes), bytes.len());
 }
 
@@ -82,28 +82,97 @@ fn stays_at_a_wrong_checksum(rt: HostRuntime) -> Result<(), Fail> {
     Ok(())
 }
 
+/// Bytes, and what a framer that is fed them alone answers.
+const FRONTS: [(&[u8], Next); 17] = [
+    (b"8=FIX.4.2\x019=", Next::More),
+    (b"8=FIX.4.4", Next::Bad(0)),
+    (b"8=FIX.4.2\x019=\x01", Next::Bad(0)),
+    (b"8=FIX.4.2\x019=x", Next::Bad(0)),
+    (b"8=FIX.4.2\x019=8x", Next::Bad(0)),
+    (b"8=FIX.4.2\x019=401", Next::More),
+    (b"8=FIX.4.2\x019=401\x01", Next::More),
+    (b"8=FIX.4.2\x019=4010", Next::Bad(0)),
+    (b"8=FIX.4.2\x019=4000", Next::More),
+    (b"8=FIX.4.2\x019=4001", Next::Bad(0)),
+    (b"8=FIX.4.2\x019=00000", Next::More),
+    (b"8=FIX.4.2\x019=000000", Next::Bad(0)),
+    (b"8=FIX.4.2\x019=000001", Next::More),
+    (b"8=FIX.4.2\x019=0000010", Next::Bad(0)),
+    (b"8=FIX.4.2\x019=0\x01", Next::Bad(0)),
+    (b"8=FIX.4.2\x019=3\x01ab\x01", Next::More),
+    (b"8=FIX.4.2\x019=3\x01abc", Next::Bad(0)),
+];
+
 #[test]
-fn answers_at_the_head(rt: HostRuntime) -> Result<(), Fail> {
-    assert_eq!(rt;
-        answer(&rt, rt.alloc(), b"8=FIX.4.2\x019=4000")?,
-        Next::More
-    );
-    assert_eq!(rt;
-        answer(&rt, rt.alloc(), b"8=FIX.4.2\x019=4001")?,
-        Next::Bad(0)
-    );
-    assert_eq!(rt;
-        answer(&rt, rt.alloc(), b"8=FIX.4.2\x019=00000")?,
-        Next::More
-    );
-    assert_eq!(rt;
-        answer(&rt, rt.alloc(), b"8=FIX.4.2\x019=0000001")?,
-        Next::Bad(0)
-    );
-    assert_eq!(rt;
-        answer(&rt, rt.alloc(), b"8=FIX.4.2\x019=0\x01")?,
-        Next::Bad(0)
-    );
-    assert_eq!(rt; answer(&rt, rt.alloc(), b"8=FIX.4.4")?, Next::Bad(0));
+fn refuses_at_the_first_wrong_byte(rt: HostRuntime) -> Result<(), Fail> {
+    for (bytes, expected) in FRONTS {
+        assert_eq!(rt; answer(&rt, rt.alloc(), bytes)?, expected);
+    }
+    Ok(())
+}
+
+#[test]
+fn asks_for_more_before_the_end_of_a_frame(rt: HostRuntime) -> Result<(), Fail> {
+    for count in 0..FIRST.len() {
+        assert_eq!(rt; answer(&rt, rt.alloc(), &FIRST[..count])?, Next::More);
+    }
+    assert_eq!(rt; answer(&rt, rt.alloc(), FIRST)?, Next::Frame(0, 111));
+    Ok(())
+}
+
+#[test]
+fn refuses_a_wrong_trailer_byte_by_byte(rt: HostRuntime) -> Result<(), Fail> {
+    for place in FIRST.len() - 8..FIRST.len() {
+        let mut framer = Framer::new(rt.alloc())?;
+        put(&rt, &mut framer, &FIRST[..place]);
+        assert_eq!(rt; framer.next(), Next::More);
+        put(&rt, &mut framer, &[FIRST[place] + 1]);
+        assert_eq!(rt; framer.next(), Next::Bad(0));
+        put(&rt, &mut framer, SECOND);
+        assert_eq!(rt; framer.next(), Next::Bad(0));
+    }
+    Ok(())
+}
+
+/// The two frames in turn, eight in all, in pieces of these lengths.
+const CUTS: [usize; 12] = [1, 110, 7, 0, 220, 13, 99, 2, 180, 3, 37, 212];
+
+#[test]
+fn gives_all_frames_however_they_are_cut(rt: HostRuntime) -> Result<(), Fail> {
+    let mut stream: [u8; 884] = [0; 884];
+    for turn in 0..4 {
+        let start = turn * 221;
+        stream[start..start + 111].copy_from_slice(FIRST);
+        stream[start + 111..start + 221].copy_from_slice(SECOND);
+    }
+    let mut framer = Framer::new(rt.alloc())?;
+    let mut fed: usize = 0;
+    let mut given: usize = 0;
+    for cut in CUTS {
+        put(&rt, &mut framer, &stream[fed..fed + cut]);
+        fed += cut;
+        for _ in 0..8 {
+            let expected = if given % 2 == 0 { FIRST } else { SECOND };
+            if gives(&mut framer, expected) {
+                given += 1;
+            }
+        }
+        assert_eq!(rt; framer.next(), Next::More);
+        let whole = fed / 221 * 2 + (if fed % 221 < 111 { 0 } else { 1 });
+        assert_eq!(rt; given, whole);
+    }
+    assert_eq!(rt; fed, stream.len());
+    assert_eq!(rt; framer.rest(), 0);
+    Ok(())
+}
+
+#[test]
+fn gives_a_frame_of_the_greatest_length(rt: HostRuntime) -> Result<(), Fail> {
+    let mut frame: [u8; 4024] = [b'x'; 4024];
+    frame[..17].copy_from_slice(b"8=FIX.4.2\x019=4000\x01");
+    frame[4016] = 1;
+    frame[4017..].copy_from_slice(b"10=227\x01");
+    assert_eq!(rt; answer(&rt, rt.alloc(), &frame[..4023])?, Next::More);
+    assert_eq!(rt; answer(&rt, rt.alloc(), &frame)?, Next::Frame(0, 4024));
     Ok(())
 }
