@@ -1,7 +1,7 @@
 -- The parts of a frame, and that its head fixes its length.
 use Rattle.std.proofs.Common.{◌≡◌, ℕ, ◌+◌, ◌-◌, ◌<◌, ◌≤◌, Bool, true, false, ◌&&◌, ◌==◌, nat_le, bytes_eq, true≢false, List, [], ◌∷◌, ◌++◌, length, get_or, slice_index, take, drop, refl, sym, ap, ap₂, subst, ◌∙◌, inl, inr, arith, append_assoc, append-nil, length-append, length-drop, length-take-le, take-append-drop, le-leb, leb-true, eq-eqb, eqb-true}
 use Rattle.std.proofs.lemmas.Bool.{and_parts, and_from, cases_lt}
-use Rattle.std.proofs.lemmas.List.{take_at, drop_at, get_or_at, get_or-take, drop_more, drop-drop, get_or-append_right, get_or_append_left, nil_from_length, take_all, take-append-le, length-take}
+use Rattle.std.proofs.lemmas.List.{append_cancel_left, take_at, drop_at, get_or_at, get_or-take, drop_more, drop-drop, get_or-append_right, get_or_append_left, nil_from_length, take_all, take-append-le, length-take}
 use Rattle.std.proofs.lemmas.List.Sums.{prefix_len-le-length, prefix_len_is, prefix_len_passes}
 use Rattle.std.proofs.lemmas.Slice.Eq.{bytes_eq-Decides}
 use Rattle.std.specs.Char.{is_ascii_digit}
@@ -9,6 +9,7 @@ use Rattle.std.specs.List.{prefix_len}
 use Rattle.std.specs.Str.Parse.{digits_value}
 use Rattle.gx_base.specs.Frames.{soh, head_of, trailer_of, frame_of}
 use Rattle.fix_frame.specs.Grammar.{IsFrame, IsFrameFront, BeginsWithNone, length_text, body_length, body_in, longest_body}
+use Rattle.fix_frame.specs.Scans.{IsLengthText}
 use Rattle.fix_frame.proofs.Heads.{IsLength, HasHead, stop_within, head_goes_on, one_head}
 
 -- the last seven bytes are the trailer of those before them, of which the last is SOH
@@ -236,3 +237,48 @@ frame_alone a b h longer =
     let short = frame_length a d n h has in
     let total = frame_length (a ++ b) d n longer (head_goes_on a b d n has) in
     nil_from_length b (omega (arith, length-append a b))
+
+-- ---- a frame that begins with a head and a body
+
+-- no digits write 0
+some_digit : (text : List ℕ) (n : ℕ) → digits_value 10 text ≡ n → 0 < n → 1 ≤ length text
+some_digit [] n value least = absurd (omega arith)
+some_digit (b ∷ text) n value least = omega arith
+
+pub text_made : (text body : List ℕ) → IsLengthText text (length body) → 0 < length body → get_or body (length body - 1) 0 ≡ 1 → IsMade text body (frame_of text body)
+text_made text body is some last = record {
+  each = is.each;
+  some = some_digit text (length body) is.value some;
+  few = is.few;
+  value = is.value;
+  least = omega arith;
+  most = is.most;
+  last = last;
+  whole = refl;
+}
+
+-- the head of these bytes is theirs
+text_head : (text body more : List ℕ) → IsLengthText text (length body) → 0 < length body → HasHead ((head_of text ++ body) ++ more) (length text) (length body)
+text_head text body more is some = record {
+  begin = refl;
+  text = subst (λ (x : List ℕ). IsLength x (length text) (length body)) (sym (behind_begin text body more))
+      (length_made text (body ++ more) (length body) is.each is.value (some_digit text (length body) is.value some) is.few (omega arith) is.most);
+}
+
+-- so the body ends in SOH, and its trailer follows
+pub frame_parts : (text body more : List ℕ) → IsLengthText text (length body) → 0 < length body → IsFrame ((head_of text ++ body) ++ more) → (get_or body (length body - 1) 0 ≡ 1) × (more ≡ trailer_of (head_of text ++ body))
+frame_parts text body more is some h =
+    let f = (head_of text ++ body) ++ more in
+    let i = body_in f in
+    let front = head_of text ++ body in
+    let front' = head_of text ++ i in
+    let has = text_head text body more is some in
+    let made = frame_made f h in
+    let same = one_head f (length text) (length body) (length (length_text f)) (length i) has (frame_head f h) in
+    let text_is : length_text f ≡ text = ap (λ (x : ℕ). take x (drop 12 f)) has.text.count ∙ (ap (λ (x : List ℕ). take (length text) x) (behind_begin text body more) ∙ take_at text (1 ∷ (body ++ more)) (length text) refl) in
+    let whole : f ≡ front' ++ trailer_of front' = made.whole ∙ ap (λ (x : List ℕ). frame_of x i) text_is in
+    let long : length front' ≡ length front = omega (arith, length-head_of text body, length-head_of text i, same.1) in
+    let fronts : front ≡ front' = sym (take_at front more (length front) refl) ∙ (ap (λ (x : List ℕ). take (length front) x) whole ∙ take_at front' (trailer_of front') (length front) long) in
+    let behind : more ≡ trailer_of front' = sym (drop_at front more (length front) refl) ∙ (ap (λ (x : List ℕ). drop (length front) x) whole ∙ drop_at front' (trailer_of front') (length front) long) in
+    let body_is : body ≡ i = append_cancel_left (head_of text) body i fronts in
+    (ap (λ (x : List ℕ). get_or x (length x - 1) 0) body_is ∙ made.last, behind ∙ ap trailer_of (sym fronts))

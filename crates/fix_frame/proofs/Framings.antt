@@ -7,6 +7,9 @@ use Rattle.std.specs.List.{concat, copy_within}
 use Rattle.fix_frame.specs.Grammar.{IsFrame}
 use Rattle.fix_frame.specs.Stream.{messages_of, rest_of}
 use Rattle.fix_frame.specs.Framing.{Framing, IsGiven, given_bytes, GivesFrame}
+use Rattle.fix_frame.specs.Scans.{IsScanOf}
+use Rattle.fix_frame.specs.declared.scan.Scan.{Scan}
+use Rattle.fix_frame.proofs.Scanning.{scan_of_more}
 use Rattle.fix_frame.proofs.Streams.{rest_of-frame-append, messages_of-frame-append, messages_of-push, rest_of-push, concat-messages_of-whole}
 
 -- what is seen of a framer's fields
@@ -178,3 +181,14 @@ slice_range-fed items lent new len start end count same whole order room long =
     ap (λ (x : List ℕ). slice_range x start (end + count)) (given_back items written len total)
     ∙ (slice_range-written lent new behind start end count order (omega arith) long
     ∙ ap (λ (x : List ℕ). slice_range x start end ++ new) same)
+
+-- so the scan of those held is one of them and the new bytes
+pub scan_fed : (items lent new : List ℕ) (len start end count : ℕ) (scan : Scan) → lent ≡ items → length lent ≡ len → start ≤ end → end + count ≤ len → length new ≡ count → IsScanOf scan (slice_range items start end) → IsScanOf scan (slice_range (take len (put_mid end (end + count - end) lent new ++ drop (length (put_mid end (end + count - end) lent new)) items)) start (end + count))
+scan_fed items lent new len start end count scan same whole order room long is =
+    subst (λ (x : List ℕ). IsScanOf scan x) (sym (slice_range-fed items lent new len start end count same whole order room long)) (scan_of_more scan (slice_range items start end) new is)
+
+-- no bytes between two places that are one
+pub none_between : (buffer : List ℕ) (first start : ℕ) → first ≡ start → rest_of (slice_range buffer first start) ≡ []
+none_between buffer first start same =
+    let none : start - first ≡ 0 = omega arith in
+    ap (λ (x : ℕ). rest_of (take x (drop first buffer))) none

@@ -43,27 +43,8 @@ stop_within bytes d stop =
     elim (cases_lt d (length bytes)) [ inl lt ↦ lt | inr le ↦ let past = get_or_past bytes d 0 le in absurd (let zero_is_one : 0 ≡ 1 = sym past ∙ stop in omega arith) ]
 
 -- and no digit
-soh_is_no_digit : (b : ℕ) → b ≡ 1 → is_ascii_digit b ≡ true → ⊥
+pub soh_is_no_digit : (b : ℕ) → b ≡ 1 → is_ascii_digit b ≡ true → ⊥
 soh_is_no_digit b e digit = let at_one = subst (λ (x : ℕ). is_ascii_digit x ≡ true) e digit in true≢false (sym at_one)
-
--- no digits write 0
-some_digit : (bytes : List ℕ) (i n : ℕ) → n ≡ digits_value 10 (take i bytes) → 0 < n → 1 ≤ i
-some_digit bytes zero n value least = absurd (let none : n ≡ 0 = value in omega arith)
-some_digit bytes (suc i) n value least = omega arith
-
-pub length_from_stop : (bytes : List ℕ) (i n : ℕ) → DigitsSoFar bytes i n → get_or bytes i 0 ≡ 1 → 0 < n → IsLength bytes i n
-length_from_stop bytes i n so_far stop least =
-    let within : i < length bytes = stop_within bytes i stop in
-    let no_digit : is_ascii_digit (get_or bytes i 0) ≡ false = ap is_ascii_digit stop in
-    record {
-      count = prefix_len_is is_ascii_digit bytes i 0 (omega arith) so_far.each (λ _. no_digit);
-      stop = stop;
-      value = sym so_far.value;
-      some = some_digit bytes i n so_far.value least;
-      few = so_far.few;
-      least = omega arith;
-      most = so_far.most;
-    }
 
 -- a length has all the digits that were passed
 pub digits_within : (bytes more : List ℕ) (i d n : ℕ) → i ≤ length bytes → ((k : ℕ) → k < i → is_ascii_digit (get_or bytes k 0) ≡ true) → IsLength (bytes ++ more) d n → i ≤ d
@@ -100,6 +81,17 @@ no_length_from_stop bytes i n so_far within stops apart more d m is =
     let least = is.least in
     omega arith
 
+-- six digits that write 0
+pub no_length_from_zeros : (bytes : List ℕ) (i n : ℕ) → i ≤ length bytes → ((k : ℕ) → k < i → is_ascii_digit (get_or bytes k 0) ≡ true) → n ≡ digits_value 10 (take i bytes) → 6 ≤ i → n ≡ 0 → (more : List ℕ) (d m : ℕ) → IsLength (bytes ++ more) d m → ⊥
+no_length_from_zeros bytes i n within each value full zeros more d m is =
+    let passed : i ≤ d = digits_within bytes more i d m within each is in
+    let few = is.few in
+    let least = is.least in
+    let same : d ≡ i = omega arith in
+    let front : take d (bytes ++ more) ≡ take i bytes = ap (λ (x : ℕ). take x (bytes ++ more)) same ∙ take-append-le i bytes more within in
+    let last : m ≡ n = sym is.value ∙ (ap (λ (x : List ℕ). digits_value 10 x) front ∙ sym value) in
+    omega arith
+
 -- more digits than six, or a value above the longest body, which more digits only make larger
 pub no_length_from_digits : (bytes : List ℕ) (i n : ℕ) → i ≤ length bytes → ((k : ℕ) → k < i → is_ascii_digit (get_or bytes k 0) ≡ true) → n ≡ digits_value 10 (take i bytes) → (6 < i) ⊎ (4000 < n) → (more : List ℕ) (d m : ℕ) → IsLength (bytes ++ more) d m → ⊥
 no_length_from_digits bytes i n within each value over more d m is =
@@ -117,7 +109,7 @@ no_length_from_digits bytes i n within each value over more d m is =
           omega arith
     ]
 
-digit_value_is : (b : ℕ) → is_ascii_digit b ≡ true → (48 ≤ b) × (b ≤ 57) × (digit_value b ≡ b - 48)
+pub digit_value_is : (b : ℕ) → is_ascii_digit b ≡ true → (48 ≤ b) × (b ≤ 57) × (digit_value b ≡ b - 48)
 digit_value_is b digit = grind (arith, nat_tests)
 
 -- one more digit
@@ -164,51 +156,8 @@ head_goes_on bytes more d n has =
       text = subst (λ (x : List ℕ). IsLength x d n) (sym behind) (length_goes_on (drop 12 bytes) more d n has.text);
     }
 
--- so a front of the bytes in which it ends has it too
-length_before : (bytes more : List ℕ) (d n : ℕ) → d < length bytes → IsLength (bytes ++ more) d n → IsLength bytes d n
-length_before bytes more d n within is =
-    let stop : get_or bytes d 0 ≡ 1 = sym (get_or_append_left bytes more 0 d within) ∙ is.stop in
-    record {
-      count = prefix_len_is is_ascii_digit bytes d 0 (omega arith)
-          (λ k lt.
-          let below : k < prefix_len is_ascii_digit (bytes ++ more) = subst (λ (x : ℕ). k < x) (sym is.count) lt in
-          ap is_ascii_digit (sym (get_or_append_left bytes more 0 k (omega arith))) ∙ prefix_len_passes is_ascii_digit (bytes ++ more) k 0 below)
-          (λ _. ap is_ascii_digit stop);
-      stop = stop;
-      value = ap (λ (x : List ℕ). digits_value 10 x) (sym (take-append-le d bytes more (omega arith))) ∙ is.value;
-      some = is.some;
-      few = is.few;
-      least = is.least;
-      most = is.most;
-    }
-
-head_before : (bytes more : List ℕ) (d n : ℕ) → 12 + d < length bytes → HasHead (bytes ++ more) d n → HasHead bytes d n
-head_before bytes more d n within has =
-    let behind : drop 12 (bytes ++ more) ≡ drop 12 bytes ++ more = drop-append-le 12 bytes more (omega arith) in
-    let text = subst (λ (x : List ℕ). IsLength x d n) behind has.text in
-    record {
-      begin = sym (take-append-le 12 bytes more (omega arith)) ∙ has.begin;
-      text = length_before (drop 12 bytes) more d n (omega (arith, length-drop 12 bytes)) text;
-    }
-
-pub head_in_front : (bytes : List ℕ) (d n k : ℕ) → 12 + d < k → k ≤ length bytes → HasHead bytes d n → HasHead (take k bytes) d n
-head_in_front bytes d n k long within has =
-    let whole = subst (λ (x : List ℕ). HasHead x d n) (sym (take-append-drop k bytes)) has in
-    let size : length (take k bytes) ≡ k = length-take-le k bytes within in
-    head_before (take k bytes) (drop k bytes) d n (omega arith) whole
-
 -- bytes have one head
 pub one_head : (bytes : List ℕ) (d n d' n' : ℕ) → HasHead bytes d n → HasHead bytes d' n' → (d ≡ d') × (n ≡ n')
 one_head bytes d n d' n' has other =
     let digits : d ≡ d' = sym has.text.count ∙ other.text.count in
     (digits, sym has.text.value ∙ (ap (λ (x : ℕ). digits_value 10 (take x (drop 12 bytes))) digits ∙ other.text.value))
-
--- ---- bytes that begin with no head
-
-pub no_head_from_begin : (bytes : List ℕ) (count : ℕ) → count ≤ length bytes → count ≤ 12 → (take count bytes ≡ take count begin_text → ⊥) → (more : List ℕ) (d n : ℕ) → HasHead (bytes ++ more) d n → ⊥
-no_head_from_begin bytes count within short apart more d n has =
-    let front : take count (take 12 (bytes ++ more)) ≡ take count bytes = take-take count 12 (bytes ++ more) short ∙ take-append-le count bytes more within in
-    apart (sym front ∙ ap (λ (x : List ℕ). take count x) has.begin)
-
-pub no_head_from_text : (bytes : List ℕ) → 12 ≤ length bytes → ((more : List ℕ) (d n : ℕ) → IsLength (drop 12 bytes ++ more) d n → ⊥) → (more : List ℕ) (d n : ℕ) → HasHead (bytes ++ more) d n → ⊥
-no_head_from_text bytes within none more d n has = none more d n (subst (λ (x : List ℕ). IsLength x d n) (drop-append-le 12 bytes more within) has.text)

@@ -1,11 +1,12 @@
 -- How a stream falls into messages.
-use Rattle.std.proofs.Common.{◌≡◌, ℕ, suc, ◌<◌, true, false, cond, true≢false, List, [], ◌∷◌, ◌++◌, length, take, drop, refl, sym, ap, subst, ◌∙◌, inl, inr, arith, append_assoc, append-nil, take-append-drop}
+use Rattle.std.proofs.Common.{◌≡◌, ℕ, suc, ◌<◌, true, false, cond, true≢false, List, [], ◌∷◌, ◌++◌, length, take, drop, refl, sym, ap, ap₂, subst, ◌∙◌, inl, inr, arith, append_assoc, append-nil, take-append-drop}
 use Rattle.std.proofs.lemmas.Bool.{cond-true, cond-false, false_from_ne_true, cases_Bool, cases_lt}
 use Rattle.std.proofs.lemmas.List.{nil_from_length}
 use Rattle.std.specs.List.{concat}
 use Rattle.fix_frame.specs.Grammar.{is_frame, IsFrame, BeginsWithNone}
 use Rattle.fix_frame.specs.Stream.{messages_from, rest_from, messages_of, rest_of}
 use Rattle.fix_frame.proofs.Frames.{frame_alone, frame_least}
+use Rattle.fix_frame.proofs.Fronts.{none_push, none_in_none}
 
 -- ---- a stream in two parts
 
@@ -117,3 +118,34 @@ none_from_messages_of u nothing n h =
     let first : messages_of (take n u ++ drop n u) ≡ take n u ∷ messages_of (drop n u) = messages_of-frame-append (take n u) (drop n u) h in
     let same : messages_of (take n u ++ drop n u) ≡ messages_of u = ap messages_of (take-append-drop n u) in
     cc
+
+-- ---- a stream that comes in two parts
+
+rest_from-none : (front u : List ℕ) → BeginsWithNone front → BeginsWithNone (rest_from front u)
+rest_from-none front [] none = none
+rest_from-none front (b ∷ u) none =
+    let front' = front ++ b ∷ [] in
+    elim (cases_Bool (is_frame front')) [
+      | inl is ↦
+          subst (λ (x : List ℕ). BeginsWithNone x) (sym (cond-true (is_frame front') (rest_of u) (rest_from front' u) is)) (rest_from-none [] u none_in_none)
+      | inr no_frame ↦
+          subst (λ (x : List ℕ). BeginsWithNone x) (sym (cond-false (is_frame front') (rest_of u) (rest_from front' u) no_frame))
+          (rest_from-none front' u (none_push front b none (λ h. true≢false (sym h ∙ no_frame))))
+    ]
+
+-- the rest begins with no frame
+pub rest_of-begins_with_none : (u : List ℕ) → BeginsWithNone (rest_of u)
+rest_of-begins_with_none u = rest_from-none [] u none_in_none
+
+pub messages_of-append : (a b : List ℕ) → messages_of (a ++ b) ≡ messages_of a ++ messages_of (rest_of a ++ b)
+messages_of-append a b =
+    let rest = rest_of a in
+    let none = rest_of-begins_with_none a in
+    let again : messages_of (rest ++ b) ≡ messages_from rest b = messages_from-append [] rest b ∙ ap₂ (λ (x : List (List ℕ)) (y : List ℕ). x ++ messages_from y b) (messages_of-none rest none) (rest_of-none rest none) in
+    messages_from-append [] a b ∙ ap (λ (x : List (List ℕ)). messages_of a ++ x) (sym again)
+
+pub rest_of-append : (a b : List ℕ) → rest_of (a ++ b) ≡ rest_of (rest_of a ++ b)
+rest_of-append a b =
+    let rest = rest_of a in
+    let again : rest_of (rest ++ b) ≡ rest_from rest b = rest_from-append [] rest b ∙ ap (λ (x : List ℕ). rest_from x b) (rest_of-none rest (rest_of-begins_with_none a)) in
+    rest_from-append [] a b ∙ sym again

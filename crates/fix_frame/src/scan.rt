@@ -51,9 +51,7 @@ impl Scan {
         match self.place {
             Place::Whole => Front::Frame(self.count),
             Place::Broken => Front::Broken,
-            Place::Begin(_) | Place::Length { .. } | Place::Body(_) | Place::Trailer(_) => {
-                Front::NeedsMore
-            }
+            _ => Front::NeedsMore,
         }
     }
 
