@@ -23,9 +23,9 @@ body_place frame h =
     record {
       stop = sym (get_or-drop 12 frame d 0) ∙ text.stop;
       first = λ k above below stop.
-      let place : 12 + (k - 12) ≡ k = omega arith in
-      let here : get_or (drop 12 frame) (k - 12) 0 ≡ 1 = get_or-drop 12 frame (k - 12) 0 ∙ (ap (λ (x : ℕ). get_or frame x 0) place ∙ stop) in
-      let within : k - 12 < prefix_len is_ascii_digit (drop 12 frame) = subst (λ (x : ℕ). k - 12 < x) (sym text.count) (omega arith) in
-      soh_is_no_digit (get_or (drop 12 frame) (k - 12) 0) here (prefix_len_passes is_ascii_digit (drop 12 frame) (k - 12) 0 within);
+          let place : 12 + (k - 12) ≡ k = omega arith in
+          let here : get_or (drop 12 frame) (k - 12) 0 ≡ 1 = get_or-drop 12 frame (k - 12) 0 ∙ (ap (λ (x : ℕ). get_or frame x 0) place ∙ stop) in
+          let within : k - 12 < prefix_len is_ascii_digit (drop 12 frame) = subst (λ (x : ℕ). k - 12 < x) (sym text.count) (omega arith) in
+          soh_is_no_digit (get_or (drop 12 frame) (k - 12) 0) here (prefix_len_passes is_ascii_digit (drop 12 frame) (k - 12) 0 within);
       total = omega (arith, made_length (length_text frame) (body_in frame) frame made, made.value);
     }

@@ -8,8 +8,8 @@ use Rattle.fix_frame.specs.Scans.{begin_text, trailer_with, InBegin, InLength, I
 use Rattle.fix_frame.specs.declared.place.Place.{Place}
 use Rattle.fix_frame.specs.declared.place.Place.TheVariants.{Begin, Length, Body, Trailer, Whole, Broken}
 use Rattle.fix_frame.proofs.Frames.{frame_alone}
-use Rattle.fix_frame.proofs.Fronts.{proper_front, frame_front, broken_push, broken_more}
-use Rattle.fix_frame.proofs.Places.{nothing_scanned, begin_to_begin, begin_to_length, begin_breaks, begin_proper, length_to_body, length_to_length, length_breaks_at_no_digit, length_breaks_at_digit, length_proper, body_to_body, body_to_trailer, body_broken, body_proper, trailer_to_trailer, trailer_to_whole, trailer_breaks, trailer_proper}
+use Rattle.fix_frame.proofs.Fronts.{proper_front, frame_front, refused_more}
+use Rattle.fix_frame.proofs.Places.{nothing_scanned, begin_to_begin, begin_to_length, begin_refused, begin_proper, may_be_decided, length_to_body, length_to_length, length_refused_at_no_digit, length_refused_at_digit, length_proper, body_to_body, body_to_trailer, body_refused, body_proper, trailer_to_trailer, trailer_to_whole, trailer_refused, trailer_proper}
 
 -- ---- bytes are the front of a frame, or they are not
 
@@ -27,32 +27,20 @@ find_after_begin before count checksum byte at =
         | inl below ↦ record { place = Begin (count + 1); checksum = (checksum + byte) % 256; at = begin_to_begin before count checksum byte at same below }
         | inr past ↦ record { place = Length 0 0; checksum = (checksum + byte) % 256; at = begin_to_length before count checksum byte at same (omega arith) }
       ]
-      | inr apart ↦ record { place = Broken; checksum = 0; at = broken_push before byte (begin_proper before count checksum at) (begin_breaks before count checksum byte at apart) }
+      | inr apart ↦ record { place = Broken; checksum = 0; at = begin_refused before count checksum byte at apart }
     ]
 
 find_after_digit : (before : List ℕ) (digits number checksum byte : ℕ) → InLength before digits number checksum → is_ascii_digit byte ≡ true → Found (before ++ byte ∷ [])
 find_after_digit before digits number checksum byte at digit =
     let n = number * 10 + (byte - 48) in
-    let over = λ (is : (6 < digits + 1) ⊎ ((4000 < n) ⊎ ((digits + 1 ≡ 6) × (n ≡ 0)))).
-    broken_push before byte (length_proper before digits number checksum at) (length_breaks_at_digit before digits number checksum byte at digit is) in
-    elim (cases_lt 6 (digits + 1)) [
-      | inl many ↦ record { place = Broken; checksum = 0; at = over (inl many) }
-      | inr few ↦ elim (cases_lt 4000 n) [
-        | inl large ↦ record { place = Broken; checksum = 0; at = over (inr (inl large)) }
-        | inr most ↦ elim (cases_lt (digits + 1) 6) [
-          | inl below ↦ record { place = Length (digits + 1) n; checksum = (checksum + byte) % 256; at = length_to_length before digits number checksum byte at digit few most (λ _. below) }
-          | inr full ↦ elim (cases_lt 0 n) [
-            | inl some ↦ record { place = Length (digits + 1) n; checksum = (checksum + byte) % 256; at = length_to_length before digits number checksum byte at digit few most (λ zero. absurd (omega arith)) }
-            | inr none ↦ record { place = Broken; checksum = 0; at = over (inr (inr (omega arith, omega arith))) }
-          ]
-        ]
-      ]
+    elim (may_be_decided (digits + 1) n) [
+      | inl may_be ↦ record { place = Length (digits + 1) n; checksum = (checksum + byte) % 256; at = length_to_length before digits number checksum byte at digit may_be }
+      | inr apart ↦ record { place = Broken; checksum = 0; at = length_refused_at_digit before digits number checksum byte at digit apart }
     ]
 
 find_after_no_digit : (before : List ℕ) (digits number checksum byte : ℕ) → InLength before digits number checksum → is_ascii_digit byte ≡ false → Found (before ++ byte ∷ [])
 find_after_no_digit before digits number checksum byte at no_digit =
-    let over = λ (is : byte ≡ 1 → number ≡ 0).
-    broken_push before byte (length_proper before digits number checksum at) (length_breaks_at_no_digit before digits number checksum byte at no_digit is) in
+    let over = length_refused_at_no_digit before digits number checksum byte at no_digit in
     elim (cases_eq byte 1) [
       | inl soh ↦ elim (cases_lt 0 number) [
         | inl some ↦ record { place = Body number; checksum = (checksum + 1) % 256; at = subst (λ (x : ℕ). InBody (before ++ x ∷ []) number ((checksum + 1) % 256)) (sym soh) (length_to_body before digits number checksum at some) }
@@ -70,7 +58,7 @@ find_after_body before left checksum byte at =
       | inl more ↦ record { place = Body (left - 1); checksum = sum_after; at = body_to_body before left checksum one at more }
       | inr last ↦ elim (cases_eq byte 1) [
         | inl soh ↦ record { place = Trailer 0; checksum = sum_after; at = body_to_trailer before left checksum one at (omega arith) soh }
-        | inr other ↦ record { place = Broken; checksum = 0; at = body_broken before left checksum one at (omega arith) other }
+        | inr other ↦ record { place = Broken; checksum = 0; at = body_refused before left checksum one at (omega arith) other }
       ]
     ]
 
@@ -82,7 +70,7 @@ find_after_trailer before count checksum byte at =
         | inl below ↦ record { place = Trailer (count + 1); checksum = checksum; at = trailer_to_trailer before count checksum byte at same below }
         | inr past ↦ record { place = Whole; checksum = checksum; at = trailer_to_whole before count checksum byte at same (omega arith) }
       ]
-      | inr apart ↦ record { place = Broken; checksum = 0; at = broken_push before byte (trailer_proper before count checksum at) (trailer_breaks before count checksum byte at apart) }
+      | inr apart ↦ record { place = Broken; checksum = 0; at = trailer_refused before count checksum byte at apart }
     ]
 
 -- behind a whole frame
@@ -101,7 +89,7 @@ find_next before (Length digits number) checksum byte u at =
 find_next before (Body left) checksum byte u at = inr (find_after_body before left checksum byte at)
 find_next before (Trailer count) checksum byte u at = inr (find_after_trailer before count checksum byte at)
 find_next before Whole checksum byte u at = inl (whole_past before u byte at)
-find_next before Broken checksum byte u at = inl (broken_more before (byte ∷ u) at).1
+find_next before Broken checksum byte u at = inl (refused_more before (byte ∷ u) at).no_front
 
 find_here : (bytes : List ℕ) (place : Place) (checksum : ℕ) → IsAt bytes place checksum → IsFrameFront bytes ⊎ (IsFrameFront bytes → ⊥)
 find_here bytes (Begin count) checksum at = inl (proper_front bytes (begin_proper bytes count checksum at))
@@ -109,7 +97,7 @@ find_here bytes (Length digits number) checksum at = inl (proper_front bytes (le
 find_here bytes (Body left) checksum at = inl (proper_front bytes (body_proper bytes left checksum at))
 find_here bytes (Trailer count) checksum at = inl (proper_front bytes (trailer_proper bytes count checksum at))
 find_here bytes Whole checksum at = inl (frame_front bytes at)
-find_here bytes Broken checksum at = inr at.1
+find_here bytes Broken checksum at = inr at.no_front
 
 find_all : (u before : List ℕ) (place : Place) (checksum : ℕ) → IsAt before place checksum → IsFrameFront (before ++ u) ⊎ (IsFrameFront (before ++ u) → ⊥)
 find_all [] before place checksum at = subst (λ (x : List ℕ). IsFrameFront x ⊎ (IsFrameFront x → ⊥)) (sym (append-nil before)) (find_here before place checksum at)

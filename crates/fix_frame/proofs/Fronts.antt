@@ -4,6 +4,7 @@ use Rattle.std.proofs.Math.Seq.{take-append-add}
 use Rattle.std.proofs.lemmas.Bool.{cases_lt}
 use Rattle.std.proofs.lemmas.List.{nil_from_length, take_all, take-append-le}
 use Rattle.fix_frame.specs.Grammar.{IsFrame, IsFrameFront, BeginsWithNone}
+use Rattle.fix_frame.specs.Scans.{IsRefused}
 use Rattle.fix_frame.proofs.Frames.{frame_alone, frame_least, frame_most}
 
 -- these bytes go on to a frame, and are not all of it
@@ -60,17 +61,17 @@ none_push b byte none no_frame =
     none_past b (byte ∷ []) none
     (λ k lt h. no_frame (subst (λ (x : List ℕ). IsFrame x) (take_all k (b ++ byte ∷ []) (omega (arith, length-append b (byte ∷ [])))) h))
 
-pub broken_push : (b : List ℕ) (byte : ℕ) → IsProper b → (IsFrameFront (b ++ byte ∷ []) → ⊥) → BeginsWithNone (b ++ byte ∷ []) × (IsFrameFront (b ++ byte ∷ []) → ⊥)
-broken_push b byte is no_front = (none_push b byte (proper_none b is) (λ h. no_front (frame_front (b ++ byte ∷ []) h)), no_front)
+pub refused_push : (b : List ℕ) (byte : ℕ) → IsProper b → (IsFrameFront (b ++ byte ∷ []) → ⊥) → IsRefused (b ++ byte ∷ [])
+refused_push b byte is no_front = record { none = none_push b byte (proper_none b is) (λ h. no_front (frame_front (b ++ byte ∷ []) h)); no_front = no_front }
 
 -- it stays so
-pub broken_more : (b xs : List ℕ) → BeginsWithNone b × (IsFrameFront b → ⊥) → BeginsWithNone (b ++ xs) × (IsFrameFront (b ++ xs) → ⊥)
-broken_more b xs broken = (
-  none_past b xs broken.0
+pub refused_more : (b xs : List ℕ) → IsRefused b → IsRefused (b ++ xs)
+refused_more b xs refused = record {
+  none = none_past b xs refused.none
       (λ k lt h.
       let count : k ≡ length b + (k - length b) = omega arith in
       let parts : take k (b ++ xs) ≡ b ++ take (k - length b) xs = ap (λ (x : ℕ). take x (b ++ xs)) count ∙ take-append-add b xs (k - length b) in
       let whole : IsFrame (b ++ take (k - length b) xs) = subst (λ (x : List ℕ). IsFrame x) parts h in
-      broken.1 (take (k - length b) xs, whole)),
-  λ front. broken.1 (front_before b xs front),
-)
+      refused.no_front (take (k - length b) xs, whole));
+  no_front = λ front. refused.no_front (front_before b xs front);
+}

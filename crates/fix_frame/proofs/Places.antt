@@ -9,10 +9,10 @@ use Rattle.std.specs.Char.{is_ascii_digit, digit_value}
 use Rattle.std.specs.Str.Parse.{digits_value}
 use Rattle.gx_base.specs.Frames.{head_of, trailer_of, frame_of}
 use Rattle.fix_frame.specs.Grammar.{IsFrame, IsFrameFront, BeginsWithNone, length_text, body_in}
-use Rattle.fix_frame.specs.Scans.{begin_text, IsLengthText, InBegin, InLength, InBody, InTrailer, trailer_with}
+use Rattle.fix_frame.specs.Scans.{begin_text, IsLengthText, MayBeLength, InBegin, InLength, InBody, InTrailer, IsRefused, trailer_with}
 use Rattle.fix_frame.proofs.Heads.{IsLength, DigitsSoFar, digit_value_is, digits_more, no_length_from_stop, no_length_from_digits, no_length_from_zeros}
 use Rattle.fix_frame.proofs.Frames.{frame_head, frame_parts, text_made, made_frame}
-use Rattle.fix_frame.proofs.Fronts.{IsProper, proper_before, broken_push}
+use Rattle.fix_frame.proofs.Fronts.{IsProper, proper_before, refused_push}
 
 -- ---- the sum
 
@@ -51,7 +51,7 @@ begin_to_length before count checksum byte at is all = record {
   front = begin_more before count byte at.front at.some_left is ∙ ap (λ (x : ℕ). take x begin_text) all;
   count = refl;
   is_text = no_text;
-  goes_on = λ _. omega arith;
+  may_be = (omega arith, omega arith, λ _. omega arith);
   summed = sum_push before checksum byte at.summed;
 }
 
@@ -59,7 +59,7 @@ begin_to_length before count checksum byte at is all = record {
 byte_behind : (before more : List ℕ) (byte : ℕ) → get_or ((before ++ byte ∷ []) ++ more) (length before) 0 ≡ byte
 byte_behind before more byte = ap (λ (x : List ℕ). get_or x (length before) 0) (append_assoc before (byte ∷ []) more) ∙ get_or_at before byte more 0 (length before) refl
 
-pub begin_breaks : (before : List ℕ) (count checksum byte : ℕ) → InBegin before count checksum → (byte ≡ get_or begin_text count 0 → ⊥) → IsFrameFront (before ++ byte ∷ []) → ⊥
+begin_breaks : (before : List ℕ) (count checksum byte : ℕ) → InBegin before count checksum → (byte ≡ get_or begin_text count 0 → ⊥) → IsFrameFront (before ++ byte ∷ []) → ⊥
 begin_breaks before count checksum byte at apart (more, h) =
     let f = (before ++ byte ∷ []) ++ more in
     let long : length before ≡ count = ap length at.front ∙ length-take-le count begin_text (let lt = at.some_left in omega arith) in
@@ -80,8 +80,8 @@ length_to_body before digits number checksum at some = record {
   summed = sum_push before checksum 1 at.summed;
 }
 
-pub length_to_length : (before : List ℕ) (digits number checksum byte : ℕ) → InLength before digits number checksum → is_ascii_digit byte ≡ true → digits + 1 ≤ 6 → number * 10 + (byte - 48) ≤ 4000 → (number * 10 + (byte - 48) ≡ 0 → digits + 1 < 6) → InLength (before ++ byte ∷ []) (digits + 1) (number * 10 + (byte - 48)) ((checksum + byte) % 256)
-length_to_length before digits number checksum byte at digit few most goes_on =
+pub length_to_length : (before : List ℕ) (digits number checksum byte : ℕ) → InLength before digits number checksum → is_ascii_digit byte ≡ true → MayBeLength (digits + 1) (number * 10 + (byte - 48)) → InLength (before ++ byte ∷ []) (digits + 1) (number * 10 + (byte - 48)) ((checksum + byte) % 256)
+length_to_length before digits number checksum byte at digit may_be =
     let text = at.text in
     let is = digit_value_is byte digit in
     let count = at.count in
@@ -97,11 +97,11 @@ length_to_length before digits number checksum byte at digit few most goes_on =
               let here : length text ≡ k = omega (arith, length_push text byte) in
               ap is_ascii_digit (get_or_push text byte 0 k here) ∙ digit
         ];
-        few = omega (arith, length_push text byte);
+        few = omega (arith, length_push text byte, may_be.0);
         value = value;
-        most = most;
+        most = may_be.1;
       };
-      goes_on = goes_on;
+      may_be = may_be;
       summed = sum_push before checksum byte at.summed;
     }
 
@@ -125,15 +125,15 @@ length_in_frame before digits number checksum byte at more h =
 byte_at_end : (text : List ℕ) (byte : ℕ) → get_or (text ++ byte ∷ []) (length text) 0 ≡ byte
 byte_at_end text byte = get_or_push text byte 0 (length text) refl
 
-pub length_breaks_at_no_digit : (before : List ℕ) (digits number checksum byte : ℕ) → InLength before digits number checksum → is_ascii_digit byte ≡ false → (byte ≡ 1 → number ≡ 0) → IsFrameFront (before ++ byte ∷ []) → ⊥
+length_breaks_at_no_digit : (before : List ℕ) (digits number checksum byte : ℕ) → InLength before digits number checksum → is_ascii_digit byte ≡ false → (byte ≡ 1 → number ≡ 0) → IsFrameFront (before ++ byte ∷ []) → ⊥
 length_breaks_at_no_digit before digits number checksum byte at no_digit apart (more, h) =
     let text = at.text ++ byte ∷ [] in
     let found = length_in_frame before digits number checksum byte at more h in
     no_length_from_stop text (length at.text) number (digits_so_far before digits number checksum byte at) (omega (arith, length_push at.text byte))
     (ap is_ascii_digit (byte_at_end at.text byte) ∙ no_digit) (λ stop. apart (sym (byte_at_end at.text byte) ∙ stop)) more found.0 found.1 found.2
 
-pub length_breaks_at_digit : (before : List ℕ) (digits number checksum byte : ℕ) → InLength before digits number checksum → is_ascii_digit byte ≡ true → (6 < digits + 1) ⊎ ((4000 < number * 10 + (byte - 48)) ⊎ ((digits + 1 ≡ 6) × (number * 10 + (byte - 48) ≡ 0))) → IsFrameFront (before ++ byte ∷ []) → ⊥
-length_breaks_at_digit before digits number checksum byte at digit over (more, h) =
+length_breaks_at_digit : (before : List ℕ) (digits number checksum byte : ℕ) → InLength before digits number checksum → is_ascii_digit byte ≡ true → (MayBeLength (digits + 1) (number * 10 + (byte - 48)) → ⊥) → IsFrameFront (before ++ byte ∷ []) → ⊥
+length_breaks_at_digit before digits number checksum byte at digit apart (more, h) =
     let text = at.text ++ byte ∷ [] in
     let i = length at.text in
     let n = number * 10 + (byte - 48) in
@@ -141,10 +141,18 @@ length_breaks_at_digit before digits number checksum byte at digit over (more, h
     let long = length_push at.text byte in
     let found = length_in_frame before digits number checksum byte at more h in
     let next = digits_more text i number byte (digits_so_far before digits number checksum byte at) (omega arith) (sym (byte_at_end at.text byte)) digit in
-    elim over [
+    elim (cases_lt 6 (digits + 1)) [
       | inl many ↦ no_length_from_digits text (i + 1) n (omega arith) next.0 next.1 (inl (omega arith)) more found.0 found.1 found.2
-      | inr (inl large) ↦ no_length_from_digits text (i + 1) n (omega arith) next.0 next.1 (inr large) more found.0 found.1 found.2
-      | inr (inr zeros) ↦ no_length_from_zeros text (i + 1) n (omega arith) next.0 next.1 (omega (arith, zeros.0)) zeros.1 more found.0 found.1 found.2
+      | inr few ↦ elim (cases_lt 4000 n) [
+        | inl large ↦ no_length_from_digits text (i + 1) n (omega arith) next.0 next.1 (inr large) more found.0 found.1 found.2
+        | inr most ↦ elim (cases_lt (digits + 1) 6) [
+          | inl below ↦ apart (few, most, λ _. below)
+          | inr full ↦ elim (cases_lt 0 n) [
+            | inl some ↦ apart (few, most, λ zero. absurd (omega arith))
+            | inr none ↦ no_length_from_zeros text (i + 1) n (omega arith) next.0 next.1 (omega arith) (omega arith) more found.0 found.1 found.2
+          ]
+        ]
+      ]
     ]
 
 -- ---- the body
@@ -188,7 +196,7 @@ body_to_trailer before left checksum part at all last =
       summed = sum_more before part checksum at.summed ∙ ap (λ (x : List ℕ). sum x % 256) front;
     }
 
-pub body_breaks : (before : List ℕ) (left checksum : ℕ) (part : List ℕ) → InBody before left checksum → length part ≡ left → (get_or part (length part - 1) 0 ≡ 1 → ⊥) → IsFrameFront (before ++ part) → ⊥
+body_breaks : (before : List ℕ) (left checksum : ℕ) (part : List ℕ) → InBody before left checksum → length part ≡ left → (get_or part (length part - 1) 0 ≡ 1 → ⊥) → IsFrameFront (before ++ part) → ⊥
 body_breaks before left checksum part at all apart (more, h) =
     let body = at.part ++ part in
     let some_left = at.some_left in
@@ -231,7 +239,7 @@ trailer_to_whole before count checksum byte at is all =
     let made : before ++ byte ∷ [] ≡ frame_of at.text at.body = trailer_more before front count checksum byte at.front at.some_left at.summed is ∙ ap (λ (x : ℕ). front ++ take x (trailer_of front)) all in
     subst (λ (x : List ℕ). IsFrame x) (sym made) (whole_frame at.text at.body at.is_text at.some at.last)
 
-pub trailer_breaks : (before : List ℕ) (count checksum byte : ℕ) → InTrailer before count checksum → (byte ≡ get_or (trailer_with checksum) count 0 → ⊥) → IsFrameFront (before ++ byte ∷ []) → ⊥
+trailer_breaks : (before : List ℕ) (count checksum byte : ℕ) → InTrailer before count checksum → (byte ≡ get_or (trailer_with checksum) count 0 → ⊥) → IsFrameFront (before ++ byte ∷ []) → ⊥
 trailer_breaks before count checksum byte at apart (more, h) =
     let front = head_of at.text ++ at.body in
     let t = trailer_of front in
@@ -284,8 +292,8 @@ length_proper before digits number checksum at =
     elim (cases_lt 0 number) [
       | inl some ↦ length_proper_above_0 before digits number checksum at some
       | inr none ↦
-          let few : digits < 6 = at.goes_on (omega arith) in
-          let next = length_to_length before digits number checksum 49 at refl (omega arith) (omega arith) (λ zero. absurd (omega arith)) in
+          let few : digits < 6 = at.may_be.2 (omega arith) in
+          let next = length_to_length before digits number checksum 49 at refl (omega arith, omega arith, λ zero. absurd (omega arith)) in
           proper_before before (49 ∷ []) (length_proper_above_0 (before ++ 49 ∷ []) (digits + 1) (number * 10 + (49 - 48)) ((checksum + 49) % 256) next (omega arith))
     ]
 
@@ -297,14 +305,44 @@ begin_proper before count checksum at =
       front = whole;
       count = refl;
       is_text = no_text;
-      goes_on = λ _. omega arith;
+      may_be = (omega arith, omega arith, λ _. omega arith);
       summed = refl;
     } in
     proper_before before (drop count begin_text) (length_proper (before ++ drop count begin_text) 0 0 (sum (before ++ drop count begin_text) % 256) all)
 
--- a body that does not end in SOH, and was right before its last byte
-pub body_broken : (before : List ℕ) (left checksum : ℕ) (part : List ℕ) → InBody before left checksum → length part ≡ left → (get_or part (length part - 1) 0 ≡ 1 → ⊥) → BeginsWithNone (before ++ part) × (IsFrameFront (before ++ part) → ⊥)
-body_broken before left checksum part at all apart =
+-- digits may go on to a length, or they may not
+pub may_be_decided : (digits number : ℕ) → MayBeLength digits number ⊎ (MayBeLength digits number → ⊥)
+may_be_decided digits number =
+    elim (cases_lt 6 digits) [
+      | inl many ↦ inr (λ may_be. absurd (omega (arith, may_be.0)))
+      | inr few ↦ elim (cases_lt 4000 number) [
+        | inl large ↦ inr (λ may_be. absurd (omega (arith, may_be.1)))
+        | inr most ↦ elim (cases_lt digits 6) [
+          | inl below ↦ inl (few, most, λ _. below)
+          | inr full ↦ elim (cases_lt 0 number) [
+            | inl some ↦ inl (few, most, λ zero. absurd (omega arith))
+            | inr none ↦ inr (λ may_be. let below = may_be.2 (omega arith) in absurd (omega arith))
+          ]
+        ]
+      ]
+    ]
+
+-- ---- bytes with which no frame goes on
+
+pub begin_refused : (before : List ℕ) (count checksum byte : ℕ) → InBegin before count checksum → (byte ≡ get_or begin_text count 0 → ⊥) → IsRefused (before ++ byte ∷ [])
+begin_refused before count checksum byte at apart = refused_push before byte (begin_proper before count checksum at) (begin_breaks before count checksum byte at apart)
+
+pub length_refused_at_no_digit : (before : List ℕ) (digits number checksum byte : ℕ) → InLength before digits number checksum → is_ascii_digit byte ≡ false → (byte ≡ 1 → number ≡ 0) → IsRefused (before ++ byte ∷ [])
+length_refused_at_no_digit before digits number checksum byte at no_digit apart =
+    refused_push before byte (length_proper before digits number checksum at) (length_breaks_at_no_digit before digits number checksum byte at no_digit apart)
+
+pub length_refused_at_digit : (before : List ℕ) (digits number checksum byte : ℕ) → InLength before digits number checksum → is_ascii_digit byte ≡ true → (MayBeLength (digits + 1) (number * 10 + (byte - 48)) → ⊥) → IsRefused (before ++ byte ∷ [])
+length_refused_at_digit before digits number checksum byte at digit apart =
+    refused_push before byte (length_proper before digits number checksum at) (length_breaks_at_digit before digits number checksum byte at digit apart)
+
+-- the body was right before its last byte
+pub body_refused : (before : List ℕ) (left checksum : ℕ) (part : List ℕ) → InBody before left checksum → length part ≡ left → (get_or part (length part - 1) 0 ≡ 1 → ⊥) → IsRefused (before ++ part)
+body_refused before left checksum part at all apart =
     let some_left = at.some_left in
     let n = left - 1 in
     let init = take n part in
@@ -314,6 +352,9 @@ body_broken before left checksum part at all apart =
     let whole : (before ++ init) ++ last ∷ [] ≡ before ++ part = append_assoc before init (last ∷ []) ∙ ap (λ (x : List ℕ). before ++ x) parts in
     let here = body_to_body before left checksum init at (omega arith) in
     let no_front = body_breaks before left checksum part at all apart in
-    subst (λ (x : List ℕ). BeginsWithNone x × (IsFrameFront x → ⊥)) whole
-    (broken_push (before ++ init) last (body_proper (before ++ init) (left - length init) ((checksum + sum init % 256) % 256) here)
+    subst (λ (x : List ℕ). IsRefused x) whole
+    (refused_push (before ++ init) last (body_proper (before ++ init) (left - length init) ((checksum + sum init % 256) % 256) here)
     (λ front. no_front (subst (λ (x : List ℕ). IsFrameFront x) whole front)))
+
+pub trailer_refused : (before : List ℕ) (count checksum byte : ℕ) → InTrailer before count checksum → (byte ≡ get_or (trailer_with checksum) count 0 → ⊥) → IsRefused (before ++ byte ∷ [])
+trailer_refused before count checksum byte at apart = refused_push before byte (trailer_proper before count checksum at) (trailer_breaks before count checksum byte at apart)

@@ -2,11 +2,11 @@
 use Rattle.std.proofs.Common.{◌≡◌, ℕ, ◌+◌, ◌-◌, ◌<◌, ◌≤◌, ◌⊎◌, List, [], ◌∷◌, ◌++◌, length, get_or, take, drop, refl, sym, ap, subst, ◌∙◌, inl, inr, arith, length-append, take-append-drop, take-add}
 use Rattle.std.proofs.lemmas.List.{take_more, take_all, take-append-le}
 use Rattle.fix_frame.specs.Grammar.{IsFrame, IsFrameFront, BeginsWithNone}
-use Rattle.fix_frame.specs.Scans.{InBegin, InLength, InBody, InTrailer, IsAt, IsScanOf, IsOpen}
+use Rattle.fix_frame.specs.Scans.{InBegin, InLength, InBody, InTrailer, IsAt, IsRefused, IsScanOf, IsOpen}
 use Rattle.fix_frame.specs.declared.scan.Scan.{Scan}
 use Rattle.fix_frame.specs.declared.place.Place.{Place}
 use Rattle.fix_frame.specs.declared.place.Place.TheVariants.{Begin, Length, Body, Trailer, Whole, Broken}
-use Rattle.fix_frame.proofs.Fronts.{IsProper, proper_none, proper_front, proper_short, broken_more}
+use Rattle.fix_frame.proofs.Fronts.{IsProper, proper_none, proper_front, proper_short, refused_more}
 use Rattle.fix_frame.proofs.Places.{begin_proper, length_proper, body_proper, trailer_proper}
 
 -- one byte more of the bytes held
@@ -38,10 +38,9 @@ open_proper bytes (Trailer count) checksum open_ at = trailer_proper bytes count
 open_proper bytes Whole checksum open_ at = absurd open_
 open_proper bytes Broken checksum open_ at = absurd open_
 
--- the front of the bytes that breaks them
-pub broken_held : (held : List ℕ) (count : ℕ) → BeginsWithNone (take count held) × (IsFrameFront (take count held) → ⊥) → BeginsWithNone held × (IsFrameFront held → ⊥)
-broken_held held count broken =
-    subst (λ (x : List ℕ). BeginsWithNone x × (IsFrameFront x → ⊥)) (take-append-drop count held) (broken_more (take count held) (drop count held) broken)
+-- some first bytes of those held are refused
+pub refused_held : (held : List ℕ) (count : ℕ) → IsRefused (take count held) → IsRefused held
+refused_held held count refused = subst (λ (x : List ℕ). IsRefused x) (take-append-drop count held) (refused_more (take count held) (drop count held) refused)
 
 -- all bytes held were scanned
 pub needs_more : (held : List ℕ) (count : ℕ) (place : Place) (checksum : ℕ) → length held ≤ count → IsOpen place → IsAt (take count held) place checksum → BeginsWithNone held × (length held < 4096) × IsFrameFront held

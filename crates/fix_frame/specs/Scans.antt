@@ -22,19 +22,23 @@ pub record IsLengthText (text : List ℕ) (n : ℕ) : Type 0 where
   pub value : digits_value 10 text ≡ n
   pub most : n ≤ longest_body
 
+-- so many digits that write this number are a length or go on to one: where they are zeros, another must follow
+abbrev pub MayBeLength : ℕ → ℕ → Type 0
+MayBeLength digits number = (digits ≤ 6) × (number ≤ longest_body) × (number ≡ 0 → digits < 6)
+
 -- the first bytes of `begin_text`, and their sum
 pub record InBegin (bytes : List ℕ) (count checksum : ℕ) : Type 0 where
   pub some_left : count < 12
   pub front : bytes ≡ take count begin_text
   pub summed : checksum ≡ sum bytes % 256
 
--- `begin_text` and some digits of the length. Where they are zeros alone, another digit must follow.
+-- `begin_text` and some digits of the length
 pub record InLength (bytes : List ℕ) (digits number checksum : ℕ) : Type 0 where
   pub text : List ℕ
   pub front : bytes ≡ begin_text ++ text
   pub count : length text ≡ digits
   pub is_text : IsLengthText text number
-  pub goes_on : number ≡ 0 → digits < 6
+  pub may_be : MayBeLength digits number
   pub summed : checksum ≡ sum bytes % 256
 
 -- a head and the front of the body of which it speaks
@@ -57,6 +61,11 @@ pub record InTrailer (bytes : List ℕ) (count checksum : ℕ) : Type 0 where
   pub some_left : count < 7
   pub summed : checksum ≡ sum (head_of text ++ body) % 256
 
+-- no frame begins with these bytes, however they go on
+pub record IsRefused (bytes : List ℕ) : Type 0 where
+  pub none : BeginsWithNone bytes
+  pub no_front : IsFrameFront bytes → ⊥
+
 -- the bytes end at this place
 abbrev pub IsAt : List ℕ → Place → ℕ → Type 0
 IsAt bytes (Begin count) checksum = InBegin bytes count checksum
@@ -64,7 +73,7 @@ IsAt bytes (Length digits number) checksum = InLength bytes digits number checks
 IsAt bytes (Body left) checksum = InBody bytes left checksum
 IsAt bytes (Trailer count) checksum = InTrailer bytes count checksum
 IsAt bytes Whole checksum = IsFrame bytes
-IsAt bytes Broken checksum = BeginsWithNone bytes × (IsFrameFront bytes → ⊥)
+IsAt bytes Broken checksum = IsRefused bytes
 
 -- the scan has come so far in the bytes held
 pub record IsScanOf (scan : Scan) (held : List ℕ) : Type 0 where
@@ -85,4 +94,4 @@ trailer_with checksum = field "10" (fixed_digits 3 checksum)
 abbrev pub GivesFront : List ℕ → Front → Type 0
 GivesFront bytes (fronts.Frame n) = (n ≤ length bytes) × IsFrame (take n bytes)
 GivesFront bytes fronts.NeedsMore = BeginsWithNone bytes × (length bytes < 4096) × IsFrameFront bytes
-GivesFront bytes fronts.Broken = BeginsWithNone bytes × (IsFrameFront bytes → ⊥)
+GivesFront bytes fronts.Broken = IsRefused bytes

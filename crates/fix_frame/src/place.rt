@@ -1,6 +1,6 @@
 //! How far some bytes have come in a frame, and where the next ones lead.
-ghost use Rattle.std.specs.Prelude.{◌≡◌, ℕ, ◌+◌, ◌%◌, ◌<◌, ◌≤◌, List, [], ◌∷◌, ◌++◌, length, sum};
-ghost use Rattle.fix_frame.specs.Scans.{InBegin, InLength, InBody, InTrailer, IsAt};
+ghost use Rattle.std.specs.Prelude.{◌≡◌, ◌↔◌, ℕ, ◌+◌, ◌%◌, ◌<◌, ◌≤◌, List, [], ◌∷◌, ◌++◌, length, sum, IsTrue};
+ghost use Rattle.fix_frame.specs.Scans.{MayBeLength, InBegin, InLength, InBody, InTrailer, IsAt};
 
 use crate::trailer::{TRAILER_LENGTH, trailer_with};
 
@@ -63,15 +63,22 @@ pub fn after_length(digits: usize, number: usize, byte: u8) -> Place
     }
     let digits = digits + 1;
     let number = number * 10 + (byte - b'0') as usize;
-    let is_full = digits == MOST_DIGITS;
-    if digits > MOST_DIGITS || number > LONGEST_BODY || (is_full && number == 0) {
-        Place::Broken
-    } else {
+    if may_be_length(digits, number) {
         Place::Length { digits, number }
+    } else {
+        Place::Broken
     }
 }
 
+/// Whether so many digits that write this number are a length or go on to one. Zeros need another digit behind them.
+fn may_be_length(digits: usize, number: usize) -> bool
+    ensures { IsTrue result ↔ MayBeLength digits number }
+{
+    digits <= MOST_DIGITS && number <= LONGEST_BODY && (number > 0 || digits < MOST_DIGITS)
+}
+
 /// The place behind more bytes of the body, of which so many were left.
+#[tactic(auto, using(crate::proofs::Places::body_to_body, crate::proofs::Places::body_to_trailer))]
 pub fn after_body(left: usize, part: &[u8]) -> Place
     requires { (0 < length part.now) × (length part.now ≤ left) }
     ensures { (before : List ℕ) (checksum : ℕ) → InBody before left checksum → IsAt (before ++ part.now) result ((checksum + sum part.now % 256) % 256) }

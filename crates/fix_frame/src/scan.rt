@@ -1,5 +1,5 @@
 //! A scan of the bytes held, which looks at each of them once.
-ghost use Rattle.std.specs.Prelude.{◌≡◌, ◌+◌, ◌%◌, ◌↔◌, ◌<◌, [], length, take, IsTrue};
+ghost use Rattle.std.specs.Prelude.{◌≡◌, ◌+◌, ◌%◌, ◌^◌, ◌↔◌, ◌<◌, [], length, take, IsTrue};
 ghost use Rattle.fix_frame.specs.Scans.{InBody, IsAt, IsOpen, IsScanOf, GivesFront};
 
 use crate::place::{Place, after_begin, after_body, after_length, after_trailer};
@@ -85,7 +85,7 @@ impl Scan {
 
     /// Counts a byte before the trailer.
     fn pass(&mut self, byte: u8, place: Place)
-        requires { self.old.count < 8192 }
+        requires { self.old.count < 2 ^ 63 }
         ensures count { self.new.count ≡ self.old.count + 1 }
         ensures place { self.new.place ≡ place }
         ensures checksum { self.new.checksum ≡ (self.old.checksum + byte) % 256 }

@@ -67,9 +67,13 @@ invariant_of-self c =
     let whole : length s.buffer.items ≡ s.buffer.len = sym (ap length c.deref_mut.ensures.value) ∙ c.deref_mut.ensures.len in
     let room : s.end ≤ length s.buffer.items = omega arith in
     let long : length c.args.self.now.rest ≡ s.end - s.start = sym (ap length h.bytes) ∙ length-slice_range s.buffer.items s.start s.end room in
-    let offset : s.offset + (s.end + count - s.start) < 2 ^ 63 = omega arith in
-    (
-      h.len, omega arith, omega arith, omega arith, none_between _ s.first s.start h.none_given, offset,
+    let offset : s.offset + (s.end + count - s.start) < 2 ^ 63 = omega arith in (
+      h.len,
+      omega arith,
+      omega arith,
+      omega arith,
+      none_between _ s.first s.start h.none_given,
+      offset,
       scan_fed s.buffer.items c.deref_mut.result.now c.copy_from_slice.new.self s.buffer.len s.start s.end count s.scan c.deref_mut.ensures.value (omega arith) (omega arith) (omega arith) (omega (arith, ap length c.copy_from_slice.ensures.after)) scan,
     )
 

@@ -54,6 +54,6 @@ returns-in-Broken c =
     let s = c.self.inside in
     let same = rest_is _ _ s.start s.end c.deref.ensures.value ∙ ap (λ (x : Framing). x.rest) c.self.view_is in
     let found = c.in-Broken.ensures.front in
-    let none : BeginsWithNone c.args.self.now.rest = subst (λ (x : List ℕ). BeginsWithNone x) same found.0 in
-    let no_front = subst (λ (x : List ℕ). IsFrameFront x → ⊥) same found.1 in
+    let none : BeginsWithNone c.args.self.now.rest = subst (λ (x : List ℕ). BeginsWithNone x) same found.none in
+    let no_front = subst (λ (x : List ℕ). IsFrameFront x → ⊥) same found.no_front in
     (c.self.view_is, ap (λ (x : Framing). x.offset) c.self.view_is, no_front, messages_of-none c.args.self.now.rest none, none)

@@ -1,14 +1,14 @@
 use Rattle.std.proofs.Common.{◌≡◌, ◌≤◌, length, take, true≢false, sym, subst, ◌∙◌}
 use Rattle.fix_frame.specs.Scans.{IsAt, IsOpen}
 use Rattle.fix_frame.specs.declared.place.Place.{Place}
-use Rattle.fix_frame.proofs.Scanning.{broken_held, needs_more, is_open}
+use Rattle.fix_frame.proofs.Scanning.{refused_held, needs_more, is_open}
 use Rattle.fix_frame.proofs.scan.Scan.go_on.Goals as goal
 use Rattle.fix_frame.proofs.scan.Scan.go_on.Goals.{then-loop-self-test+else-is_open, else-loop-self-test}
 
 pub returns-in-Broken-clause-front : goal.returns-in-Broken-clause-front
 returns-in-Broken-clause-front c =
     let s = c.loop-self.self in
-    broken_held c.args.held.now s.count
+    refused_held c.args.held.now s.count
     (subst (λ (x : Place). IsAt (take s.count c.args.held.now) x s.checksum) c.in-Broken.is c.loop-self.invariant.place)
 
 pub returns-in_default : goal.returns-in_default
