@@ -14,7 +14,7 @@ use Rattle.fix_frame.proofs.Streams.{rest_of-frame-append, messages_of-frame-app
 
 -- what is seen of a framer's fields
 abbrev pub framing : List ℕ → ℕ → ℕ → ℕ → ℕ → Framing
-framing buffer first start end offset = record { given = messages_of (slice_range buffer first start); first = first; rest = slice_range buffer start end; offset = offset }
+framing buffer first start end base = record { given = messages_of (slice_range buffer first start); first = first; rest = slice_range buffer start end; offset = base + start }
 
 -- ---- parts of the buffer
 
@@ -38,8 +38,8 @@ length-slice_range buffer start end within = length-take-le (end - start) (drop 
 
 -- ---- one more frame is given
 
-pub gives_frame : (buffer : List ℕ) (first start end n offset : ℕ) → first ≤ start → start + n ≤ end → end ≤ length buffer → rest_of (slice_range buffer first start) ≡ [] → IsFrame (take n (slice_range buffer start end)) → GivesFrame (framing buffer first start end offset) (framing buffer first (start + n) end (offset + n)) start (start + n)
-gives_frame buffer first start end n offset below within room whole h =
+pub gives_frame : (buffer : List ℕ) (first start end n base : ℕ) → first ≤ start → start + n ≤ end → end ≤ length buffer → rest_of (slice_range buffer first start) ≡ [] → IsFrame (take n (slice_range buffer start end)) → GivesFrame (framing buffer first start end base) (framing buffer first (start + n) end base) start (start + n)
+gives_frame buffer first start end n base below within room whole h =
     let before = slice_range buffer first start in
     let rest = slice_range buffer start end in
     let frame = take n rest in
@@ -107,8 +107,8 @@ pub record LiesIn (buffer : List ℕ) (f : Framing) (held start end : ℕ) : Typ
   pub below : end ≤ held
   pub bytes : take (end - start) (drop start buffer) ≡ given_bytes f start end
 
-pub lies_in : (buffer : List ℕ) (first held end offset from to : ℕ) → first ≤ held → held ≤ length buffer → rest_of (slice_range buffer first held) ≡ [] → IsGiven (framing buffer first held end offset) from to → LiesIn buffer (framing buffer first held end offset) held from to
-lies_in buffer first held end offset from to below room whole is =
+pub lies_in : (buffer : List ℕ) (first held end base from to : ℕ) → first ≤ held → held ≤ length buffer → rest_of (slice_range buffer first held) ≡ [] → IsGiven (framing buffer first held end base) from to → LiesIn buffer (framing buffer first held end base) held from to
+lies_in buffer first held end base from to below room whole is =
     let all = slice_range buffer first held in
     let given = messages_of all in
     let bytes : concat given ≡ all = concat-messages_of-whole all whole in
@@ -133,10 +133,10 @@ lies_in buffer first held end offset from to below room whole is =
     }
 
 -- the same of what is seen of the fields
-pub lies_in_seen : (f : Framing) (buffer : List ℕ) (first held end offset from to : ℕ) → framing buffer first held end offset ≡ f → first ≤ held → held ≤ length buffer → rest_of (slice_range buffer first held) ≡ [] → IsGiven f from to → LiesIn buffer f held from to
-lies_in_seen f buffer first held end offset from to seen below room whole is =
+pub lies_in_seen : (f : Framing) (buffer : List ℕ) (first held end base from to : ℕ) → framing buffer first held end base ≡ f → first ≤ held → held ≤ length buffer → rest_of (slice_range buffer first held) ≡ [] → IsGiven f from to → LiesIn buffer f held from to
+lies_in_seen f buffer first held end base from to seen below room whole is =
     subst (λ (x : Framing). LiesIn buffer x held from to) seen
-    (lies_in buffer first held end offset from to below room whole (subst (λ (x : Framing). IsGiven x from to) (sym seen) is))
+    (lies_in buffer first held end base from to below room whole (subst (λ (x : Framing). IsGiven x from to) (sym seen) is))
 
 -- ---- bytes behind those held
 

@@ -20,8 +20,8 @@ pub struct Framer {
     first: usize,
     start: usize,
     end: usize,
-    /// Of `start`, in the stream.
-    offset: u64,
+    /// The offset in the stream of the buffer's first byte.
+    base: u64,
     /// Of the bytes held.
     scan: Scan,
 }
@@ -35,9 +35,9 @@ impl Model for Framer {
     ghost use Rattle.fix_frame.specs.Stream.{messages_of, rest_of};
     ghost use Rattle.fix_frame.specs.Scans.{IsScanOf};
 
-    ghost view = { λ f. record { given = messages_of (slice_range f.buffer.items f.first f.start); first = f.first; rest = slice_range f.buffer.items f.start f.end; offset = f.offset } };
+    ghost view = { λ f. record { given = messages_of (slice_range f.buffer.items f.first f.start); first = f.first; rest = slice_range f.buffer.items f.start f.end; offset = f.base + f.start } };
 
-    ghost invariant = { λ f. (vec_len f.buffer ≡ 8192) × (f.first ≤ f.start) × (f.start ≤ f.end) × (f.end ≤ 8192) × (rest_of (slice_range f.buffer.items f.first f.start) ≡ []) × (f.offset + (f.end - f.start) < 2 ^ 63) × IsScanOf f.scan (slice_range f.buffer.items f.start f.end) };
+    ghost invariant = { λ f. (vec_len f.buffer ≡ 8192) × (f.first ≤ f.start) × (f.start ≤ f.end) × (f.end ≤ 8192) × (rest_of (slice_range f.buffer.items f.first f.start) ≡ []) × (f.base + f.end < 2 ^ 63) × IsScanOf f.scan (slice_range f.buffer.items f.start f.end) };
 }
 
 impl Framer {
@@ -50,7 +50,7 @@ impl Framer {
             first: 0,
             start: 0,
             end: 0,
-            offset: 0,
+            base: 0,
             scan: Scan::new(),
         })
     }
@@ -66,6 +66,7 @@ impl Framer {
     {
         if self.start > 0 {
             self.buffer.copy_within(self.start..self.end, 0);
+            self.base += self.start as u64;
             self.end -= self.start;
             self.first = 0;
             self.start = 0;
@@ -87,12 +88,11 @@ impl Framer {
             Front::Frame(length) => {
                 let start = self.start;
                 self.start += length;
-                self.offset += length as u64;
                 self.scan = Scan::new();
                 Next::Frame(start, self.start)
             }
             Front::NeedsMore => Next::More,
-            Front::Broken => Next::Bad(self.offset),
+            Front::Broken => Next::Bad(self.offset()),
         }
     }
 
@@ -108,7 +108,7 @@ impl Framer {
     pub fn offset(&self) -> u64
         ensures { result ≡ self.now.offset }
     {
-        self.offset
+        self.base + self.start as u64
     }
 
     /// How many bytes were taken since the last frame given, at most 8,192.
@@ -126,7 +126,7 @@ impl Framer {
         self.first = 0;
         self.start = 0;
         self.end = 0;
-        self.offset = 0;
+        self.base = 0;
         self.scan = Scan::new();
     }
 }

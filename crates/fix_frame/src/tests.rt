@@ -126,7 +126,7 @@ fn refuses_a_wrong_trailer_byte_by_byte(rt: HostRuntime) -> Result<(), Fail> {
         let mut framer = Framer::new(rt.alloc())?;
         put(&rt, &mut framer, &FIRST[..place]);
         assert_eq!(rt; framer.next(), Next::More);
-        put(&rt, &mut framer, &[FIRST[place] + 1]);
+        put(&rt, &mut framer, &[FIRST[place].wrapping_add(1)]);
         assert_eq!(rt; framer.next(), Next::Bad(0));
         put(&rt, &mut framer, SECOND);
         assert_eq!(rt; framer.next(), Next::Bad(0));
@@ -149,11 +149,13 @@ fn gives_all_frames_however_they_are_cut(rt: HostRuntime) -> Result<(), Fail> {
     let mut fed: usize = 0;
     let mut given: usize = 0;
     for cut in CUTS {
+        assert!(rt; fed <= 884 && cut <= 884 - fed);
         put(&rt, &mut framer, &stream[fed..fed + cut]);
         fed += cut;
         for _ in 0..8 {
             let expected = if given % 2 == 0 { FIRST } else { SECOND };
             if gives(&mut framer, expected) {
+                assert!(rt; given < 8);
                 given += 1;
             }
         }

@@ -15,7 +15,7 @@ record Holds (rest : List ℕ) (from : ℕ) (s : Inside) : Type 0 where
   order : s.start ≤ s.end
   room : s.end ≤ 8192
   len : s.buffer.len ≡ 8192
-  offset : s.offset ≡ from
+  offset : s.base + s.start ≡ from
   scan : IsScanOf s.scan rest
 
 held : (c : goal.After-self-3-1) → Holds c.args.self.now.rest c.args.self.now.offset c.if-self-gt0.self-inside
@@ -25,7 +25,7 @@ held c =
     let rest = c.args.self.now.rest in
     let offset = c.args.self.now.offset in
     let seen : slice_range old.buffer.items old.start old.end ≡ rest = ap (λ (x : Framing). x.rest) c.self.view_is in
-    let from : old.offset ≡ offset = ap (λ (x : Framing). x.offset) c.self.view_is in
+    let from : old.base + old.start ≡ offset = ap (λ (x : Framing). x.offset) c.self.view_is in
     let scan = subst (λ (x : List ℕ). IsScanOf old.scan x) seen c.self.invariant.6 in
     let whole : length s.buffer.items ≡ s.buffer.len = sym (ap length c.deref_mut.ensures.value) ∙ c.deref_mut.ensures.len in
     elim c.if-self-gt0.branch [
@@ -41,7 +41,7 @@ held c =
             order = omega arith;
             room = omega arith;
             len = omega arith;
-            offset = from;
+            offset = omega arith;
             scan = scan;
           })
       | else-self-gt0 w ↦
@@ -52,7 +52,7 @@ held c =
             order = omega arith;
             room = omega arith;
             len = omega arith;
-            offset = from;
+            offset = omega arith;
             scan = scan;
           })
     ]
@@ -67,7 +67,7 @@ invariant_of-self c =
     let whole : length s.buffer.items ≡ s.buffer.len = sym (ap length c.deref_mut.ensures.value) ∙ c.deref_mut.ensures.len in
     let room : s.end ≤ length s.buffer.items = omega arith in
     let long : length c.args.self.now.rest ≡ s.end - s.start = sym (ap length h.bytes) ∙ length-slice_range s.buffer.items s.start s.end room in
-    let offset : s.offset + (s.end + count - s.start) < 2 ^ 63 = omega arith in (
+    let offset : s.base + (s.end + count) < 2 ^ 63 = omega arith in (
       h.len,
       omega arith,
       omega arith,

@@ -37,8 +37,8 @@ returns-in-Frame c =
     let room : s.end ≤ length s.buffer.items = omega (arith, ap length same) in
     let long = length-slice_range s.buffer.items s.start s.end room in
     let fits : s.start + n ≤ s.end = omega (arith, found.0, ap length rest) in
-    subst (λ (old : Framing). GivesFrame old (framing s.buffer.items s.first (s.start + n) s.end (s.offset + n)) s.start (s.start + n)) c.self.view_is
-    (gives_frame s.buffer.items s.first s.start s.end n s.offset (omega arith) fits room c.self.invariant.4 h)
+    subst (λ (old : Framing). GivesFrame old (framing s.buffer.items s.first (s.start + n) s.end s.base) s.start (s.start + n)) c.self.view_is
+    (gives_frame s.buffer.items s.first s.start s.end n s.base (omega arith) fits room c.self.invariant.4 h)
 
 pub returns-in-NeedsMore : goal.returns-in-NeedsMore
 returns-in-NeedsMore c =
@@ -56,4 +56,4 @@ returns-in-Broken c =
     let found = c.in-Broken.ensures.front in
     let none : BeginsWithNone c.args.self.now.rest = subst (λ (x : List ℕ). BeginsWithNone x) same found.none in
     let no_front = subst (λ (x : List ℕ). IsFrameFront x → ⊥) same found.no_front in
-    (c.self.view_is, ap (λ (x : Framing). x.offset) c.self.view_is, no_front, messages_of-none c.args.self.now.rest none, none)
+    (c.self.view_is, c.offset.ensures ∙ ap (λ (x : Framing). x.offset) c.self.view_is, no_front, messages_of-none c.args.self.now.rest none, none)
