@@ -1,14 +1,14 @@
 -- The parts of a frame, and that its head fixes its length.
-use Rattle.std.proofs.Common.{◌≡◌, ℕ, ◌+◌, ◌-◌, ◌<◌, ◌≤◌, Bool, true, false, ◌&&◌, ◌==◌, nat_le, bytes_eq, true≢false, List, [], ◌∷◌, ◌++◌, length, get_or, slice_index, take, drop, refl, sym, ap, ap₂, subst, ◌∙◌, inl, inr, arith, append_assoc, append-nil, length-append, length-drop, length-take-le, take-append-drop, le-leb, leb-true, eq-eqb, eqb-true}
-use Rattle.std.proofs.lemmas.Bool.{and_parts, and_from, cases_lt}
-use Rattle.std.proofs.lemmas.List.{append_cancel_left, take_at, drop_at, get_or_at, get_or-take, drop_more, drop-drop, get_or-append_right, get_or_append_left, nil_from_length, take_all, take-append-le, length-take}
+use Rattle.std.proofs.Common.{◌≡◌, ℕ, ◌+◌, ◌-◌, ◌<◌, ◌≤◌, Bool, true, false, ◌&&◌, ◌==◌, nat_le, bytes_eq, true≢false, List, [], ◌∷◌, ◌++◌, length, get_or, slice_index, take, drop, refl, sym, ap, ap₂, subst, ◌∙◌, arith, append_assoc, length-append, length-drop, length-take-le, take-append-drop, le-leb, leb-true, eq-eqb, eqb-true}
+use Rattle.std.proofs.lemmas.Bool.{and_parts, and_from}
+use Rattle.std.proofs.lemmas.List.{append_cancel_left, take_at, drop_at, get_or_at, get_or-take, drop_more, drop-drop, get_or-append_right, get_or_append_left, nil_from_length}
 use Rattle.std.proofs.lemmas.List.Sums.{prefix_len-le-length, prefix_len_is, prefix_len_passes}
 use Rattle.std.proofs.lemmas.Slice.Eq.{bytes_eq-Decides}
 use Rattle.std.specs.Char.{is_ascii_digit}
 use Rattle.std.specs.List.{prefix_len}
 use Rattle.std.specs.Str.Parse.{digits_value}
 use Rattle.gx_base.specs.Frames.{soh, head_of, trailer_of, frame_of}
-use Rattle.fix_frame.specs.Grammar.{IsFrame, IsFrameFront, BeginsWithNone, length_text, body_length, body_in, longest_body}
+use Rattle.fix_frame.specs.Grammar.{IsFrame, length_text, body_length, body_in, longest_body}
 use Rattle.fix_frame.specs.Scans.{IsLengthText}
 use Rattle.fix_frame.proofs.Heads.{IsLength, HasHead, stop_within, head_goes_on, one_head}
 
@@ -197,9 +197,6 @@ pub made_frame : (digits body b : List ℕ) → IsMade digits body b → IsFrame
 made_frame digits body b made = frame_from_head b (length digits) (length body) (made_head digits body b made) (made_length digits body b made) (made_ends digits body b made)
 
 -- ---- a frame and its head
-
-pub frame_ends : (b : List ℕ) → IsFrame b → ends_frame b ≡ true
-frame_ends b h = made_ends (length_text b) (body_in b) b (frame_made b h)
 
 pub frame_head : (b : List ℕ) → IsFrame b → HasHead b (length (length_text b)) (length (body_in b))
 frame_head b h = made_head (length_text b) (body_in b) b (frame_made b h)

@@ -1,14 +1,14 @@
 -- Where the next bytes lead from each place in a frame.
-use Rattle.std.proofs.Common.{◌≡◌, ℕ, ◌+◌, ◌-◌, ◌*◌, ◌%◌, ◌<◌, ◌≤◌, ◌⊎◌, true, false, List, [], ◌∷◌, ◌++◌, length, get_or, take, drop, replicate, sum, refl, sym, ap, ap₂, subst, ◌∙◌, inl, inr, arith, append_assoc, append-nil, length-append, length-drop, length-take-le, take-append-drop}
+use Rattle.std.proofs.Common.{◌≡◌, ℕ, ◌+◌, ◌-◌, ◌*◌, ◌%◌, ◌<◌, ◌⊎◌, true, false, List, [], ◌∷◌, ◌++◌, length, get_or, take, drop, replicate, sum, refl, sym, ap, ap₂, subst, ◌∙◌, inl, inr, arith, append_assoc, append-nil, length-append, length-drop, length-take-le, take-append-drop}
 use Rattle.std.proofs.Math.Nat.{add-mod-mod, mod-add-mod}
-use Rattle.std.proofs.lemmas.Bool.{cases_lt, cases_eq}
-use Rattle.std.proofs.lemmas.List.{length-replicate, take_more, take_all, take_at, get_or_at, get_or_push, get_or_append_left, get_or-take, get_or-append_right, get_or-append-add, length_push}
+use Rattle.std.proofs.lemmas.Bool.{cases_lt}
+use Rattle.std.proofs.lemmas.List.{length-replicate, take_more, take_all, take_at, get_or_at, get_or_push, get_or_append_left, get_or-take, get_or-append_right, length_push}
 use Rattle.std.proofs.lemmas.List.Sums.{sum_by-append, sum_by_push}
 use Rattle.std.proofs.lemmas.Int.Digits.{digits_value_push}
-use Rattle.std.specs.Char.{is_ascii_digit, digit_value}
+use Rattle.std.specs.Char.{is_ascii_digit}
 use Rattle.std.specs.Str.Parse.{digits_value}
 use Rattle.gx_base.specs.Frames.{head_of, trailer_of, frame_of}
-use Rattle.fix_frame.specs.Grammar.{IsFrame, IsFrameFront, BeginsWithNone, length_text, body_in}
+use Rattle.fix_frame.specs.Grammar.{IsFrame, IsFrameFront, length_text, body_in}
 use Rattle.fix_frame.specs.Scans.{begin_text, IsLengthText, MayBeLength, InBegin, InLength, InBody, InTrailer, IsRefused, trailer_with}
 use Rattle.fix_frame.proofs.Heads.{IsLength, DigitsSoFar, digit_value_is, digits_more, no_length_from_stop, no_length_from_digits, no_length_from_zeros}
 use Rattle.fix_frame.proofs.Frames.{frame_head, frame_parts, text_made, made_frame}

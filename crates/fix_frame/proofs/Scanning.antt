@@ -1,20 +1,15 @@
 -- What a scan knows of the bytes held.
-use Rattle.std.proofs.Common.{◌≡◌, ℕ, ◌+◌, ◌-◌, ◌<◌, ◌≤◌, ◌⊎◌, List, [], ◌∷◌, ◌++◌, length, get_or, take, drop, refl, sym, ap, subst, ◌∙◌, inl, inr, arith, length-append, take-append-drop, take-add}
-use Rattle.std.proofs.lemmas.List.{take_more, take_all, take-append-le}
-use Rattle.fix_frame.specs.Grammar.{IsFrame, IsFrameFront, BeginsWithNone}
-use Rattle.fix_frame.specs.Scans.{InBegin, InLength, InBody, InTrailer, IsAt, IsRefused, IsScanOf, IsOpen}
+use Rattle.std.proofs.Common.{◌≡◌, ℕ, ◌+◌, ◌-◌, ◌<◌, ◌≤◌, List, [], ◌++◌, length, take, drop, refl, sym, ap, subst, ◌∙◌, arith, length-append, take-append-drop, take-add}
+use Rattle.std.proofs.lemmas.List.{take_all, take-append-le}
+use Rattle.fix_frame.specs.Grammar.{IsFrameFront, BeginsWithNone}
+use Rattle.fix_frame.specs.Scans.{IsAt, IsRefused, IsScanOf, IsOpen}
 use Rattle.fix_frame.specs.declared.scan.Scan.{Scan}
 use Rattle.fix_frame.specs.declared.place.Place.{Place}
 use Rattle.fix_frame.specs.declared.place.Place.TheVariants.{Begin, Length, Body, Trailer, Whole, Broken}
 use Rattle.fix_frame.proofs.Fronts.{IsProper, proper_none, proper_front, proper_short, refused_more}
 use Rattle.fix_frame.proofs.Places.{begin_proper, length_proper, body_proper, trailer_proper}
 
--- one byte more of the bytes held
-pub passed_byte : (held : List ℕ) (count byte : ℕ) (place : Place) (checksum : ℕ) → count < length held → byte ≡ get_or held count 0 → IsAt (take count held ++ byte ∷ []) place checksum → IsAt (take (count + 1) held) place checksum
-passed_byte held count byte place checksum lt read at =
-    subst (λ (x : List ℕ). IsAt x place checksum) (ap (λ (x : ℕ). take count held ++ x ∷ []) read ∙ sym (take_more held count 0 lt)) at
-
--- several
+-- more of the bytes held
 pub passed_bytes : (held part : List ℕ) (count end : ℕ) (place : Place) (checksum : ℕ) → count ≤ end → part ≡ take (end - count) (drop count held) → IsAt (take count held ++ part) place checksum → IsAt (take end held) place checksum
 passed_bytes held part count end place checksum le read at =
     let total : count + (end - count) ≡ end = omega arith in

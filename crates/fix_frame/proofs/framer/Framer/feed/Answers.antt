@@ -1,10 +1,8 @@
-use Rattle.std.proofs.Common.{◌≡◌, ℕ, ◌+◌, ◌-◌, ◌^◌, ◌<◌, ◌≤◌, List, [], ◌++◌, length, take, drop, length-take-le, slice_range, refl, sym, ap, ap₂, subst, ◌∙◌, arith}
+use Rattle.std.proofs.Common.{◌≡◌, ℕ, ◌+◌, ◌-◌, ◌^◌, ◌<◌, ◌≤◌, List, ◌++◌, length, length-take-le, slice_range, refl, sym, ap, ap₂, subst, ◌∙◌, arith}
 use Rattle.fix_frame.specs.Scans.{IsScanOf}
-use Rattle.fix_frame.specs.Stream.{rest_of}
 use Rattle.fix_frame.specs.Framing.{Framing}
 use Rattle.fix_frame.specs.declared.framer.Framer.TheInside.{Inside}
 use Rattle.fix_frame.proofs.Framings.{slice_range-fed, slice_range-moved, length-slice_range, scan_fed, none_between, held_within}
-use Rattle.fix_frame.proofs.Scanning.{scan_of_more}
 use Rattle.fix_frame.proofs.framer.Framer.feed.Goals as goal
 use Rattle.fix_frame.proofs.framer.Framer.feed.Goals.{then-self-gt0, else-self-gt0}
 

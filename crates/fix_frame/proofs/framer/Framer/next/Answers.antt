@@ -1,4 +1,4 @@
-use Rattle.std.proofs.Common.{◌≡◌, ℕ, ◌+◌, ◌-◌, ◌≤◌, List, length, take, drop, slice_range, refl, ap, subst, ◌∙◌, arith}
+use Rattle.std.proofs.Common.{◌≡◌, ℕ, ◌+◌, ◌-◌, ◌≤◌, List, length, take, drop, slice_range, ap, subst, ◌∙◌, arith}
 use Rattle.fix_frame.specs.Grammar.{IsFrame, IsFrameFront, BeginsWithNone}
 use Rattle.fix_frame.specs.Stream.{rest_of}
 use Rattle.fix_frame.specs.Framing.{Framing, GivesFrame}

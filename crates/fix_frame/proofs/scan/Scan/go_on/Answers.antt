@@ -1,4 +1,4 @@
-use Rattle.std.proofs.Common.{◌≡◌, ◌≤◌, length, take, true≢false, sym, subst, ◌∙◌}
+use Rattle.std.proofs.Common.{◌≤◌, length, take, true≢false, sym, subst, ◌∙◌}
 use Rattle.fix_frame.specs.Scans.{IsAt, IsOpen}
 use Rattle.fix_frame.specs.declared.place.Place.{Place}
 use Rattle.fix_frame.proofs.Scanning.{refused_held, needs_more, is_open}

@@ -1,4 +1,4 @@
-use Rattle.std.proofs.Common.{◌≡◌, ◌+◌, ◌-◌, ◌%◌, ℕ, List, ◌++◌, take, drop, sum, refl, sym, subst, arith}
+use Rattle.std.proofs.Common.{◌+◌, ◌-◌, ◌%◌, ℕ, ◌++◌, take, drop, refl, sym, subst, arith}
 use Rattle.fix_frame.specs.Scans.{IsAt}
 use Rattle.fix_frame.proofs.Scanning.{passed_bytes}
 use Rattle.fix_frame.proofs.scan.Scan.pass_body.Goals as goal
