@@ -3,8 +3,7 @@ use Rattle.std.proofs.Common.{◌≡◌, ℕ, ◌+◌, ◌-◌, ◌<◌, List, [
 use Rattle.std.proofs.Math.Seq.{take-append-add}
 use Rattle.std.proofs.lemmas.Bool.{cases_lt}
 use Rattle.std.proofs.lemmas.List.{take_all, take-append-le}
-use Rattle.fix_frame.specs.Grammar.{IsFrame, IsFrameFront, BeginsWithNone}
-use Rattle.fix_frame.specs.Scans.{IsRefused}
+use Rattle.fix_frame.specs.Grammar.{IsFrame, IsFrameFront, BeginsWithNone, IsRefused}
 use Rattle.fix_frame.proofs.Frames.{frame_alone, frame_least, frame_most}
 
 -- these bytes go on to a frame, and are not all of it

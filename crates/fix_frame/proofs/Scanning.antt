@@ -1,8 +1,8 @@
 -- What a scan knows of the bytes held.
 use Rattle.std.proofs.Common.{◌≡◌, ℕ, ◌+◌, ◌-◌, ◌<◌, ◌≤◌, List, [], ◌++◌, length, take, drop, refl, sym, ap, subst, ◌∙◌, arith, length-append, take-append-drop, take-add}
 use Rattle.std.proofs.lemmas.List.{take_all, take-append-le}
-use Rattle.fix_frame.specs.Grammar.{IsFrameFront, BeginsWithNone}
-use Rattle.fix_frame.specs.Scans.{IsAt, IsRefused, IsScanOf, IsOpen}
+use Rattle.fix_frame.specs.Grammar.{IsFrameFront, BeginsWithNone, IsRefused}
+use Rattle.fix_frame.specs.Scans.{IsAt, IsScanOf, IsOpen}
 use Rattle.fix_frame.specs.declared.scan.Scan.{Scan}
 use Rattle.fix_frame.specs.declared.place.Place.{Place}
 use Rattle.fix_frame.specs.declared.place.Place.TheVariants.{Begin, Length, Body, Trailer, Whole, Broken}

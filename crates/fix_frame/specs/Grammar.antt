@@ -39,3 +39,8 @@ IsFrameFront b = (more : List ℕ) × IsFrame (b ++ more)
 -- no front of these bytes is a frame
 abbrev pub BeginsWithNone : List ℕ → Type 0
 BeginsWithNone b = (n : ℕ) → IsFrame (take n b) → ⊥
+
+-- and they are the front of none: no frame begins with them, however they go on
+pub record IsRefused (b : List ℕ) : Type 0 where
+  pub none : BeginsWithNone b
+  pub no_front : IsFrameFront b → ⊥

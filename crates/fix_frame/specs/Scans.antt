@@ -4,7 +4,7 @@ use Rattle.std.specs.Char.{is_ascii_digit}
 use Rattle.std.specs.Str.Parse.{digits_value}
 use Rattle.gx_base.specs.Frames.{soh, field, head_of, trailer_of}
 use Rattle.gx_base.specs.Numbers.{fixed_digits}
-use Rattle.fix_frame.specs.Grammar.{IsFrame, IsFrameFront, BeginsWithNone, longest_body}
+use Rattle.fix_frame.specs.Grammar.{IsFrame, IsFrameFront, BeginsWithNone, IsRefused, longest_body}
 use Rattle.fix_frame.specs.declared.place.Place.{Place}
 use Rattle.fix_frame.specs.declared.place.Place.TheVariants.{Begin, Length, Body, Trailer, Whole, Broken}
 use Rattle.fix_frame.specs.declared.scan.Scan.{Scan}
@@ -60,11 +60,6 @@ pub record InTrailer (bytes : List ℕ) (count checksum : ℕ) : Type 0 where
   pub last : slice_index body (length body - 1) ≡ soh
   pub some_left : count < 7
   pub summed : checksum ≡ sum (head_of text ++ body) % 256
-
--- no frame begins with these bytes, however they go on
-pub record IsRefused (bytes : List ℕ) : Type 0 where
-  pub none : BeginsWithNone bytes
-  pub no_front : IsFrameFront bytes → ⊥
 
 -- the bytes end at this place
 abbrev pub IsAt : List ℕ → Place → ℕ → Type 0

@@ -80,7 +80,7 @@ impl Framer {
 
     /// The frame with which the bytes held begin; `More` exactly where they are the front of a frame and not all of it,
     /// and so fewer than 4,096; `Bad`, with the offset of the first of them, exactly where they begin with no frame and
-    /// are the front of none, and then it stays until `clear`. Each byte is looked at once, however the stream is cut.
+    /// are the front of none, and then it stays until `clear`. Each byte is scanned once, however the stream is cut.
     pub fn next(&mut self) -> Next
         ensures { GivesNext self.old self.new result }
     {

@@ -1,11 +1,16 @@
 //! Laws of frames and streams. Their functions do nothing: what is proved is what their contracts say.
 ghost use Rattle.std.specs.Prelude.{◌≡◌, ◌⊎◌, List, ℕ, [], ◌++◌};
-ghost use Rattle.fix_frame.specs.Grammar.{IsFrame};
+ghost use Rattle.fix_frame.specs.Grammar.{IsFrame, IsRefused};
 ghost use Rattle.fix_frame.specs.Stream.{messages_of, rest_of, IsBroken, IsCut};
 
 /// No frame is the front of another.
 pub fn no_frame_begins_another()
     ensures { (frame more : List ℕ) → IsFrame frame → IsFrame (frame ++ more) → more ≡ [] }
+{}
+
+/// Bytes with which no frame begins, however they go on, stay such whatever comes behind them.
+pub fn refused_bytes_stay_refused()
+    ensures { (bytes more : List ℕ) → IsRefused bytes → IsRefused (bytes ++ more) }
 {}
 
 /// The messages and the rest of a stream do not depend on how it was cut: where it comes in two parts, the rest of the

@@ -13,5 +13,7 @@ mod trailer;
 
 pub use body::frame_body;
 pub use framer::Framer;
-pub use laws::{cuts_change_nothing, no_frame_begins_another, streams_end_one_way};
+pub use laws::{
+    cuts_change_nothing, no_frame_begins_another, refused_bytes_stay_refused, streams_end_one_way,
+};
 pub use next::Next;

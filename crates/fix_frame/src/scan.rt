@@ -1,4 +1,4 @@
-//! A scan of the bytes held, which looks at each of them once.
+//! A scan of the bytes held, which goes over each of them once.
 ghost use Rattle.std.specs.Prelude.{◌≡◌, ◌+◌, ◌%◌, ◌^◌, ◌↔◌, ◌<◌, [], length, take, IsTrue};
 ghost use Rattle.fix_frame.specs.Scans.{InBody, IsAt, IsOpen, IsScanOf, GivesFront};
 
