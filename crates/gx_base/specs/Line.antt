@@ -1,5 +1,7 @@
--- The bytes of a report: execution reports (35=8) after FIX 4.2. Tags 9001 to 9003 are our own.
-use Rattle.std.specs.Prelude.{ℕ, List, [], ◌++◌, length, Option, Some, None, option_map, unwrap_or, slice_get, codes, decimal, if◌then◌else◌, ◌==◌}
+-- The bytes of a report after FIX 4.2: execution reports (35=8), refusals of a cancel or a replace (35=9), and rejects
+-- of a message (35=3). Tags 9001 to 9003 are our own, and so are the words of 58.
+use Rattle.std.specs.Prelude.{ℕ, Bool, List, [], ◌++◌, length, Option, Some, None, option_map, unwrap_or, slice_get, codes, decimal, if◌then◌else◌, ◌==◌}
+use Prim.Native.String.{String}
 use Rattle.gx_base.specs.Frames.{field, frame_of}
 use Rattle.gx_base.specs.Numbers.{price_text}
 use Rattle.gx_base.specs.NameLists.{NameLists}
@@ -17,9 +19,13 @@ use Rattle.gx_base.specs.declared.event.StepName.TheVariants.{Top, Lmm, Split, P
 use Rattle.gx_base.specs.declared.event.NewFault.{NewFault}
 use Rattle.gx_base.specs.declared.event.NewFault.TheVariants as faults
 use Rattle.gx_base.specs.declared.event.NewRefused.{NewRefused}
+use Rattle.gx_base.specs.declared.event.Cause.{Cause}
+use Rattle.gx_base.specs.declared.event.Cause.TheVariants as causes
+use Rattle.gx_base.specs.declared.event.ChangeFault.{ChangeFault}
+use Rattle.gx_base.specs.declared.event.ChangeFault.TheVariants as changes
 use Rattle.gx_base.specs.declared.event.Head.{Head}
 use Rattle.gx_base.specs.declared.event.Event.{Event}
-use Rattle.gx_base.specs.declared.event.Event.TheVariants.{Accepted, Fill, RefusedNew}
+use Rattle.gx_base.specs.declared.event.Event.TheVariants.{Accepted, Triggered, Fill, Cancelled, Replaced, RefusedNew, RefusedChange, RefusedSession}
 
 -- ---- names, where a number that is not listed is written as UNKNOWN
 
@@ -93,6 +99,65 @@ reject_reason faults.Show = codes "0"
 reject_reason faults.BookFull = codes "3"
 reject_reason faults.NoMarket = codes "0"
 
+-- why an order is cancelled (58), where the client did not ask for it
+abbrev pub cause_text : Cause → Option (List ℕ)
+cause_text causes.Asked = None
+cause_text causes.Fak = Some (codes "FAK")
+cause_text causes.MinQty = Some (codes "MINQTY NOT MET")
+
+-- our own words for why a cancel or a replace is refused (58)
+abbrev pub change_text : ChangeFault → List ℕ
+change_text changes.Unknown = codes "UNKNOWN"
+change_text changes.Mismatch = codes "MISMATCH"
+change_text changes.Duplicate = codes "DUPLICATE"
+change_text changes.Quantity = codes "QUANTITY"
+change_text changes.Filled = codes "FILLED"
+change_text changes.Tick = codes "TICK"
+change_text changes.StopLimit = codes "STOP LIMIT"
+change_text changes.StopReached = codes "STOP REACHED"
+change_text changes.Show = codes "SHOW"
+
+-- the reason of such a refusal (102) in FIX 4.2: 0 too late, 1 unknown order, 2 broker or exchange option. Which fault
+-- has which of them is our own rule
+abbrev pub change_reason : ChangeFault → List ℕ
+change_reason changes.Unknown = codes "1"
+change_reason changes.Mismatch = codes "2"
+change_reason changes.Duplicate = codes "2"
+change_reason changes.Quantity = codes "2"
+change_reason changes.Filled = codes "0"
+change_reason changes.Tick = codes "2"
+change_reason changes.StopLimit = codes "2"
+change_reason changes.StopReached = codes "2"
+change_reason changes.Show = codes "2"
+
+-- the status of the order that was to change (39): rejected where there is none, else new or partly filled
+abbrev pub change_status : ChangeFault → ℕ → List ℕ
+change_status changes.Unknown filled = codes "8"
+change_status fault filled = if filled == 0 then codes "0" else codes "1"
+
+-- what was refused (434): a cancel, or a replace
+abbrev pub response_text : Bool → List ℕ
+response_text replace = if replace then codes "2" else codes "1"
+
+-- the number of an order, or NONE where there is none
+abbrev pub number_text : ℕ → List ℕ
+number_text number = if number == 0 then codes "NONE" else decimal number
+
+-- our own words for the session rule that a message breaks (58)
+abbrev pub rule_text : ℕ → List ℕ
+rule_text rule =
+    if rule == 1 then codes "FIRST TAG"
+    else if rule == 2 then codes "BAD TAG"
+    else if rule == 3 then codes "NO VALUE"
+    else if rule == 4 then codes "SENDER"
+    else if rule == 5 then codes "TARGET"
+    else if rule == 6 then codes "HEADER"
+    else if rule == 7 then codes "MSGTYPE"
+    else if rule == 8 then codes "MISSING"
+    else if rule == 9 then codes "FORMAT"
+    else if rule == 10 then codes "VALUE"
+    else codes "UNKNOWN"
+
 -- ---- the parts of a body, in their order
 
 -- message type, line, sender, time and addressee
@@ -104,12 +169,19 @@ line_head names type head =
     ++ field "52" head.time
     ++ field "56" (addressee names head.firm)
 
--- which order, which report, and what it tells
-abbrev pub report_fields : Head → Order → List ℕ → List ℕ
-report_fields head order status =
-    field "37" (decimal order.number)
-    ++ field "11" order.id
-    ++ field "17" (decimal head.report)
+-- a field that is there only where it has a value
+abbrev pub field_if : String → Option (List ℕ) → List ℕ
+field_if tag None = []
+field_if tag (Some value) = field tag value
+
+-- which order, under which id, and in the place of which id
+abbrev pub id_fields : ℕ → List ℕ → Option (List ℕ) → List ℕ
+id_fields number id old = field "37" (decimal number) ++ field "11" id ++ field_if "41" old
+
+-- which execution report, and what it tells: its kind (150) and the order's status (39) are the same in each of ours
+abbrev pub report_fields : Head → List ℕ → List ℕ
+report_fields head status =
+    field "17" (decimal head.report)
     ++ field "20" (codes "0")
     ++ field "150" status
     ++ field "39" status
@@ -130,7 +202,15 @@ order_fields names order =
     ++ price_fields order.kind order.price order.trigger (decimals_of names order.instrument)
     ++ field "59" (life_text order.life)
 
--- what is open and filled of it now
+-- an execution report of an order up to what was ordered, under this id, in the place of the old one, with this status
+abbrev pub order_front : NameLists → Head → Order → List ℕ → Option (List ℕ) → List ℕ → List ℕ
+order_front names head order id old status =
+    line_head names (codes "8") head
+    ++ id_fields order.number id old
+    ++ report_fields head status
+    ++ order_fields names order
+
+-- what is open and filled of an order now
 abbrev pub state_fields : Head → Order → List ℕ
 state_fields head order =
     field "151" (decimal order.leaves)
@@ -138,15 +218,23 @@ state_fields head order =
     ++ field "6" (codes "0")
     ++ field "60" head.time
 
--- which new order is refused, and with which reason. It has no number
+-- a trade, and the price of one unit of its instrument
+abbrev pub trade_fields : ℕ → Price → ℕ → List ℕ
+trade_fields lots price decimals = field "32" (decimal lots) ++ field "31" (price_text price decimals)
+
+-- the id of a cancelled order's report: that of the cancel, if one asked for it
+abbrev pub cancel_id : Order → Option (List ℕ) → List ℕ
+cancel_id order by = unwrap_or by order.id
+
+-- the order's own id stands in 41 then
+abbrev pub cancelled_id : Order → Option (List ℕ) → Option (List ℕ)
+cancelled_id order by = option_map (λ _. order.id) by
+
+-- a refused new order up to the reason: it has no number
 abbrev pub refused_fields : Head → NewRefused → NewFault → List ℕ
 refused_fields head order fault =
-    field "37" (codes "0")
-    ++ field "11" order.id
-    ++ field "17" (decimal head.report)
-    ++ field "20" (codes "0")
-    ++ field "150" (codes "8")
-    ++ field "39" (codes "8")
+    id_fields 0 order.id None
+    ++ report_fields head (codes "8")
     ++ field "103" (reject_reason fault)
 
 -- what a refused new order wanted, without its prices
@@ -170,22 +258,52 @@ nothing_fields head =
 abbrev pub fault_fields : NewRefused → NewFault → List ℕ
 fault_fields order fault = field "58" (fault_text fault) ++ field "9003" (decimal order.quantity)
 
+-- which order was to change, and by which request
+abbrev pub request_fields : ℕ → List ℕ → List ℕ → List ℕ
+request_fields number id old = field "37" (number_text number) ++ field "11" id ++ field "41" old
+
+-- why a cancel or a replace is refused
+abbrev pub change_fields : Head → ℕ → Bool → ChangeFault → List ℕ
+change_fields head filled replace fault =
+    field "39" (change_status fault filled)
+    ++ field "434" (response_text replace)
+    ++ field "102" (change_reason fault)
+    ++ field "58" (change_text fault)
+    ++ field "60" head.time
+
+-- which message is rejected, at which tag where it is one, and why
+abbrev pub session_fields : ℕ → ℕ → ℕ → ℕ → List ℕ
+session_fields seq tag reason rule =
+    field "45" (decimal seq)
+    ++ field_if "371" (if tag == 0 then None else Some (decimal tag))
+    ++ field "373" (decimal reason)
+    ++ field "58" (rule_text rule)
+
 abbrev pub body_of : NameLists → Event → List ℕ
 body_of names (Accepted head order) =
-    line_head names (codes "8") head
-    ++ report_fields head order (codes "0")
-    ++ order_fields names order
+    order_front names head order order.id None (codes "0")
     ++ state_fields head order
     ++ field "9003" (codes "0")
+body_of names (Triggered head order) =
+    order_front names head order order.id None (codes "0")
+    ++ state_fields head order
+    ++ field "58" (codes "TRIGGERED")
+    ++ field "9003" (codes "0")
 body_of names (Fill head order lots price step trade) =
-    line_head names (codes "8") head
-    ++ report_fields head order (fill_status order.leaves)
-    ++ order_fields names order
-    ++ field "32" (decimal lots)
-    ++ field "31" (price_text price (decimals_of names order.instrument))
+    order_front names head order order.id None (fill_status order.leaves)
+    ++ trade_fields lots price (decimals_of names order.instrument)
     ++ state_fields head order
     ++ field "9001" (step_text step)
     ++ field "9002" (decimal trade)
+    ++ field "9003" (codes "0")
+body_of names (Cancelled head order gone by cause) =
+    order_front names head order (cancel_id order by) (cancelled_id order by) (codes "4")
+    ++ state_fields head order
+    ++ field_if "58" (cause_text cause)
+    ++ field "9003" (decimal gone)
+body_of names (Replaced head order old old_quantity) =
+    order_front names head order order.id (Some old) (codes "5")
+    ++ state_fields head order
     ++ field "9003" (codes "0")
 body_of names (RefusedNew head order fault) =
     line_head names (codes "8") head
@@ -193,6 +311,13 @@ body_of names (RefusedNew head order fault) =
     ++ wanted_fields order
     ++ nothing_fields head
     ++ fault_fields order fault
+body_of names (RefusedChange head id old number filled replace fault) =
+    line_head names (codes "9") head
+    ++ request_fields number id old
+    ++ change_fields head filled replace fault
+body_of names (RefusedSession head seq tag reason rule) =
+    line_head names (codes "3") head
+    ++ session_fields seq tag reason rule
 
 -- the line of an event: the frame of its body, whose length is written without leading zeros
 abbrev pub line_of : NameLists → Event → List ℕ

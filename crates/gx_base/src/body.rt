@@ -1,299 +1,416 @@
-//! The bodies of report lines, field by field.
-ghost use Rattle.std.specs.Prelude.{◌≡◌, ◌+◌, ◌≤◌, ◌++◌, length};
-ghost use Rattle.gx_base.specs.Line.{addressee, instrument_name, decimals_of, side_text, kind_text, life_text, step_text, fill_status, fault_text, reject_reason, line_head, report_fields, price_fields, order_fields, state_fields, refused_fields, wanted_fields, nothing_fields, fault_fields, body_of};
+//! The bodies of report lines, field by field. As in `fields`, each call writes behind the first `at` bytes, and answers
+//! where what it wrote ends. A field takes at most 30 bytes.
+ghost use Rattle.std.specs.Prelude.{◌≡◌, ◌+◌, ◌≤◌, ◌++◌, ◌==◌, if◌then◌else◌, Some, None, codes, decimal, length, take};
+ghost use Rattle.gx_base.specs.Frames.{field};
+ghost use Rattle.gx_base.specs.Line.{field_if, cause_text, number_text, cancel_id, cancelled_id, line_head, id_fields, report_fields, price_fields, order_fields, order_front, state_fields, trade_fields, refused_fields, wanted_fields, nothing_fields, fault_fields, request_fields, change_fields, session_fields, body_of};
 
-use crate::event::{Event, Head, NewFault, NewRefused, StepName};
-use crate::fields::Fields;
+use crate::event::{Cause, ChangeFault, Event, Head, NewFault, NewRefused};
+use crate::fields::{field, number, price};
 use crate::id::ShortId;
-use crate::names::{Listed, Names};
-use crate::order::{Kind, Life, Order, Side};
+use crate::names::Names;
+use crate::order::{Kind, Order};
 use crate::price::Price;
+use crate::values::{
+    addressee, change_reason, change_status, change_text, fault_text, fill_status, kind_text,
+    life_text, listed, reject_reason, response_text, rule_text, side_text, step_text,
+};
 
-impl Fields {
-    /// Appends the body of an event: at most 27 fields.
-    pub(crate) fn body(&mut self, event: &Event, names: &Names)
-        requires { length self.old + 810 ≤ 1024 }
-        ensures body { self.new ≡ self.old ++ body_of names.now event.now }
-        ensures short { length self.new ≤ length self.old + 810 }
-    {
-        match event {
-            Event::Accepted { head, order } => {
-                self.line_head(names, b"8", head);
-                self.report_fields(head, order, b"0");
-                self.order_fields(names, order);
-                self.state_fields(head, order);
-                self.field(b"9003", b"0");
-            }
-            Event::Fill {
-                head,
-                order,
-                lots,
-                price,
-                step,
-                trade,
-            } => {
-                let decimals = listed(names, order.instrument).decimals;
-                self.line_head(names, b"8", head);
-                self.report_fields(head, order, fill_status(order.leaves));
-                self.order_fields(names, order);
-                self.number(b"32", u64::from(*lots));
-                self.price(b"31", *price, decimals);
-                self.state_fields(head, order);
-                self.field(b"9001", step_text(*step));
-                self.number(b"9002", *trade);
-                self.field(b"9003", b"0");
-            }
-            Event::RefusedNew { head, order, fault } => {
-                self.line_head(names, b"8", head);
-                self.refused_fields(head, order, *fault);
-                self.wanted_fields(order);
-                self.nothing_fields(head);
-                self.fault_fields(order, *fault);
-            }
+/// The ids in the report of an order.
+#[derive(Clone, Copy)]
+struct Ids {
+    /// Tag 11.
+    id: ShortId,
+    /// Tag 41, where it is there.
+    old: Option<ShortId>,
+}
+
+/// Writes the body of an event: at most 28 fields.
+pub(crate) fn write_body(into: &mut [u8], at: usize, event: &Event, names: &Names) -> usize
+    requires { at + 840 ≤ length into.old }
+    ensures body { take result into.new ≡ take at into.old ++ body_of names.now event.now }
+    ensures short { result ≤ at + 840 }
+{
+    match event {
+        Event::Accepted { head, order } => {
+            let at = order_front(into, at, names, head, order, own_id(order), b"0");
+            let at = state_fields(into, at, head, order);
+            field(into, at, b"9003=", b"0")
         }
-    }
-
-    /// Message type, line, sender, time and addressee.
-    fn line_head(&mut self, names: &Names, message_type: &[u8], head: &Head)
-        requires room { length self.old + 150 ≤ 1024 }
-        requires short_type { length message_type.now ≤ 24 }
-        ensures fields { self.new ≡ self.old ++ line_head names.now message_type.now head.now }
-        ensures short { length self.new ≤ length self.old + 150 }
-    {
-        let exchange = names.exchange();
-        let firm = addressee(names, head.firm);
-        self.field(b"35", message_type);
-        self.number(b"34", head.line);
-        self.field(b"49", exchange.bytes());
-        self.field(b"52", head.time.bytes());
-        self.field(b"56", firm.bytes());
-    }
-
-    /// Which order, which report, and what it tells.
-    fn report_fields(&mut self, head: &Head, order: &Order, status: &[u8])
-        requires room { length self.old + 180 ≤ 1024 }
-        requires short_status { length status.now ≤ 24 }
-        ensures fields { self.new ≡ self.old ++ report_fields head.now order.now status.now }
-        ensures short { length self.new ≤ length self.old + 180 }
-    {
-        self.number(b"37", order.number);
-        self.field(b"11", order.id.bytes());
-        self.number(b"17", head.report);
-        self.field(b"20", b"0");
-        self.field(b"150", status);
-        self.field(b"39", status);
-    }
-
-    /// What was ordered.
-    fn order_fields(&mut self, names: &Names, order: &Order)
-        requires { length self.old + 210 ≤ 1024 }
-        ensures fields { self.new ≡ self.old ++ order_fields names.now order.now }
-        ensures short { length self.new ≤ length self.old + 210 }
-    {
-        let instrument = listed(names, order.instrument);
-        self.field(b"55", instrument.name.bytes());
-        self.field(b"54", side_text(order.side));
-        self.number(b"38", u64::from(order.quantity));
-        self.field(b"40", kind_text(order.kind));
-        self.price_fields(order.kind, order.price, order.trigger, instrument.decimals);
-        self.field(b"59", life_text(order.life));
-    }
-
-    /// The price and the stop price, as far as the kind has them.
-    fn price_fields(&mut self, kind: Kind, price: Price, trigger: Price, decimals: u8)
-        requires room { length self.old + 60 ≤ 1024 }
-        requires decimals { decimals ≤ 8 }
-        ensures fields { self.new ≡ self.old ++ price_fields kind price trigger decimals }
-        ensures short { length self.new ≤ length self.old + 60 }
-    {
-        match kind {
-            Kind::Market => {}
-            Kind::Limit => self.price(b"44", price, decimals),
-            Kind::StopLimit => {
-                self.price(b"44", price, decimals);
-                self.price(b"99", trigger, decimals);
-            }
+        Event::Triggered { head, order } => {
+            let at = order_front(into, at, names, head, order, own_id(order), b"0");
+            let at = state_fields(into, at, head, order);
+            let at = field(into, at, b"58=", b"TRIGGERED");
+            field(into, at, b"9003=", b"0")
         }
-    }
-
-    /// What is open and filled of it now.
-    fn state_fields(&mut self, head: &Head, order: &Order)
-        requires { length self.old + 120 ≤ 1024 }
-        ensures fields { self.new ≡ self.old ++ state_fields head.now order.now }
-        ensures short { length self.new ≤ length self.old + 120 }
-    {
-        self.number(b"151", u64::from(order.leaves));
-        self.number(b"14", u64::from(order.filled));
-        self.field(b"6", b"0");
-        self.field(b"60", head.time.bytes());
-    }
-
-    /// Which new order is refused, and with which reason.
-    fn refused_fields(&mut self, head: &Head, order: &NewRefused, fault: NewFault)
-        requires { length self.old + 210 ≤ 1024 }
-        ensures fields { self.new ≡ self.old ++ refused_fields head.now order.now fault }
-        ensures short { length self.new ≤ length self.old + 210 }
-    {
-        self.field(b"37", b"0");
-        self.field(b"11", order.id.bytes());
-        self.number(b"17", head.report);
-        self.field(b"20", b"0");
-        self.field(b"150", b"8");
-        self.field(b"39", b"8");
-        self.field(b"103", reject_reason(fault));
-    }
-
-    /// What a refused new order wanted, without its prices.
-    fn wanted_fields(&mut self, order: &NewRefused)
-        requires { length self.old + 150 ≤ 1024 }
-        ensures fields { self.new ≡ self.old ++ wanted_fields order.now }
-        ensures short { length self.new ≤ length self.old + 150 }
-    {
-        self.field(b"55", order.symbol.bytes());
-        self.field(b"54", side_text(order.side));
-        self.number(b"38", u64::from(order.quantity));
-        self.field(b"40", kind_text(order.kind));
-        self.field(b"59", life_text(order.life));
-    }
-
-    /// Nothing is open or filled.
-    fn nothing_fields(&mut self, head: &Head)
-        requires { length self.old + 120 ≤ 1024 }
-        ensures fields { self.new ≡ self.old ++ nothing_fields head.now }
-        ensures short { length self.new ≤ length self.old + 120 }
-    {
-        self.field(b"151", b"0");
-        self.field(b"14", b"0");
-        self.field(b"6", b"0");
-        self.field(b"60", head.time.bytes());
-    }
-
-    /// Why a new order is refused, and how much of it ends with that.
-    fn fault_fields(&mut self, order: &NewRefused, fault: NewFault)
-        requires { length self.old + 60 ≤ 1024 }
-        ensures fields { self.new ≡ self.old ++ fault_fields order.now fault }
-        ensures short { length self.new ≤ length self.old + 60 }
-    {
-        self.field(b"58", fault_text(fault));
-        self.number(b"9003", u64::from(order.quantity));
+        Event::Fill {
+            head,
+            order,
+            lots,
+            price,
+            step,
+            trade,
+        } => {
+            let status = fill_status(order.leaves);
+            let at = order_front(into, at, names, head, order, own_id(order), status);
+            let decimals = listed(names, order.instrument).decimals;
+            let at = trade_fields(into, at, *lots, *price, decimals);
+            let at = state_fields(into, at, head, order);
+            let at = field(into, at, b"9001=", step_text(*step));
+            let at = number(into, at, b"9002=", *trade);
+            field(into, at, b"9003=", b"0")
+        }
+        Event::Cancelled {
+            head,
+            order,
+            gone,
+            by,
+            cause,
+        } => {
+            let at = order_front(into, at, names, head, order, cancel_ids(order, *by), b"4");
+            let at = state_fields(into, at, head, order);
+            let at = cause_field(into, at, *cause);
+            number(into, at, b"9003=", u64::from(*gone))
+        }
+        Event::Replaced {
+            head,
+            order,
+            old,
+            ..
+        } => {
+            let ids = Ids {
+                id: order.id,
+                old: Some(*old),
+            };
+            let at = order_front(into, at, names, head, order, ids, b"5");
+            let at = state_fields(into, at, head, order);
+            field(into, at, b"9003=", b"0")
+        }
+        Event::RefusedNew { head, order, fault } => {
+            let at = line_head(into, at, names, b"8", head);
+            let at = refused_fields(into, at, head, order, *fault);
+            let at = wanted_fields(into, at, order);
+            let at = nothing_fields(into, at, head);
+            fault_fields(into, at, order, *fault)
+        }
+        Event::RefusedChange {
+            head,
+            id,
+            old,
+            number,
+            filled,
+            replace,
+            fault,
+        } => {
+            let at = line_head(into, at, names, b"9", head);
+            let at = request_fields(into, at, *number, id, old);
+            change_fields(into, at, head, *filled, *replace, *fault)
+        }
+        Event::RefusedSession {
+            head,
+            seq,
+            tag,
+            reason,
+            rule,
+        } => {
+            let at = line_head(into, at, names, b"3", head);
+            session_fields(into, at, *seq, *tag, *reason, *rule)
+        }
     }
 }
 
-/// The name of a report's addressee, `UNKNOWN` where it is not known or not listed.
-fn addressee(names: &Names, firm: Option<u8>) -> ShortId
-    ensures { result ≡ addressee names.now firm }
+/// Message type, line, sender, time and addressee.
+fn line_head(into: &mut [u8], at: usize, names: &Names, message_type: &[u8], head: &Head) -> usize
+    requires room { at + 150 ≤ length into.old }
+    requires short_type { length message_type.now ≤ 24 }
+    ensures fields { take result into.new ≡ take at into.old ++ line_head names.now message_type.now head.now }
+    ensures short { result ≤ at + 150 }
 {
-    match firm {
-        Some(firm) if (firm as usize) < names.firm_count() => names.firm(firm),
-        _ => ShortId::default(),
+    let exchange = names.exchange();
+    let firm = addressee(names, head.firm);
+    let at = field(into, at, b"35=", message_type);
+    let at = number(into, at, b"34=", head.line);
+    let at = field(into, at, b"49=", exchange.bytes());
+    let at = field(into, at, b"52=", head.time.bytes());
+    field(into, at, b"56=", firm.bytes())
+}
+
+/// An execution report of an order up to what was ordered.
+fn order_front(
+    into: &mut [u8],
+    at: usize,
+    names: &Names,
+    head: &Head,
+    order: &Order,
+    ids: Ids,
+    status: &[u8],
+) -> usize
+    requires room { at + 570 ≤ length into.old }
+    requires short_status { length status.now ≤ 24 }
+    ensures fields { take result into.new ≡ take at into.old ++ order_front names.now head.now order.now ids.id ids.old status.now }
+    ensures short { result ≤ at + 570 }
+{
+    let at = line_head(into, at, names, b"8", head);
+    let at = id_fields(into, at, order.number, ids);
+    let at = report_fields(into, at, head, status);
+    order_fields(into, at, names, order)
+}
+
+/// Which order, under which id, and in the place of which id.
+fn id_fields(into: &mut [u8], at: usize, order_number: u64, ids: Ids) -> usize
+    requires { at + 90 ≤ length into.old }
+    ensures fields { take result into.new ≡ take at into.old ++ id_fields order_number ids.id ids.old }
+    ensures short { result ≤ at + 90 }
+{
+    let at = number(into, at, b"37=", order_number);
+    let at = field(into, at, b"11=", ids.id.bytes());
+    old_field(into, at, ids.old)
+}
+
+/// The id in whose place this one stands, if there is one.
+fn old_field(into: &mut [u8], at: usize, old: Option<ShortId>) -> usize
+    requires { at + 30 ≤ length into.old }
+    ensures fields { take result into.new ≡ take at into.old ++ field_if "41" old }
+    ensures short { result ≤ at + 30 }
+{
+    match old {
+        Some(old) => field(into, at, b"41=", old.bytes()),
+        None => at,
     }
 }
 
-/// An instrument. One that is not listed has the name `UNKNOWN` and no decimals.
-fn listed(names: &Names, instrument: u8) -> Listed
-    ensures name { result.name ≡ instrument_name names.now instrument }
-    ensures decimals { result.decimals ≡ decimals_of names.now instrument }
-    ensures few { result.decimals ≤ 8 }
+/// The order's own id alone.
+fn own_id(order: &Order) -> Ids
+    ensures id { result.id ≡ order.now.id }
+    ensures old { result.old ≡ None }
 {
-    if (instrument as usize) < names.instrument_count() {
-        names.listed(instrument)
+    Ids {
+        id: order.id,
+        old: None,
+    }
+}
+
+/// The id of the cancel that asked for it and then the order's own, or the order's own alone.
+fn cancel_ids(order: &Order, by: Option<ShortId>) -> Ids
+    ensures id { result.id ≡ cancel_id order.now by }
+    ensures old { result.old ≡ cancelled_id order.now by }
+{
+    match by {
+        Some(id) => Ids {
+            id,
+            old: Some(order.id),
+        },
+        None => own_id(order),
+    }
+}
+
+/// Which execution report, and what it tells.
+fn report_fields(into: &mut [u8], at: usize, head: &Head, status: &[u8]) -> usize
+    requires room { at + 120 ≤ length into.old }
+    requires short_status { length status.now ≤ 24 }
+    ensures fields { take result into.new ≡ take at into.old ++ report_fields head.now status.now }
+    ensures short { result ≤ at + 120 }
+{
+    let at = number(into, at, b"17=", head.report);
+    let at = field(into, at, b"20=", b"0");
+    let at = field(into, at, b"150=", status);
+    field(into, at, b"39=", status)
+}
+
+/// What was ordered.
+fn order_fields(into: &mut [u8], at: usize, names: &Names, order: &Order) -> usize
+    requires { at + 210 ≤ length into.old }
+    ensures fields { take result into.new ≡ take at into.old ++ order_fields names.now order.now }
+    ensures short { result ≤ at + 210 }
+{
+    let instrument = listed(names, order.instrument);
+    let at = field(into, at, b"55=", instrument.name.bytes());
+    let at = field(into, at, b"54=", side_text(order.side));
+    let at = number(into, at, b"38=", u64::from(order.quantity));
+    let at = field(into, at, b"40=", kind_text(order.kind));
+    let at = price_fields(into, at, order, instrument.decimals);
+    field(into, at, b"59=", life_text(order.life))
+}
+
+/// The price and the stop price, as far as the kind of the order has them.
+fn price_fields(into: &mut [u8], at: usize, order: &Order, decimals: u8) -> usize
+    requires room { at + 60 ≤ length into.old }
+    requires decimals { decimals ≤ 8 }
+    ensures fields { take result into.new ≡ take at into.old ++ price_fields order.now.kind order.now.price order.now.trigger decimals }
+    ensures short { result ≤ at + 60 }
+{
+    match order.kind {
+        Kind::Market => at,
+        Kind::Limit => price(into, at, b"44=", order.price, decimals),
+        Kind::StopLimit => {
+            let at = price(into, at, b"44=", order.price, decimals);
+            price(into, at, b"99=", order.trigger, decimals)
+        }
+    }
+}
+
+/// A trade: how much, and at which price.
+fn trade_fields(into: &mut [u8], at: usize, lots: u32, trade_price: Price, decimals: u8) -> usize
+    requires room { at + 60 ≤ length into.old }
+    requires decimals { decimals ≤ 8 }
+    ensures fields { take result into.new ≡ take at into.old ++ trade_fields lots trade_price decimals }
+    ensures short { result ≤ at + 60 }
+{
+    let at = number(into, at, b"32=", u64::from(lots));
+    price(into, at, b"31=", trade_price, decimals)
+}
+
+/// What is open and filled of an order now.
+fn state_fields(into: &mut [u8], at: usize, head: &Head, order: &Order) -> usize
+    requires { at + 120 ≤ length into.old }
+    ensures fields { take result into.new ≡ take at into.old ++ state_fields head.now order.now }
+    ensures short { result ≤ at + 120 }
+{
+    let at = number(into, at, b"151=", u64::from(order.leaves));
+    let at = number(into, at, b"14=", u64::from(order.filled));
+    let at = field(into, at, b"6=", b"0");
+    field(into, at, b"60=", head.time.bytes())
+}
+
+/// Why an order is cancelled, in our own words, where the client did not ask for it.
+fn cause_field(into: &mut [u8], at: usize, cause: Cause) -> usize
+    requires { at + 30 ≤ length into.old }
+    ensures fields { take result into.new ≡ take at into.old ++ field_if "58" (cause_text cause) }
+    ensures short { result ≤ at + 30 }
+{
+    match cause {
+        Cause::Asked => at,
+        Cause::Fak => field(into, at, b"58=", b"FAK"),
+        Cause::MinQty => field(into, at, b"58=", b"MINQTY NOT MET"),
+    }
+}
+
+/// Which new order is refused, and with which reason.
+fn refused_fields(
+    into: &mut [u8],
+    at: usize,
+    head: &Head,
+    order: &NewRefused,
+    fault: NewFault,
+) -> usize
+    requires { at + 240 ≤ length into.old }
+    ensures fields { take result into.new ≡ take at into.old ++ refused_fields head.now order.now fault }
+    ensures short { result ≤ at + 240 }
+{
+    let ids = Ids {
+        id: order.id,
+        old: None,
+    };
+    let at = id_fields(into, at, 0, ids);
+    let at = report_fields(into, at, head, b"8");
+    field(into, at, b"103=", reject_reason(fault))
+}
+
+/// What a refused new order wanted, without its prices.
+fn wanted_fields(into: &mut [u8], at: usize, order: &NewRefused) -> usize
+    requires { at + 150 ≤ length into.old }
+    ensures fields { take result into.new ≡ take at into.old ++ wanted_fields order.now }
+    ensures short { result ≤ at + 150 }
+{
+    let at = field(into, at, b"55=", order.symbol.bytes());
+    let at = field(into, at, b"54=", side_text(order.side));
+    let at = number(into, at, b"38=", u64::from(order.quantity));
+    let at = field(into, at, b"40=", kind_text(order.kind));
+    field(into, at, b"59=", life_text(order.life))
+}
+
+/// Nothing is open or filled.
+fn nothing_fields(into: &mut [u8], at: usize, head: &Head) -> usize
+    requires { at + 120 ≤ length into.old }
+    ensures fields { take result into.new ≡ take at into.old ++ nothing_fields head.now }
+    ensures short { result ≤ at + 120 }
+{
+    let at = field(into, at, b"151=", b"0");
+    let at = field(into, at, b"14=", b"0");
+    let at = field(into, at, b"6=", b"0");
+    field(into, at, b"60=", head.time.bytes())
+}
+
+/// Why a new order is refused, and how much of it ends with that.
+fn fault_fields(into: &mut [u8], at: usize, order: &NewRefused, fault: NewFault) -> usize
+    requires { at + 60 ≤ length into.old }
+    ensures fields { take result into.new ≡ take at into.old ++ fault_fields order.now fault }
+    ensures short { result ≤ at + 60 }
+{
+    let at = field(into, at, b"58=", fault_text(fault));
+    number(into, at, b"9003=", u64::from(order.quantity))
+}
+
+/// Which order a cancel or a replace was to change.
+fn request_fields(
+    into: &mut [u8],
+    at: usize,
+    order_number: u64,
+    id: &ShortId,
+    old: &ShortId,
+) -> usize
+    requires { at + 90 ≤ length into.old }
+    ensures fields { take result into.new ≡ take at into.old ++ request_fields order_number id.now old.now }
+    ensures short { result ≤ at + 90 }
+{
+    let at = number_field(into, at, order_number);
+    let at = field(into, at, b"11=", id.bytes());
+    field(into, at, b"41=", old.bytes())
+}
+
+/// The number of an order, or `NONE` where there is none.
+fn number_field(into: &mut [u8], at: usize, order_number: u64) -> usize
+    requires { at + 30 ≤ length into.old }
+    ensures field { take result into.new ≡ take at into.old ++ field "37" (number_text order_number) }
+    ensures short { result ≤ at + 30 }
+{
+    if order_number == 0 {
+        field(into, at, b"37=", b"NONE")
     } else {
-        Listed::default()
+        number(into, at, b"37=", order_number)
     }
 }
 
-/// The value of tag 54 in FIX 4.2.
-fn side_text(side: Side) -> &'static [u8]
-    ensures text { result.now ≡ side_text side }
-    ensures short { length result.now ≤ 24 }
+/// Why a cancel or a replace is refused.
+fn change_fields(
+    into: &mut [u8],
+    at: usize,
+    head: &Head,
+    filled: u32,
+    replace: bool,
+    fault: ChangeFault,
+) -> usize
+    requires { at + 150 ≤ length into.old }
+    ensures fields { take result into.new ≡ take at into.old ++ change_fields head.now filled replace fault }
+    ensures short { result ≤ at + 150 }
 {
-    match side {
-        Side::Buy => b"1",
-        Side::Sell => b"2",
-    }
+    let at = field(into, at, b"39=", change_status(fault, filled));
+    let at = field(into, at, b"434=", response_text(replace));
+    let at = field(into, at, b"102=", change_reason(fault));
+    let at = field(into, at, b"58=", change_text(fault));
+    field(into, at, b"60=", head.time.bytes())
 }
 
-/// The value of tag 40 in FIX 4.2.
-fn kind_text(kind: Kind) -> &'static [u8]
-    ensures text { result.now ≡ kind_text kind }
-    ensures short { length result.now ≤ 24 }
+/// Which message is rejected, at which tag where it is one, and why.
+fn session_fields(into: &mut [u8], at: usize, seq: u32, tag: u32, reason: u8, rule: u8) -> usize
+    requires { at + 120 ≤ length into.old }
+    ensures fields { take result into.new ≡ take at into.old ++ session_fields seq tag reason rule }
+    ensures short { result ≤ at + 120 }
 {
-    match kind {
-        Kind::Market => b"1",
-        Kind::Limit => b"2",
-        Kind::StopLimit => b"4",
-    }
+    let at = number(into, at, b"45=", u64::from(seq));
+    let at = tag_field(into, at, tag);
+    let at = number(into, at, b"373=", u64::from(reason));
+    field(into, at, b"58=", rule_text(rule))
 }
 
-/// The value of tag 59 in FIX 4.2.
-fn life_text(life: Life) -> &'static [u8]
-    ensures text { result.now ≡ life_text life }
-    ensures short { length result.now ≤ 24 }
+/// The tag that breaks a session rule, if it is one.
+fn tag_field(into: &mut [u8], at: usize, tag: u32) -> usize
+    requires { at + 30 ≤ length into.old }
+    ensures field { take result into.new ≡ take at into.old ++ field_if "371" (if tag == 0 then None else Some (decimal tag)) }
+    ensures short { result ≤ at + 30 }
 {
-    match life {
-        Life::Day => b"0",
-        Life::Gtc => b"1",
-        Life::Fak => b"3",
-        Life::Fok => b"4",
+    if tag == 0 {
+        at
+    } else {
+        number(into, at, b"371=", u64::from(tag))
     }
-}
-
-/// The value of our tag 9001.
-fn step_text(step: StepName) -> &'static [u8]
-    ensures text { result.now ≡ step_text step }
-    ensures short { length result.now ≤ 24 }
-{
-    match step {
-        StepName::Top => b"TOP",
-        StepName::Lmm => b"LMM",
-        StepName::Split => b"SPLIT",
-        StepName::ProRata => b"PRORATA",
-        StepName::Leveling => b"LEVELING",
-        StepName::Fifo => b"FIFO",
-    }
-}
-
-/// The value of tag 58 for a refused new order, in our own words.
-fn fault_text(fault: NewFault) -> &'static [u8]
-    ensures text { result.now ≡ fault_text fault }
-    ensures short { length result.now ≤ 24 }
-{
-    match fault {
-        NewFault::Symbol => b"SYMBOL",
-        NewFault::Duplicate => b"DUPLICATE",
-        NewFault::Quantity => b"QUANTITY",
-        NewFault::Tick => b"TICK",
-        NewFault::StopLimit => b"STOP LIMIT",
-        NewFault::StopReached => b"STOP REACHED",
-        NewFault::MinQty => b"MINQTY",
-        NewFault::Show => b"SHOW",
-        NewFault::BookFull => b"BOOK FULL",
-        NewFault::NoMarket => b"NO MARKET",
-    }
-}
-
-/// The value of tag 103 in FIX 4.2 for a refused new order. Which fault has which reason is our own rule.
-fn reject_reason(fault: NewFault) -> &'static [u8]
-    ensures text { result.now ≡ reject_reason fault }
-    ensures short { length result.now ≤ 24 }
-{
-    match fault {
-        NewFault::Symbol => b"1",
-        NewFault::Duplicate => b"6",
-        NewFault::Quantity | NewFault::BookFull => b"3",
-        NewFault::Tick
-        | NewFault::StopLimit
-        | NewFault::StopReached
-        | NewFault::MinQty
-        | NewFault::Show
-        | NewFault::NoMarket => b"0",
-    }
-}
-
-/// The value of tags 39 and 150 in FIX 4.2 for a fill: partly filled, or filled where nothing is open.
-fn fill_status(leaves: u32) -> &'static [u8]
-    ensures text { result.now ≡ fill_status leaves }
-    ensures short { length result.now ≤ 24 }
-{
-    if leaves == 0 { b"2" } else { b"1" }
 }

@@ -4,7 +4,7 @@ ghost use Rattle.gx_base.specs.Line.{line_of};
 ghost use Rattle.gx_base.specs.Emits.{EmitMeanings, Puts};
 
 use crate::event::Event;
-use crate::line::LineBuffer;
+use crate::line::write_line;
 use crate::names::Names;
 use std::alloc::{AllocError, Global};
 use std::marker::Model;
@@ -44,7 +44,8 @@ impl Emit for NullEmit {
 #[derive(Drop)]
 pub struct ByteEmit<'a> {
     names: &'a Names,
-    line: LineBuffer,
+    /// Room for the line that is put.
+    line: [u8; 1024],
     lines: Vec<u8>,
     room: usize,
     full: bool,
@@ -70,7 +71,7 @@ impl<'a> ByteEmit<'a> {
         let lines = Vec::with_capacity(alloc, room)?;
         Ok(ByteEmit {
             names,
-            line: LineBuffer::new(),
+            line: [0; 1024],
             lines,
             room,
             full: false,
@@ -101,8 +102,8 @@ impl<'a> Emit for ByteEmit<'a> {
         if self.full {
             return;
         }
-        self.line.write(event, self.names);
-        let line = self.line.bytes();
+        let count = write_line(event, self.names, &mut self.line);
+        let line = &self.line[..count];
         if line.len() > self.room - self.lines.len()
             || self.lines.extend_from_slice(line).is_err()
         {

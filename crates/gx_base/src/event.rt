@@ -73,11 +73,50 @@ pub struct NewRefused {
     pub life: Life,
 }
 
-/// One thing that happened to an order.
+/// Why what was open of an order is cancelled.
+#[derive(Clone, Copy, Debug, PartialEq, Eq)]
+pub enum Cause {
+    /// The client asked for it.
+    Asked,
+    /// It is fill and kill or fill or kill, and this was not filled.
+    Fak,
+    /// The least quantity that had to be filled at once was not there.
+    MinQty,
+}
+
+/// Why a cancel or a replace is refused. A cancel is refused as `Unknown` only.
+#[derive(Clone, Copy, Debug, PartialEq, Eq)]
+pub enum ChangeFault {
+    /// No live order of the firm has the id in tag 41.
+    Unknown,
+    /// Instrument, side or order type is not that of the order.
+    Mismatch,
+    /// A live order of the firm has the new ClOrdID (11).
+    Duplicate,
+    /// The new quantity is 0 or above 999,999.
+    Quantity,
+    /// The new quantity is no more than what is filled already.
+    Filled,
+    /// A price has a non-zero digit below the decimals, or is no multiple of the tick.
+    Tick,
+    /// The price of a stop limit is on the wrong side of its stop price.
+    StopLimit,
+    /// The stop price is reached already.
+    StopReached,
+    /// MaxShow is above the new quantity.
+    Show,
+}
+
+/// One thing that happened to an order or to a message, and is reported.
 #[derive(Clone, Copy, Debug, PartialEq, Eq)]
 pub enum Event {
-    /// A new order is accepted. It is not matched yet.
+    /// A new order is accepted. It is not matched yet, and does not wait yet.
     Accepted {
+        head: Head,
+        order: Order,
+    },
+    /// A stop became a limit order.
+    Triggered {
         head: Head,
         order: Order,
     },
@@ -93,10 +132,60 @@ pub enum Event {
         /// The number of the trade, which its two reports share (9002).
         trade: u64,
     },
+    /// What was open of an order is cancelled.
+    Cancelled {
+        head: Head,
+        /// The order after it: nothing is open or shown.
+        order: Order,
+        /// What was open, in lots (9003).
+        gone: u32,
+        /// The id of the cancel that asked for it (11), or `None` where none did.
+        by: Option<ShortId>,
+        cause: Cause,
+    },
+    /// A replace is accepted. What it changed is not matched again yet.
+    Replaced {
+        head: Head,
+        /// The order with its new id, quantity and prices.
+        order: Order,
+        /// The id before (41).
+        old: ShortId,
+        /// The quantity before, in lots. No report writes it.
+        old_quantity: u32,
+    },
     /// A new order is refused. It gets no number, and nothing of it is open.
     RefusedNew {
         head: Head,
         order: NewRefused,
         fault: NewFault,
+    },
+    /// A cancel or a replace is refused, which changes no order. This is no execution report.
+    RefusedChange {
+        head: Head,
+        /// The id of the cancel or the replace (11).
+        id: ShortId,
+        /// The id of the order that it was to change (41).
+        old: ShortId,
+        /// The number of that order (37), or 0 where it is unknown.
+        number: u64,
+        /// What is filled of that order, in lots, or 0 where it is unknown.
+        filled: u32,
+        /// Whether it is a replace.
+        replace: bool,
+        fault: ChangeFault,
+    },
+    /// A message breaks a session rule, which changes no order. This is no execution report.
+    RefusedSession {
+        head: Head,
+        /// The sequence number of the message (45), or 0 where it has none that can be read.
+        seq: u32,
+        /// The tag that breaks the rule (371), or 0 where it is none.
+        tag: u32,
+        /// The reason in FIX 4.2 (373).
+        reason: u8,
+        /// The number of the rule, from 1 to 10 in the order in which they are tried: 1 the first tag, 2 a bad tag,
+        /// 3 no value, 4 the sender, 5 the target, 6 sequence number and time, 7 the type, 8 a missing tag, 9 the form
+        /// of a value, 10 a value. A report has words for it (58).
+        rule: u8,
     },
 }

@@ -1,135 +1,85 @@
-//! Fields in a row, and the frame round them.
-ghost use Rattle.std.specs.Prelude.{◌≡◌, ◌+◌, ◌-◌, ◌%◌, ◌≤◌, [], ◌∷◌, ◌++◌, length, drop, sum, decimal};
+//! Fields in a row, and the frame round them. Each call writes behind the first `at` bytes of the room that it is lent,
+//! and answers where what it wrote ends.
+ghost use Rattle.std.specs.Prelude.{◌≡◌, ◌+◌, ◌-◌, ◌%◌, ◌≤◌, ◌∷◌, ◌++◌, length, take, drop, sum, decimal};
 ghost use Rattle.gx_base.specs.Frames.{soh, head_of, trailer_of};
 ghost use Rattle.gx_base.specs.Numbers.{price_text};
 
 use crate::price::{Price, write_price};
-use std::marker::Model;
+
+/// The byte that ends a field.
+const SOH: u8 = 1;
 
 /// Room before a body for its head, whose length has at most three digits.
-const GAP: usize = 16;
+pub(crate) const GAP: usize = 16;
 
-/// Fields, one after the other, of at most 1,024 bytes in all. A field takes at most 30 of them: its tag 4, its value
-/// 24, and one each for `=` and SOH. Contracts see it as the bytes.
-#[derive(Drop)]
-pub(crate) struct Fields {
-    bytes: [u8; 1024],
-    len: usize,
+/// Writes a field: its tag and `=`, its value, and SOH. Answers where it ends, at most 30 bytes further.
+pub(crate) fn field(into: &mut [u8], at: usize, tag: &[u8], value: &[u8]) -> usize
+    requires room { at + 30 ≤ length into.old }
+    requires tag { length tag.now ≤ 5 }
+    requires value { length value.now ≤ 24 }
+    ensures field { take result into.new ≡ take at into.old ++ (tag.now ++ value.now ++ soh ∷ []) }
+    ensures behind { drop result into.new ≡ drop result into.old }
+    ensures end { result ≡ at + length tag.now + length value.now + 1 }
+    ensures short { result ≤ at + 30 }
+{
+    let end = append(into, at, tag);
+    let end = append(into, end, value);
+    append(into, end, &[SOH])
 }
 
-impl Model for Fields {
-    ghost use Rattle.std.specs.Prelude.{List, ℕ, ◌≤◌, take};
-
-    ghost Value = { List ℕ };
-
-    ghost view = { λ fields. take fields.len fields.bytes };
-
-    ghost invariant = { λ fields. fields.len ≤ 1024 };
+/// Writes a field whose value is a number.
+pub(crate) fn number(into: &mut [u8], at: usize, tag: &[u8], n: u64) -> usize
+    requires room { at + 30 ≤ length into.old }
+    requires tag { length tag.now ≤ 5 }
+    ensures field { take result into.new ≡ take at into.old ++ (tag.now ++ decimal n ++ soh ∷ []) }
+    ensures behind { drop result into.new ≡ drop result into.old }
+    ensures end { result ≡ at + length tag.now + length (decimal n) + 1 }
+    ensures short { result ≤ at + 30 }
+{
+    let mut digits = itoa::Buffer::new();
+    field(into, at, tag, digits.format(n).as_bytes())
 }
 
-impl Fields {
-    /// No fields.
-    pub(crate) fn new() -> Fields
-        ensures { result ≡ [] }
-    {
-        Fields {
-            bytes: [0; 1024],
-            len: 0,
-        }
-    }
+/// Writes a field whose value is a price.
+pub(crate) fn price(into: &mut [u8], at: usize, tag: &[u8], price: Price, decimals: u8) -> usize
+    requires room { at + 30 ≤ length into.old }
+    requires tag { length tag.now ≤ 5 }
+    requires decimals { decimals ≤ 8 }
+    ensures field { take result into.new ≡ take at into.old ++ (tag.now ++ price_text price decimals ++ soh ∷ []) }
+    ensures short { result ≤ at + 30 }
+{
+    let mut text = [0; 24];
+    let count = write_price(price, decimals, &mut text);
+    field(into, at, tag, &text[..count])
+}
 
-    /// Lends the bytes.
-    pub(crate) fn bytes(&self) -> &[u8]
-        ensures { result.now ≡ self.now }
-    {
-        &self.bytes[..self.len]
+/// Puts the head of a body, which stands behind the gap and ends at `end`, right before it at the front, and answers
+/// where the two end. The body is moved where its length has less than three digits.
+pub(crate) fn put_head(into: &mut [u8], end: usize) -> usize
+    requires gap { GAP ≤ end }
+    requires short { end ≤ 1000 }
+    requires room { 1024 ≤ length into.old }
+    ensures head { take result into.new ≡ head_of (decimal (end - GAP)) ++ drop GAP (take end into.old) }
+    ensures end { result ≤ end }
+{
+    let count = end - GAP;
+    let at = field(into, 0, b"8=", b"FIX.4.2");
+    let at = number(into, at, b"9=", count as u64);
+    if at < GAP {
+        into.copy_within(GAP..end, at);
     }
+    at + count
+}
 
-    /// Starts anew, with room for the head of a body.
-    pub(crate) fn leave_gap(&mut self)
-        ensures { length self.new ≡ GAP }
-    {
-        self.len = GAP;
-    }
-
-    /// Puts the head of the body that stands behind the gap right before it, and answers where the head begins, since
-    /// it is shorter than the gap where the length of the body has less than three digits.
-    pub(crate) fn put_head(&mut self) -> usize
-        requires gap { GAP ≤ length self.old }
-        requires short { length self.old ≤ 1000 }
-        ensures head { drop result self.new ≡ head_of (decimal (length self.old - GAP)) ++ drop GAP self.old }
-        ensures start { result ≤ GAP }
-        ensures same_length { length self.new ≡ length self.old }
-    {
-        const BEGIN: &[u8; 12] = b"8=FIX.4.2\x019=";
-        // SOH, which ends the length of the body.
-        self.bytes[GAP - 1] = 1;
-        let count = (self.len - GAP) as u64;
-        let digits = itoa::write_digits(count, &mut self.bytes, GAP - 1);
-        let start = digits - BEGIN.len();
-        self.bytes[start..digits].copy_from_slice(BEGIN);
-        start
-    }
-
-    /// Appends the trailer of the bytes from `start` on.
-    pub(crate) fn put_trailer(&mut self, start: usize)
-        requires room { length self.old + 30 ≤ 1024 }
-        requires start { start ≤ length self.old }
-        ensures trailer { self.new ≡ self.old ++ trailer_of (drop start self.old) }
-        ensures short { length self.new ≤ length self.old + 30 }
-    {
-        let sum = checksum(&self.bytes()[start..]);
-        let digits = [b'0' + sum / 100, b'0' + sum / 10 % 10, b'0' + sum % 10];
-        self.field(b"10", &digits);
-    }
-
-    /// Appends a field: its tag, `=`, its value, and SOH.
-    pub(crate) fn field(&mut self, tag: &[u8], value: &[u8])
-        requires room { length self.old + 30 ≤ 1024 }
-        requires tag { length tag.now ≤ 4 }
-        requires value { length value.now ≤ 24 }
-        ensures field { self.new ≡ self.old ++ (tag.now ++ 61 ∷ value.now ++ soh ∷ []) }
-        ensures short { length self.new ≤ length self.old + 30 }
-    {
-        self.append(tag);
-        self.append(b"=");
-        self.append(value);
-        self.append(b"\x01");
-    }
-
-    /// Appends a field whose value is a number.
-    pub(crate) fn number(&mut self, tag: &[u8], n: u64)
-        requires room { length self.old + 30 ≤ 1024 }
-        requires tag { length tag.now ≤ 4 }
-        ensures field { self.new ≡ self.old ++ (tag.now ++ 61 ∷ decimal n ++ soh ∷ []) }
-        ensures short { length self.new ≤ length self.old + 30 }
-    {
-        let mut digits = itoa::Buffer::new();
-        self.field(tag, digits.format(n).as_bytes());
-    }
-
-    /// Appends a field whose value is a price.
-    pub(crate) fn price(&mut self, tag: &[u8], price: Price, decimals: u8)
-        requires room { length self.old + 30 ≤ 1024 }
-        requires tag { length tag.now ≤ 4 }
-        requires decimals { decimals ≤ 8 }
-        ensures field { self.new ≡ self.old ++ (tag.now ++ 61 ∷ price_text price decimals ++ soh ∷ []) }
-        ensures short { length self.new ≤ length self.old + 30 }
-    {
-        let mut text = [0; 24];
-        let count = write_price(price, decimals, &mut text);
-        self.field(tag, &text[..count]);
-    }
-
-    /// Appends these bytes, for which there is room.
-    fn append(&mut self, bytes: &[u8])
-        requires { length self.old + length bytes.now ≤ 1024 }
-        ensures { self.new ≡ self.old ++ bytes.now }
-    {
-        let end = self.len + bytes.len();
-        self.bytes[self.len..end].copy_from_slice(bytes);
-        self.len = end;
-    }
+/// Writes the trailer of the first `end` bytes behind them.
+pub(crate) fn put_trailer(into: &mut [u8], end: usize) -> usize
+    requires { end + 30 ≤ length into.old }
+    ensures trailer { take result into.new ≡ take end into.old ++ trailer_of (take end into.old) }
+    ensures short { result ≤ end + 30 }
+{
+    let sum = checksum(&into[..end]);
+    let digits = [b'0' + sum / 100, b'0' + sum / 10 % 10, b'0' + sum % 10];
+    field(into, end, b"10=", &digits)
 }
 
 /// The sum of the bytes modulo 256.
@@ -141,4 +91,16 @@ fn checksum(bytes: &[u8]) -> u8
         sum = sum.wrapping_add(*byte);
     }
     sum
+}
+
+/// Writes these bytes.
+fn append(into: &mut [u8], at: usize, bytes: &[u8]) -> usize
+    requires { at + length bytes.now ≤ length into.old }
+    ensures bytes { take result into.new ≡ take at into.old ++ bytes.now }
+    ensures behind { drop result into.new ≡ drop result into.old }
+    ensures end { result ≡ at + length bytes.now }
+{
+    let end = at + bytes.len();
+    into[at..end].copy_from_slice(bytes);
+    end
 }

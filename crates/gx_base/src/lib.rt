@@ -18,11 +18,12 @@ mod stamp;
 #[cfg(test)]
 mod tests;
 mod text;
+mod values;
 
 pub use emit::{ByteEmit, Emit, NullEmit};
-pub use event::{Event, Head, NewFault, NewRefused, StepName};
+pub use event::{Cause, ChangeFault, Event, Head, NewFault, NewRefused, StepName};
 pub use id::ShortId;
-pub use line::LineBuffer;
+pub use line::{write_line, write_line_into};
 pub use names::{Listed, Names};
 pub use order::{Desk, Kind, Life, LmmShare, Order, Side, Slot, Taker, TopRule};
 pub use price::{Price, PriceFault, read_price, write_price};
