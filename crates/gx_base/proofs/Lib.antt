@@ -5,3 +5,4 @@ pub mod Times
 pub mod Putting
 pub mod Lines
 mod Framing
+mod Rows

@@ -1,6 +1,6 @@
 //! Fields in a row, and the frame round them. Each call writes behind the first `at` bytes of the room that it is lent,
 //! and answers where what it wrote ends.
-ghost use Rattle.std.specs.Prelude.{◌≡◌, ◌+◌, ◌-◌, ◌%◌, ◌≤◌, ◌∷◌, ◌++◌, length, take, drop, sum, decimal};
+ghost use Rattle.std.specs.Prelude.{◌≡◌, ◌+◌, ◌-◌, ◌%◌, ◌≤◌, [], ◌∷◌, ◌++◌, length, take, drop, sum, decimal};
 ghost use Rattle.gx_base.specs.Frames.{soh, head_of, trailer_of};
 ghost use Rattle.gx_base.specs.Numbers.{price_text};
 

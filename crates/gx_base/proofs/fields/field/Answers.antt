@@ -1,0 +1,9 @@
+use Rattle.std.proofs.Common.{◌≡◌, drop, ◌∙◌, arith}
+use Rattle.gx_base.proofs.Framing.{same_further}
+use Rattle.gx_base.proofs.fields.field.Goals as goal
+
+pub returns-clause-behind : goal.returns-clause-behind
+returns-clause-behind c =
+    c.append.ensures.behind
+    ∙ same_further _ _ c.append-end-2.new.into c.append-end.new.into (omega arith) c.append-end-2.ensures.behind
+    ∙ same_further _ _ c.append-end.new.into c.args.into.now (omega arith) c.append-end.ensures.behind
