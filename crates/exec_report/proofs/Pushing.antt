@@ -1,0 +1,28 @@
+-- Bytes added to what waits.
+use Rattle.std.proofs.Common.{◌≡◌, ◌++◌, List, ℕ, [], Result, Ok, Err, IsErr, true, false, refl, ap, subst, ◌∙◌}
+use Rattle.gx_base.specs.Told.{TellsPrefix, tells_then}
+use Rattle.gx_station.specs.Stations.{StationMeanings, quiet_itself, sent_and}
+use Rattle.exec_report.specs.Pushes.{Pushes}
+use Rattle.exec_report.proofs.Sent.{sent_and-append, tells_front}
+
+module _ {S : Type 0} (m : StationMeanings S) where
+  -- there was room for them
+  pub pushed_at_once : {T F : Type 0} (s : S) (waits waits_new bytes : List ℕ) (x : T) → waits_new ≡ waits ++ bytes → Pushes m {T = T} {F = F} s s waits waits_new bytes (Ok x)
+  pushed_at_once s waits waits_new bytes x e = record {
+    quiet = quiet_itself m s;
+    all = ap (sent_and (m.sent s)) e ∙ sent_and-append (m.sent s) waits bytes;
+    steady = refl;
+    part = tt;
+    rose = tt;
+  }
+
+  -- what waited could not be sent
+  pub pushed_none : {T F : Type 0} (old new : S) (waits waiting waits_new bytes : List ℕ) (e : F) (r : Result T F) → IsErr r → waiting ≡ waits → Pushes m {T = T} {F = F} old new waiting waits_new [] (Err e) → Pushes m {T = T} {F = F} old new waits waits_new bytes r
+  pushed_none old new waits waiting waits_new bytes e (Ok x) err same p = absurd (let f : false ≡ true = err in cc)
+  pushed_none old new waits waiting waits_new bytes e (Err e') err same p = record {
+    quiet = p.quiet;
+    all = tt;
+    steady = tt;
+    part = tells_then (m.sent new) (sent_and (sent_and (m.sent old) waits) []) (sent_and (sent_and (m.sent old) waits) bytes) (subst (λ (w : List ℕ). TellsPrefix (m.sent new) (sent_and (sent_and (m.sent old) w) [])) same p.part) (tells_front (sent_and (m.sent old) waits) [] bytes);
+    rose = p.rose;
+  }

@@ -1,0 +1,1 @@
+//! Lines through a buffer to a station in memory.
