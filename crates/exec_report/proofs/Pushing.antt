@@ -1,9 +1,10 @@
 -- Bytes added to what waits.
 use Rattle.std.proofs.Common.{◌≡◌, ◌++◌, List, ℕ, [], Result, Ok, Err, IsErr, true, false, refl, ap, subst, ◌∙◌}
 use Rattle.gx_base.specs.Told.{TellsPrefix, tells_then}
-use Rattle.gx_station.specs.Stations.{StationMeanings, quiet_itself, sent_and}
+use Rattle.gx_station.specs.Counts.{Rose}
+use Rattle.gx_station.specs.Stations.{StationMeanings, quiet_itself, quiet_then, sent_and}
 use Rattle.exec_report.specs.Pushes.{Pushes}
-use Rattle.exec_report.proofs.Sent.{sent_and-append, tells_front}
+use Rattle.exec_report.proofs.Sent.{sent_and-append, sent_and_none, tells_front}
 
 module _ {S : Type 0} (m : StationMeanings S) where
   -- there was room for them
@@ -25,4 +26,21 @@ module _ {S : Type 0} (m : StationMeanings S) where
     steady = tt;
     part = tells_then (m.sent new) (sent_and (sent_and (m.sent old) waits) []) (sent_and (sent_and (m.sent old) waits) bytes) (subst (λ (w : List ℕ). TellsPrefix (m.sent new) (sent_and (sent_and (m.sent old) w) [])) same p.part) (tells_front (sent_and (m.sent old) waits) [] bytes);
     rose = p.rose;
+  }
+
+  -- what waits after bytes were added is sent
+  pub pushed_then : {T U F : Type 0} (old mid new : S) (waits waits_mid waits_new bytes : List ℕ) (x : U) (r : Result T F) → Pushes m {T = U} {F = F} old mid waits waits_mid bytes (Ok x) → Pushes m {T = T} {F = F} mid new waits_mid waits_new [] r → Pushes m {T = T} {F = F} old new waits waits_new bytes r
+  pushed_then old mid new waits waits_mid waits_new bytes x (Ok y) first second = record {
+    quiet = quiet_then m old mid new first.quiet second.quiet;
+    all = second.all ∙ sent_and_none (sent_and (m.sent mid) waits_mid) ∙ first.all;
+    steady = second.steady ∙ first.steady;
+    part = tt;
+    rose = tt;
+  }
+  pushed_then old mid new waits waits_mid waits_new bytes x (Err e) first second = record {
+    quiet = quiet_then m old mid new first.quiet second.quiet;
+    all = tt;
+    steady = tt;
+    part = subst (λ s. TellsPrefix (m.sent new) s) (sent_and_none (sent_and (m.sent mid) waits_mid) ∙ first.all) second.part;
+    rose = subst (λ k. Rose k (m.send_faults new)) first.steady second.rose;
   }
