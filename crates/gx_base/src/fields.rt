@@ -1,6 +1,6 @@
 //! Fields in a row, and the frame round them. Each call writes behind the first `at` bytes of the room that it is lent,
 //! and answers where what it wrote ends.
-ghost use Rattle.std.specs.Prelude.{◌≡◌, ◌+◌, ◌-◌, ◌%◌, ◌≤◌, [], ◌∷◌, ◌++◌, length, take, drop, sum, decimal};
+ghost use Rattle.std.specs.Prelude.{◌≡◌, ◌+◌, ◌-◌, ◌%◌, ◌<◌, ◌≤◌, [], ◌∷◌, ◌++◌, length, take, drop, sum, decimal};
 ghost use Rattle.gx_base.specs.Frames.{soh, head_of, trailer_of};
 ghost use Rattle.gx_base.specs.Numbers.{price_text};
 
@@ -63,12 +63,23 @@ pub(crate) fn put_head(into: &mut [u8], end: usize) -> usize
     ensures end { result ≤ end }
 {
     let count = end - GAP;
-    let at = field(into, 0, b"8=", b"FIX.4.2");
-    let at = number(into, at, b"9=", count as u64);
+    let at = head_fields(into, count);
     if at < GAP {
         into.copy_within(GAP..end, at);
     }
     at + count
+}
+
+/// Writes the head of a body of so many bytes into the gap.
+fn head_fields(into: &mut [u8], count: usize) -> usize
+    requires few { count < 1000 }
+    requires room { 1024 ≤ length into.old }
+    ensures fields { take result into.new ≡ head_of (decimal count) }
+    ensures behind { drop result into.new ≡ drop result into.old }
+    ensures short { result ≤ GAP }
+{
+    let at = field(into, 0, b"8=", b"FIX.4.2");
+    number(into, at, b"9=", count as u64)
 }
 
 /// Writes the trailer of the first `end` bytes behind them.
