@@ -71,6 +71,7 @@ pub(crate) fn put_head(into: &mut [u8], end: usize) -> usize
 }
 
 /// Writes the head of a body of so many bytes into the gap.
+#[tactic(auto, using(crate::proofs::Framing::few_digits, crate::proofs::Framing::same_further))]
 fn head_fields(into: &mut [u8], count: usize) -> usize
     requires few { count < 1000 }
     requires room { 1024 ≤ length into.old }
