@@ -83,8 +83,9 @@ module _ {S : Type 0} (m : StationMeanings S) where
     pub names : o.names.now ≡ its_names
     pub works : o.stopped ≡ false
 
-  -- what was put is sent, or a part of it
+  -- what was put is sent, or a part of it; from a failure on nothing changes
   pub record Flushes {T F : Type 0} (old new : Outgoing S) (result : Result T F) : Type 0 where
     pub later : IsLaterOutgoing old new
     pub ok : OnOk result ((outgoing_seen new ≡ outgoing_seen old) × (new.buffer.now ≡ []) × (new.stopped ≡ false))
     pub failed : OnErr result (TellsPrefix (outgoing_seen new) (outgoing_seen old) × (new.stopped ≡ true))
+    pub stays : old.stopped ≡ true → new ≡ old

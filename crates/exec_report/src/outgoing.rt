@@ -1,5 +1,5 @@
 //! Events to a station: their lines are put into a buffer, and sent when it is full or flushed.
-ghost use Rattle.std.specs.Prelude.{◌≡◌, [], false, OnOk};
+ghost use Rattle.std.specs.Prelude.{◌≡◌, ◌+◌, ◌<◌, [], false, OnOk, length};
 ghost use Rattle.gx_base.specs.Emits.{Puts};
 ghost use Rattle.gx_base.specs.Line.{line_of};
 ghost use Rattle.exec_report.specs.Pushes.{Pushes, added_to, waiting_with};
@@ -35,6 +35,7 @@ fn add_or_send<S: Station>(
 ) -> Result<(), SendFault>
     ensures pushes { Pushes S.meanings station.old station.new buffer.old buffer.new (line_of names.now event.now) result }
     ensures added { OnOk result (buffer.new ≡ added_to buffer.old (line_of names.now event.now)) }
+    ensures unsent { length buffer.old + length (line_of names.now event.now) < 65536 → station.new ≡ station.old }
 {
     if buffer.add_line(event, names) {
         return Ok(());
@@ -55,6 +56,7 @@ fn push_line<S: Station>(
 ) -> Result<(), SendFault>
     ensures pushes { Pushes S.meanings station.old station.new buffer.old buffer.new (line_of names.now event.now) result }
     ensures waits { OnOk result (buffer.new ≡ waiting_with buffer.old (line_of names.now event.now)) }
+    ensures unsent { length buffer.old + length (line_of names.now event.now) < 65536 → station.new ≡ station.old }
 {
     add_or_send(buffer, station, event, names)?;
     if !buffer.is_full() {
@@ -113,11 +115,14 @@ impl<'b, 's, 'n, S: Station> Emit for Outgoing<'b, 's, 'n, S> {
 
     ghost meanings = { outgoing_meanings S.meanings };
 
-    /// As the trait says, and exactly as the buffer's room asks for sends.
+    /// As the trait says. What waits is sent exactly where the line does not fit behind it, and where the buffer is full
+    /// with it; else the station stays as it is.
     fn put(&mut self, event: &Event)
         ensures puts { Puts (outgoing_meanings S.meanings) self.old self.new event.now }
         ensures waits { self.old.stopped ≡ false → self.new.stopped ≡ false
             → self.new.buffer.now ≡ waiting_with self.old.buffer.now (line_of self.old.names.now event.now) }
+        ensures unsent { length self.old.buffer.now + length (line_of self.old.names.now event.now) < 65536
+            → self.new.station.now ≡ self.old.station.now }
     {
         if self.stopped {
             return;

@@ -1,6 +1,6 @@
 -- The head of a frame, written into the gap before the body, and the frame that this makes.
-use Rattle.std.proofs.Common.{◌≡◌, ℕ, ◌+◌, ◌-◌, ◌^◌, ◌<◌, ◌≤◌, List, [], ◌∷◌, ◌++◌, length, take, drop, decimal, refl, sym, ◌∙◌, ap, append_assoc, length-append, length-drop, arith}
-use Rattle.std.proofs.lemmas.List.{drop_at, drop-drop, drop-take, length-take-le}
+use Rattle.std.proofs.Common.{◌≡◌, ℕ, ◌+◌, ◌-◌, ◌^◌, ◌<◌, ◌≤◌, List, ◌++◌, length, take, drop, decimal, sym, ◌∙◌, ap, length-append, length-drop, arith}
+use Rattle.std.proofs.lemmas.List.{drop_at, drop-drop, drop-take}
 use Rattle.std.proofs.lemmas.List.Edits.{take-paste}
 use Rattle.std.proofs.lemmas.Fmt.{length-decimal-le}
 use Rattle.std.proofs.Math.Seq.{take-add, paste}

@@ -117,8 +117,8 @@ change_text changes.StopLimit = codes "STOP LIMIT"
 change_text changes.StopReached = codes "STOP REACHED"
 change_text changes.Show = codes "SHOW"
 
--- the reason of such a refusal (102) in FIX 4.2: 0 too late, 1 unknown order, 2 broker or exchange option. Which fault
--- has which of them is our own rule
+-- the reason of such a refusal (102) in FIX 4.2: 0 too late, 1 unknown order, 2 broker option. Which fault has which of
+-- them is our own rule
 abbrev pub change_reason : ChangeFault → List ℕ
 change_reason changes.Unknown = codes "1"
 change_reason changes.Mismatch = codes "2"
@@ -218,7 +218,7 @@ state_fields head order =
     ++ field "6" (codes "0")
     ++ field "60" head.time
 
--- a trade, and the price of one unit of its instrument
+-- a trade: how much, and at which price
 abbrev pub trade_fields : ℕ → Price → ℕ → List ℕ
 trade_fields lots price decimals = field "32" (decimal lots) ++ field "31" (price_text price decimals)
 
@@ -279,6 +279,7 @@ session_fields seq tag reason rule =
     ++ field "373" (decimal reason)
     ++ field "58" (rule_text rule)
 
+-- the body of each event's line
 abbrev pub body_of : NameLists → Event → List ℕ
 body_of names (Accepted head order) =
     order_front names head order order.id None (codes "0")

@@ -1,4 +1,4 @@
-use Rattle.std.proofs.Common.{◌≡◌, drop, ◌∙◌, arith}
+use Rattle.std.proofs.Common.{◌∙◌, arith}
 use Rattle.gx_base.proofs.Framing.{same_further}
 use Rattle.gx_base.proofs.fields.field.Goals as goal
 

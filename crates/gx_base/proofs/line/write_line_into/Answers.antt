@@ -1,4 +1,4 @@
-use Rattle.std.proofs.Common.{◌≡◌, ℕ, ◌+◌, ◌≤◌, ◌∙◌, ap, length, take, sym, arith, length-append}
+use Rattle.std.proofs.Common.{◌∙◌, ap, length, take, sym, arith, length-append}
 use Rattle.std.proofs.lemmas.List.{length-take-le}
 use Rattle.gx_base.specs.Line.{body_of}
 use Rattle.gx_base.proofs.Framing.{framed}
