@@ -1,0 +1,5 @@
+pub mod Fields
+pub mod Rules
+pub mod Orders
+pub mod Requests
+pub mod Given

@@ -1,0 +1,130 @@
+-- The request of a message: the first session rule that holds refuses it, else the table of message types says what it
+-- asks for (our own rules over FIX 4.2).
+use Rattle.std.specs.Prelude.{ℕ, Bool, not, ◌&&◌, ◌||◌, ◌==◌, nat_eq, nat_le, if◌then◌else◌, List, length, find, bytes_eq, codes, position, Option, Some, None, option_and_then, Result, Ok, Err}
+use Rattle.std.specs.List.{list_all, starts_with}
+use Rattle.std.specs.Option.{ok_or}
+use Rattle.std.specs.Str.Parse.{digits_value}
+use Rattle.gx_base.specs.Numbers.{are_digits}
+use Rattle.gx_base.specs.Texts.{is_time_text}
+use Rattle.gx_base.specs.NameLists.{NameLists}
+use Rattle.fix_frame.specs.Grammar.{body_in}
+use Rattle.product_file.specs.Products.{ProductLists}
+use Rattle.fix_request.specs.Fields.{texts_of, has_tag, Field, fields_of, Values, values_of}
+use Rattle.fix_request.specs.Rules.{◌>>=◌, where_passes, fault}
+use Rattle.fix_request.specs.Orders.{new_of, cancel_of, replace_of}
+use Rattle.fix_request.specs.declared.fault.Fault.{Fault}
+use Rattle.fix_request.specs.declared.message_type.MessageType.{MessageType}
+use Rattle.fix_request.specs.declared.message_type.MessageType.TheVariants.{Session, New, Cancel, Replace}
+use Rattle.fix_request.specs.declared.request.Sender.{Sender}
+use Rattle.fix_request.specs.declared.request.Refusal.{Refusal}
+use Rattle.fix_request.specs.declared.request.Request.{Request}
+use Rattle.fix_request.specs.declared.request.Request.TheVariants as request
+
+-- ---- rules 1 to 3: the form of the fields
+
+-- the first field with an empty value
+abbrev pub first_empty : List Field → Option Field
+first_empty fields = find (λ (f : Field). length f.value == 0) fields
+
+-- rule 3: NO VALUE
+abbrev pub no_value_in : Option Field → List Field → Result (List Field) Fault
+no_value_in None fields = Ok fields
+no_value_in (Some field) fields = Err (fault 3 4 field.tag)
+
+-- rule 1: FIRST TAG; rule 2: BAD TAG; rule 3
+abbrev pub checked_fields : List ℕ → Result (List Field) Fault
+checked_fields body =
+    if not (starts_with nat_eq body (codes "35=")) then Err (fault 1 11 35)
+    else (if not (list_all has_tag (texts_of body)) then Err (fault 2 0 0)
+    else no_value_in (first_empty (fields_of body)) (fields_of body))
+
+-- ---- rules 4 to 6: the header
+
+-- rule 4: SENDER: 49 is missing, or is no listed firm
+unfoldable pub firm_of : NameLists → Values → Result ℕ Fault
+firm_of names values = do
+  text ← ok_or values.sender (fault 4 1 49)
+  ok_or (position (λ firm. bytes_eq firm text) names.firms) (fault 4 9 49)
+
+-- rule 5: TARGET: 56 is missing, or is not the exchange
+unfoldable pub target_of : NameLists → Values → Result (List ℕ) Fault
+target_of names values = do
+  text ← ok_or values.target (fault 5 1 56)
+  ok_or (where_passes (bytes_eq names.exchange) text) (fault 5 9 56)
+
+-- a sequence number: one to nine digits with a value of at least 1
+abbrev pub is_sequence_number : List ℕ → Bool
+is_sequence_number text =
+    nat_le 1 (length text) && nat_le (length text) 9 && are_digits text && nat_le 1 (digits_value 10 text)
+
+-- rule 6: HEADER: 34 is missing, or ill-formed
+unfoldable pub sequence_of : Values → Result ℕ Fault
+sequence_of values = do
+  text ← ok_or values.sequence (fault 6 1 34)
+  ok_or (if is_sequence_number text then Some (digits_value 10 text) else None) (fault 6 6 34)
+
+-- rule 6: HEADER: then 52 is missing, or ill-formed
+unfoldable pub time_of : Values → Result (List ℕ) Fault
+time_of values = do
+  text ← ok_or values.time (fault 6 1 52)
+  ok_or (where_passes is_time_text text) (fault 6 6 52)
+
+-- ---- rule 7, and rules 8 to 10 by the table of types
+
+abbrev pub is_session_type : List ℕ → Bool
+is_session_type text =
+    bytes_eq text (codes "0") || bytes_eq text (codes "1") || bytes_eq text (codes "2") || bytes_eq text (codes "3")
+    || bytes_eq text (codes "4") || bytes_eq text (codes "5") || bytes_eq text (codes "A")
+
+-- MsgType (35)
+abbrev pub message_type_of : List ℕ → Option MessageType
+message_type_of text =
+    if is_session_type text then Some Session
+    else (if bytes_eq text (codes "D") then Some New
+    else (if bytes_eq text (codes "F") then Some Cancel
+    else (if bytes_eq text (codes "G") then Some Replace else None)))
+
+-- rule 7: MSGTYPE
+abbrev pub type_of : Values → Result MessageType Fault
+type_of values = ok_or (option_and_then message_type_of values.type) (fault 7 11 35)
+
+-- what a message of this type asks for; a session message is passed
+unfoldable pub content_of : NameLists → Sender → Values → MessageType → Result Request Fault
+content_of names sender values Session = Ok (request.Passed sender)
+content_of names sender values New = new_of names sender values >>= (λ order. Ok (request.New order))
+content_of names sender values Cancel = cancel_of sender values >>= (λ order. Ok (request.Cancel order))
+content_of names sender values Replace = replace_of names sender values >>= (λ order. Ok (request.Replace order))
+
+-- ---- the request
+
+-- the time where none is known yet
+abbrev pub no_time : List ℕ
+no_time = codes "00000000-00:00:00"
+
+-- a refusal, with what is known of the sender by then
+abbrev pub refused : Option ℕ → ℕ → List ℕ → Fault → Refusal
+refused firm seq time fault = record { firm = firm; seq = seq; time = time; tag = fault.tag; reason = fault.reason; rule = fault.rule }
+
+-- a rule, refused with what is known of the sender by then
+abbrev pub known : {A : Type 0} → Option ℕ → ℕ → List ℕ → Result A Fault → Result A Refusal
+known firm seq time (Ok a) = Ok a
+known firm seq time (Err fault) = Err (refused firm seq time fault)
+
+-- Rules 1 to 4 have no firm. Rules 1 to 5 have no sequence number, nor has rule 6 at tag 34. Rules 1 to 6 have no time.
+unfoldable pub request_of_body : NameLists → List ℕ → Result Request Refusal
+request_of_body names body = do
+  fields ← known None 0 no_time (checked_fields body)
+  firm ← known None 0 no_time (firm_of names (values_of fields))
+  target ← known (Some firm) 0 no_time (target_of names (values_of fields))
+  seq ← known (Some firm) 0 no_time (sequence_of (values_of fields))
+  time ← known (Some firm) seq no_time (time_of (values_of fields))
+  type ← known (Some firm) seq time (type_of (values_of fields))
+  known (Some firm) seq time (content_of names (record { firm = firm; seq = seq; time = time }) (values_of fields) type)
+
+abbrev pub or_refused : Result Request Refusal → Request
+or_refused (Ok asked) = asked
+or_refused (Err refusal) = request.Refused refusal
+
+-- the request of a frame
+unfoldable pub request_of : ProductLists → List ℕ → Request
+request_of product frame = or_refused (request_of_body product.names (body_in frame))
