@@ -3,3 +3,4 @@ pub mod Rules
 pub mod Orders
 pub mod Requests
 pub mod Given
+pub mod Views

@@ -26,7 +26,7 @@ use Rattle.fix_request.specs.declared.request.Named.TheVariants.{Known, Unknown}
 use Rattle.fix_request.specs.declared.request.NewOrder.{NewOrder}
 use Rattle.fix_request.specs.declared.request.CancelOrder.{CancelOrder}
 use Rattle.fix_request.specs.declared.request.ReplaceOrder.{ReplaceOrder}
-use Rattle.fix_request.specs.declared.order_values.OrderForms.{OrderForms}
+use Rattle.fix_request.specs.declared.forms.OrderForms.{OrderForms}
 
 -- ---- values in lists
 

@@ -10,7 +10,7 @@ use Rattle.gx_base.specs.NameLists.{NameLists}
 use Rattle.fix_frame.specs.Grammar.{body_in}
 use Rattle.product_file.specs.Products.{ProductLists}
 use Rattle.fix_request.specs.Fields.{texts_of, has_tag, Field, fields_of, Values, values_of}
-use Rattle.fix_request.specs.Rules.{◌>>=◌, where_passes, fault}
+use Rattle.fix_request.specs.Rules.{◌>>=◌, result_map, where_passes, fault}
 use Rattle.fix_request.specs.Orders.{new_of, cancel_of, replace_of}
 use Rattle.fix_request.specs.declared.fault.Fault.{Fault}
 use Rattle.fix_request.specs.declared.message_type.MessageType.{MessageType}
@@ -27,16 +27,19 @@ abbrev pub first_empty : List Field → Option Field
 first_empty fields = find (λ (f : Field). length f.value == 0) fields
 
 -- rule 3: NO VALUE
-abbrev pub no_value_in : Option Field → List Field → Result (List Field) Fault
-no_value_in None fields = Ok fields
+abbrev pub no_value_in : Option Field → List Field → Result Values Fault
+no_value_in None fields = Ok (values_of fields)
 no_value_in (Some field) fields = Err (fault 3 4 field.tag)
 
--- rule 1: FIRST TAG; rule 2: BAD TAG; rule 3
-abbrev pub checked_fields : List ℕ → Result (List Field) Fault
-checked_fields body =
-    if not (starts_with nat_eq body (codes "35=")) then Err (fault 1 11 35)
-    else (if not (list_all has_tag (texts_of body)) then Err (fault 2 0 0)
-    else no_value_in (first_empty (fields_of body)) (fields_of body))
+-- rule 2: BAD TAG; rule 3
+abbrev pub well_formed_values : List ℕ → Result Values Fault
+well_formed_values body =
+    if not (list_all has_tag (texts_of body)) then Err (fault 2 0 0)
+    else no_value_in (first_empty (fields_of body)) (fields_of body)
+
+-- rule 1: FIRST TAG; rules 2 and 3
+abbrev pub checked_values : List ℕ → Result Values Fault
+checked_values body = if not (starts_with nat_eq body (codes "35=")) then Err (fault 1 11 35) else well_formed_values body
 
 -- ---- rules 4 to 6: the header
 
@@ -47,10 +50,10 @@ firm_of names values = do
   ok_or (position (λ firm. bytes_eq firm text) names.firms) (fault 4 9 49)
 
 -- rule 5: TARGET: 56 is missing, or is not the exchange
-unfoldable pub target_of : NameLists → Values → Result (List ℕ) Fault
+unfoldable pub target_of : NameLists → Values → Result (Unit {0}) Fault
 target_of names values = do
   text ← ok_or values.target (fault 5 1 56)
-  ok_or (where_passes (bytes_eq names.exchange) text) (fault 5 9 56)
+  if bytes_eq names.exchange text then Ok tt else Err (fault 5 9 56)
 
 -- a sequence number: one to nine digits with a value of at least 1
 abbrev pub is_sequence_number : List ℕ → Bool
@@ -89,11 +92,16 @@ abbrev pub type_of : Values → Result MessageType Fault
 type_of values = ok_or (option_and_then message_type_of values.type) (fault 7 11 35)
 
 -- what a message of this type asks for; a session message is passed
-unfoldable pub content_of : NameLists → Sender → Values → MessageType → Result Request Fault
-content_of names sender values Session = Ok (request.Passed sender)
-content_of names sender values New = new_of names sender values >>= (λ order. Ok (request.New order))
-content_of names sender values Cancel = cancel_of sender values >>= (λ order. Ok (request.Cancel order))
-content_of names sender values Replace = replace_of names sender values >>= (λ order. Ok (request.Replace order))
+unfoldable pub content_by : NameLists → Sender → Values → MessageType → Result Request Fault
+content_by names sender values Session = Ok (request.Passed sender)
+content_by names sender values New = result_map request.New (new_of names sender values)
+content_by names sender values Cancel = result_map request.Cancel (cancel_of sender values)
+content_by names sender values Replace = result_map request.Replace (replace_of names sender values)
+
+unfoldable pub content_of : NameLists → Sender → Values → Result Request Fault
+content_of names sender values = do
+  type ← type_of values
+  content_by names sender values type
 
 -- ---- the request
 
@@ -113,13 +121,12 @@ known firm seq time (Err fault) = Err (refused firm seq time fault)
 -- Rules 1 to 4 have no firm. Rules 1 to 5 have no sequence number, nor has rule 6 at tag 34. Rules 1 to 6 have no time.
 unfoldable pub request_of_body : NameLists → List ℕ → Result Request Refusal
 request_of_body names body = do
-  fields ← known None 0 no_time (checked_fields body)
-  firm ← known None 0 no_time (firm_of names (values_of fields))
-  target ← known (Some firm) 0 no_time (target_of names (values_of fields))
-  seq ← known (Some firm) 0 no_time (sequence_of (values_of fields))
-  time ← known (Some firm) seq no_time (time_of (values_of fields))
-  type ← known (Some firm) seq time (type_of (values_of fields))
-  known (Some firm) seq time (content_of names (record { firm = firm; seq = seq; time = time }) (values_of fields) type)
+  values ← known None 0 no_time (checked_values body)
+  firm ← known None 0 no_time (firm_of names values)
+  target ← known (Some firm) 0 no_time (target_of names values)
+  seq ← known (Some firm) 0 no_time (sequence_of values)
+  time ← known (Some firm) seq no_time (time_of values)
+  known (Some firm) seq time (content_of names (record { firm = firm; seq = seq; time = time }) values)
 
 abbrev pub or_refused : Result Request Refusal → Request
 or_refused (Ok asked) = asked

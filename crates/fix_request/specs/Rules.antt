@@ -9,6 +9,10 @@ abbrev pub ◌>>=◌ : {A B E : Type 0} → Result A E → (A → Result B E) �
 (Ok a) >>= next = next a
 (Err e) >>= next = Err e
 
+abbrev pub result_map : {A B E : Type 0} → (A → B) → Result A E → Result B E
+result_map f (Ok a) = Ok (f a)
+result_map f (Err e) = Err e
+
 -- the value, where it passes the test
 abbrev pub where_passes : {A : Type 0} → (A → Bool) → A → Option A
 where_passes test a = if test a then Some a else None

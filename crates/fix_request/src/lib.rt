@@ -1,9 +1,19 @@
 //! Requests: each message that a client sends is read as exactly one, or refused by the first session rule that it breaks.
 #![tactic(auto)]
 
+mod digits;
 mod fault;
+mod fields;
+mod forms;
+mod header;
+mod lists;
 mod message_type;
-mod order_values;
+mod orders;
+mod read;
 mod request;
+mod tags;
+mod texts;
+mod values;
 
+pub use read::read_request;
 pub use request::{CancelOrder, Named, NewOrder, Px, Refusal, ReplaceOrder, Request, Sender};

@@ -1,4 +1,10 @@
-//! Types of messages.
+//! Types of messages (rule 7).
+ghost use Rattle.std.specs.Prelude.{◌≡◌};
+ghost use Rattle.fix_request.specs.Requests.{message_type_of, type_of};
+ghost use Rattle.fix_request.specs.Views.{values_view};
+
+use crate::fault::Fault;
+use crate::values::Values;
 
 /// What a message of some type is about.
 #[derive(Clone, Copy, Debug, PartialEq, Eq)]
@@ -11,4 +17,27 @@ pub enum MessageType {
     Cancel,
     /// G.
     Replace,
+}
+
+/// The type of a message (35).
+pub fn read_type(values: &Values) -> Result<MessageType, Fault>
+    ensures { result ≡ type_of (values_view values.now) }
+{
+    match values.message_type.and_then(message_type_of) {
+        Some(message_type) => Ok(message_type),
+        None => Err(Fault::message_type(7)),
+    }
+}
+
+/// The type of its text.
+fn message_type_of(text: &[u8]) -> Option<MessageType>
+    ensures { result ≡ message_type_of text.now }
+{
+    match text {
+        b"0" | b"1" | b"2" | b"3" | b"4" | b"5" | b"A" => Some(MessageType::Session),
+        b"D" => Some(MessageType::New),
+        b"F" => Some(MessageType::Cancel),
+        b"G" => Some(MessageType::Replace),
+        _ => None,
+    }
 }

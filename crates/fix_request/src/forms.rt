@@ -1,0 +1,139 @@
+//! The forms of values (rule 9).
+ghost use Rattle.std.specs.Prelude.{◌≡◌, ◌<◌, length, Some, None, IfSome, if◌then◌else◌};
+ghost use Rattle.std.specs.Option.{option_copied};
+ghost use Rattle.gx_base.specs.Line.{decimals_of};
+ghost use Rattle.gx_base.specs.Numbers.{quantity_of, is_price_text, price_of};
+ghost use Rattle.gx_base.specs.Texts.{is_name};
+ghost use Rattle.fix_request.specs.Rules.{where_passes, formed};
+ghost use Rattle.fix_request.specs.Orders.{named_of, quantity_or_zero, price_in, price_if_read, px_of, order_forms};
+ghost use Rattle.fix_request.specs.Given.{IsListed};
+ghost use Rattle.fix_request.specs.Views.{order_view};
+
+use crate::fault::Fault;
+use crate::request::{Named, Px};
+use crate::tags;
+use crate::texts::OrderTexts;
+use gx_base::{Names, Price, PriceFault, ShortId, read_price, read_quantity};
+
+/// What the texts that a new order and a replace have in common give, once each has its form.
+#[derive(Clone, Copy, Debug)]
+pub struct OrderForms {
+    pub symbol: ShortId,
+    pub named: Named,
+    /// In lots.
+    pub quantity: u32,
+    /// `None` where it is out of range.
+    pub price: Option<Px>,
+    /// The same of the stop price.
+    pub trigger: Option<Px>,
+}
+
+/// What the texts of an order give. An `Err` is the first of them that does not have its form.
+#[tactic(auto, unfolding(crate::specs::Orders::order_forms))]
+pub fn order_forms(names: &Names, symbol_tag: u32, texts: &OrderTexts) -> Result<OrderForms, Fault>
+    ensures { result ≡ order_forms names.now symbol_tag (order_view texts.now) }
+{
+    let symbol = read_name(symbol_tag, texts.symbol)?;
+    let named = find_named(names, &symbol);
+    let quantity = read_lots(tags::QUANTITY, texts.quantity)?;
+    let price = read_px_if_there(names, named, tags::PRICE, texts.price)?;
+    let trigger = read_px_if_there(names, named, tags::TRIGGER, texts.trigger)?;
+    Ok(OrderForms {
+        symbol,
+        named,
+        quantity,
+        price,
+        trigger,
+    })
+}
+
+/// The name that a text is.
+pub fn read_name(tag: u32, text: &[u8]) -> Result<ShortId, Fault>
+    ensures { result ≡ formed tag (where_passes is_name text.now) }
+{
+    match ShortId::new(text) {
+        Some(name) => Ok(name),
+        None => Err(Fault::ill_formed(9, tag)),
+    }
+}
+
+/// The instrument of this name.
+fn find_named(names: &Names, symbol: &ShortId) -> Named
+    ensures named { result ≡ named_of names.now symbol.now }
+    ensures listed { IsListed names.now result }
+{
+    match names.find_instrument(symbol.bytes()) {
+        Some(number) => Named::Known(number),
+        None => Named::Unknown,
+    }
+}
+
+/// The number of a quantity text.
+fn read_lots(tag: u32, text: &[u8]) -> Result<u32, Fault>
+    ensures { result ≡ formed tag (quantity_of text.now) }
+{
+    match read_quantity(text) {
+        Some(quantity) => Ok(quantity),
+        None => Err(Fault::ill_formed(9, tag)),
+    }
+}
+
+/// The number of a quantity text, 0 where there is none.
+pub fn read_lots_or_zero(tag: u32, text: Option<&[u8]>) -> Result<u32, Fault>
+    ensures { result ≡ quantity_or_zero tag (option_copied text.entry) }
+{
+    match text {
+        Some(text) => read_lots(tag, text),
+        None => Ok(0),
+    }
+}
+
+/// The price of a text, `Absent` where there is none.
+fn read_px_if_there(
+    names: &Names,
+    named: Named,
+    tag: u32,
+    text: Option<&[u8]>,
+) -> Result<Option<Px>, Fault>
+    requires { IsListed names.now named }
+    ensures { result ≡ price_if_read names.now named tag (option_copied text.entry) }
+{
+    match text {
+        Some(text) => read_px(names, named, tag, text),
+        None => Ok(Some(Px::Absent)),
+    }
+}
+
+/// The price of a text in the decimals of this instrument. Where there is no instrument only the format is tried. `None`
+/// where it is out of range.
+fn read_px(names: &Names, named: Named, tag: u32, text: &[u8]) -> Result<Option<Px>, Fault>
+    requires { IsListed names.now named }
+    ensures { result ≡ price_in names.now named tag text.now }
+{
+    match named {
+        Named::Known(number) => px_of(tag, read_price(text, names.listed(number).decimals)),
+        Named::Unknown => read_between(tag, text),
+    }
+}
+
+/// What became of a price text: `None` where it is out of range.
+fn px_of(tag: u32, read: Result<Price, PriceFault>) -> Result<Option<Px>, Fault>
+    ensures { result ≡ px_of tag read }
+{
+    match read {
+        Ok(price) => Ok(Some(Px::At(price))),
+        Err(PriceFault::Format) => Err(Fault::ill_formed(9, tag)),
+        Err(PriceFault::Scale) => Ok(Some(Px::Between)),
+        Err(PriceFault::Range) => Ok(None),
+    }
+}
+
+/// What a price text gives where no instrument has the symbol.
+fn read_between(tag: u32, text: &[u8]) -> Result<Option<Px>, Fault>
+    ensures { result ≡ formed tag (if is_price_text text.now then Some (Some Px.Between) else None) }
+{
+    match read_price(text, 0) {
+        Err(PriceFault::Format) => Err(Fault::ill_formed(9, tag)),
+        _ => Ok(Some(Px::Between)),
+    }
+}

@@ -1,0 +1,66 @@
+//! The header of a message (rules 4 to 6).
+ghost use Rattle.std.specs.Prelude.{◌≡◌};
+ghost use Rattle.fix_request.specs.Requests.{firm_of, target_of, sequence_of, time_of};
+ghost use Rattle.fix_request.specs.Views.{values_view};
+
+use crate::digits::read_sequence_number;
+use crate::fault::Fault;
+use crate::tags;
+use crate::values::Values;
+use gx_base::{Names, Stamp};
+
+/// The number of the firm that sends (49).
+#[tactic(auto, unfolding(crate::specs::Requests::firm_of))]
+pub fn read_firm(names: &Names, values: &Values) -> Result<u8, Fault>
+    ensures { result ≡ firm_of names.now (values_view values.now) }
+{
+    let Some(text) = values.sender else {
+        return Err(Fault::missing(4, tags::SENDER));
+    };
+    match names.find_firm(text) {
+        Some(firm) => Ok(firm),
+        None => Err(Fault::comp_id(4, tags::SENDER)),
+    }
+}
+
+/// Tries whether the exchange is the target (56).
+#[tactic(auto, unfolding(crate::specs::Requests::target_of))]
+pub fn check_target(names: &Names, values: &Values) -> Result<(), Fault>
+    ensures { result ≡ target_of names.now (values_view values.now) }
+{
+    let Some(text) = values.target else {
+        return Err(Fault::missing(5, tags::TARGET));
+    };
+    if names.exchange().bytes() != text {
+        return Err(Fault::comp_id(5, tags::TARGET));
+    }
+    Ok(())
+}
+
+/// The sequence number (34).
+#[tactic(auto, unfolding(crate::specs::Requests::sequence_of))]
+pub fn read_sequence(values: &Values) -> Result<u32, Fault>
+    ensures { result ≡ sequence_of (values_view values.now) }
+{
+    let Some(text) = values.sequence else {
+        return Err(Fault::missing(6, tags::SEQUENCE));
+    };
+    match read_sequence_number(text) {
+        Some(number) => Ok(number),
+        None => Err(Fault::ill_formed(6, tags::SEQUENCE)),
+    }
+}
+
+/// The sending time (52).
+#[tactic(auto, unfolding(crate::specs::Requests::time_of))]
+pub fn read_time(values: &Values) -> Result<Stamp, Fault>
+    ensures { result ≡ time_of (values_view values.now) }
+{
+    let Some(text) = values.time else {
+        return Err(Fault::missing(6, tags::TIME));
+    };
+    match Stamp::new(text) {
+        Some(time) => Ok(time),
+        None => Err(Fault::ill_formed(6, tags::TIME)),
+    }
+}
