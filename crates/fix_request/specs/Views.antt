@@ -1,7 +1,8 @@
 -- Fields and values as the code holds them: slices, which contracts see as their bytes.
-use Rattle.std.specs.Prelude.{ℕ, ◌==◌, if◌then◌else◌, List, Option, Some, option_map}
+use Rattle.std.specs.Prelude.{ℕ, ◌==◌, if◌then◌else◌, List, Option, Some, None, option_map}
+use Rattle.std.specs.List.{before_first, after_first, list_any}
 use Rattle.std.specs.Option.{option_or, option_copied}
-use Rattle.fix_request.specs.Fields.{Field, Values}
+use Rattle.fix_request.specs.Fields.{is_equals_sign, Field, Values}
 use Rattle.fix_request.specs.Orders.{OrderTexts}
 use Rattle.fix_request.specs.declared.fields.Field.{Field as FieldSlices}
 use Rattle.fix_request.specs.declared.values.Values.{Values as ValueSlices}
@@ -9,6 +10,11 @@ use Rattle.fix_request.specs.declared.texts.OrderTexts.{OrderTexts as OrderSlice
 
 abbrev pub field_view : FieldSlices → Field
 field_view f = record { tag = f.tag; value = f.value.now }
+
+-- what stands before the first `=` of a text and behind it, where it has one
+abbrev pub split_at_equals_sign : List ℕ → Option (List ℕ × List ℕ)
+split_at_equals_sign text =
+    if list_any is_equals_sign text then Some (before_first is_equals_sign text, after_first is_equals_sign text) else None
 
 abbrev pub values_view : ValueSlices → Values
 values_view v =

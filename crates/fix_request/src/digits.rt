@@ -1,5 +1,5 @@
 //! Numbers of few digits.
-ghost use Rattle.std.specs.Prelude.{◌≡◌, ◌≤◌, ◌<◌, ◌^◌, IsTrue, IfSome, Some, None, length, if◌then◌else◌};
+ghost use Rattle.std.specs.Prelude.{◌≡◌, ◌≤◌, IsTrue, Some, None, length, if◌then◌else◌};
 ghost use Rattle.std.specs.Str.Parse.{digits_value};
 ghost use Rattle.gx_base.specs.Numbers.{are_digits};
 ghost use Rattle.fix_request.specs.Fields.{is_tag};
@@ -17,9 +17,7 @@ pub fn read_tag(text: &[u8]) -> Option<u32>
 
 /// The number of a sequence number: one to nine digits, with a value of at least 1.
 pub fn read_sequence_number(text: &[u8]) -> Option<u32>
-    ensures number { result ≡ (if is_sequence_number text.now then Some (digits_value 10 text.now) else None) }
-    ensures some { IfSome result (λ n. 1 ≤ n) }
-    ensures short { IfSome result (λ n. n < 10 ^ 9) }
+    ensures { result ≡ (if is_sequence_number text.now then Some (digits_value 10 text.now) else None) }
 {
     if text.is_empty() || text.len() > 9 || !are_digits(text) {
         return None;
@@ -42,8 +40,7 @@ fn are_digits(text: &[u8]) -> bool
 fn read_digits(digits: &[u8]) -> u32
     requires digits { IsTrue (are_digits digits.now) }
     requires short { length digits.now ≤ 9 }
-    ensures number { result ≡ digits_value 10 digits.now }
-    ensures short { result < 10 ^ 9 }
+    ensures { result ≡ digits_value 10 digits.now }
 {
     let mut number = 0;
     for digit in digits {

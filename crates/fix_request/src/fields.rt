@@ -2,7 +2,7 @@
 ghost use Rattle.std.specs.Prelude.{◌≡◌, Some, None, option_map, position, if◌then◌else◌};
 ghost use Rattle.std.specs.List.{before_first, after_first};
 ghost use Rattle.fix_request.specs.Fields.{is_soh, is_equals_sign, has_tag, field_of};
-ghost use Rattle.fix_request.specs.Views.{field_view};
+ghost use Rattle.fix_request.specs.Views.{field_view, split_at_equals_sign};
 
 use crate::digits::read_tag;
 
@@ -20,12 +20,20 @@ pub struct Field<'a> {
 pub fn read_field(text: &[u8]) -> Option<Field<'_>>
     ensures { option_map field_view result ≡ (if has_tag text.now then Some (field_of text.now) else None) }
 {
-    let at = find_equals_sign(text)?;
-    let tag = read_tag(&text[..at])?;
-    Some(Field {
-        tag,
-        value: &text[at + 1..],
-    })
+    let (tag_text, value) = split_at_equals_sign(text)?;
+    let tag = read_tag(tag_text)?;
+    Some(Field { tag, value })
+}
+
+/// What stands before the first `=` of a text and what stands behind it. `None` where it has none.
+#[tactic(auto, using(crate::proofs::Splits::any_is_found))]
+fn split_at_equals_sign(text: &[u8]) -> Option<(&[u8], &[u8])>
+    ensures { option_map (λ x. (x.0.now, x.1.now)) result ≡ split_at_equals_sign text.now }
+{
+    match find_equals_sign(text) {
+        Some(at) => Some((&text[..at], &text[at + 1..])),
+        None => None,
+    }
 }
 
 /// What stands before the first SOH of some bytes and what stands behind it, which is nothing where there is no SOH.

@@ -1,6 +1,9 @@
 //! The header of a message (rules 4 to 6).
 ghost use Rattle.std.specs.Prelude.{◌≡◌};
 ghost use Rattle.fix_request.specs.Requests.{firm_of, target_of, sequence_of, time_of};
+ghost use Rattle.std.specs.Option.{ok_or};
+ghost use Rattle.gx_base.specs.Texts.{is_time_text};
+ghost use Rattle.fix_request.specs.Rules.{where_passes, fault};
 ghost use Rattle.fix_request.specs.Views.{values_view};
 
 use crate::digits::read_sequence_number;
@@ -56,9 +59,16 @@ pub fn read_sequence(values: &Values) -> Result<u32, Fault>
 pub fn read_time(values: &Values) -> Result<Stamp, Fault>
     ensures { result ≡ time_of (values_view values.now) }
 {
-    let Some(text) = values.time else {
-        return Err(Fault::missing(6, tags::TIME));
-    };
+    match values.time {
+        Some(text) => read_stamp(text),
+        None => Err(Fault::missing(6, tags::TIME)),
+    }
+}
+
+/// The time that a text is.
+fn read_stamp(text: &[u8]) -> Result<Stamp, Fault>
+    ensures { result ≡ ok_or (where_passes is_time_text text.now) (fault 6 6 52) }
+{
     match Stamp::new(text) {
         Some(time) => Ok(time),
         None => Err(Fault::ill_formed(6, tags::TIME)),

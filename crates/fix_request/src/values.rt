@@ -2,7 +2,7 @@
 ghost use Rattle.std.specs.Prelude.{◌≡◌, []};
 ghost use Rattle.fix_request.specs.Fields.{values_of};
 ghost use Rattle.fix_request.specs.Rules.{result_map};
-ghost use Rattle.fix_request.specs.Requests.{checked_values};
+ghost use Rattle.fix_request.specs.Requests.{checked_values, well_formed_values};
 ghost use Rattle.fix_request.specs.Views.{values_view, noted};
 
 use crate::fault::Fault;
@@ -70,9 +70,7 @@ fn read_fields(bytes: &[u8]) -> Result<Values<'_>, Fault>
         let Some(field) = read_field(text) else {
             return Err(Fault::bad_tag());
         };
-        if field.value.is_empty() {
-            without_value = without_value.or(Some(field.tag));
-        }
+        without_value = without_value.or(field.value.is_empty().then_some(field.tag));
         note(&mut values, field.tag, field.value);
         rest = behind;
     }
@@ -83,6 +81,7 @@ fn read_fields(bytes: &[u8]) -> Result<Values<'_>, Fault>
 }
 
 /// No value yet.
+#[tactic(auto, unfolding(crate::specs::Fields::values_of))]
 fn no_values() -> Values<'static>
     ensures { values_view result ≡ values_of [] }
 {
@@ -108,8 +107,9 @@ fn no_values() -> Values<'static>
 }
 
 /// Notes the value of one more field, unless an earlier one has its tag, or no rule names it.
+#[tactic(auto, unfolding(crate::specs::Views::noted))]
 fn note<'a>(values: &mut Values<'a>, tag: u32, value: &'a [u8])
-    ensures { values_view values.new ≡ noted (values_view values.old) (record { tag = tag; value = value.now }) }
+    ensures { values_view values.exit.now ≡ noted (values_view values.entry.now) (record { tag = tag; value = value.entry.now }) }
 {
     match tag {
         35 => values.message_type = values.message_type.or(Some(value)),
