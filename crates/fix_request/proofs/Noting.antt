@@ -1,6 +1,6 @@
 -- The values of the fields so far, and the faults in their form.
-use Rattle.std.proofs.Common.{◌≡◌, ℕ, ◌≤◌, Bool, true, false, not, cond, ◌&&◌, ◌==◌, List, [], ◌∷◌, length, map, Option, Some, None, Result, Ok, Err, refl, sym, ap, ap₂, ◌∙◌}
-use Rattle.std.specs.Prelude.{find, option_map, nat_eq}
+use Rattle.std.proofs.Common.{◌≡◌, ℕ, ◌≤◌, Bool, true, false, not, cond, ◌&&◌, ◌==◌, List, [], ◌∷◌, length, map, Option, Some, None, Ok, Err, refl, sym, ap, ◌∙◌}
+use Rattle.std.specs.Prelude.{find, option_map}
 use Rattle.std.specs.Bool.{then_some}
 use Rattle.std.specs.List.{before_first, after_first, list_all}
 use Rattle.std.specs.Option.{option_or}
@@ -9,7 +9,6 @@ use Rattle.fix_request.specs.Fields.{is_soh, texts_of, has_tag, Field, field_of,
 use Rattle.fix_request.specs.Requests.{first_empty, no_value_in, well_formed_values}
 use Rattle.fix_request.specs.Rules.{fault}
 use Rattle.fix_request.specs.Views.{noted_value, noted}
-use Rattle.fix_request.specs.declared.fault.Fault.{Fault}
 use Rattle.fix_request.proofs.Splits.{texts-first}
 
 -- ---- the values
@@ -39,7 +38,7 @@ by_tag at =
       trigger = at 99;
       life = at 59;
       min = at 110;
-      show = at 210
+      show = at 210;
     }
 
 same_by_tag : (f g : ℕ → Option (List ℕ)) → ((tag : ℕ) → f tag ≡ g tag) → by_tag f ≡ by_tag g
@@ -106,7 +105,7 @@ one_read bytes rest values without_value field some read so_far =
     record {
       tags = so_far.tags ∙ ap (list_all has_tag) split ∙ ap (λ (b : Bool). b && list_all has_tag (texts_of behind)) is.0;
       empty = first_without without_value (length field.value == 0) field (first_empty (fields_of behind)) ∙ ap (λ (fs : List Field). option_or without_value (empty_tag fs)) fields ∙ so_far.empty;
-      noting = ap (noted_all values) fields ∙ so_far.noting
+      noting = ap (noted_all values) fields ∙ so_far.noting;
     }
 
 -- ---- how it ends

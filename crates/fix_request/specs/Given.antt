@@ -1,5 +1,5 @@
 -- What holds of each request that `read_request` can give, for the product that it was read for.
-use Rattle.std.specs.Prelude.{◌≡◌, ℕ, ◌<◌, ◌≤◌, ◌^◌, ℤ, unsigned_abs, length, IfSome}
+use Rattle.std.specs.Prelude.{◌≡◌, ◌<◌, ◌≤◌, ◌^◌, unsigned_abs, length, IfSome}
 use Rattle.gx_base.specs.NameLists.{NameLists}
 use Rattle.gx_base.specs.declared.order.Kind.{Kind}
 use Rattle.gx_base.specs.declared.order.Kind.TheVariants.{Limit, Market, StopLimit}
@@ -10,7 +10,6 @@ use Rattle.fix_request.specs.declared.request.Px.TheVariants.{Absent, At, Betwee
 use Rattle.fix_request.specs.declared.request.Named.{Named}
 use Rattle.fix_request.specs.declared.request.Named.TheVariants.{Known, Unknown}
 use Rattle.fix_request.specs.declared.request.NewOrder.{NewOrder}
-use Rattle.fix_request.specs.declared.request.CancelOrder.{CancelOrder}
 use Rattle.fix_request.specs.declared.request.ReplaceOrder.{ReplaceOrder}
 use Rattle.fix_request.specs.declared.request.Refusal.{Refusal}
 use Rattle.fix_request.specs.declared.request.Request.{Request}

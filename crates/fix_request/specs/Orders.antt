@@ -1,7 +1,7 @@
 -- The table of message types, for those that carry an order: for each type the needed tags (rule 8), the formats (rule
 -- 9) and the values (rule 10), each rule for all its tags before the next, in the order of the table (our own rules; the
 -- tags and their values are those of FIX 4.2).
-use Rattle.std.specs.Prelude.{ℕ, Bool, ◌||◌, if◌then◌else◌, List, bytes_eq, codes, position, Option, Some, None, option_map, is_some, Result, Ok, Err}
+use Rattle.std.specs.Prelude.{ℕ, Bool, ◌||◌, if◌then◌else◌, List, bytes_eq, codes, position, Option, Some, None, is_some, Result, Ok, Err}
 use Rattle.gx_base.specs.Numbers.{is_price_text, price_of, quantity_of}
 use Rattle.gx_base.specs.Texts.{is_name}
 use Rattle.gx_base.specs.NameLists.{NameLists, instrument_names}
@@ -16,7 +16,7 @@ use Rattle.gx_base.specs.declared.order.Kind.TheVariants.{Limit, Market, StopLim
 use Rattle.gx_base.specs.declared.order.Life.{Life}
 use Rattle.gx_base.specs.declared.order.Life.TheVariants.{Day, Gtc, Fak, Fok}
 use Rattle.fix_request.specs.Fields.{Values}
-use Rattle.fix_request.specs.Rules.{◌>>=◌, where_passes, fault, needed, needed_where, formed, listed}
+use Rattle.fix_request.specs.Rules.{◌>>=◌, where_passes, needed, needed_where, formed, listed}
 use Rattle.fix_request.specs.declared.fault.Fault.{Fault}
 use Rattle.fix_request.specs.declared.request.Sender.{Sender}
 use Rattle.fix_request.specs.declared.request.Px.{Px}

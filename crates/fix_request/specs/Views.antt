@@ -1,5 +1,5 @@
 -- Fields and values as the code holds them: slices, which contracts see as their bytes.
-use Rattle.std.specs.Prelude.{ℕ, ◌==◌, if◌then◌else◌, List, Option, Some, None, option_map}
+use Rattle.std.specs.Prelude.{ℕ, ◌==◌, if◌then◌else◌, List, Option, Some, None}
 use Rattle.std.specs.List.{before_first, after_first, list_any}
 use Rattle.std.specs.Option.{option_or, option_copied}
 use Rattle.fix_request.specs.Fields.{is_equals_sign, Field, Values}

@@ -1,4 +1,4 @@
-use Rattle.std.proofs.Common.{◌+◌, ◌*◌, ◌-◌, ◌^◌, ◌<◌, ◌≤◌, length, take, get_or, arith, length-take}
+use Rattle.std.proofs.Common.{◌^◌, ◌<◌, ◌≤◌, length, take, arith, length-take}
 use Rattle.fix_request.proofs.Numbers.{digit_at, one_more, below_power}
 use Rattle.fix_request.proofs.digits.read_digits.Goals as goal
 
