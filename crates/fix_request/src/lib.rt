@@ -12,6 +12,8 @@ mod orders;
 mod read;
 mod request;
 mod tags;
+#[cfg(test)]
+mod tests;
 mod texts;
 mod values;
 

@@ -31,7 +31,7 @@ pub fn read_request(frame: &[u8], product: &Product) -> Request
 
 /// What the message of this body asks for, or its refusal.
 #[tactic(auto, unfolding(crate::specs::Requests::request_of_body))]
-fn read_body(names: &Names, body: &[u8]) -> Result<Request, Refusal>
+pub(crate) fn read_body(names: &Names, body: &[u8]) -> Result<Request, Refusal>
     ensures { result ≡ request_of_body names.now body.now }
 {
     let values = match read_values(body) {
