@@ -5,9 +5,11 @@ use Rattle.std.specs.Str.Parse.{digits_value}
 use Rattle.gx_base.specs.Frames.{soh}
 use Rattle.gx_base.specs.Numbers.{are_digits}
 
+-- the byte that ends a field
 abbrev pub is_soh : ℕ → Bool
 is_soh c = c == soh
 
+-- the byte between tag and value
 abbrev pub is_equals_sign : ℕ → Bool
 is_equals_sign c = c == 61
 
@@ -29,9 +31,11 @@ pub record Field : Type 0 where
   pub tag : ℕ
   pub value : List ℕ
 
+-- the field that a text with a tag is
 abbrev pub field_of : List ℕ → Field
 field_of text = record { tag = digits_value 10 (before_first is_equals_sign text); value = after_first is_equals_sign text }
 
+-- the fields of a body, in order
 abbrev pub fields_of : List ℕ → List Field
 fields_of body = map field_of (texts_of body)
 
@@ -59,6 +63,7 @@ pub record Values : Type 0 where
   pub min : Option (List ℕ)
   pub show : Option (List ℕ)
 
+-- the tag of each
 unfoldable pub values_of : List Field → Values
 values_of fields =
     record {

@@ -32,11 +32,13 @@ IsWithinLimit (At price) = unsigned_abs price.0 ≤ 999999999999
 IsWithinLimit Absent = Unit {0}
 IsWithinLimit Between = Unit {0}
 
+-- the order has such a price, also where it lies between two units
 abbrev pub IsPresent : Px → Type 0
 IsPresent Absent = ⊥
 IsPresent (At price) = Unit {0}
 IsPresent Between = Unit {0}
 
+-- the order has no such price
 abbrev pub IsAbsent : Px → Type 0
 IsAbsent px = px ≡ Absent
 
@@ -70,6 +72,7 @@ pub record IsGivenRefusal (names : NameLists) (refusal : Refusal) : Type 0 where
   pub some : 1 ≤ refusal.rule
   pub few : refusal.rule ≤ 10
 
+-- all of it, for each kind of request
 abbrev pub IsGivenRequest : ProductLists → Request → Type 0
 IsGivenRequest product (New order) = IsGivenNew product.names order
 IsGivenRequest product (Cancel order) = IsGivenSender product.names order.sender

@@ -54,12 +54,15 @@ life_of (Some text) = life_of_text text
 
 -- ---- the symbol: the value of 107 where present, else of 55
 
+-- the tag that it is read from
 abbrev pub symbol_tag : Values → ℕ
 symbol_tag values = if is_some values.description then 107 else 55
 
+-- its text
 abbrev pub symbol_text : Values → Option (List ℕ)
 symbol_text values = if is_some values.description then values.description else values.symbol
 
+-- the instrument of this number, where there is one
 abbrev pub known_if_some : Option ℕ → Named
 known_if_some None = Unknown
 known_if_some (Some number) = Known number

@@ -98,6 +98,7 @@ content_by names sender values New = result_map request.New (new_of names sender
 content_by names sender values Cancel = result_map request.Cancel (cancel_of sender values)
 content_by names sender values Replace = result_map request.Replace (replace_of names sender values)
 
+-- what a message of this sender asks for: rule 7, then the rules of its type
 unfoldable pub content_of : NameLists → Sender → Values → Result Request Fault
 content_of names sender values = do
   type ← type_of values
@@ -128,6 +129,7 @@ request_of_body names body = do
   time ← known (Some firm) seq no_time (time_of values)
   known (Some firm) seq time (content_of names (record { firm = firm; seq = seq; time = time }) values)
 
+-- a refusal is a request too, which is answered by a Reject
 abbrev pub or_refused : Result Request Refusal → Request
 or_refused (Ok asked) = asked
 or_refused (Err refusal) = request.Refused refusal

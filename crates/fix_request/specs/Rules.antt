@@ -9,6 +9,7 @@ abbrev pub ◌>>=◌ : {A B E : Type 0} → Result A E → (A → Result B E) �
 (Ok a) >>= next = next a
 (Err e) >>= next = Err e
 
+-- the value mapped, or the same error
 abbrev pub result_map : {A B E : Type 0} → (A → B) → Result A E → Result B E
 result_map f (Ok a) = Ok (f a)
 result_map f (Err e) = Err e
