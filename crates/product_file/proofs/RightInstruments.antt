@@ -68,7 +68,7 @@ right_after firms so_far (fields ∷ rest) all e right =
     let (listed, new, e1) = both_gave (listed_of so_far.listed fields) _ all e in
     let (rule, ruled, e2) = both_gave (rule_of firms fields) _ all e1 in
     right_after firms (record { listed = so_far.listed ++ listed ∷ []; rules = so_far.rules ++ rule ∷ [] }) rest all e2
-      (one_more firms so_far listed rule right (new_listed so_far.listed fields listed new) (right_rule firms fields rule ruled))
+    (one_more firms so_far listed rule right (new_listed so_far.listed fields listed new) (right_rule firms fields rule ruled))
 
 count_after : (firms : List (List ℕ)) (so_far : InstrumentLists) (tables : List Data) (all : InstrumentLists) → instruments_after firms so_far tables ≡ Ok all → length all.listed ≡ length so_far.listed + length tables
 count_after firms so_far [] all e =

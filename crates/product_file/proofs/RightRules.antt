@@ -77,8 +77,8 @@ right_parameters firms letter fields parameters e =
     let (split, _, e4) = both_gave (number_if (needs_split letter fields) key.Split 1 100 fields) _ parameters e3 in
     let (shares, given, e5) = both_gave (shares_of firms fields) _ parameters e4 in
     made_of firms
-      (record { top = record { min = unwrap_or min 1; max = unwrap_or max 999999 }; least = unwrap_or least (usual_least letter); lmm = shares })
-      (unwrap_or split 0) parameters (listed_shares firms fields shares given) e5
+    (record { top = record { min = unwrap_or min 1; max = unwrap_or max 999999 }; least = unwrap_or least (usual_least letter); lmm = shares })
+    (unwrap_or split 0) parameters (listed_shares firms fields shares given) e5
 
 right_steps : (firms : List (List ℕ)) (letter : Letter) (parameters : Parameters) (names : List (List ℕ)) (steps : List Step) → HasListedShares firms parameters → letter_steps letter parameters names ≡ Ok steps → AllByRecursion (HasListedFirms (length firms)) steps
 right_steps firms letter parameters names steps given e =
@@ -106,7 +106,7 @@ right_rule firms fields rule e =
     let (names, _, e5) = both_gave (step_names_of letter fields) _ rule e4 in
     let (steps, kept, e6) = both_gave (letter_steps letter parameters names) _ rule e5 in
     made_rule firms tick protection letter steps rule
-      (needed_within Tick 1 1000000 fields tick ticks)
-      (needed_within Protection 0 10000 fields protection few).1
-      (right_steps firms letter parameters names steps (right_parameters firms letter fields parameters given) kept)
-      e6
+    (needed_within Tick 1 1000000 fields tick ticks)
+    (needed_within Protection 0 10000 fields protection few).1
+    (right_steps firms letter parameters names steps (right_parameters firms letter fields parameters given) kept)
+    e6

@@ -17,7 +17,7 @@ twice-front : {X K : Type 0} (same : K → K → Bool) (key : X → K) (earlier 
 twice-front same key earlier [] back found e = cc
 twice-front same key earlier (x ∷ xs) back found e =
     still (list_any (λ before. same (key before) (key x)) earlier) (key x) found (first_twice_after same key (earlier ++ x ∷ []) xs) (first_twice_after same key (earlier ++ x ∷ []) (xs ++ back)) e
-      (twice-front same key (earlier ++ x ∷ []) xs back found)
+    (twice-front same key (earlier ++ x ∷ []) xs back found)
 
 repeated : (steps : List Step) (name : StepName) → is_empty steps ≡ false → first_twice steps ≡ Some name → steps_of steps ≡ Err (Twice name)
 repeated steps name e t = let fault : fault_of steps ≡ Some (Twice name) = rw (e, t) refl in rw fault refl

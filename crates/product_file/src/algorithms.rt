@@ -123,7 +123,5 @@ fn has_split(table: &Value) -> bool
 fn is_split_among(entries: &[Value]) -> bool
     ensures { result ≡ list_any (λ v. is_split (view v)) entries.now }
 {
-    entries
-        .iter()
-        .any(|entry| text_in(entry) == "SPLIT")
+    entries.iter().any(|entry| text_in(entry) == "SPLIT")
 }

@@ -95,6 +95,13 @@ impl Product {
         &self.rules[number as usize]
     }
 
+    /// Lends the rules, one for each instrument.
+    pub fn rules(&self) -> &[InstrumentRule]
+        ensures { result.now ≡ self.now.rules }
+    {
+        &self.rules
+    }
+
     /// What holds of each product.
     pub fn limits(&self)
         ensures { IsRightProduct self.now }

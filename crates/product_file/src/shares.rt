@@ -54,11 +54,7 @@ fn share_of(
 
 /// The number of the firm that an entry names, which no earlier entry names.
 #[tactic(auto, unfolding(crate::specs::Shares::share_firm))]
-fn share_firm(
-    firms: &[ShortId],
-    earlier: &[LmmShare],
-    entry: &Value,
-) -> Result<u8, ProductFault>
+fn share_firm(firms: &[ShortId], earlier: &[LmmShare], entry: &Value) -> Result<u8, ProductFault>
     requires { length firms.now ≤ 64 }
     ensures { result ≡ share_firm firms.now earlier.now (view entry.now) }
 {

@@ -31,9 +31,7 @@ pub(crate) fn step_names_of(letter: Letter, table: &Value) -> Result<&[Value], P
 fn are_step_names(entries: &[Value]) -> bool
     ensures { result ≡ list_all (λ v. is_step_name (text_in (view v))) entries.now }
 {
-    entries
-        .iter()
-        .all(|entry| is_step_name(text_in(entry)))
+    entries.iter().all(|entry| is_step_name(text_in(entry)))
 }
 
 /// Whether this is the name of a step.

@@ -7,20 +7,20 @@ use std::process::Abort;
 use std::test::Fail;
 use step_config::{Letter, Step, StepFault};
 
-const ROW: &str = "exchange = \"GX\"\nfirms = [\"AAA\", \"BBB\", \"CCC\", \"DDD\"]\n\n[[instrument]]\nname = \"ESZ4\"\ndecimals = 2\ntick = 1\nprotection = 2\nalgorithm = \"F\"\n";
+const ROW: &str =
+    "exchange = \"GX\"\nfirms = [\"AAA\", \"BBB\", \"CCC\", \"DDD\"]\n\n[[instrument]]\nname = \"ESZ4\"\ndecimals = 2\ntick = 1\nprotection = 2\nalgorithm = \"F\"\n";
 
 const FIRMS: &str = "firms = [\"AAA\", \"BBB\", \"CCC\", \"DDD\"]";
+
 const NUMBERS: &str = "decimals = 2\ntick = 1\nprotection = 2";
+
 const F: &str = "algorithm = \"F\"";
 
 /// A product file with one instrument, of these lines.
-fn file(
-    alloc: Global,
-    firms: &str,
-    numbers: &str,
-    algorithm: &str,
-) -> Result<String, AllocError> {
-    format!(in alloc; "exchange = \"GX\"\n{firms}\n\n[[instrument]]\nname = \"ESZ4\"\n{numbers}\n{algorithm}\n")
+fn file(alloc: Global, firms: &str, numbers: &str, algorithm: &str) -> Result<String, AllocError> {
+    format!(in alloc;
+        "exchange = \"GX\"\n{firms}\n\n[[instrument]]\nname = \"ESZ4\"\n{numbers}\n{algorithm}\n"
+    )
 }
 
 /// The number of the rule that a text breaks, and 0 where it is right. 255 is want of memory.
@@ -97,23 +97,68 @@ fn lmm(first: u8, second: u8) -> Step {
 fn presets_with_usual_values(rt: HostRuntime) -> Result<(), Fail> {
     let alloc = rt.alloc();
     assert_steps(&rt, alloc, "algorithm = \"F\"", &[Step::Fifo])?;
-    assert_steps(&rt, alloc, "algorithm = \"C\"", &[Step::ProRata(1), Step::Fifo])?;
-    assert_steps(&rt, alloc, "algorithm = \"A\"", &[top(1, 999_999), Step::ProRata(2), Step::Fifo])?;
+    assert_steps(
+        &rt,
+        alloc,
+        "algorithm = \"C\"",
+        &[Step::ProRata(1), Step::Fifo],
+    )?;
+    assert_steps(
+        &rt,
+        alloc,
+        "algorithm = \"A\"",
+        &[top(1, 999_999), Step::ProRata(2), Step::Fifo],
+    )?;
     assert_steps(&rt, alloc, "algorithm = \"T\"", &[lmm(0, 0), Step::Fifo])?;
-    assert_steps(&rt, alloc, "algorithm = \"O\"", &[top(1, 999_999), Step::ProRata(1), Step::Fifo])?;
-    assert_steps(&rt, alloc, "algorithm = \"Q\"", &[top(1, 999_999), lmm(0, 0), Step::ProRata(1), Step::Fifo])
+    assert_steps(
+        &rt,
+        alloc,
+        "algorithm = \"O\"",
+        &[top(1, 999_999), Step::ProRata(1), Step::Fifo],
+    )?;
+    assert_steps(
+        &rt,
+        alloc,
+        "algorithm = \"Q\"",
+        &[top(1, 999_999), lmm(0, 0), Step::ProRata(1), Step::Fifo],
+    )
 }
 
 #[test]
 fn lists_with_values_of_the_file(rt: HostRuntime) -> Result<(), Fail> {
     let alloc = rt.alloc();
-    let values = "top_min = 5\ntop_max = 8\nleast = 3\nsplit = 40\nlmm = [{ firm = \"AAA\", percent = 40 }, { firm = \"BBB\", percent = 60 }]";
+    let values =
+        "top_min = 5\ntop_max = 8\nleast = 3\nsplit = 40\nlmm = [{ firm = \"AAA\", percent = 40 }, { firm = \"BBB\", percent = 60 }]";
     let q = format!(in alloc; "algorithm = \"Q\"\n{values}")?;
-    assert_steps(&rt, alloc, q.as_str(), &[top(5, 8), lmm(40, 60), Step::ProRata(3), Step::Fifo])?;
+    assert_steps(
+        &rt,
+        alloc,
+        q.as_str(),
+        &[top(5, 8), lmm(40, 60), Step::ProRata(3), Step::Fifo],
+    )?;
     let a = format!(in alloc; "algorithm = \"A\"\n{values}")?;
-    assert_steps(&rt, alloc, a.as_str(), &[top(1, 999_999), Step::ProRata(3), Step::Fifo])?;
-    let k = format!(in alloc; "algorithm = \"K\"\n{values}\nsteps = [\"TOP\", \"LMM\", \"SPLIT\", \"PRORATA\", \"LEVELING\", \"FIFO\"]")?;
-    assert_steps(&rt, alloc, k.as_str(), &[top(5, 8), lmm(40, 60), Step::Split(40), Step::ProRata(3), Step::Leveling, Step::Fifo])
+    assert_steps(
+        &rt,
+        alloc,
+        a.as_str(),
+        &[top(1, 999_999), Step::ProRata(3), Step::Fifo],
+    )?;
+    let k = format!(in alloc;
+        "algorithm = \"K\"\n{values}\nsteps = [\"TOP\", \"LMM\", \"SPLIT\", \"PRORATA\", \"LEVELING\", \"FIFO\"]"
+    )?;
+    assert_steps(
+        &rt,
+        alloc,
+        k.as_str(),
+        &[
+            top(5, 8),
+            lmm(40, 60),
+            Step::Split(40),
+            Step::ProRata(3),
+            Step::Leveling,
+            Step::Fifo,
+        ],
+    )
 }
 
 /// The rules that files with this algorithm and the keys behind it break.
@@ -130,28 +175,55 @@ fn rules_of_an_algorithm(rt: HostRuntime) -> Result<(), Fail> {
         ("algorithm = \"K\"\nsteps = [\"FIRST\"]", 8),
         ("algorithm = \"F\"\nsteps = [\"FIRST\"]", 8),
         ("algorithm = \"K\"\nsteps = [\"FIFO\", \"PRORATA\"]", 9),
-        ("algorithm = \"K\"\nsteps = [\"LEVELING\", \"PRORATA\", \"FIFO\"]", 9),
-        ("algorithm = \"K\"\nsteps = [\"FIFO\", \"TOP\", \"LMM\", \"PRORATA\", \"LEVELING\", \"TOP\", \"FIFO\", \"FIFO\"]", 9),
+        (
+            "algorithm = \"K\"\nsteps = [\"LEVELING\", \"PRORATA\", \"FIFO\"]",
+            9,
+        ),
+        (
+            "algorithm = \"K\"\nsteps = [\"FIFO\", \"TOP\", \"LMM\", \"PRORATA\", \"LEVELING\", \"TOP\", \"FIFO\", \"FIFO\"]",
+            9,
+        ),
         ("algorithm = \"K\"\nsteps = [\"SPLIT\", 1]", 3),
-        ("algorithm = \"K\"\nsteps = [\"SPLIT\", \"FIFO\"]\nsplit = 101", 5),
+        (
+            "algorithm = \"K\"\nsteps = [\"SPLIT\", \"FIFO\"]\nsplit = 101",
+            5,
+        ),
         ("algorithm = \"F\"\nsplit = 0", 5),
         ("algorithm = \"F\"\nleast = 1000000", 5),
         ("algorithm = \"A\"\ntop_min = 9\ntop_max = 8", 0),
         ("algorithm = \"O\"\ntop_min = 9\ntop_max = 8", 9),
         ("algorithm = \"F\"\ntop_max = 0.5", 4),
         ("algorithm = \"T\"\nlmm = []\ncolour = \"red\"", 0),
-        ("algorithm = \"T\"\nlmm = [{ firm = \"AAA\", percent = 60 }, { firm = \"BBB\", percent = 60 }]", 9),
-        ("algorithm = \"F\"\nlmm = [{ firm = \"AAA\", percent = 60 }, { firm = \"BBB\", percent = 60 }]", 0),
+        (
+            "algorithm = \"T\"\nlmm = [{ firm = \"AAA\", percent = 60 }, { firm = \"BBB\", percent = 60 }]",
+            9,
+        ),
+        (
+            "algorithm = \"F\"\nlmm = [{ firm = \"AAA\", percent = 60 }, { firm = \"BBB\", percent = 60 }]",
+            0,
+        ),
         ("algorithm = \"T\"\nlmm = [{ firm = \"ZZZ\" }]", 7),
-        ("algorithm = \"T\"\nlmm = [{ firm = \"AAA\", percent = 1 }, { firm = \"AAA\" }]", 6),
+        (
+            "algorithm = \"T\"\nlmm = [{ firm = \"AAA\", percent = 1 }, { firm = \"AAA\" }]",
+            6,
+        ),
         ("algorithm = \"T\"\nlmm = [{ percent = 1 }]", 3),
-        ("algorithm = \"T\"\nlmm = [{ firm = \"AAA\", percent = 101 }]", 5),
+        (
+            "algorithm = \"T\"\nlmm = [{ firm = \"AAA\", percent = 101 }]",
+            5,
+        ),
         ("algorithm = \"T\"\nlmm = [{ firm = \"ZZZ\" }, 1]", 4),
-        ("algorithm = \"T\"\nlmm = [{}, {}, {}, {}, {}, {}, {}, {}, {}]", 5),
+        (
+            "algorithm = \"T\"\nlmm = [{}, {}, {}, {}, {}, {}, {}, {}, {}]",
+            5,
+        ),
     ];
     for case in &cases {
         let text = file(rt.alloc(), FIRMS, NUMBERS, case.0)?;
-        assert_eq!(rt; (case.0, rule_of(rt.alloc(), text.as_bytes())), (case.0, case.1));
+        assert_eq!(rt;
+            (case.0, rule_of(rt.alloc(), text.as_bytes())),
+            (case.0, case.1)
+        );
     }
     Ok(())
 }
@@ -172,7 +244,10 @@ fn rules_of_the_numbers(rt: HostRuntime) -> Result<(), Fail> {
     ];
     for case in &cases {
         let text = file(rt.alloc(), FIRMS, case.0, F)?;
-        assert_eq!(rt; (case.0, rule_of(rt.alloc(), text.as_bytes())), (case.0, case.1));
+        assert_eq!(rt;
+            (case.0, rule_of(rt.alloc(), text.as_bytes())),
+            (case.0, case.1)
+        );
     }
     Ok(())
 }
@@ -190,7 +265,10 @@ fn rules_of_the_whole(rt: HostRuntime) -> Result<(), Fail> {
         ("firms = [\"AAA\", \"\"]", 5),
         ("firms = [\"A234567890123456789012345\"]", 5),
         ("firms = [\"AAA\"]\nmax_orders = 0", 5),
-        ("firms = [\"AAA\"]\nmax_orders = 100000\njournal_limit = 131072", 0),
+        (
+            "firms = [\"AAA\"]\nmax_orders = 100000\njournal_limit = 131072",
+            0,
+        ),
         ("firms = [\"AAA\"]\nmax_orders = 100001", 5),
         ("firms = [\"AAA\"]\njournal_limit = 131071", 5),
         ("firms = [\"AAA\"]\njournal_limit = 268435457", 5),
@@ -198,7 +276,10 @@ fn rules_of_the_whole(rt: HostRuntime) -> Result<(), Fail> {
     ];
     for case in &cases {
         let text = file(rt.alloc(), case.0, NUMBERS, F)?;
-        assert_eq!(rt; (case.0, rule_of(rt.alloc(), text.as_bytes())), (case.0, case.1));
+        assert_eq!(rt;
+            (case.0, rule_of(rt.alloc(), text.as_bytes())),
+            (case.0, case.1)
+        );
     }
     Ok(())
 }
@@ -208,9 +289,27 @@ fn rules_of_other_texts(rt: HostRuntime) -> Result<(), Fail> {
     let alloc = rt.alloc();
     assert_eq!(rt; rule_of(alloc, b""), 3);
     assert_eq!(rt; rule_of(alloc, b"="), 2);
-    assert_eq!(rt; rule_of(alloc, b"exchange = \"GX\"\nfirms = [\"AAA\"]\ninstrument = []"), 5);
-    assert_eq!(rt; rule_of(alloc, b"exchange = \"GX\"\nfirms = [\"AAA\"]\ninstrument = [1]"), 4);
-    assert_eq!(rt; rule_of(alloc, b"exchange = \"GX\"\nfirms = [\"AAA\"]\ninstrument = {}"), 4);
+    assert_eq!(rt;
+        rule_of(
+            alloc,
+            b"exchange = \"GX\"\nfirms = [\"AAA\"]\ninstrument = []"
+        ),
+        5
+    );
+    assert_eq!(rt;
+        rule_of(
+            alloc,
+            b"exchange = \"GX\"\nfirms = [\"AAA\"]\ninstrument = [1]"
+        ),
+        4
+    );
+    assert_eq!(rt;
+        rule_of(
+            alloc,
+            b"exchange = \"GX\"\nfirms = [\"AAA\"]\ninstrument = {}"
+        ),
+        4
+    );
     let twice = format!(in alloc; "{ROW}[[instrument]]\nname = \"ESZ4\"\n")?;
     assert_eq!(rt; rule_of(alloc, twice.as_bytes()), 6);
     let mut text = Vec::new(alloc);
@@ -242,7 +341,9 @@ fn full(alloc: Global, firms: u32, instruments: u32) -> Result<String, AllocErro
     }
     text.push_str("]\n")?;
     for i in 0..instruments {
-        let table = format!(in alloc; "[[instrument]]\nname = \"I{i}\"\n{NUMBERS}\nalgorithm = \"T\"\nlmm = [{{ firm = \"F63\", percent = 10 }}]\n")?;
+        let table = format!(in alloc;
+            "[[instrument]]\nname = \"I{i}\"\n{NUMBERS}\nalgorithm = \"T\"\nlmm = [{{ firm = \"F63\", percent = 10 }}]\n"
+        )?;
         text.push_str(table.as_str())?;
     }
     Ok(text)
@@ -273,10 +374,26 @@ fn full_product(rt: HostRuntime) -> Result<(), Fail> {
 fn faults_name_their_place(rt: HostRuntime) -> Result<(), Fail> {
     let alloc = rt.alloc();
     let text = file(alloc, FIRMS, "decimals = 2\nprotection = 2", F)?;
-    assert_eq!(rt; read_product(alloc, text.as_bytes()).err(), Some(ProductFault::Missing(Key::Tick)));
-    let text = file(alloc, FIRMS, NUMBERS, "algorithm = \"O\"\ntop_min = 9\ntop_max = 8")?;
-    assert_eq!(rt; read_product(alloc, text.as_bytes()).err(), Some(ProductFault::Steps(StepFault::MinMax(9, 8))));
-    let text = file(alloc, "firms = [\"AAA\", \"BBB\", \"BBB\", \"AAA\"]", NUMBERS, F)?;
+    assert_eq!(rt;
+        read_product(alloc, text.as_bytes()).err(),
+        Some(ProductFault::Missing(Key::Tick))
+    );
+    let text = file(
+        alloc,
+        FIRMS,
+        NUMBERS,
+        "algorithm = \"O\"\ntop_min = 9\ntop_max = 8",
+    )?;
+    assert_eq!(rt;
+        read_product(alloc, text.as_bytes()).err(),
+        Some(ProductFault::Steps(StepFault::MinMax(9, 8)))
+    );
+    let text = file(
+        alloc,
+        "firms = [\"AAA\", \"BBB\", \"BBB\", \"AAA\"]",
+        NUMBERS,
+        F,
+    )?;
     let fault = read_product(alloc, text.as_bytes()).err().ok_or("faulty")?;
     let shown = format!(in alloc; "{fault}")?;
     assert_eq!(rt; shown.as_str(), "the name `BBB` stands twice");
