@@ -1,5 +1,6 @@
 pub mod Mapped
 pub mod Repeats
+pub mod Numbered
 pub mod Given
 pub mod Lists
 pub mod RightFirms

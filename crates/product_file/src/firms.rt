@@ -1,7 +1,8 @@
 //! The firms of a product file.
-ghost use Rattle.std.specs.Prelude.{◌≡◌, ◌≤◌, map, length, codes, bytes_eq, IsTrue, IfOk, Some, None, SomeIff};
-ghost use Rattle.std.specs.List.{list_any};
+ghost use Rattle.std.specs.Prelude.{◌≡◌, ◌≢◌, ◌≤◌, map, length, codes, bytes_eq, IsTrue, IfOk, IfErr, Ok, Err, Some, None, SomeIff};
+ghost use Rattle.indexmap.specs.IndexSet.{IsEmpty, spare};
 ghost use Rattle.toml.specs.View.{view};
+ghost use Rattle.product_file.specs.declared.faults.ProductFault.TheVariants.{NoMemory};
 ghost use Rattle.product_file.specs.Keys.{map_ok, text_in};
 ghost use Rattle.product_file.specs.FirmNames.{is_firm_name, are_firm_names, first_name_twice, firms_of, firm_names};
 
@@ -9,19 +10,25 @@ use crate::faults::{Key, ProductFault};
 use crate::keys::{text_in, texts_at};
 use arrayvec::ArrayVec;
 use gx_base::ShortId;
+use indexmap::IndexSet;
+use std::alloc::Global;
 use toml::Value;
 
 /// The most firms of a product.
 const MOST_FIRMS: usize = 64;
 
-/// The firms that a document lists.
+/// The firms that a document lists. Only `NoMemory` depends on anything but the document. Takes memory.
 #[tactic(auto, unfolding(crate::specs::FirmNames::firms_of))]
-pub(crate) fn firms_of(document: &Value) -> Result<ArrayVec<ShortId, 64>, ProductFault>
-    ensures { map_ok (λ firms. firms.items) result ≡ firms_of (view document.now) }
+pub(crate) fn firms_of(
+    alloc: Global,
+    document: &Value,
+) -> Result<ArrayVec<ShortId, 64>, ProductFault>
+    ensures read { IfOk result (λ firms. firms_of (view document.now) ≡ Ok firms.items) }
+    ensures refused { IfErr result (λ fault. fault ≢ NoMemory → firms_of (view document.now) ≡ Err fault) }
 {
     let entries = texts_at(document, Key::Firms)?;
     let names = firm_names(entries)?;
-    match first_name_twice(&names) {
+    match first_name_twice(alloc, &names)? {
         Some(name) => Err(ProductFault::Twice(name)),
         None => Ok(names),
     }
@@ -56,21 +63,30 @@ fn firm_name(entry: &Value) -> Option<ShortId>
     ShortId::new(text.as_bytes())
 }
 
-/// The first of these names that an earlier one has.
-fn first_name_twice(names: &[ShortId]) -> Option<ShortId>
+/// The first of these names that an earlier one has. `NoMemory` where their numbers do not fit into memory, which are
+/// taken at once.
+fn first_name_twice(alloc: Global, names: &[ShortId]) -> Result<Option<ShortId>, ProductFault>
+    ensures found { IfOk result (λ twice. twice ≡ first_name_twice names.now) }
+    ensures refused { IfErr result (λ fault. fault ≡ NoMemory) }
+{
+    match IndexSet::with_capacity(alloc, names.len()) {
+        Ok(numbers) => Ok(first_numbered(numbers, names)),
+        Err(_) => Err(ProductFault::NoMemory),
+    }
+}
+
+/// The first of these names that has a number when its turn comes. Numbers those before it in their order, for which there is
+/// room.
+fn first_numbered<'a>(mut numbers: IndexSet<&'a [u8]>, names: &'a [ShortId]) -> Option<ShortId>
+    requires none { IsEmpty numbers }
+    requires room { length names.now ≤ spare numbers }
     ensures { result ≡ first_name_twice names.now }
 {
-    for (i, name) in names.iter().enumerate() {
-        if has_name(&names[..i], name) {
+    for name in names {
+        let is_new = numbers.insert(name.bytes()).unwrap();
+        if !is_new {
             return Some(*name);
         }
     }
     None
-}
-
-/// Whether one of these names is this one.
-fn has_name(names: &[ShortId], name: &ShortId) -> bool
-    ensures { result ≡ list_any (λ before. bytes_eq before name.now) names.now }
-{
-    names.iter().any(|before| before.bytes() == name.bytes())
 }

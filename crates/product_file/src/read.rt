@@ -30,7 +30,7 @@ pub fn read_product(alloc: Global, text: &[u8]) -> Result<Product, ProductFault>
         return Err(ProductFault::TooLong);
     }
     let document = document_of(alloc, text)?;
-    product_of_document(&document)
+    product_of_document(alloc, &document)
 }
 
 /// The TOML document of a text, which is UTF-8.
@@ -57,13 +57,14 @@ fn parsed(alloc: Global, text: &str) -> Result<Value, ProductFault>
     }
 }
 
-/// The product of a document.
+/// The product of a document. Takes memory for the numbers of its firms.
 #[tactic(auto, unfolding(crate::specs::ProductTexts::product_of_document))]
-fn product_of_document(document: &Value) -> Result<Product, ProductFault>
-    ensures { result ≡ product_of_document (view document.now) }
+fn product_of_document(alloc: Global, document: &Value) -> Result<Product, ProductFault>
+    ensures read { IfOk result (λ product. product_of_document (view document.now) ≡ Ok product) }
+    ensures refused { IfErr result (λ fault. fault ≢ NoMemory → product_of_document (view document.now) ≡ Err fault) }
 {
     let exchange = name_at(document, Key::Exchange)?;
-    let firms = firms_of(document)?;
+    let firms = firms_of(alloc, document)?;
     let max_orders = number_if(false, document, Key::MaxOrders, 1, 100_000)?;
     let journal_limit = number_if(false, document, Key::JournalLimit, 131_072, 268_435_456)?;
     let instruments = instruments_of(&firms, document)?;
