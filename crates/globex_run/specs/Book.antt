@@ -46,9 +46,13 @@ first_price (o ∷ orders) = Some o.price
 abbrev pub best_of : ℕ → Side → List Order → Option Price
 best_of instrument side orders = first_price (side_of instrument side orders)
 
+-- an order of the firm with this id
+abbrev pub is_named : ℕ → List ℕ → Order → Bool
+is_named firm id o = (o.firm == firm) && bytes_eq o.id id
+
 -- a live order of the firm has this id
 abbrev pub is_live : ℕ → List ℕ → List Order → Bool
-is_live firm id orders = list_any (λ (o : Order). (o.firm == firm) && bytes_eq o.id id) orders
+is_live firm id orders = list_any (is_named firm id) orders
 
 -- ---- placing
 

@@ -5,7 +5,7 @@ use Rattle.gx_base.specs.declared.order.Order.{Order}
 use Rattle.gx_base.specs.declared.order.Desk.{Desk}
 use Rattle.gx_base.specs.declared.order.Taker.{Taker}
 use Rattle.globex_run.specs.State.{State}
-use Rattle.globex_run.specs.declared.request.NewOrder.{NewOrder}
+use Rattle.fix_request.specs.declared.request.NewOrder.{NewOrder}
 use Rattle.globex_run.specs.Book.{is_before}
 use Rattle.globex_run.specs.Match.{Moment, moment}
 
@@ -65,11 +65,12 @@ KeepsRoom old lots new left = (bound : ℕ) → HasRoom old lots bound → HasRo
 abbrev pub counter_limit : ℕ
 counter_limit = 2 ^ 62
 
--- what an order message may ask for
+-- what an accepted order may ask for
 pub record IsOrder (new : NewOrder) : Type 0 where
-  pub firm : new.firm < 64
+  pub firm : new.sender.firm < 64
   pub some : 1 ≤ new.quantity
   pub small : new.quantity ≤ 999999
+  pub no_display : new.show ≡ 0
 
 abbrev pub state_of : List Order → Desk → State
 state_of orders desk = record { resting = orders; desk = desk }
@@ -97,3 +98,12 @@ pub record IsServing (resting : List Order) (counters : Desk) (room : ℕ) : Typ
   pub bounded : counters.messages ≤ 10000
   pub enough : 10000 ≤ room
   pub counters_fit : HasRoom counters 0 (counters.messages * 2 ^ 38)
+
+-- the same once one more message was counted, and before it is applied: there is room for its order
+pub record IsCounting (resting : List Order) (counters : Desk) (room : ℕ) : Type 0 where
+  pub right : IsRight counters.orders resting
+  pub counted : counters.orders + 1 ≤ counters.messages
+  pub few : length resting ≤ counters.orders
+  pub bounded : counters.messages ≤ 10000
+  pub enough : 10000 ≤ room
+  pub counters_fit : HasRoom counters 1000000 (counters.messages * 2 ^ 38)

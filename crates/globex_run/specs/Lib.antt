@@ -1,12 +1,13 @@
-pub mod Products
-pub mod PlainOrder
+pub mod Ticks
+pub mod ProductTexts
 pub mod State
 pub mod Book
 pub mod Match
+pub mod ServedRequests
+pub mod NewOrders
+pub mod Cancels
 pub mod Step
 pub mod Fit
-pub mod Pushes
-pub mod Outgoing
 pub mod Outcomes
 pub mod Words
 pub mod Serving
@@ -14,4 +15,3 @@ pub mod Served
 pub mod Ran
 pub mod Endings
 pub mod Rooms
-pub mod PlainViews

@@ -1,13 +1,13 @@
 -- What the steps of serving do: reading, and what may have failed.
-use Rattle.std.specs.Prelude.{◌≡◌, ℕ, ◌+◌, ◌<◌, ◌≤◌, List, ◌++◌, length, None, IsSome, Result, Ok, Err, IfOk, OnErr, []}
+use Rattle.std.specs.Prelude.{◌≡◌, ℕ, ◌+◌, ◌<◌, ◌≤◌, List, ◌++◌, length, IsTrue, IsFalse, Result, Ok, Err, IfOk, OnErr, []}
 use Rattle.gx_base.specs.Told.{TellsPrefix}
 use Rattle.gx_station.specs.Counts.{Rose, HasCause}
 use Rattle.gx_station.specs.Sources.{SourceMeanings, and_left, IsAtEnd}
 use Rattle.gx_station.specs.Stations.{StationMeanings, sent_and}
 use Rattle.fix_frame.specs.Framing.{Framing}
-use Rattle.globex_run.specs.Products.{ProductLists}
+use Rattle.product_file.specs.Products.{ProductLists}
 use Rattle.globex_run.specs.State.{State}
-use Rattle.globex_run.specs.PlainOrder.{plain_order}
+use Rattle.globex_run.specs.ServedRequests.{is_served_frame}
 use Rattle.globex_run.specs.Step.{step_of, lines_of}
 use Rattle.globex_run.specs.declared.outcome.Status.{Status}
 use Rattle.globex_run.specs.declared.outcome.Status.TheVariants as status
@@ -31,6 +31,7 @@ CausedBy status.SendFault read reads send sends = (reads ≡ read) × Rose send 
 CausedBy status.Ok read reads send sends = (reads ≡ read) × (sends ≡ send)
 CausedBy status.NoMemory read reads send sends = (reads ≡ read) × (sends ≡ send)
 CausedBy status.BadWords read reads send sends = (reads ≡ read) × (sends ≡ send)
+CausedBy status.Product read reads send sends = (reads ≡ read) × (sends ≡ send)
 CausedBy status.BadFrame read reads send sends = (reads ≡ read) × (sends ≡ send)
 CausedBy status.Truncated read reads send sends = (reads ≡ read) × (sends ≡ send)
 CausedBy status.JournalFull read reads send sends = (reads ≡ read) × (sends ≡ send)
@@ -42,21 +43,22 @@ ServesFrame m product old new before after frame (Ok t) =
     (new ≡ (step_of product old frame).0)
     × (old.desk.messages < 10000)
     × (new.desk.messages ≡ old.desk.messages + 1)
-    × IsSome (plain_order product frame)
+    × IsTrue (is_served_frame product frame)
     × (m.sent after ≡ sent_and (m.sent before) (lines_of product (step_of product old frame).1))
     × (m.send_faults after ≡ m.send_faults before)
 ServesFrame m product old new before after frame (Err status.SendFault) =
     (old.desk.messages < 10000)
     × (new.desk.messages ≡ old.desk.messages + 1)
-    × IsSome (plain_order product frame)
+    × IsTrue (is_served_frame product frame)
     × TellsPrefix (m.sent after) (sent_and (m.sent before) (lines_of product (step_of product old frame).1))
     × Rose (m.send_faults before) (m.send_faults after)
-ServesFrame m product old new before after frame (Err status.BadFrame) = (new ≡ old) × (after ≡ before) × (plain_order product frame ≡ None)
+ServesFrame m product old new before after frame (Err status.BadFrame) = (new ≡ old) × (after ≡ before) × IsFalse (is_served_frame product frame)
 ServesFrame m product old new before after frame (Err status.JournalFull) =
-    (new ≡ old) × (after ≡ before) × (10000 ≤ old.desk.messages) × IsSome (plain_order product frame)
+    (new ≡ old) × (after ≡ before) × (10000 ≤ old.desk.messages) × IsTrue (is_served_frame product frame)
 ServesFrame m product old new before after frame (Err status.Ok) = ⊥
 ServesFrame m product old new before after frame (Err status.NoMemory) = ⊥
 ServesFrame m product old new before after frame (Err status.BadWords) = ⊥
+ServesFrame m product old new before after frame (Err status.Product) = ⊥
 ServesFrame m product old new before after frame (Err status.ReadFault) = ⊥
 ServesFrame m product old new before after frame (Err status.Truncated) = ⊥
 
@@ -64,6 +66,7 @@ ServesFrame m product old new before after frame (Err status.Truncated) = ⊥
 abbrev pub EndsServing : Status → Type 0
 EndsServing status.NoMemory = ⊥
 EndsServing status.BadWords = ⊥
+EndsServing status.Product = ⊥
 EndsServing status.Ok = Unit {0}
 EndsServing status.ReadFault = Unit {0}
 EndsServing status.SendFault = Unit {0}
