@@ -1,5 +1,5 @@
-//! The program `globex`: reads standard input and sends to standard output. It opens `product.toml` and `journal.gxj`,
-//! which are neither read nor written yet.
+//! The program `globex`: reads `product.toml` and standard input, and sends to standard output. It opens `journal.gxj`,
+//! which is neither read nor written yet.
 #![tactic(auto)]
 
 use globex_run::{Outcome, globex};

@@ -10,20 +10,21 @@ use Rattle.gx_base.specs.Frames.{frame_of}
 use Rattle.fix_frame.specs.Grammar.{is_frame, IsFrame, IsFrameFront, BeginsWithNone}
 use Rattle.fix_frame.specs.Stream.{messages_from, rest_from, messages_of, rest_of}
 use Rattle.fix_frame.proofs.Streams.{messages_from-append, rest_from-append, concat-messages_from, concat-messages_of, messages_of-frame-append, rest_of-frame-append, none_from_messages_of}
-use Rattle.globex_run.specs.Products.{ProductLists}
-use Rattle.globex_run.specs.Served.{is_plain, ArePlain, ArePlainFrames}
-use Rattle.globex_run.specs.Ran.{Ran, EndsAs, BeginsWith, first_messages, plain_front, bytes_at}
+use Rattle.product_file.specs.Products.{ProductLists}
+use Rattle.globex_run.specs.ServedRequests.{is_served_frame}
+use Rattle.globex_run.specs.Served.{AreServed, AreServedFrames}
+use Rattle.globex_run.specs.Ran.{Ran, EndsAs, BeginsWith, first_messages, served_front, bytes_at}
 use Rattle.globex_run.specs.declared.outcome.Status.{Status}
 use Rattle.globex_run.specs.declared.outcome.Status.TheVariants as status
 use Rattle.globex_run.proofs.Fronts.{front-none}
 
 -- ---- what is left of some input
 
-left_parts : (left : Option (List ℕ)) (all taken : List ℕ) → Some all ≡ and_left taken left → (rest : List ℕ) × (left ≡ Some rest) × (all ≡ taken ++ rest)
+pub left_parts : (left : Option (List ℕ)) (all taken : List ℕ) → Some all ≡ and_left taken left → (rest : List ℕ) × (left ≡ Some rest) × (all ≡ taken ++ rest)
 left_parts None all taken h = absurd (none-some all (sym h))
 left_parts (Some rest) all taken h = (rest, refl, same_Some all (taken ++ rest) h)
 
-nil_from_end : (left : Option (List ℕ)) (rest : List ℕ) → left ≡ Some rest → IsAtEnd left → rest ≡ []
+pub nil_from_end : (left : Option (List ℕ)) (rest : List ℕ) → left ≡ Some rest → IsAtEnd left → rest ≡ []
 nil_from_end left rest is end = subst (λ (l : Option (List ℕ)). IsAtEnd l) is end
 
 -- ---- the rest of a stream begins with no frame
@@ -66,13 +67,13 @@ frames-behind : (front behind : List (List ℕ)) → AreFrames (front ++ behind)
 frames-behind [] behind all = all
 frames-behind (f ∷ front) behind all = frames-behind front behind all.1
 
-are_frames : (product : ProductLists) (frames : List (List ℕ)) → ArePlainFrames product frames → AreFrames frames
+are_frames : (product : ProductLists) (frames : List (List ℕ)) → AreServedFrames product frames → AreFrames frames
 are_frames product [] all = tt
 are_frames product (f ∷ frames) all = (all.0.0, are_frames product frames all.1)
 
-plain-front : (product : ProductLists) (front behind : List (List ℕ)) → ArePlainFrames product (front ++ behind) → ArePlain product front
-plain-front product [] behind all = tt
-plain-front product (f ∷ front) behind all = (all.0.1, plain-front product front behind all.1)
+served-front : (product : ProductLists) (front behind : List (List ℕ)) → AreServedFrames product (front ++ behind) → AreServed product front
+served-front product [] behind all = tt
+served-front product (f ∷ front) behind all = (all.0.1, served-front product front behind all.1)
 
 -- these bytes are a frame
 least_frame : IsFrame (frame_of (49 ∷ []) (1 ∷ []))
@@ -137,20 +138,20 @@ module _ (taken : List ℕ) (count place : ℕ) (counted : count ≡ length (mes
       let long = ap (λ (l : List (List ℕ)). length l) first in
       absurd (omega (arith, long))
 
-all_plain : (product : ProductLists) (taken : List ℕ) → ArePlain product (messages_of taken) → plain_front product taken ≡ messages_of taken
-all_plain product taken plain =
-    ap (λ (l : List (List ℕ)). take_while (is_plain product) l) (sym (append-nil (messages_of taken))) ∙ front-none product (messages_of taken) [] plain refl ∙ append-nil (messages_of taken)
+all_served : (product : ProductLists) (taken : List ℕ) → AreServed product (messages_of taken) → served_front product taken ≡ messages_of taken
+all_served product taken plain =
+    ap (λ (l : List (List ℕ)). take_while (is_served_frame product) l) (sym (append-nil (messages_of taken))) ∙ front-none product (messages_of taken) [] plain refl ∙ append-nil (messages_of taken)
 
 -- ---- the endings
 
-module _ (product : ProductLists) (frames : List (List ℕ)) (plain : ArePlainFrames product frames) (few : length frames ≤ 10000) (taken rest : List ℕ) (all : concat frames ≡ taken ++ rest) (place count : ℕ) (some : count ≤ length (messages_of taken)) where
+module _ (product : ProductLists) (frames : List (List ℕ)) (plain : AreServedFrames product frames) (few : length frames ≤ 10000) (taken rest : List ℕ) (all : concat frames ≡ taken ++ rest) (place count : ℕ) (some : count ≤ length (messages_of taken)) where
   are : AreFrames frames
   are = are_frames product frames plain
 
-  whole_front : plain_front product taken ≡ messages_of taken
-  whole_front = all_plain product taken (plain-front product (messages_of taken) (behind taken rest frames are all) (subst (λ (l : List (List ℕ)). ArePlainFrames product l) (in_two taken rest frames are all) plain))
+  whole_front : served_front product taken ≡ messages_of taken
+  whole_front = all_served product taken (served-front product (messages_of taken) (behind taken rest frames are all) (subst (λ (l : List (List ℕ)). AreServedFrames product l) (in_two taken rest frames are all) plain))
 
-  counts : count ≡ length (plain_front product taken) → count ≡ length (messages_of taken)
+  counts : count ≡ length (served_front product taken) → count ≡ length (messages_of taken)
   counts h = h ∙ ap (λ (l : List (List ℕ)). length l) whole_front
 
   ends-ok : (how : Status) (AtEnd : Type 0) → (AtEnd → rest ≡ []) → EndsAs product how place count taken AtEnd → how ≢ status.ReadFault → how ≢ status.SendFault → how ≡ status.Ok
@@ -160,23 +161,22 @@ module _ (product : ProductLists) (frames : List (List ℕ)) (plain : ArePlainFr
   ends-ok status.BadFrame AtEnd end ends read send =
       let counted = counts ends.1 in
       elim ends.2 [
-        | inl begins ↦ absurd (begins-none taken count place counted ends.0 (λ frame. IsFalse (is_plain product frame)) begins)
-        | inr broken ↦ absurd (broken (subst (λ (l : List ℕ). IsFrameFront l) (sym (bytes-behind taken count place counted ends.0)) (rest_is_front taken rest frames are all)))
+        | inl begins ↦ absurd (begins-none taken count place counted ends.0 (λ frame. IsFalse (is_served_frame product frame)) begins)
+        | inr broken ↦ absurd (broken.1 (rest_is_front taken rest frames are all))
       ]
-  ends-ok status.Truncated AtEnd end ends read send =
-      let counted = counts ends.2 in
-      absurd (ends.3 (bytes-behind taken count place counted ends.1 ∙ rest_is_none taken rest frames are all (end ends.0)))
+  ends-ok status.Truncated AtEnd end ends read send = absurd (ends.3.0 (rest_is_none taken rest frames are all (end ends.0)))
   ends-ok status.JournalFull AtEnd end ends read send =
       let total = ap (λ (l : List (List ℕ)). length l) (in_two taken rest frames are all) in
       let counted : count ≡ length (messages_of taken) = omega (arith, some, few, ends.0, total, length-append (messages_of taken) (behind taken rest frames are all)) in
-      absurd (begins-none taken count place counted ends.1 (λ frame. IsTrue (is_plain product frame)) ends.2)
+      absurd (begins-none taken count place counted ends.1 (λ frame. IsTrue (is_served_frame product frame)) ends.2)
   ends-ok status.NoMemory AtEnd end ends read send = absurd ends
   ends-ok status.BadWords AtEnd end ends read send = absurd ends
+  ends-ok status.Product AtEnd end ends read send = absurd ends
 
 -- where all of the input is plain order frames, at most 10,000, a run ends early only at a fault
 pub ran-all : {I S : Type 0} (inputs : SourceMeanings I) (stations : StationMeanings S) (product : ProductLists) (old new : I) (before after : S) (how : Status) (place count : ℕ)
     → Ran inputs stations product old new before after how place count
-    → (frames : List (List ℕ)) → ArePlainFrames product frames → length frames ≤ 10000 → inputs.left old ≡ Some (concat frames)
+    → (frames : List (List ℕ)) → AreServedFrames product frames → length frames ≤ 10000 → inputs.left old ≡ Some (concat frames)
     → how ≢ status.ReadFault → how ≢ status.SendFault → how ≡ status.Ok
 ran-all inputs stations product old new before after how place count ran frames plain few input read send =
     let parts = left_parts (inputs.left new) (concat frames) ran.taken (sym input ∙ ran.took) in

@@ -1,27 +1,29 @@
 -- How a run ends.
-use Rattle.std.proofs.Common.{◌≡◌, ◌≢◌, inl, inr, ℕ, ◌+◌, ◌≤◌, List, [], ◌∷◌, ◌++◌, length, take, Option, IsTrue, IsFalse, is_some, Ok, Err, refl, sym, ap, subst, ◌∙◌, append_assoc, length-append, arith}
+use Rattle.std.proofs.Common.{◌≡◌, ◌≢◌, inl, inr, ℕ, ◌+◌, ◌≤◌, List, [], ◌∷◌, ◌++◌, length, take, Option, IsTrue, IsFalse, Ok, Err, refl, sym, ap, subst, ◌∙◌, append_assoc, length-append, arith}
 use Rattle.std.specs.List.{concat, take_while}
 use Rattle.std.proofs.lemmas.List.{append-nil, drop_at, nil_from_length}
 use Rattle.std.proofs.Math.Seq.{take-append_seam}
 use Rattle.gx_base.specs.Told.{TellsPrefix}
 use Rattle.gx_station.specs.Sources.{SourceMeanings, and_left, IsAtEnd}
 use Rattle.gx_station.specs.Stations.{StationMeanings, sent_and}
-use Rattle.fix_frame.specs.Grammar.{IsFrameFront, BeginsWithNone}
+use Rattle.fix_frame.specs.Grammar.{IsFrameFront}
 use Rattle.fix_frame.specs.Framing.{Framing, GivesFrame, given_bytes}
 use Rattle.fix_frame.specs.Stream.{messages_of, rest_of}
-use Rattle.globex_run.specs.Products.{ProductLists}
+use Rattle.product_file.specs.Products.{ProductLists}
 use Rattle.globex_run.specs.State.{State}
+use Rattle.fix_frame.proofs.Streams.{concat-messages_of}
 use Rattle.globex_run.specs.Step.{step_of, reports_of, lines_of}
 use Rattle.globex_run.specs.Serving.{ServesFrame, TakesMore}
 use Rattle.globex_run.specs.Endings.{ending_of}
 use Rattle.globex_run.specs.declared.serve.Ending.{Ending}
-use Rattle.globex_run.specs.Served.{is_plain, ArePlain, IsServed}
-use Rattle.globex_run.specs.Ran.{Ran, EndsAs, ReportsSent, BeginsWith, first_messages, plain_front, bytes_at}
+use Rattle.globex_run.specs.ServedRequests.{is_served_frame}
+use Rattle.globex_run.specs.Served.{AreServed, IsServed}
+use Rattle.globex_run.specs.Ran.{Ran, EndsAs, ReportsSent, BeginsWith, first_messages, served_front, bytes_at}
 use Rattle.globex_run.specs.declared.outcome.Status.{Status}
 use Rattle.globex_run.specs.declared.outcome.Status.TheVariants as status
 use Rattle.globex_run.proofs.Fronts.{front-none, front-other}
-use Rattle.globex_run.proofs.Running.{reports-push, plain-push, and_left-none}
-use Rattle.globex_run.proofs.Sent.{sent_and-append}
+use Rattle.globex_run.proofs.Running.{reports-push, served-push, and_left-none}
+use Rattle.exec_report.proofs.Sent.{sent_and-append}
 
 module _ {I S : Type 0} (inputs : SourceMeanings I) (stations : StationMeanings S) (product : ProductLists) (old now : I) (before after : S) (framing : Framing) (state : State) (run : IsServed inputs stations product old now before after framing state) (few : state.desk.messages ≤ 10000) where
   taken : List ℕ
@@ -49,10 +51,16 @@ module _ {I S : Type 0} (inputs : SourceMeanings I) (stations : StationMeanings 
   behind_it : bytes_at framing.offset (concat run.served ++ framing.rest) ≡ framing.rest
   behind_it = drop_at (concat run.served) framing.rest framing.offset (sym run.offset)
 
-  no_more : messages_of framing.rest ≡ [] → state.desk.messages ≡ length (plain_front product (concat run.served ++ framing.rest))
+  no_more : messages_of framing.rest ≡ [] → state.desk.messages ≡ length (served_front product (concat run.served ++ framing.rest))
   no_more none =
       run.count
-      ∙ ap (λ (l : List (List ℕ)). length l) (sym (ap (λ (l : List (List ℕ)). take_while (is_plain product) l) all_messages ∙ front-none product run.served (messages_of framing.rest) run.plain none ∙ append-nil run.served))
+      ∙ ap (λ (l : List (List ℕ)). length l) (sym (ap (λ (l : List (List ℕ)). take_while (is_served_frame product) l) all_messages ∙ front-none product run.served (messages_of framing.rest) run.are_served none ∙ append-nil run.served))
+
+  all_count : messages_of framing.rest ≡ [] → state.desk.messages ≡ length (messages_of (concat run.served ++ framing.rest))
+  all_count none = run.count ∙ ap (λ (l : List (List ℕ)). length l) (sym (all_messages ∙ ap (λ (l : List (List ℕ)). run.served ++ l) none ∙ append-nil run.served))
+
+  rest_is : messages_of framing.rest ≡ [] → rest_of (concat run.served ++ framing.rest) ≡ framing.rest
+  rest_is none = all_rest ∙ ap (λ (l : List (List ℕ)). concat l ++ rest_of framing.rest) (sym none) ∙ concat-messages_of framing.rest
 
   -- the statuses but that of a failed send, where nothing more was taken
   ran-as : (then : I) → inputs.left now ≡ inputs.left then → (how : Status) (at : ℕ) → ReportsSent stations product how before after run.served → EndsAs product how at state.desk.messages (concat run.served ++ framing.rest) (IsAtEnd (inputs.left then))
@@ -62,7 +70,7 @@ module _ {I S : Type 0} (inputs : SourceMeanings I) (stations : StationMeanings 
     took = run.left ∙ ap (λ (l : Option (List ℕ)). and_left (concat run.served ++ framing.rest) l) same;
     some = some;
     few = few;
-    plain = subst (λ (l : List (List ℕ)). ArePlain product l) (sym firsts) run.plain;
+    are_served = subst (λ (l : List (List ℕ)). AreServed product l) (sym firsts) run.are_served;
     sent = subst (λ (l : List (List ℕ)). ReportsSent stations product how before after l) (sym firsts) sent;
     ends = ends;
   }
@@ -98,15 +106,14 @@ module _ {I S : Type 0} (inputs : SourceMeanings I) (stations : StationMeanings 
             all_rest ∙ ap rest_of nothing,
           ))
 
-      pub ran-truncated : length framing.rest ≢ 0 → BeginsWithNone framing.rest → (at : ℕ) → at ≡ framing.offset → ending ≡ ending_of status.Truncated at → Ran inputs stations product old then before after ending.status ending.at state.desk.messages
-      ran-truncated some_left begins at is ends =
+      pub ran-truncated : length framing.rest ≢ 0 → IsFrameFront framing.rest → (at : ℕ) → at ≡ framing.offset → ending ≡ ending_of status.Truncated at → Ran inputs stations product old then before after ending.status ending.at state.desk.messages
+      ran-truncated some_left front at is ends =
           subst (λ (e : Ending). Ran inputs stations product old then before after e.status e.at state.desk.messages) (sym (ends ∙ ap (ending_of status.Truncated) is))
           (ran-as then unread status.Truncated framing.offset run.sent (
             ended,
             place,
-            no_more none,
-            subst (λ (l : List ℕ). l ≢ []) (sym behind_it) (λ nothing. some_left (ap length nothing)),
-            subst (λ (l : List ℕ). BeginsWithNone l) (sym behind_it) begins,
+            all_count none,
+            ((λ nothing. some_left (ap length (sym (rest_is none) ∙ nothing))), subst (λ (l : List ℕ). IsFrameFront l) (sym (rest_is none)) front),
           ))
 
   pub ran-broken : messages_of framing.rest ≡ [] → (IsFrameFront framing.rest → ⊥) → (at : ℕ) → at ≡ framing.offset → (ending : Ending) → ending ≡ ending_of status.BadFrame at → Ran inputs stations product old now before after ending.status ending.at state.desk.messages
@@ -115,7 +122,7 @@ module _ {I S : Type 0} (inputs : SourceMeanings I) (stations : StationMeanings 
       ran-as now refl status.BadFrame framing.offset run.sent (
         place,
         no_more none,
-        inr (subst (λ (l : List ℕ). IsFrameFront l → ⊥) (sym behind_it) broken),
+        inr (all_count none, (λ front. broken (subst (λ (l : List ℕ). IsFrameFront l) (rest_is none) front))),
       ))
 
   module _ (next : Framing) (start end : ℕ) (given : GivesFrame framing next start end) where
@@ -125,15 +132,15 @@ module _ {I S : Type 0} (inputs : SourceMeanings I) (stations : StationMeanings 
     begins : (P : List ℕ → Type 0) → P given.frame → BeginsWith P (bytes_at framing.offset (concat run.served ++ framing.rest))
     begins P passes = record { frame = given.frame; more = next.rest; is_frame = given.is_frame; front = behind_it ∙ given.front; passes = passes }
 
-    pub ran-not_plain : IsFalse (is_plain product given.frame) → Ran inputs stations product old now before after status.BadFrame framing.offset state.desk.messages
-    ran-not_plain other = ran-as now refl status.BadFrame framing.offset run.sent (
+    pub ran-unserved : IsFalse (is_served_frame product given.frame) → Ran inputs stations product old now before after status.BadFrame framing.offset state.desk.messages
+    ran-unserved other = ran-as now refl status.BadFrame framing.offset run.sent (
       place,
-      run.count ∙ ap (λ (l : List (List ℕ)). length l) (sym (ap (λ (l : List (List ℕ)). take_while (is_plain product) l) all_messages ∙ front-other product run.served (messages_of framing.rest) given.frame (messages_of next.rest) run.plain next_message other ∙ append-nil run.served)),
-      inl (begins (λ (frame : List ℕ). IsFalse (is_plain product frame)) other),
+      run.count ∙ ap (λ (l : List (List ℕ)). length l) (sym (ap (λ (l : List (List ℕ)). take_while (is_served_frame product) l) all_messages ∙ front-other product run.served (messages_of framing.rest) given.frame (messages_of next.rest) run.are_served next_message other ∙ append-nil run.served)),
+      inl (begins (λ (frame : List ℕ). IsFalse (is_served_frame product frame)) other),
     )
 
-    pub ran-full : 10000 ≤ state.desk.messages → IsTrue (is_plain product given.frame) → Ran inputs stations product old now before after status.JournalFull framing.offset state.desk.messages
-    ran-full many one = ran-as now refl status.JournalFull framing.offset run.sent (omega (arith, few, many), place, begins (λ (frame : List ℕ). IsTrue (is_plain product frame)) one)
+    pub ran-full : 10000 ≤ state.desk.messages → IsTrue (is_served_frame product given.frame) → Ran inputs stations product old now before after status.JournalFull framing.offset state.desk.messages
+    ran-full many one = ran-as now refl status.JournalFull framing.offset run.sent (omega (arith, few, many), place, begins (λ (frame : List ℕ). IsTrue (is_served_frame product frame)) one)
 
     -- a send has failed, in the midst of the reports of one message more
     pub ran-send_fault : (then : S) (state' : State) → ServesFrame stations product state state' after then given.frame (Err status.SendFault) → Ran inputs stations product old now before then status.SendFault 0 state'.desk.messages
@@ -157,7 +164,7 @@ module _ {I S : Type 0} (inputs : SourceMeanings I) (stations : StationMeanings 
           took = run.left;
           some = omega (arith, count, ap (λ (l : List (List ℕ)). length l) messages, length-append all (messages_of next.rest));
           few = omega (arith, did.0, did.1);
-          plain = subst (λ (l : List (List ℕ)). ArePlain product l) (sym first) (plain-push product run.served frame run.plain did.2);
+          are_served = subst (λ (l : List (List ℕ)). AreServed product l) (sym first) (served-push product run.served frame run.are_served did.2);
           sent = subst (λ (l : List (List ℕ)). TellsPrefix (stations.sent then) (sent_and (stations.sent before) (reports_of product l))) (sym first) sent;
           ends = tt;
         }
@@ -168,13 +175,14 @@ module _ {I S : Type 0} (inputs : SourceMeanings I) (stations : StationMeanings 
     ran-with status.SendFault then state' did = ran-send_fault then state' did
     ran-with status.BadFrame then state' did =
         subst (λ (t : S). Ran inputs stations product old now before t status.BadFrame framing.offset state'.desk.messages) (sym did.1)
-        (subst (λ (s : State). Ran inputs stations product old now before after status.BadFrame framing.offset s.desk.messages) (sym did.0) (ran-not_plain (ap is_some did.2)))
+        (subst (λ (s : State). Ran inputs stations product old now before after status.BadFrame framing.offset s.desk.messages) (sym did.0) (ran-unserved did.2))
     ran-with status.JournalFull then state' did =
         subst (λ (t : S). Ran inputs stations product old now before t status.JournalFull framing.offset state'.desk.messages) (sym did.1)
         (subst (λ (s : State). Ran inputs stations product old now before after status.JournalFull framing.offset s.desk.messages) (sym did.0) (ran-full did.2 did.3))
     ran-with status.Ok then state' did = absurd did
     ran-with status.NoMemory then state' did = absurd did
     ran-with status.BadWords then state' did = absurd did
+    ran-with status.Product then state' did = absurd did
     ran-with status.ReadFault then state' did = absurd did
     ran-with status.Truncated then state' did = absurd did
 

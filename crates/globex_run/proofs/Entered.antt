@@ -9,10 +9,10 @@ use Rattle.gx_base.specs.declared.event.Head.{Head}
 use Rattle.gx_base.specs.declared.event.Event.{Event}
 use Rattle.gx_base.specs.declared.event.Event.TheVariants.{Accepted}
 use Rattle.gx_base.specs.declared.event.StepName.TheVariants.{Fifo}
-use Rattle.globex_run.specs.declared.request.NewOrder.{NewOrder}
+use Rattle.fix_request.specs.declared.request.NewOrder.{NewOrder}
 use Rattle.globex_run.specs.Book.{placed}
 use Rattle.globex_run.specs.Match.{Moment, trade, give, facing, first_order, head_gives, fifo_rounds, facing_best, match_best, sweep_rounds, sweep, next_head, reported}
-use Rattle.globex_run.specs.Step.{rested, order_of, taker_of, new_of}
+use Rattle.globex_run.specs.NewOrders.{rested, order_of, taker_of, new_of}
 use Rattle.globex_run.specs.Fit.{IsRight, IsIncoming, HasRoom, IsNow, IsState, state_of, moment_of}
 use Rattle.globex_run.proofs.Rooms.{room-reported}
 use Rattle.globex_run.proofs.Kept.{right-later, right-placed}
@@ -81,18 +81,18 @@ abbrev counted : Desk → Desk
 counted desk = record desk { orders = desk.orders + 1 }
 
 abbrev pub taker_with : NewOrder → Order → Taker
-taker_with new order = record { order = order; time = new.time; range = None }
+taker_with new order = record { order = order; time = new.sender.time; range = None }
 
 -- the order, the head of its report, and the counters after it
 pub record IsAccepted (new : NewOrder) (old desk : Desk) (order : Order) (head : Head) : Type 0 where
   pub is_order : order ≡ order_of new (old.orders + 1)
-  pub is_head : head ≡ next_head (counted old) new.firm new.time
-  pub is_desk : desk ≡ reported (counted old) new.firm
+  pub is_head : head ≡ next_head (counted old) new.sender.firm new.sender.time
+  pub is_desk : desk ≡ reported (counted old) new.sender.firm
 
 pub accepted-room : (new : NewOrder) (old desk : Desk) (order : Order) (head : Head) → IsAccepted new old desk order head → (bound : ℕ) → HasRoom old (new.quantity + 1) bound → HasRoom desk order.leaves bound
 accepted-room new old desk order head is bound room =
     subst (λ (d : Desk). HasRoom d order.leaves bound) (sym is.is_desk)
-    (subst (λ (o : Order). HasRoom (reported (counted old) new.firm) o.leaves bound) (sym is.is_order) (room-reported old (old.orders + 1) new.firm new.quantity bound room))
+    (subst (λ (o : Order). HasRoom (reported (counted old) new.sender.firm) o.leaves bound) (sym is.is_order) (room-reported old (old.orders + 1) new.sender.firm new.quantity bound room))
 
 module _ (new : NewOrder) (orders : List Order) (old desk : Desk) (order : Order) (head : Head) (is : IsAccepted new old desk order head) where
   abbrev swept : Moment
@@ -102,9 +102,9 @@ module _ (new : NewOrder) (orders : List Order) (old desk : Desk) (order : Order
   entered-as =
       let whole = λ (h : Head) (o : Order) (d : Desk). rested (with_events (Accepted h o ∷ []) (sweep (moment_of orders d (taker_with new o)))) in
       ap (λ (h : Head). whole h order desk) is.is_head
-      ∙ ap (λ (o : Order). whole (next_head (counted old) new.firm new.time) o desk) is.is_order
-      ∙ ap (λ (d : Desk). whole (next_head (counted old) new.firm new.time) (order_of new (old.orders + 1)) d) is.is_desk
-      ∙ ap rested (sym (sweep-events (Accepted (next_head (counted old) new.firm new.time) (order_of new (old.orders + 1)) ∷ []) (moment_of orders (reported (counted old) new.firm) (taker_of new (old.orders + 1)))))
+      ∙ ap (λ (o : Order). whole (next_head (counted old) new.sender.firm new.sender.time) o desk) is.is_order
+      ∙ ap (λ (d : Desk). whole (next_head (counted old) new.sender.firm new.sender.time) (order_of new (old.orders + 1)) d) is.is_desk
+      ∙ ap rested (sym (sweep-events (Accepted (next_head (counted old) new.sender.firm new.sender.time) (order_of new (old.orders + 1)) ∷ []) (moment_of orders (reported (counted old) new.sender.firm) (taker_of new (old.orders + 1)))))
 
   module _ (resting : List Order) (counters : Desk) (taker : Taker) (now : IsNow swept resting counters taker) where
     swept-orders : counters.orders ≡ old.orders + 1

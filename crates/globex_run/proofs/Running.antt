@@ -9,12 +9,13 @@ use Rattle.gx_station.specs.Sources.{SourceMeanings, and_left}
 use Rattle.gx_station.specs.Stations.{StationMeanings, sent_and}
 use Rattle.fix_frame.specs.Framing.{Framing, GivesFrame, given_bytes}
 use Rattle.fix_frame.specs.Stream.{messages_of, rest_of}
-use Rattle.globex_run.specs.Products.{ProductLists}
+use Rattle.product_file.specs.Products.{ProductLists}
 use Rattle.globex_run.specs.State.{State, empty_state}
 use Rattle.globex_run.specs.Step.{step_of, state_after, events_from, reports_of, lines_of}
 use Rattle.globex_run.specs.Serving.{TakesMore, ServesFrame, IsEmptyFramer}
-use Rattle.globex_run.specs.Served.{is_plain, ArePlain, IsServed}
-use Rattle.globex_run.proofs.Sent.{sent_and-append, sent_and_none}
+use Rattle.globex_run.specs.ServedRequests.{is_served_frame}
+use Rattle.globex_run.specs.Served.{AreServed, IsServed}
+use Rattle.exec_report.proofs.Sent.{sent_and-append, sent_and_none}
 
 -- ---- lists of frames
 
@@ -22,9 +23,9 @@ pub concat-push : (frames : List (List ℕ)) (frame : List ℕ) → concat (fram
 concat-push [] frame = append-nil frame
 concat-push (f ∷ frames) frame = ap (λ (l : List ℕ). f ++ l) (concat-push frames frame) ∙ sym (append_assoc f (concat frames) frame)
 
-pub plain-push : (product : ProductLists) (frames : List (List ℕ)) (frame : List ℕ) → ArePlain product frames → IsTrue (is_plain product frame) → ArePlain product (frames ++ frame ∷ [])
-plain-push product [] frame all one = (one, tt)
-plain-push product (f ∷ frames) frame all one = (all.0, plain-push product frames frame all.1 one)
+pub served-push : (product : ProductLists) (frames : List (List ℕ)) (frame : List ℕ) → AreServed product frames → IsTrue (is_served_frame product frame) → AreServed product (frames ++ frame ∷ [])
+served-push product [] frame all one = (one, tt)
+served-push product (f ∷ frames) frame all one = (all.0, served-push product frames frame all.1 one)
 
 -- one message more
 state-push : (product : ProductLists) (state : State) (frames : List (List ℕ)) (frame : List ℕ) → state_after product state (frames ++ frame ∷ []) ≡ (step_of product (state_after product state frames) frame).0
@@ -42,7 +43,7 @@ reports-push product frames frame =
     ap (λ (l : List Event). lines_of product l) (events-push product empty_state frames frame)
     ∙ flat_map-append (line_of product.names) (events_from product empty_state frames) (step_of product (state_after product empty_state frames) frame).1
 
-and_left-then : (bytes more : List ℕ) (left : Option (List ℕ)) → and_left bytes (and_left more left) ≡ and_left (bytes ++ more) left
+pub and_left-then : (bytes more : List ℕ) (left : Option (List ℕ)) → and_left bytes (and_left more left) ≡ and_left (bytes ++ more) left
 and_left-then bytes more None = refl
 and_left-then bytes more (Some rest) = ap Some (sym (append_assoc bytes more rest))
 
@@ -57,7 +58,7 @@ module _ {I S : Type 0} (inputs : SourceMeanings I) (stations : StationMeanings 
   pub served-first : (framing : Framing) (state : State) → IsEmptyFramer framing → state ≡ empty_state → Run old before framing state
   served-first framing state empty start = record {
     served = [];
-    plain = tt;
+    are_served = tt;
     left = subst (λ (l : List ℕ). inputs.left old ≡ and_left l (inputs.left old)) (sym empty.rest) (and_left-none (inputs.left old));
     messages = λ more. refl;
     behind = λ more. refl;
@@ -80,7 +81,7 @@ module _ {I S : Type 0} (inputs : SourceMeanings I) (stations : StationMeanings 
       let stepped : step_of product state frame ≡ step_of product (state_after product empty_state run.served) frame = ap (λ (s : State). step_of product s frame) run.is_state in
       record {
         served = all;
-        plain = plain-push product run.served frame run.plain did.3;
+        are_served = served-push product run.served frame run.are_served did.3;
         left = run.left ∙ ap (λ (l : List ℕ). and_left l (inputs.left now)) (sym bytes);
         messages = λ more.
             ap (λ (l : List ℕ). messages_of (l ++ more)) bytes ∙ run.messages more ∙ ap (λ (l : List (List ℕ)). run.served ++ l) (given.message more) ∙ sym (append_assoc run.served (frame ∷ []) (messages_of (next.rest ++ more)));
@@ -118,7 +119,7 @@ module _ {I S : Type 0} (inputs : SourceMeanings I) (stations : StationMeanings 
       λ more. sym (ap (λ (l : List ℕ). l ++ more) takes.rest ∙ append_assoc framing.rest takes.taken more) in
       record {
         served = run.served;
-        plain = run.plain;
+        are_served = run.are_served;
         left = run.left ∙ ap (λ (l : Option (List ℕ)). and_left (concat run.served ++ framing.rest) l) takes.left ∙ and_left-then (concat run.served ++ framing.rest) takes.taken (inputs.left then) ∙ ap (λ (l : List ℕ). and_left l (inputs.left then)) (sym bytes);
         messages = λ more. ap messages_of (further more) ∙ run.messages (takes.taken ++ more) ∙ ap (λ (l : List ℕ). run.served ++ messages_of l) (held more);
         behind = λ more. ap rest_of (further more) ∙ run.behind (takes.taken ++ more) ∙ ap rest_of (held more);
@@ -129,3 +130,9 @@ module _ {I S : Type 0} (inputs : SourceMeanings I) (stations : StationMeanings 
         reads = same ∙ run.reads;
         sends = run.sends;
       }
+
+  -- the same, behind an answer that left the framer as it was
+  pub served-read : {F : Type 0} (now then : I) (after : S) (framing same next : Framing) (state : State) (result : Result ℕ F) → same ≡ framing → Run now after framing state
+      → TakesMore inputs now then same next result → inputs.faults then ≡ inputs.faults now → Run then after next state
+  served-read now then after framing same next state result is run takes quiet =
+      served-taken now then after same next state result (subst (λ (f : Framing). Run now after f state) (sym is) run) takes quiet

@@ -1,7 +1,8 @@
 //! The resting orders, as one flat list in book order.
-ghost use Rattle.std.specs.Prelude.{◌≡◌, ◌≢◌, ◌==◌, ◌&&◌, bytes_eq, ◌≤◌, ◌<◌, ◌+◌, List, length, IfSome, insert, vec_len, vec_capacity};
+ghost use Rattle.std.specs.Prelude.{◌≡◌, ◌≢◌, ◌≤◌, ◌<◌, ◌+◌, List, length, IfSome, insert, vec_len, vec_capacity};
 ghost use Rattle.std.specs.Ordering.{int_eq};
-ghost use Rattle.globex_run.specs.Book.{is_side, opposite, is_better, is_before, is_on, is_at, best_of, level_of, is_live, put_in, placed};
+ghost use Rattle.globex_run.specs.Book.{is_side, opposite, is_better, is_before, is_on, is_at, best_of, level_of, is_named, is_live, put_in, placed};
+ghost use Rattle.globex_run.specs.Cancels.{live_order};
 ghost use Rattle.globex_run.specs.Match.{first_order, settled, without, with_order};
 ghost use Rattle.globex_run.specs.Fit.{IsResting, AllRest, InBookOrder};
 
@@ -81,7 +82,7 @@ pub fn head_at(orders: &[Order], instrument: u8, side: Side, price: Price) -> Op
 }
 
 fn is_named(order: &Order, firm: u8, id: &ShortId) -> bool
-    ensures { result ≡ ((order.now.firm == firm) && bytes_eq order.now.id id.now) }
+    ensures { result ≡ is_named firm id.now order.now }
 {
     order.firm == firm && order.id.bytes() == id.bytes()
 }
@@ -96,6 +97,18 @@ pub fn has_id(orders: &[Order], firm: u8, id: &ShortId) -> bool
         }
     }
     false
+}
+
+/// The live order of the firm with this id. `None` exactly where there is none.
+pub fn find_order(orders: &[Order], firm: u8, id: &ShortId) -> Option<Order>
+    ensures { result ≡ live_order firm id.now orders.now }
+{
+    for order in orders {
+        if is_named(order, firm, id) {
+            return Some(*order);
+        }
+    }
+    None
 }
 
 /// Whether the instrument, side and price of a come before those of b.
@@ -144,7 +157,7 @@ pub fn place(orders: &mut Vec<Order>, order: Order)
 }
 
 /// Takes the orders with this number out of the list.
-fn remove(orders: &mut Vec<Order>, number: u64)
+pub fn remove(orders: &mut Vec<Order>, number: u64)
     ensures removed { orders.new.items ≡ without number orders.old.items }
     ensures fewer { vec_len orders.new ≤ vec_len orders.old }
     ensures capacity { vec_capacity orders.new ≡ vec_capacity orders.old }

@@ -1,18 +1,21 @@
 //! The engine: the resting orders and the counters, and what each message does to them.
-ghost use Rattle.std.specs.Prelude.{◌≡◌, ◌+◌, ◌<◌, ◌≤◌, IfOk};
+ghost use Rattle.std.specs.Prelude.{◌≡◌, ◌+◌, ◌<◌, ◌≤◌, IsTrue, IfOk, length, vec_capacity};
 ghost use Rattle.gx_base.specs.Emits.{Emits};
+ghost use Rattle.fix_request.specs.Given.{IsGivenRequest};
 ghost use Rattle.globex_run.specs.State.{empty_state};
-ghost use Rattle.globex_run.specs.Step.{with_message, new_step};
-ghost use Rattle.globex_run.specs.Fit.{IsOrder};
+ghost use Rattle.globex_run.specs.ServedRequests.{is_served};
+ghost use Rattle.globex_run.specs.Step.{with_message, request_step};
+ghost use Rattle.globex_run.specs.Fit.{IsState, IsCounting, IsServing, state_of};
 
-use crate::book::has_id;
-use crate::entry::{enter_new, refuse_new};
-use crate::request::NewOrder;
-use gx_base::{Desk, Emit, NewFault, Order};
+use crate::cancel::{apply_cancel, refuse_message};
+use crate::entry::apply_new;
+use fix_request::Request;
+use gx_base::{Desk, Emit, Order};
+use product_file::Product;
 use std::alloc::{AllocError, Global};
 use std::marker::Model;
 
-/// How many messages are served in one run, for now. Each makes at most one order rest, so the book is never full.
+/// How many messages are served in one run, for now. Each makes at most one order rest, so there is always room for it.
 pub const MESSAGE_LIMIT: u64 = 10_000;
 
 /// The state of the engine. Contracts see it as the list of resting orders and the counters.
@@ -60,20 +63,42 @@ impl Engine {
         self.desk.messages
     }
 
-    /// Applies a message with a new order, and puts its events. It is refused where a live order of its firm has its id,
-    /// and else accepted.
-    pub fn apply<E: Emit>(&mut self, new: &NewOrder, out: &mut E)
+    /// Applies a message that is served, and puts its events.
+    pub fn apply<E: Emit>(&mut self, product: &Product, request: &Request, out: &mut E)
         requires few { self.old.desk.messages < 10000 }
-        requires order { IsOrder new.now }
-        ensures state { self.new ≡ (new_step new.now (with_message self.old)).0 }
-        ensures told { Emits E.meanings out.old out.new (new_step new.now (with_message self.old)).1 }
+        requires given { IsGivenRequest product.now request.now }
+        requires served { IsTrue (is_served request.now) }
+        ensures state { self.new ≡ (request_step product.now request.now (with_message self.old)).0 }
+        ensures told { Emits E.meanings out.old out.new (request_step product.now request.now (with_message self.old)).1 }
         ensures count { self.new.desk.messages ≡ self.old.desk.messages + 1 }
     {
         self.desk.messages += 1;
-        if has_id(self.orders.as_slice(), new.firm, &new.id) {
-            refuse_new(&mut self.desk, new, NewFault::Duplicate, out);
-        } else {
-            enter_new(&mut self.orders, &mut self.desk, new, out);
-        }
+        apply_counted(&mut self.orders, &mut self.desk, product, request, out);
+    }
+}
+
+/// Applies a message that is counted already.
+fn apply_counted<E: Emit>(
+    orders: &mut Vec<Order>,
+    desk: &mut Desk,
+    product: &Product,
+    request: &Request,
+    out: &mut E,
+)
+    requires counting { IsCounting orders.old.items desk.old (vec_capacity orders.old) }
+    requires given { IsGivenRequest product.now request.now }
+    requires served { IsTrue (is_served request.now) }
+    ensures now { IsState (request_step product.now request.now (state_of orders.old.items desk.old)).0 orders.new.items desk.new }
+    ensures told { Emits E.meanings out.old out.new (request_step product.now request.now (state_of orders.old.items desk.old)).1 }
+    ensures serving { IsServing orders.new.items desk.new (vec_capacity orders.new) }
+    ensures count { desk.new.messages ≡ desk.old.messages }
+{
+    product.limits();
+    match request {
+        Request::New(new) => apply_new(orders, desk, product, new, out),
+        Request::Cancel(cancel) => apply_cancel(orders, desk, cancel, out),
+        Request::Refused(refusal) => refuse_message(desk, refusal, out),
+        Request::Passed(_) => {}
+        Request::Replace(_) => unreachable!(),
     }
 }

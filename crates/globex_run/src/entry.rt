@@ -1,14 +1,71 @@
-//! New orders: accepted, reported and entered, or refused.
-ghost use Rattle.std.specs.Prelude.{◌≡◌, ◌+◌, ◌<◌, ◌≤◌, ℕ, [], ◌∷◌, vec_len, vec_capacity};
+//! New orders: refused, or accepted, reported and entered.
+ghost use Rattle.std.specs.Prelude.{◌≡◌, ◌+◌, ◌<◌, ◌≤◌, ℕ, [], ◌∷◌, length, vec_len, vec_capacity};
 ghost use Rattle.gx_base.specs.Emits.{Emits};
-ghost use Rattle.globex_run.specs.Step.{order_of, new_of, refused_of, refusal};
+ghost use Rattle.fix_request.specs.Given.{IsListed};
+ghost use Rattle.globex_run.specs.NewOrders.{instrument_number, price_in, is_quantity, new_fault, order_of, new_of, new_step, refused_of, refusal};
 ghost use Rattle.globex_run.specs.Match.{reported};
-ghost use Rattle.globex_run.specs.Fit.{IsRight, HasRoom, IsState, state_of, IsOrder, counter_limit};
+ghost use Rattle.globex_run.specs.Fit.{IsRight, HasRoom, IsState, IsCounting, IsServing, state_of, IsOrder, counter_limit};
 
-use crate::book::place;
+use crate::book::{has_id, place};
 use crate::matching::{count_report, match_all};
-use crate::request::NewOrder;
-use gx_base::{Desk, Emit, Event, Kind, Life, NewFault, NewRefused, Order, Price, Taker};
+use crate::ticks::{is_off_tick, tick_of};
+use fix_request::{Named, NewOrder, Px};
+use gx_base::{Desk, Emit, Event, NewFault, NewRefused, Order, Price, Taker};
+use product_file::Product;
+
+/// The greatest quantity of an order, in lots.
+const MOST_LOTS: u32 = 999_999;
+
+/// Whether this is a quantity that an order may have: 1 to 999,999 lots.
+fn is_quantity(lots: u32) -> bool
+    ensures { result ≡ is_quantity lots }
+{
+    1 <= lots && lots <= MOST_LOTS
+}
+
+/// The first rule that refuses a new order, in the order of `NewFault`.
+fn fault_of(orders: &[Order], product: &Product, new: &NewOrder) -> Option<NewFault>
+    requires { IsListed product.now.names new.now.named }
+    ensures { result ≡ new_fault product.now new.now orders.now }
+{
+    let Named::Known(instrument) = new.named else {
+        return Some(NewFault::Symbol);
+    };
+    if has_id(orders, new.sender.firm, &new.id) {
+        return Some(NewFault::Duplicate);
+    }
+    if !is_quantity(new.quantity) {
+        return Some(NewFault::Quantity);
+    }
+    let tick = tick_of(product, instrument);
+    if is_off_tick(tick, new.price) || is_off_tick(tick, new.trigger) {
+        return Some(NewFault::Tick);
+    }
+    if orders.len() == product.max_orders() as usize {
+        return Some(NewFault::BookFull);
+    }
+    None
+}
+
+/// The number of the instrument, 0 where there is none.
+fn instrument_number(named: Named) -> u8
+    ensures { result ≡ instrument_number named }
+{
+    match named {
+        Named::Known(number) => number,
+        Named::Unknown => 0,
+    }
+}
+
+/// The price, 0 where there is none.
+fn price_in(px: Px) -> Price
+    ensures { result ≡ price_in px }
+{
+    match px {
+        Px::At(price) => price,
+        Px::Absent | Px::Between => Price(0),
+    }
+}
 
 /// The order that a message asks for, with its number.
 fn new_order(new: &NewOrder, number: u64) -> Order
@@ -16,20 +73,20 @@ fn new_order(new: &NewOrder, number: u64) -> Order
 {
     Order {
         number,
-        firm: new.firm,
-        instrument: new.instrument,
+        firm: new.sender.firm,
+        instrument: instrument_number(new.named),
         side: new.side,
         id: new.id,
-        kind: Kind::Limit,
-        price: new.price,
-        trigger: Price(0),
+        kind: new.kind,
+        price: price_in(new.price),
+        trigger: price_in(new.trigger),
         quantity: new.quantity,
         filled: 0,
         leaves: new.quantity,
-        show: 0,
+        show: new.show,
         shown: 0,
-        min: 0,
-        life: Life::Day,
+        min: new.min,
+        life: new.life,
         prorated: 0,
     }
 }
@@ -54,10 +111,10 @@ pub fn enter_new<E: Emit>(orders: &mut Vec<Order>, desk: &mut Desk, new: &NewOrd
     desk.orders += 1;
     let mut taker = Taker {
         order: new_order(new, desk.orders),
-        time: new.time,
+        time: new.sender.time,
         range: None,
     };
-    let head = count_report(desk, new.firm, new.time);
+    let head = count_report(desk, new.sender.firm, new.sender.time);
     out.put(&Event::Accepted {
         head,
         order: taker.order,
@@ -77,22 +134,45 @@ fn new_refused(new: &NewOrder) -> NewRefused
         symbol: new.symbol,
         side: new.side,
         quantity: new.quantity,
-        kind: Kind::Limit,
-        life: Life::Day,
+        kind: new.kind,
+        life: new.life,
     }
 }
 
 /// A new order is refused. Only its report is counted.
 pub fn refuse_new<E: Emit>(desk: &mut Desk, new: &NewOrder, fault: NewFault, out: &mut E)
-    requires firm { new.now.firm < 64 }
+    requires firm { new.now.sender.firm < 64 }
     requires room { HasRoom desk.old 1 counter_limit }
-    ensures desk { desk.new ≡ reported desk.old new.now.firm }
+    ensures desk { desk.new ≡ reported desk.old new.now.sender.firm }
     ensures told { Emits E.meanings out.old out.new (refusal fault new.now desk.old ∷ []) }
 {
-    let head = count_report(desk, new.firm, new.time);
+    let head = count_report(desk, new.sender.firm, new.sender.time);
     out.put(&Event::RefusedNew {
         head,
         order: new_refused(new),
         fault,
     });
+}
+
+/// A new order is refused by the first rule that holds, or else accepted.
+pub fn apply_new<E: Emit>(
+    orders: &mut Vec<Order>,
+    desk: &mut Desk,
+    product: &Product,
+    new: &NewOrder,
+    out: &mut E,
+)
+    requires counting { IsCounting orders.old.items desk.old (vec_capacity orders.old) }
+    requires firm { new.now.sender.firm < 64 }
+    requires named { IsListed product.now.names new.now.named }
+    requires no_display { new.now.show ≡ 0 }
+    ensures now { IsState (new_step product.now new.now (state_of orders.old.items desk.old)).0 orders.new.items desk.new }
+    ensures told { Emits E.meanings out.old out.new (new_step product.now new.now (state_of orders.old.items desk.old)).1 }
+    ensures serving { IsServing orders.new.items desk.new (vec_capacity orders.new) }
+    ensures count { desk.new.messages ≡ desk.old.messages }
+{
+    match fault_of(orders.as_slice(), product, new) {
+        Some(fault) => refuse_new(desk, new, fault, out),
+        None => enter_new(orders, desk, new, out),
+    }
 }

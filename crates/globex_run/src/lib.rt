@@ -2,21 +2,18 @@
 #![tactic(auto)]
 
 mod book;
-#[cfg(test)]
-mod book_tests;
+mod cancel;
 mod engine;
 mod entry;
 mod matching;
 mod outcome;
-mod outgoing;
-mod plain_texts;
-mod product;
-mod report_buffer;
-mod request;
+mod product_text;
 mod run;
 mod serve;
+mod served;
 #[cfg(test)]
 mod tests;
+mod ticks;
 mod words;
 
 pub use outcome::Outcome;

@@ -1,17 +1,17 @@
 //! The top call.
 ghost use Rattle.std.specs.Prelude.{◌≡◌, ◌≢◌, ◌↔◌, ◌⊎◌, IsTrue, IsFalse, IfOk};
 ghost use Rattle.gx_station.specs.Counts.{Rose};
-ghost use Rattle.globex_run.specs.Products.{the_product};
+ghost use Rattle.product_file.specs.Products.{ProductLists};
 ghost use Rattle.globex_run.specs.Words.{is_run};
-ghost use Rattle.globex_run.specs.Outcomes.{IsOutcome};
-ghost use Rattle.globex_run.specs.Ran.{RanTo, IsPlainInput, NoFault};
+ghost use Rattle.globex_run.specs.Outcomes.{is_outcome};
+ghost use Rattle.globex_run.specs.Ran.{RanTo, TellsProduct, IsServedInput, NoFault};
 
 use crate::engine::Engine;
 use crate::outcome::{Outcome, Status};
-use crate::product::Product;
-use crate::report_buffer::ReportBuffer;
+use crate::product_text::take_product;
 use crate::serve::serve;
 use crate::words::is_run;
+use exec_report::ReportBuffer;
 use fix_frame::Framer;
 use gx_station::{Source, Station};
 use std::alloc::{AllocError, Global};
@@ -44,13 +44,14 @@ impl Rooms {
     }
 }
 
-/// Runs the command of the words: `run` serves the input and sends the reports, each message applied and its reports
-/// sent before the next one. The product is constant for now, so `product` is not touched.
+/// Runs the command of the words: `run` takes the product, serves the input and sends the reports, each message applied
+/// and its reports sent before the next one.
 ///
 /// However the input is cut into reads, what is sent are the reports of the first messages of the bytes taken, of as
 /// many as `messages` says: all of these, or at a send fault a part from their front. `Outcome` lists the statuses.
 /// Memory is taken only before the first read of the input and the first send; want of it is status 1. The words are
-/// tried first: 2 comes exactly where they are not the one word `run`.
+/// tried first: 2 comes exactly where they are not the one word `run`. The product is tried next: 3 comes exactly where
+/// its text breaks a rule, or has a step that is not served.
 pub fn globex<P: Source, I: Source, S: Station>(
     alloc: Global,
     words: &[String],
@@ -58,38 +59,43 @@ pub fn globex<P: Source, I: Source, S: Station>(
     input: &mut I,
     station: &mut S,
 ) -> Outcome
-    ensures outcome { IsOutcome result }
+    ensures outcome { IsTrue (is_outcome result) }
 
     // The words alone decide on 2.
     ensures words { (result.status ≡ 2) ↔ IsFalse (is_run words.now) }
 
-    // What it took from the input, what it sent, and why it ended there, for all statuses but 1 and 2.
-    ensures ran { result.status ≢ 1 → result.status ≢ 2 → RanTo I.meanings S.meanings the_product input.old input.new station.old station.new result }
+    // What it took from the product's source and from the input, what it sent, and why it ended there, for all statuses
+    // but 1 and 2.
+    ensures ran { result.status ≢ 1 → result.status ≢ 2 → RanTo P.meanings I.meanings S.meanings product.old product.new input.old input.new station.old station.new result }
 
-    // An input of at most 10,000 plain order frames is served to its end where memory is given and no fault comes.
-    ensures all_served { IsTrue (is_run words.now) → IsPlainInput I.meanings the_product input.old → NoFault (I.meanings.faults input.old) (I.meanings.faults input.new) → NoFault (S.meanings.send_faults station.old) (S.meanings.send_faults station.new) → (result.status ≡ 0) ⊎ (result.status ≡ 1) }
+    // An input of at most 10,000 frames that are served is served to its end where memory is given and no fault comes.
+    ensures all_served { IsTrue (is_run words.now) → (lists : ProductLists) → TellsProduct P.meanings product.old lists → IsServedInput I.meanings lists input.old → NoFault (P.meanings.faults product.old) (P.meanings.faults product.new) → NoFault (I.meanings.faults input.old) (I.meanings.faults input.new) → NoFault (S.meanings.send_faults station.old) (S.meanings.send_faults station.new) → (result.status ≡ 0) ⊎ (result.status ≡ 1) }
 
-    // Want of memory, or words that are no command, leave all untouched.
-    ensures none { (result.status ≡ 1) ⊎ (result.status ≡ 2) → result.messages ≡ 0 }
-    ensures product { product.new ≡ product.old }
+    // Want of memory, words that are no command, or a product that is refused, leave the input and the station untouched.
+    ensures none { (result.status ≡ 1) ⊎ ((result.status ≡ 2) ⊎ (result.status ≡ 3)) → result.messages ≡ 0 }
     ensures no_memory { result.status ≡ 1 → (input.new ≡ input.old) × (station.new ≡ station.old) }
-    ensures bad_words { result.status ≡ 2 → (input.new ≡ input.old) × (station.new ≡ station.old) }
+    ensures bad_words { result.status ≡ 2 → (product.new ≡ product.old) × (input.new ≡ input.old) × (station.new ≡ station.old) }
+    ensures bad_product { result.status ≡ 3 → (input.new ≡ input.old) × (station.new ≡ station.old) }
 
     // A fault of the outside is answered only where its count rose, and else no count does.
-    ensures read_fault { result.status ≡ 4 → Rose (I.meanings.faults input.old) (I.meanings.faults input.new) }
+    ensures read_fault { result.status ≡ 4 → Rose (P.meanings.faults product.old) (P.meanings.faults product.new) ⊎ Rose (I.meanings.faults input.old) (I.meanings.faults input.new) }
     ensures send_fault { result.status ≡ 6 → Rose (S.meanings.send_faults station.old) (S.meanings.send_faults station.new) }
+    ensures no_product_fault { result.status ≢ 4 → P.meanings.faults product.new ≡ P.meanings.faults product.old }
     ensures no_read_fault { result.status ≢ 4 → I.meanings.faults input.new ≡ I.meanings.faults input.old }
     ensures no_send_fault { result.status ≢ 6 → S.meanings.send_faults station.new ≡ S.meanings.send_faults station.old }
 {
-    let _ = product;
     if !is_run(words) {
         return Status::BadWords.outcome(0, 0);
     }
+    let product = match take_product(alloc, product) {
+        Ok(product) => product,
+        Err(ending) => return ending.status.outcome(ending.at, 0),
+    };
     let Ok(mut rooms) = Rooms::new(alloc) else {
         return Status::NoMemory.outcome(0, 0);
     };
     let ending = serve(
-        &Product::constant(),
+        &product,
         &mut rooms.engine,
         &mut rooms.framer,
         &mut rooms.chunk,

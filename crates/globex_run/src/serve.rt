@@ -1,9 +1,10 @@
 //! Serving the input: frames in, reports out, one message after the other.
-ghost use Rattle.std.specs.Prelude.{◌≡◌, ◌≢◌, ◌+◌, ◌*◌, ◌^◌, ◌<◌, ◌≤◌, [], OnOk, IfErr, IsOk, vec_len, length};
+ghost use Rattle.std.specs.Prelude.{◌≡◌, ◌≢◌, ◌+◌, ◌*◌, ◌^◌, ◌<◌, ◌≤◌, [], OnOk, IsTrue, vec_len, length};
 ghost use Rattle.gx_station.specs.Stations.{Sends};
 ghost use Rattle.fix_frame.specs.Grammar.{IsFrame};
-ghost use Rattle.globex_run.specs.Step.{with_message, new_step, lines_of};
-ghost use Rattle.globex_run.specs.Fit.{IsOrder};
+ghost use Rattle.fix_request.specs.Given.{IsGivenRequest};
+ghost use Rattle.globex_run.specs.ServedRequests.{is_served};
+ghost use Rattle.globex_run.specs.Step.{with_message, request_step, lines_of};
 ghost use Rattle.globex_run.specs.State.{empty_state};
 ghost use Rattle.globex_run.specs.Outcomes.{place_of};
 ghost use Rattle.globex_run.specs.Ran.{Ran};
@@ -11,12 +12,12 @@ ghost use Rattle.globex_run.specs.Serving.{TakesMore, CausedBy, ServesFrame, End
 
 use crate::engine::{Engine, MESSAGE_LIMIT};
 use crate::outcome::Status;
-use crate::outgoing::{Outgoing, SendFault};
-use crate::product::Product;
-use crate::report_buffer::ReportBuffer;
-use crate::request::{NewOrder, plain_order_of};
+use crate::served::is_served;
+use exec_report::{Outgoing, ReportBuffer, SendFault};
 use fix_frame::{Framer, Next};
+use fix_request::{Request, read_request};
 use gx_station::{Failed, Source, Station};
+use product_file::Product;
 
 /// Why serving ended, and the place that the status speaks of.
 #[derive(Clone, Copy, Debug, PartialEq, Eq)]
@@ -29,7 +30,7 @@ impl Ending {
     ghost use Rattle.globex_run.specs.Endings.{ending_of};
 
     /// The ending with this status. Only some statuses have a place.
-    fn new(status: Status, at: u64) -> Ending
+    pub fn new(status: Status, at: u64) -> Ending
         ensures { result ≡ ending_of status at }
     {
         match status {
@@ -42,23 +43,24 @@ impl Ending {
 }
 
 /// Applies a message, and sends its reports.
-fn serve_order<S: Station>(
+fn serve_request<S: Station>(
     product: &Product,
     engine: &mut Engine,
     buffer: &mut ReportBuffer,
     station: &mut S,
-    new: &NewOrder,
+    request: &Request,
 ) -> Result<(), SendFault>
     requires few { engine.old.desk.messages < 10000 }
-    requires order { IsOrder new.now }
+    requires given { IsGivenRequest product.now request.now }
+    requires served { IsTrue (is_served request.now) }
     requires empty { buffer.old ≡ [] }
-    ensures state { engine.new ≡ (new_step new.now (with_message engine.old)).0 }
+    ensures state { engine.new ≡ (request_step product.now request.now (with_message engine.old)).0 }
     ensures count { engine.new.desk.messages ≡ engine.old.desk.messages + 1 }
-    ensures sends { Sends S.meanings station.old station.new (lines_of product.now (new_step new.now (with_message engine.old)).1) result }
+    ensures sends { Sends S.meanings station.old station.new (lines_of product.now (request_step product.now request.now (with_message engine.old)).1) result }
     ensures empty { OnOk result (buffer.new ≡ []) }
 {
     let mut out = Outgoing::new(buffer, station, product.names());
-    engine.apply(new, &mut out);
+    engine.apply(product, request, &mut out);
     out.flush()
 }
 
@@ -92,13 +94,14 @@ fn serve_frame<S: Station>(
     ensures served { ServesFrame S.meanings product.now engine.old engine.new station.old station.new frame.now result }
     ensures empty { OnOk result (buffer.new ≡ []) }
 {
-    let Some(new) = plain_order_of(frame, product) else {
+    let request = read_request(frame, product);
+    if !is_served(&request) {
         return Err(Status::BadFrame);
-    };
+    }
     if engine.messages() == MESSAGE_LIMIT {
         return Err(Status::JournalFull);
     }
-    if serve_order(product, engine, buffer, station, &new).is_err() {
+    if serve_request(product, engine, buffer, station, &request).is_err() {
         return Err(Status::SendFault);
     }
     Ok(())

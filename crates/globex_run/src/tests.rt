@@ -1,4 +1,10 @@
 //! Runs over a source and a station in memory.
+mod books;
+mod orders;
+mod products;
+mod refusals;
+mod runs;
+
 ghost use Rattle.std.specs.Prelude.{◌≤◌};
 ghost use Rattle.std.specs.List.{AllByRecursion};
 
@@ -8,22 +14,42 @@ use std::alloc::{AllocError, Global};
 use std::process::Abort;
 use std::test::Fail;
 
-const ORDERS: &str =
-    "8=FIX.4.2|9=89|35=D|49=AAA|56=GX|34=1|52=20240102-09:30:00|11=a1|55=ESZ4|54=2|38=10|40=2|44=100.00|59=0|10=210|8=FIX.4.2|9=88|35=D|49=BBB|56=GX|34=1|52=20240102-09:30:01|11=b1|55=ESZ4|54=1|38=4|40=2|44=100.00|59=0|10=168|";
+/// One instrument, whose orders match by FIFO.
+const PRODUCT: &str = r#"exchange = "GX"
+firms = ["AAA", "BBB", "CCC", "DDD"]
 
-const REPORTS: &str =
-    "8=FIX.4.2|9=159|35=8|34=1|49=GX|52=20240102-09:30:00|56=AAA|37=1|11=a1|17=1|20=0|150=0|39=0|55=ESZ4|54=2|38=10|40=2|44=100.00|59=0|151=10|14=0|6=0|60=20240102-09:30:00|9003=0|10=053|8=FIX.4.2|9=157|35=8|34=1|49=GX|52=20240102-09:30:01|56=BBB|37=2|11=b1|17=2|20=0|150=0|39=0|55=ESZ4|54=1|38=4|40=2|44=100.00|59=0|151=4|14=0|6=0|60=20240102-09:30:01|9003=0|10=224|8=FIX.4.2|9=190|35=8|34=2|49=GX|52=20240102-09:30:01|56=AAA|37=1|11=a1|17=3|20=0|150=1|39=1|55=ESZ4|54=2|38=10|40=2|44=100.00|59=0|32=4|31=100.00|151=6|14=4|6=0|60=20240102-09:30:01|9001=FIFO|9002=1|9003=0|10=014|8=FIX.4.2|9=189|35=8|34=2|49=GX|52=20240102-09:30:01|56=BBB|37=2|11=b1|17=4|20=0|150=2|39=2|55=ESZ4|54=1|38=4|40=2|44=100.00|59=0|32=4|31=100.00|151=0|14=4|6=0|60=20240102-09:30:01|9001=FIFO|9002=1|9003=0|10=234|";
+[[instrument]]
+name = "ESZ4"
+decimals = 2
+tick = 1
+protection = 2
+algorithm = "F"
+"#;
 
-const ORDER: &str =
-    "8=FIX.4.2|9=89|35=D|49=AAA|56=GX|34=1|52=20240102-09:30:00|11=a1|55=ESZ4|54=2|38=10|40=2|44=100.00|59=0|10=210|";
+/// The same with room for two live orders.
+const SMALL_PRODUCT: &str = r#"exchange = "GX"
+firms = ["AAA", "BBB", "CCC", "DDD"]
+max_orders = 2
 
-const HEARTBEAT: &str = "8=FIX.4.2|9=49|35=0|49=AAA|56=GX|34=1|52=20240102-09:30:00|58=x|10=133|";
+[[instrument]]
+name = "ESZ4"
+decimals = 2
+tick = 1
+protection = 2
+algorithm = "F"
+"#;
 
-const ACCEPTED: &str =
-    "8=FIX.4.2|9=159|35=8|34=1|49=GX|52=20240102-09:30:00|56=AAA|37=1|11=a1|17=1|20=0|150=0|39=0|55=ESZ4|54=2|38=10|40=2|44=100.00|59=0|151=10|14=0|6=0|60=20240102-09:30:00|9003=0|10=053|";
+/// The same with prices in steps of 0.25.
+const WIDE_TICK_PRODUCT: &str = r#"exchange = "GX"
+firms = ["AAA", "BBB", "CCC", "DDD"]
 
-const DUPLICATE: &str =
-    "8=FIX.4.2|9=168|35=8|34=2|49=GX|52=20240102-09:30:00|56=AAA|37=0|11=a1|17=2|20=0|150=8|39=8|103=6|55=ESZ4|54=2|38=10|40=2|59=0|151=0|14=0|6=0|60=20240102-09:30:00|58=DUPLICATE|9003=10|10=207|";
+[[instrument]]
+name = "ESZ4"
+decimals = 2
+tick = 25
+protection = 2
+algorithm = "F"
+"#;
 
 /// The bytes of a text in which `|` stands for SOH.
 fn bytes_of(alloc: Global, text: &str) -> Result<Vec<u8>, AllocError> {
@@ -33,23 +59,50 @@ fn bytes_of(alloc: Global, text: &str) -> Result<Vec<u8>, AllocError> {
         .collect(alloc)
 }
 
-/// Runs these words over this input, read in these pieces, and looks at the outcome and at what was sent.
+/// The frame of a body, added to some bytes.
+fn push_frame(alloc: Global, bytes: &mut Vec<u8>, body: &str) -> Result<(), AllocError> {
+    let front = format!(in alloc; "8=FIX.4.2|9={}|{body}", body.len())?;
+    let front = bytes_of(alloc, front.as_str())?;
+    let mut sum: u8 = 0;
+    for byte in front.as_slice() {
+        sum = sum.wrapping_add(*byte);
+    }
+    bytes.extend_from_slice(front.as_slice())?;
+    let trailer = format!(in alloc; "10={}{}{}|", sum / 100, sum / 10 % 10, sum % 10)?;
+    bytes.extend_from_slice(bytes_of(alloc, trailer.as_str())?.as_slice())
+}
+
+/// The frames of these bodies, one behind the other.
+fn frames_of(alloc: Global, bodies: &[&str]) -> Result<Vec<u8>, AllocError> {
+    let mut bytes = Vec::new(alloc);
+    for body in bodies {
+        push_frame(alloc, &mut bytes, body)?;
+    }
+    Ok(bytes)
+}
+
+/// Runs a word over this product and this input, read in these pieces, and looks at the outcome and at what was sent.
 fn expect_run(
     rt: &(impl Abort + AllocGlobal),
     word: &str,
-    input: &str,
+    product: &str,
+    input: Vec<u8>,
     pieces: Vec<usize>,
     outcome: Outcome,
-    sent: &str,
+    sent: &[u8],
 ) -> Result<(), Fail>
     requires { AllByRecursion (λ size. 1 ≤ size) pieces.items }
 {
     let alloc = rt.alloc();
     let words = vec![in alloc; String::from_str(alloc, word)?]?;
-    let none = Vec::new(alloc);
-    let mut product = MemSource::new(alloc, Vec::new(alloc), Vec::new(alloc), Vec::new(alloc))?;
-    let mut source = MemSource::new(alloc, bytes_of(alloc, input)?, pieces, Vec::new(alloc))?;
-    let mut station = MemStation::new(alloc, none, 0, 65_536, 100, Vec::new(alloc))?;
+    let mut product = MemSource::new(
+        alloc,
+        product.as_bytes().to_vec(alloc)?,
+        Vec::new(alloc),
+        Vec::new(alloc),
+    )?;
+    let mut source = MemSource::new(alloc, input, pieces, Vec::new(alloc))?;
+    let mut station = MemStation::new(alloc, Vec::new(alloc), 0, 65_536, 100, Vec::new(alloc))?;
     let got = globex(
         alloc,
         words.as_slice(),
@@ -58,82 +111,32 @@ fn expect_run(
         &mut station,
     );
     assert_eq!(rt; got, outcome);
-    assert_eq!(rt; station.output(), bytes_of(alloc, sent)?.as_slice());
+    assert_eq!(rt; station.output(), sent);
     Ok(())
 }
 
-/// Runs over these texts, one behind the other, cut at every place into two reads.
-fn expect_each_cut(
+/// Runs over the frames of these bodies, and looks for the reports with these bodies.
+fn expect_reports(
     rt: &(impl Abort + AllocGlobal),
-    first: &str,
-    second: &str,
-    outcome: Outcome,
-    sent: &str,
+    product: &str,
+    bodies: &[&str],
+    reports: &[&str],
 ) -> Result<(), Fail> {
-    let mut input = String::from_str(rt.alloc(), first)?;
-    input.push_str(second)?;
-    for cut in 1..input.len() {
-        let pieces = vec![in rt.alloc(); cut]?;
-        expect_run(rt, "run", input.as_str(), pieces, outcome, sent)?;
-    }
-    Ok(())
-}
-
-const DONE: Outcome = Outcome {
-    status: 0,
-    at: 0,
-    messages: 2,
-};
-
-#[test]
-fn plainest_run(rt: HostRuntime) -> Result<(), Fail> {
-    expect_run(&rt, "run", ORDERS, Vec::new(rt.alloc()), DONE, REPORTS)
-}
-
-#[test]
-fn plainest_run_byte_by_byte(rt: HostRuntime) -> Result<(), Fail> {
-    let pieces = vec![in rt.alloc(); 1; 221]?;
-    expect_run(&rt, "run", ORDERS, pieces, DONE, REPORTS)
-}
-
-#[test]
-fn empty_input(rt: HostRuntime) -> Result<(), Fail> {
+    let alloc = rt.alloc();
     let outcome = Outcome {
         status: 0,
         at: 0,
-        messages: 0,
+        messages: bodies.len() as u64,
     };
-    expect_run(&rt, "run", "", Vec::new(rt.alloc()), outcome, "")
-}
-
-#[test]
-fn other_words(rt: HostRuntime) -> Result<(), Fail> {
-    let outcome = Outcome {
-        status: 2,
-        at: 0,
-        messages: 0,
-    };
-    expect_run(&rt, "serve", ORDERS, Vec::new(rt.alloc()), outcome, "")
-}
-
-#[test]
-fn plainest_run_at_each_cut(rt: HostRuntime) -> Result<(), Fail> {
-    expect_each_cut(&rt, ORDERS, "", DONE, REPORTS)
-}
-
-#[test]
-fn heartbeat_after_an_order(rt: HostRuntime) -> Result<(), Fail> {
-    let outcome = Outcome {
-        status: 7,
-        at: 111,
-        messages: 1,
-    };
-    expect_each_cut(&rt, ORDER, HEARTBEAT, outcome, ACCEPTED)
-}
-
-#[test]
-fn same_order_twice(rt: HostRuntime) -> Result<(), Fail> {
-    let mut sent = String::from_str(rt.alloc(), ACCEPTED)?;
-    sent.push_str(DUPLICATE)?;
-    expect_each_cut(&rt, ORDER, ORDER, DONE, sent.as_str())
+    let input = frames_of(alloc, bodies)?;
+    let sent = frames_of(alloc, reports)?;
+    expect_run(
+        rt,
+        "run",
+        product,
+        input,
+        Vec::new(alloc),
+        outcome,
+        sent.as_slice(),
+    )
 }

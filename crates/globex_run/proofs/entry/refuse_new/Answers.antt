@@ -3,7 +3,7 @@ use Rattle.gx_base.specs.declared.event.Head.{Head}
 use Rattle.gx_base.specs.declared.event.NewRefused.{NewRefused}
 use Rattle.gx_base.specs.declared.event.Event.TheVariants.{RefusedNew}
 use Rattle.gx_base.proofs.Putting.{emits_as, emits_one}
-use Rattle.globex_run.specs.Step.{refused_of}
+use Rattle.globex_run.specs.NewOrders.{refused_of}
 use Rattle.globex_run.proofs.entry.refuse_new.Goals as goal
 
 pub returns-clause-told : goal.returns-clause-told

@@ -1,5 +1,6 @@
-use Rattle.std.proofs.Common.{◌≤◌, ◌+◌, ◌*◌, ℕ, sym, subst, ◌∙◌, arith}
-use Rattle.globex_run.proofs.Running.{served-next, place-next}
+use Rattle.std.proofs.Common.{◌≤◌, ◌+◌, ◌*◌, ℕ, sym, ap, subst, ◌∙◌, arith}
+use Rattle.fix_frame.specs.Framing.{Framing}
+use Rattle.globex_run.proofs.Running.{served-next, served-read, place-next}
 use Rattle.globex_run.proofs.Ends.{ran-ok, ran-read_fault, ran-truncated, ran-broken, ran-stopped}
 use Rattle.globex_run.proofs.serve.serve.Goals as goal
 
@@ -26,7 +27,7 @@ turns-preserved-in_default g c = record {
 pub returns-in-Ok-eq0-2-clause-ran : goal.returns-in-Ok-eq0-2-clause-ran
 returns-in-Ok-eq0-2-clause-ran g c =
     ran-truncated g.I.Source.meanings g.S.Station.meanings c.args.product.now c.args.input.now c.turns.input c.args.station.now c.turns.station c.turns.framer c.turns.engine c.turns.invariant.run c.turns.invariant.few
-    c.take_more.new.input c.next.new.self c.take_more.new.framer c.in-More.ensures.3 c.in-Ok-eq0.field-0 c.in-Ok-eq0.field-0-test c.new-in-Ok-eq0-2.result c.in-Ok-eq0.ensures.takes (λ none. c.if-held-eq0.false (c.rest-held.ensures.count ∙ none)) c.in-More.ensures.1 c.offset-at.result c.offset-at.ensures c.new-in-Ok-eq0-2.ensures
+    c.take_more.new.input c.next.new.self c.take_more.new.framer c.in-More.ensures.3 c.in-Ok-eq0.field-0 c.in-Ok-eq0.field-0-test c.new-in-Ok-eq0-2.result c.in-Ok-eq0.ensures.takes (λ none. c.if-held-eq0.false (c.rest-held.ensures.count ∙ none)) c.in-More.ensures.4 c.offset-at.result c.offset-at.ensures c.new-in-Ok-eq0-2.ensures
 
 pub returns-in-Ok-eq0-clause-ran : goal.returns-in-Ok-eq0-clause-ran
 returns-in-Ok-eq0-clause-ran g c =
@@ -44,3 +45,13 @@ pub returns-in-Bad-clause-ran : goal.returns-in-Bad-clause-ran
 returns-in-Bad-clause-ran g c =
     ran-broken g.I.Source.meanings g.S.Station.meanings c.args.product.now c.args.input.now c.turns.input c.args.station.now c.turns.station c.turns.framer c.turns.engine c.turns.invariant.run c.turns.invariant.few
     c.in-Bad.ensures.3 c.in-Bad.ensures.2 c.in-Bad.at c.in-Bad.ensures.1 c.new-in-Bad.result c.new-in-Bad.ensures
+
+pub turns-preserved : goal.turns-preserved
+turns-preserved g c = record {
+  run = served-read g.I.Source.meanings g.S.Station.meanings c.args.product.now c.args.input.now c.args.station.now c.turns.input c.take_more.new.input c.turns.station c.turns.framer c.next.new.self c.take_more.new.framer c.turns.engine
+      c.take_more.result c.in-More.ensures.0 c.turns.invariant.run c.take_more.ensures.takes c.in-Ok.ensures.takes.cause.ok;
+  chunk = c.take_more.ensures.chunk;
+  buffer = c.turns.invariant.buffer;
+  offset = omega (arith, c.take_more.ensures.takes.offset, ap (λ (f : Framing). f.offset) c.in-More.ensures.0, c.turns.invariant.offset);
+  few = c.turns.invariant.few;
+}

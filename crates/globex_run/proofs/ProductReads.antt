@@ -1,0 +1,52 @@
+-- How a product's text is taken.
+use Rattle.std.proofs.Common.{◌≡◌, ◌≢◌, ℕ, ◌+◌, ◌<◌, ◌≤◌, List, [], ◌++◌, length, take, drop, Option, Result, Ok, Err, IfOk, IfErr, refl, sym, ap, subst, ◌∙◌, append_assoc, length-take, arith}
+use Rattle.std.proofs.lemmas.List.{take-append-le, take-take}
+use Rattle.std.proofs.lemmas.Grind.{common_steps}
+use Rattle.std.proofs.Math.Seq.{take-append-add}
+use Rattle.gx_station.specs.Sources.{SourceMeanings, and_left, IsAtEnd}
+use Rattle.product_file.specs.Products.{ProductLists}
+use Rattle.product_file.specs.ProductTexts.{product_of}
+use Rattle.product_file.specs.declared.faults.ProductFault.{ProductFault}
+use Rattle.product_file.specs.declared.faults.ProductFault.TheVariants.{NoMemory}
+use Rattle.globex_run.specs.ProductTexts.{IsProductText, IsRefusedAt, JudgesAs, Judges, RefusesAs, TakesProduct}
+use Rattle.globex_run.specs.declared.serve.Ending.{Ending}
+use Rattle.globex_run.specs.declared.outcome.Status.{Status}
+use Rattle.globex_run.specs.declared.outcome.Status.TheVariants as status
+use Rattle.globex_run.proofs.Running.{and_left-then, and_left-none}
+
+-- what was read stands behind what was read before
+pub read-more : (len n N : ℕ) (xs into post tail : List ℕ) → len ≤ length xs → n ≤ length into → len + n ≤ N
+    → take (len + n) (take N (take len xs ++ (into ++ post) ++ tail)) ≡ take len xs ++ take n into
+read-more len n N xs into post tail le fits small =
+    let front : length (take len xs) ≡ len = omega (arith, length-take len xs) in
+    take-take (len + n) N (take len xs ++ (into ++ post) ++ tail) small
+    ∙ ap (λ (l : List ℕ). take (len + n) l) (append_assoc (take len xs) (into ++ post) tail ∙ ap (λ (l : List ℕ). take len xs ++ l) (append_assoc into post tail))
+    ∙ ap (λ (k : ℕ). take (k + n) (take len xs ++ (into ++ (post ++ tail)))) (sym front)
+    ∙ take-append-add (take len xs) (into ++ (post ++ tail)) n
+    ∙ ap (λ (l : List ℕ). take len xs ++ l) (take-append-le n into (post ++ tail) fits)
+
+pub left-more : {P : Type 0} (m : SourceMeanings P) (old now new : P) (taken more : List ℕ) → m.left old ≡ and_left taken (m.left now) → m.left now ≡ and_left more (m.left new) → m.left old ≡ and_left (taken ++ more) (m.left new)
+left-more m old now new taken more was is = was ∙ ap (λ (l : Option (List ℕ)). and_left taken l) is ∙ and_left-then taken more (m.left new)
+
+-- but for want of memory, what was read is what the definition gives
+pub as-defined : (read : Result ProductLists ProductFault) (text : List ℕ) → IfOk read (λ product. product_of text ≡ Ok product) → IfErr read (λ fault. fault ≢ NoMemory → product_of text ≡ Err fault) → read ≢ Err NoMemory → read ≡ product_of text
+as-defined (Ok product) text ok err there = sym ok
+as-defined (Err fault) text ok err there = sym (err (λ no. there (ap (λ (f : ProductFault). Err f) no)))
+
+module _ {P : Type 0} (m : SourceMeanings P) (old new : P) (text : List ℕ) (read : Result ProductLists ProductFault) (taken : IsProductText m old new text) (gives : read ≢ Err NoMemory → read ≡ product_of text) where
+  refused-product : (how : Status) (place : ℕ) → JudgesAs read how place → RefusesAs m old new how place
+  refused-product status.NoMemory place j = (j.0, taken.quiet)
+  refused-product status.Product place j = (text, taken, subst (λ (r : Result ProductLists ProductFault). IsRefusedAt place r) (gives j.0) j.1)
+  refused-product status.Ok place j = absurd j
+  refused-product status.BadWords place j = absurd j
+  refused-product status.ReadFault place j = absurd j
+  refused-product status.SendFault place j = absurd j
+  refused-product status.BadFrame place j = absurd j
+  refused-product status.Truncated place j = absurd j
+  refused-product status.JournalFull place j = absurd j
+
+  pub taken-product : (result : Result ProductLists Ending) → Judges read result → TakesProduct m old new result
+  taken-product (Ok product) judged =
+      let there : read ≢ Err NoMemory = λ no. let e : Ok product ≡ Err NoMemory = sym judged.0 ∙ no in cc e in
+      (text, taken, sym (gives there) ∙ judged.0, judged.1)
+  taken-product (Err ending) judged = refused-product ending.status ending.at judged

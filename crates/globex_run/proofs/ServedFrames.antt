@@ -1,0 +1,46 @@
+-- One frame served, or not.
+use Rattle.std.proofs.Common.{◌≡◌, ℕ, ◌+◌, ◌<◌, true, false, List, IsTrue, Result, Ok, Err, OnOk, OnErr, is_err, refl, sym, ap, subst, ◌∙◌}
+use Rattle.gx_base.specs.Told.{TellsPrefix}
+use Rattle.gx_station.specs.Stations.{StationMeanings, Sends, sent_and}
+use Rattle.product_file.specs.Products.{ProductLists}
+use Rattle.globex_run.specs.State.{State}
+use Rattle.globex_run.specs.ServedRequests.{is_served, is_served_frame}
+use Rattle.globex_run.specs.Step.{with_message, request_step, step_of, lines_of}
+use Rattle.globex_run.specs.Serving.{ServesFrame}
+use Rattle.globex_run.specs.declared.outcome.Status.TheVariants.{SendFault}
+use Rattle.fix_request.specs.Requests.{request_of}
+use Rattle.fix_request.specs.declared.request.Request.{Request}
+
+on_ok : {T E : Type 0} (r : Result T E) (P : Type 0) → is_err r ≡ false → OnOk r P → P
+on_ok (Ok x) P e h = h
+on_ok (Err x) P e h = absurd (let f : true ≡ false = e in cc)
+
+on_err : {T E : Type 0} (r : Result T E) (P : Type 0) → is_err r ≡ true → OnErr r P → P
+on_err (Ok x) P e h = absurd (let f : false ≡ true = e in cc)
+on_err (Err x) P e h = h
+
+module _ {S T E : Type 0} (m : StationMeanings S) (product : ProductLists) (old new : State) (before after : S) (frame : List ℕ) (request : Request) (is : request ≡ request_of product frame) (asked : IsTrue (is_served request)) (few : old.desk.messages < 10000) (sent : Result T E) (sends : Sends m before after (lines_of product (request_step product request (with_message old)).1) sent) where
+  is_asked : IsTrue (is_served_frame product frame)
+  is_asked = subst (λ (r : Request). IsTrue (is_served r)) is asked
+
+  is_lines : lines_of product (request_step product request (with_message old)).1 ≡ lines_of product (step_of product old frame).1
+  is_lines = ap (λ (r : Request). lines_of product (request_step product r (with_message old)).1) is
+
+  pub served-frame : new ≡ (request_step product request (with_message old)).0 → new.desk.messages ≡ old.desk.messages + 1 → is_err sent ≡ false → ServesFrame m product old new before after frame (Ok tt)
+  served-frame state count ok = (
+    state ∙ ap (λ (r : Request). (request_step product r (with_message old)).0) is,
+    few,
+    count,
+    is_asked,
+    on_ok sent _ ok sends.all ∙ ap (λ (l : List ℕ). sent_and (m.sent before) l) is_lines,
+    on_ok sent _ ok sends.cause.ok,
+  )
+
+  pub failed-frame : new.desk.messages ≡ old.desk.messages + 1 → is_err sent ≡ true → ServesFrame m product old new before after frame (Err SendFault)
+  failed-frame count err = (
+    few,
+    count,
+    is_asked,
+    subst (λ (l : List ℕ). TellsPrefix (m.sent after) (sent_and (m.sent before) l)) is_lines (on_err sent _ err sends.part),
+    on_err sent _ err sends.cause.failed,
+  )

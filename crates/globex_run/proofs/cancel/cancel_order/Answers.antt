@@ -1,0 +1,17 @@
+use Rattle.std.proofs.Common.{[], ◌∷◌, Some, ap, ◌∙◌}
+use Rattle.gx_base.specs.declared.order.Order.{Order}
+use Rattle.gx_base.specs.declared.event.Head.{Head}
+use Rattle.gx_base.specs.declared.event.Event.TheVariants.{Cancelled}
+use Rattle.gx_base.specs.declared.event.Cause.TheVariants.{Asked}
+use Rattle.gx_base.proofs.Putting.{emits_as, emits_one}
+use Rattle.globex_run.specs.Cancels.{closed}
+use Rattle.globex_run.proofs.cancel.cancel_order.Goals as goal
+
+pub returns-clause-told : goal.returns-clause-told
+returns-clause-told g c =
+    let by = Some c.args.request.now.id in
+    let order = c.args.order.now in
+    emits_as g.E.Emit.meanings _ _ _ _
+    (ap (λ (o : Order). Cancelled c.count_report-head.result o order.leaves by Asked ∷ []) c.closed.ensures
+    ∙ ap (λ (h : Head). Cancelled h (closed order) order.leaves by Asked ∷ []) c.count_report-head.ensures.head)
+    (emits_one g.E.Emit.meanings _ _ _ c.put.ensures)
