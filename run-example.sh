@@ -26,9 +26,11 @@ tidy() {
 trap tidy EXIT
 trap 'exit 1' HUP INT TERM
 
-# Proves and builds what has changed since the last build, and runs the program over an empty input.
-(cd "$crate" && rt run -- run </dev/null) || fail 'the program was not built, or its run over an empty input failed'
-[ -x "$program" ] || fail "there is no program at $program"
+# Proves what has changed since the last build, and builds and runs the program. Only a proved program is built. This first
+# run may lack a product, so its status tells nothing.
+rm -f -- "$program"
+(cd "$crate" && rt run -- run </dev/null)
+[ -x "$program" ] || fail 'the program was not built'
 
 cp -- "$crate/data/product.toml" "$crate/stdin" "$folder/" || exit 1
 (cd "$folder" && "$program" run <stdin >reports)
