@@ -1,0 +1,5 @@
+pub mod Orders
+pub mod Book
+pub mod Match
+pub mod Steps
+pub mod Keeping

@@ -1,0 +1,10 @@
+//! The live orders: what a book of them does, a book that keeps them in two lists, and one trade over any book.
+#![tactic(auto)]
+
+mod book;
+mod entry;
+mod trade;
+
+pub use book::Book;
+pub use entry::Entry;
+pub use trade::{count_report, give_lots, give_marked, opposite_side, trade_lots};
