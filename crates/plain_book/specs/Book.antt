@@ -1,14 +1,13 @@
 -- The content of a book, what its calls make of it, and what is true of it at every moment.
-use Rattle.std.specs.Prelude.{◌≡◌, ℕ, ◌+◌, ◌-◌, ◌^◌, ◌<◌, ◌≤◌, min, Bool, false, ◌&&◌, ◌==◌, nat_le, if◌then◌else◌, List, [], ◌∷◌, ◌++◌, length, Option, Some, None, ◌⊎◌, IsTrue, IsFalse, pos}
+use Rattle.std.specs.Prelude.{◌≡◌, ℕ, ◌+◌, ◌-◌, ◌^◌, ◌<◌, ◌≤◌, min, Bool, true, false, ◌&&◌, ◌==◌, nat_le, if◌then◌else◌, List, [], ◌∷◌, ◌++◌, length, Option, Some, None, ◌⊎◌, pos}
 use Rattle.std.specs.List.{AllByRecursion}
-use Rattle.gx_base.specs.declared.price.Price.{Price}
 use Rattle.gx_base.specs.declared.order.Side.{Side}
 use Rattle.gx_base.specs.declared.order.Kind.TheVariants.{Limit, StopLimit}
 use Rattle.gx_base.specs.declared.order.Life.TheVariants.{Day, Gtc}
 use Rattle.gx_base.specs.declared.order.Order.{Order}
 use Rattle.gx_base.specs.declared.order.Slot.{Slot}
 use Rattle.plain_book.specs.declared.entry.Entry.{Entry}
-use Rattle.plain_book.specs.Orders.{HasSlot, order_of, level_of, side_of, best_of, is_named, is_behind, waits_behind, is_on, placed, lined_up, traded, with_order, without, is_new_best, with_top}
+use Rattle.plain_book.specs.Orders.{HasSlot, order_of, side_of, best_of, is_named, is_behind, waits_behind, is_on, placed, lined_up, traded, with_order, without, is_new_best, with_top}
 
 -- what a book has
 pub record Book : Type 0 where
@@ -152,19 +151,19 @@ EachPair R (e ∷ es) = AllByRecursion (R e) es × EachPair R es
 
 -- no firm and id stand twice
 abbrev pub AreNamedApart : Entry → Entry → Type 0
-AreNamedApart a b = IsFalse (is_named a.order.firm a.order.id b)
+AreNamedApart a b = is_named a.order.firm a.order.id b ≡ false
 
 -- a stands before b, and nothing says that it should stand behind it
 abbrev pub AreInBookOrder : Entry → Entry → Type 0
-AreInBookOrder a b = IsFalse (is_behind b a)
+AreInBookOrder a b = is_behind b a ≡ false
 
 abbrev pub AreInLine : Entry → Entry → Type 0
-AreInLine a b = IsFalse (waits_behind b a)
+AreInLine a b = waits_behind b a ≡ false
 
 -- b, which stands behind a on the same side, is TOP only where a has the same price and is not TOP. So TOP is at the best
 -- price of its side, and the only one there.
 abbrev pub IsTopBehind : Entry → Entry → Type 0
-IsTopBehind a b = IsTrue b.is_top → IsTrue (is_on b.order.instrument b.order.side a) → IsFalse a.is_top × (a.order.price ≡ b.order.price)
+IsTopBehind a b = b.is_top ≡ true → is_on b.order.instrument b.order.side a ≡ true → (a.is_top ≡ false) × (a.order.price ≡ b.order.price)
 
 pub record IsRight (b : Book) : Type 0 where
   pub rest : AllRest b.instruments b.resting

@@ -18,6 +18,9 @@ pub record KeepsRoom (old : Desk) (wanted : ℕ) (new : Desk) (left : ℕ) : Typ
 
 -- ---- free slots
 
+abbrev pub book_of : ℕ → ℕ → List Entry → List Entry → Book
+book_of capacity instruments resting waiting = record { capacity = capacity; instruments = instruments; resting = resting; waiting = waiting }
+
 abbrev pub IsAmong : ℕ → List ℕ → Type 0
 IsAmong s [] = ⊥
 IsAmong s (t ∷ ts) = (t ≡ s) ⊎ IsAmong s ts

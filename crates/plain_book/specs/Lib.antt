@@ -3,3 +3,4 @@ pub mod Book
 pub mod Match
 pub mod Steps
 pub mod Keeping
+pub mod Numbers

@@ -1,5 +1,5 @@
 -- One trade of a resting order and the incoming one, with its reports. After the exchange's published outline.
-use Rattle.std.specs.Prelude.{◌≡◌, ℕ, ◌+◌, ◌-◌, ◌*◌, ◌^◌, ◌<◌, ◌≤◌, ◌==◌, int_lt, if◌then◌else◌, List, [], ◌∷◌, ◌++◌, slice_index, slice_set, Option, Some, None, IsFalse}
+use Rattle.std.specs.Prelude.{◌≡◌, ℕ, ◌+◌, ◌-◌, ◌*◌, ◌^◌, ◌<◌, ◌≤◌, ◌==◌, int_lt, if◌then◌else◌, List, [], ◌∷◌, ◌++◌, slice_index, slice_set, Option, Some, None, false}
 use Rattle.gx_base.specs.declared.price.Price.{Price}
 use Rattle.gx_base.specs.declared.order.Order.{Order}
 use Rattle.gx_base.specs.declared.order.Desk.{Desk}
@@ -98,7 +98,7 @@ pub record IsNow (m : Moment) (b : Book) (d : Desk) (t : Taker) : Type 0 where
 pub record CanTrade (b : Book) (d : Desk) (t : Taker) : Type 0 where
   pub listed : t.order.instrument < b.instruments
   pub firm : t.order.firm < 64
-  pub unnamed : IsFalse (is_live t.order.firm t.order.id (live_orders b))
+  pub unnamed : is_live t.order.firm t.order.id (live_orders b) ≡ false
   pub whole : t.order.filled + t.order.leaves ≡ t.order.quantity
   pub small : t.order.quantity ≤ 999999
   pub messages : d.messages + 2 * t.order.leaves < 2 ^ 63

@@ -5,7 +5,6 @@
 use Rattle.std.specs.Prelude.{◌≡◌, ℕ, ◌-◌, ◌*◌, ◌/◌, ◌==◌, nat_lt, min, if◌then◌else◌, List, [], ◌∷◌, ◌++◌, filter, map, sum_by, Option, Some, None, ◌⊎◌}
 use Prim.Native.Nat.{zero, suc}
 use Rattle.gx_base.specs.declared.price.Price.{Price}
-use Rattle.gx_base.specs.declared.order.Order.{Order}
 use Rattle.gx_base.specs.declared.order.Taker.{Taker}
 use Rattle.gx_base.specs.declared.order.TopRule.{TopRule}
 use Rattle.gx_base.specs.declared.order.LmmShare.{LmmShare}

@@ -1,5 +1,5 @@
 //! What a book of orders does.
-ghost use Rattle.std.specs.Prelude.{◌≡◌, ℕ, ◌<◌, ◌≤◌, min, length, IsFalse, option_map};
+ghost use Rattle.std.specs.Prelude.{◌≡◌, ℕ, ◌<◌, ◌≤◌, min, length, false, option_map};
 ghost use Rattle.plain_book.specs.Orders.{level, level_of, best_of, worse_of, orders_at, stops_of, slot_of, slot_after, slot_named, is_live, order_of, HasSlot, shown_at, open_within, top_of, filled_by};
 ghost use Rattle.plain_book.specs.Book.{Book, IsRight, IsFitToRest, IsFitToWait, CanBeTop, live_orders, slot_number, book_placed, book_waited, book_traded, book_with_order, book_without, book_changed, book_with_top, book_cleared};
 
@@ -75,7 +75,7 @@ pub trait Book {
     /// itself if `top_min` lots of it are open; with no `top_min` it is not.
     fn place(&mut self, order: Order, top_min: Option<u32>) -> Slot
         requires room { length (live_orders (book self.old)) < (book self.old).capacity }
-        requires unnamed { IsFalse (is_live order.firm order.id (live_orders (book self.old))) }
+        requires unnamed { is_live order.firm order.id (live_orders (book self.old)) ≡ false }
         requires fit { IsFitToRest (book self.old).instruments order }
         ensures fresh { HasSlot result.0 (live_orders (book self.old)) → ⊥ }
         ensures placed { book self.new ≡ book_placed result.0 order top_min (book self.old) };
@@ -83,7 +83,7 @@ pub trait Book {
     /// A stop comes to wait, behind the stops of its instrument. Nothing of it is shown.
     fn wait(&mut self, order: Order) -> Slot
         requires room { length (live_orders (book self.old)) < (book self.old).capacity }
-        requires unnamed { IsFalse (is_live order.firm order.id (live_orders (book self.old))) }
+        requires unnamed { is_live order.firm order.id (live_orders (book self.old)) ≡ false }
         requires fit { IsFitToWait (book self.old).instruments order }
         ensures fresh { HasSlot result.0 (live_orders (book self.old)) → ⊥ }
         ensures waited { book self.new ≡ book_waited result.0 order (book self.old) };
@@ -111,7 +111,7 @@ pub trait Book {
         requires open { (order_of slot.0 (live_orders (book self.old))).filled < quantity }
         requires lower { quantity ≤ (order_of slot.0 (live_orders (book self.old))).quantity }
         requires show { (order_of slot.0 (live_orders (book self.old))).show ≤ quantity }
-        requires unnamed { IsFalse (is_live (order_of slot.0 (live_orders (book self.old))).firm id (live_orders (book self.old))) }
+        requires unnamed { is_live (order_of slot.0 (live_orders (book self.old))).firm id (live_orders (book self.old)) ≡ false }
         requires no_min { HasSlot slot.0 (book self.old).resting → min ≡ 0 }
         ensures { book self.new ≡ book_changed slot.0 id quantity min (book self.old) };
 

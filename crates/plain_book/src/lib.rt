@@ -2,9 +2,15 @@
 #![tactic(auto)]
 
 mod book;
+mod edits;
 mod entry;
+mod plain;
+mod scan;
+#[cfg(test)]
+mod tests;
 mod trade;
 
 pub use book::Book;
 pub use entry::Entry;
+pub use plain::PlainBook;
 pub use trade::{count_report, give_lots, give_marked, opposite_side, trade_lots};

@@ -1,5 +1,5 @@
 //! One trade of a resting order and the incoming one, over any book.
-ghost use Rattle.std.specs.Prelude.{◌≡◌, ◌≤◌, ◌<◌, ◌+◌, ◌^◌, slice_index};
+ghost use Rattle.std.specs.Prelude.{◌≡◌, ◌≤◌, ◌<◌, ◌+◌, ◌^◌, [], ◌∷◌, slice_index};
 ghost use Rattle.gx_base.specs.Emits.{Emits};
 ghost use Rattle.plain_book.specs.Orders.{HasSlot, order_of, opposite};
 ghost use Rattle.plain_book.specs.Match.{moment, trade, give, lower, higher, lengthened, next_head, reported, taken_by, IsNow, CanTrade};
@@ -74,6 +74,14 @@ fn fill(head: Head, order: Order, lots: u32, price: Price, step: StepName, trade
     }
 }
 
+/// Puts two events, one after the other.
+fn put_both<E: Emit>(out: &mut E, first: &Event, second: &Event)
+    ensures { Emits E.meanings out.old out.new (first.now ∷ second.now ∷ []) }
+{
+    out.put(first);
+    out.put(second);
+}
+
 /// A resting order gives lots to the incoming one, at its own price. Its report comes first.
 pub fn trade_lots<B: Book, E: Emit>(
     book: &mut B,
@@ -102,9 +110,10 @@ pub fn trade_lots<B: Book, E: Emit>(
     taker.range = lengthen(price, taker.range);
     desk.trades += 1;
     let head = count_report(desk, given.firm, taker.time);
-    out.put(&fill(head, given, lots, price, step, desk.trades));
+    let first = fill(head, given, lots, price, step, desk.trades);
     let head = count_report(desk, taker.order.firm, taker.time);
-    out.put(&fill(head, taker.order, lots, price, step, desk.trades));
+    let second = fill(head, taker.order, lots, price, step, desk.trades);
+    put_both(out, &first, &second);
 }
 
 /// A resting order gives its share, which may be none.

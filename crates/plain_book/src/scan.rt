@@ -1,0 +1,299 @@
+//! What is read from lists of live orders.
+ghost use Rattle.std.specs.Prelude.{◌≡◌, ◌<◌, ◌≤◌, ◌^◌, ◌++◌, ℕ, true, false, length, nat_lt, option_map};
+ghost use Rattle.std.specs.Ordering.{int_eq};
+ghost use Rattle.plain_book.specs.Orders.{is_side, side_before, is_better, is_within, is_on, is_at, is_of, is_slot, is_named, is_before, level, level_of, best_of, worse_of, orders_at, stops_of, slot_of, slot_after, slot_named, order_of, HasSlot, shown_at, open_within, top_of, is_behind, waits_behind, entry_at};
+ghost use Rattle.plain_book.specs.Book.{slot_number};
+
+use crate::entry::Entry;
+use gx_base::{Order, Price, ShortId, Side, Slot};
+
+fn is_same_side(a: Side, b: Side) -> bool
+    ensures { result ≡ is_side a b }
+{
+    match (a, b) {
+        (Side::Buy, Side::Buy) | (Side::Sell, Side::Sell) => true,
+        (Side::Buy, Side::Sell) | (Side::Sell, Side::Buy) => false,
+    }
+}
+
+fn is_same_price(a: Price, b: Price) -> bool
+    ensures { result ≡ int_eq a.0 b.0 }
+{
+    a.0 == b.0
+}
+
+/// Whether a is a better price than b: a higher one for a buy, a lower one for a sell.
+pub(crate) fn is_better_price(side: Side, a: Price, b: Price) -> bool
+    ensures { result ≡ is_better side a.0 b.0 }
+{
+    match side {
+        Side::Buy => b.0 < a.0,
+        Side::Sell => a.0 < b.0,
+    }
+}
+
+/// Whether an order stands on a side of an instrument.
+pub(crate) fn is_on_side(entry: &Entry, instrument: u8, side: Side) -> bool
+    ensures { result ≡ is_on instrument side entry.now }
+{
+    entry.order.instrument == instrument && is_same_side(entry.order.side, side)
+}
+
+fn is_at_price(entry: &Entry, instrument: u8, side: Side, price: Price) -> bool
+    ensures { result ≡ is_at (level instrument side price) entry.now }
+{
+    entry.order.instrument == instrument
+        && is_same_side(entry.order.side, side)
+        && is_same_price(entry.order.price, price)
+}
+
+/// The best price of a side, of a list in book order.
+pub(crate) fn best_price(entries: &[Entry], instrument: u8, side: Side) -> Option<Price>
+    ensures { result ≡ best_of instrument side entries.now }
+{
+    for entry in entries {
+        if is_on_side(entry, instrument, side) {
+            return Some(entry.order.price);
+        }
+    }
+    None
+}
+
+/// The best of the prices of a side that are worse than this one, of a list in book order.
+pub(crate) fn worse_price(
+    entries: &[Entry],
+    instrument: u8,
+    side: Side,
+    price: Price,
+) -> Option<Price>
+    ensures { result ≡ worse_of instrument side price.0 entries.now }
+{
+    for entry in entries {
+        if is_on_side(entry, instrument, side) && is_better_price(side, price, entry.order.price) {
+            return Some(entry.order.price);
+        }
+    }
+    None
+}
+
+/// The first order at a price.
+pub(crate) fn first_at(entries: &[Entry], instrument: u8, side: Side, price: Price) -> Option<Slot>
+    ensures { option_map slot_number result ≡ slot_of (orders_at (level instrument side price) entries.now) }
+{
+    for entry in entries {
+        if is_at_price(entry, instrument, side, price) {
+            return Some(Slot(entry.slot));
+        }
+    }
+    None
+}
+
+/// The order behind that of a slot, among those at the price of this order.
+pub(crate) fn next_at(entries: &[Entry], slot: u32, order: &Order) -> Option<Slot>
+    ensures { option_map slot_number result ≡ slot_after slot (orders_at (level_of order.now) entries.now) }
+{
+    let mut found = false;
+    for entry in entries {
+        if is_at_price(entry, order.instrument, order.side, order.price) {
+            if found {
+                return Some(Slot(entry.slot));
+            }
+            if entry.slot == slot {
+                found = true;
+            }
+        }
+    }
+    None
+}
+
+/// How many orders stand at a price.
+pub(crate) fn count_at(entries: &[Entry], instrument: u8, side: Side, price: Price) -> u32
+    requires { length entries.now < 2 ^ 32 }
+    ensures { result ≡ length (orders_at (level instrument side price) entries.now) }
+{
+    let mut count = 0u32;
+    for entry in entries {
+        if is_at_price(entry, instrument, side, price) {
+            count += 1;
+        }
+    }
+    count
+}
+
+/// How much is shown at a price.
+pub(crate) fn shown_at_price(entries: &[Entry], instrument: u8, side: Side, price: Price) -> u64
+    requires { length entries.now < 2 ^ 32 }
+    ensures { result ≡ shown_at (level instrument side price) entries.now }
+{
+    let mut total = 0u64;
+    for entry in entries {
+        if is_at_price(entry, instrument, side, price) {
+            total += u64::from(entry.order.shown);
+        }
+    }
+    total
+}
+
+/// How much is open on a side within a limit.
+pub(crate) fn open_lots(entries: &[Entry], instrument: u8, side: Side, limit: Price) -> u64
+    requires { length entries.now < 2 ^ 32 }
+    ensures { result ≡ open_within instrument side limit.0 entries.now }
+{
+    let mut total = 0u64;
+    for entry in entries {
+        if is_on_side(entry, instrument, side) && !is_better_price(side, limit, entry.order.price) {
+            total += u64::from(entry.order.leaves);
+        }
+    }
+    total
+}
+
+/// The order of a side that is marked as TOP.
+pub(crate) fn top_slot(entries: &[Entry], instrument: u8, side: Side) -> Option<Slot>
+    ensures { option_map slot_number result ≡ top_of instrument side entries.now }
+{
+    for entry in entries {
+        if is_on_side(entry, instrument, side) && entry.is_top {
+            return Some(Slot(entry.slot));
+        }
+    }
+    None
+}
+
+fn is_stop_of(entry: &Entry, instrument: u8) -> bool
+    ensures { result ≡ is_of instrument entry.now }
+{
+    entry.order.instrument == instrument
+}
+
+/// The first stop of an instrument.
+pub(crate) fn first_stop(entries: &[Entry], instrument: u8) -> Option<Slot>
+    ensures { option_map slot_number result ≡ slot_of (stops_of instrument entries.now) }
+{
+    for entry in entries {
+        if is_stop_of(entry, instrument) {
+            return Some(Slot(entry.slot));
+        }
+    }
+    None
+}
+
+/// The stop of an instrument behind that of a slot.
+pub(crate) fn next_stop(entries: &[Entry], slot: u32, instrument: u8) -> Option<Slot>
+    ensures { option_map slot_number result ≡ slot_after slot (stops_of instrument entries.now) }
+{
+    let mut found = false;
+    for entry in entries {
+        if is_stop_of(entry, instrument) {
+            if found {
+                return Some(Slot(entry.slot));
+            }
+            if entry.slot == slot {
+                found = true;
+            }
+        }
+    }
+    None
+}
+
+/// The order of a slot.
+pub(crate) fn order_at(entries: &[Entry], slot: u32) -> Order
+    requires { HasSlot slot entries.now }
+    ensures { result ≡ order_of slot entries.now }
+{
+    for entry in entries {
+        if entry.slot == slot {
+            return entry.order;
+        }
+    }
+    unreachable!()
+}
+
+/// The order of a slot, in either of two lists.
+pub(crate) fn order_in(resting: &[Entry], waiting: &[Entry], slot: u32) -> Order
+    requires { HasSlot slot (resting.now ++ waiting.now) }
+    ensures { result ≡ order_of slot (resting.now ++ waiting.now) }
+{
+    for entry in resting {
+        if entry.slot == slot {
+            return entry.order;
+        }
+    }
+    order_at(waiting, slot)
+}
+
+fn has_id(entry: &Entry, firm: u8, id: &ShortId) -> bool
+    ensures { result ≡ is_named firm id.now entry.now }
+{
+    entry.order.firm == firm && entry.order.id.bytes() == id.bytes()
+}
+
+fn find_at(entries: &[Entry], firm: u8, id: &ShortId) -> Option<Slot>
+    ensures { option_map slot_number result ≡ slot_named firm id.now entries.now }
+{
+    for entry in entries {
+        if has_id(entry, firm, id) {
+            return Some(Slot(entry.slot));
+        }
+    }
+    None
+}
+
+/// The order of a firm with this id, in either of two lists.
+pub(crate) fn find_in(resting: &[Entry], waiting: &[Entry], firm: u8, id: &ShortId) -> Option<Slot>
+    ensures { option_map slot_number result ≡ slot_named firm id.now (resting.now ++ waiting.now) }
+{
+    for entry in resting {
+        if has_id(entry, firm, id) {
+            return Some(Slot(entry.slot));
+        }
+    }
+    find_at(waiting, firm, id)
+}
+
+fn is_side_before(a: Side, b: Side) -> bool
+    ensures { result ≡ side_before a b }
+{
+    match (a, b) {
+        (Side::Buy, Side::Sell) => true,
+        (Side::Buy, Side::Buy) | (Side::Sell, _) => false,
+    }
+}
+
+/// Whether the instrument, side and price of a come before those of b.
+fn comes_before(a: &Order, b: &Order) -> bool
+    ensures { result ≡ is_before (level_of a.now) (level_of b.now) }
+{
+    a.instrument < b.instrument
+        || (a.instrument == b.instrument
+            && (is_side_before(a.side, b.side)
+                || (is_same_side(a.side, b.side) && is_better_price(a.side, a.price, b.price))))
+}
+
+/// Where an order is put in: before the first one that it comes before.
+pub(crate) fn place_of(entries: &[Entry], entry: &Entry) -> usize
+    ensures within { result ≤ length entries.now }
+    ensures before { (k : ℕ) → k < result → is_behind entry.now (entry_at entries.now k) ≡ false }
+    ensures here { result < length entries.now → is_behind entry.now (entry_at entries.now result) ≡ true }
+{
+    for (i, other) in entries.iter().enumerate() {
+        if comes_before(&entry.order, &other.order) {
+            return i;
+        }
+    }
+    entries.len()
+}
+
+/// Where a stop is put in: before the first one of a later instrument.
+pub(crate) fn stop_place_of(entries: &[Entry], entry: &Entry) -> usize
+    ensures within { result ≤ length entries.now }
+    ensures before { (k : ℕ) → k < result → waits_behind entry.now (entry_at entries.now k) ≡ false }
+    ensures here { result < length entries.now → waits_behind entry.now (entry_at entries.now result) ≡ true }
+{
+    for (i, other) in entries.iter().enumerate() {
+        if entry.order.instrument < other.order.instrument {
+            return i;
+        }
+    }
+    entries.len()
+}
