@@ -1,0 +1,8 @@
+//! The pro rata step of a match: each order of a level gives its part of what is wanted.
+#![tactic(auto)]
+
+mod pass;
+#[cfg(test)]
+mod tests;
+
+pub use pass::prorata_pass;
