@@ -1,0 +1,193 @@
+-- Where each order is named by its number in place of its slot, a match does the same.
+use Rattle.std.proofs.Common.{◌≡◌, ◌≢◌, ℕ, ◌+◌, ◌-◌, ◌*◌, ◌/◌, min, Bool, true, false, cond, not, ◌&&◌, List, [], ◌∷◌, ◌++◌, map, filter, sum_by, refl, sym, ap, subst, ◌∙◌, arith, inl, inr, ◌⊎◌, Option, Some, None}
+use Prim.Native.Nat.{zero, suc}
+use Rattle.std.specs.Prelude.{◌==◌}
+use Rattle.std.specs.List.{AllByRecursion}
+use Rattle.std.proofs.lemmas.List.{map-append}
+use Rattle.std.proofs.lemmas.Bool.Decides.{eqb_tells}
+use Rattle.gx_base.specs.declared.price.Price.{Price}
+use Rattle.gx_base.specs.declared.order.Order.{Order}
+use Rattle.gx_base.specs.declared.order.Side.{Side}
+use Rattle.gx_base.specs.declared.order.LmmShare.{LmmShare}
+use Rattle.gx_base.specs.declared.event.StepName.{StepName}
+use Rattle.gx_base.specs.declared.event.StepName.TheVariants as name
+use Rattle.plain_book.specs.declared.entry.Entry.{Entry}
+use Rattle.plain_book.specs.Orders.{Level, HasSlot, is_at, is_on, is_slot, is_behind, order_of, without, with_order, reordered, placed, settled, traded, refreshed, filled_by, orders_at, side_of, price_of, best_of, slot_of, top_of}
+use Rattle.plain_book.specs.Book.{Book, book_traded}
+use Rattle.plain_book.specs.Match.{Moment, Share, trade, report, fill, taken_by, lengthened, give, gives}
+use Rattle.plain_book.specs.Steps.{facing, level_now, give_marked, gives_marked, head_gives, fifo_rounds, spent, ones, prorata_share}
+use Rattle.plain_book.proofs.Levels.{same, renewed, with_order-none}
+use Rattle.plain_book.proofs.Pairs.{all-filter, all-from, all-with}
+use Rattle.plain_book.proofs.Steps.{marked}
+use Rattle.plain_book.specs.Numbers.{by_number, numbered, book_numbered, moment_numbered}
+use Rattle.level_sweep.proofs.Names.{Names, GoesWith, Agree, Matched, KeepsNames, found, none-traded, keeps-give, keeps-mark, keeps-give_marked, keeps-head, matched-kept}
+
+-- ---- lists
+
+pub filter-numbered : (p q : Entry → Bool) (es : List Entry) → AllByRecursion (λ e. q (by_number e) ≡ p e) es → filter q (numbered es) ≡ numbered (filter p es)
+filter-numbered p q [] h = refl
+filter-numbered p q (e ∷ es) h =
+    let t = filter-numbered p q es h.1 in
+    let go : (b : Bool) → cond b (by_number e ∷ filter q (numbered es)) (filter q (numbered es)) ≡ numbered (cond b (e ∷ filter p es) (filter p es)) = elim [
+      | true ↦ ap (λ (x : List Entry). by_number e ∷ x) t
+      | false ↦ t
+    ] in ap (λ (b : Bool). cond b (by_number e ∷ filter q (numbered es)) (filter q (numbered es))) h.0 ∙ go (p e)
+
+-- a test that looks at the order alone
+pub filter-order : (p : Entry → Bool) → ((e : Entry) → p (by_number e) ≡ p e) → (es : List Entry) → filter p (numbered es) ≡ numbered (filter p es)
+filter-order p h es = filter-numbered p p es (all-from (λ e. p (by_number e) ≡ p e) h es)
+
+pub level-numbered : (price : Price) (m : Moment) → level_now price (moment_numbered m) ≡ numbered (level_now price m)
+level-numbered price m = filter-order (is_at (facing price m.taker)) (λ e. refl) m.book.resting
+
+pub side-numbered : (i : ℕ) (d : Side) (es : List Entry) → side_of i d (numbered es) ≡ numbered (side_of i d es)
+side-numbered i d es = filter-order (is_on i d) (λ e. refl) es
+
+price-numbered : (es : List Entry) → price_of (numbered es) ≡ price_of es
+price-numbered [] = refl
+price-numbered (e ∷ es) = refl
+
+pub best-numbered : (i : ℕ) (d : Side) (es : List Entry) → best_of i d (numbered es) ≡ best_of i d es
+best-numbered i d es = ap price_of (side-numbered i d es) ∙ price-numbered (side_of i d es)
+
+pub placed-numbered : (n : Entry) (es : List Entry) → placed (by_number n) (numbered es) ≡ numbered (placed n es)
+placed-numbered n es =
+    ap (λ (q : List Entry). q ++ by_number n ∷ filter (is_behind n) (numbered es)) (filter-order (λ e. not (is_behind n e)) (λ e. refl) es)
+    ∙ ap (λ (q : List Entry). numbered (filter (λ e. not (is_behind n e)) es) ++ by_number n ∷ q) (filter-order (is_behind n) (λ e. refl) es)
+    ∙ sym (map-append by_number (filter (λ e. not (is_behind n e)) es) (n ∷ filter (is_behind n) es))
+
+-- ---- one order
+
+pub test-is : (m n : ℕ) → (m == n) ≡ true → m ≡ n
+test-is m n h = elim (eqb_tells m n) [ inl t ↦ t.1 | inr t ↦ absurd (let k : true ≡ false = sym h ∙ t.0 in cc) ]
+
+module _ (s k : ℕ) where
+  pub order-numbered : (es : List Entry) → Agree s k es → order_of k (numbered es) ≡ order_of s es
+  order-numbered [] a = refl
+  order-numbered (e ∷ es) a =
+      ap (λ (b : Bool). cond b e.order (order_of k (numbered es))) (sym a.0)
+      ∙ ap (λ (o : Order). cond (e.slot == s) e.order o) (order-numbered es a.1)
+
+  pub without-numbered : (es : List Entry) → Agree s k es → without k (numbered es) ≡ numbered (without s es)
+  without-numbered es a =
+      filter-numbered (λ e. not (e.slot == s)) (λ e. not (e.slot == k)) es
+      (all-with (λ (e : Entry). GoesWith s k e.slot e.order.number) (λ (e : Entry). not (e.order.number == k) ≡ not (e.slot == s)) (λ e h. ap not (sym h)) es a)
+
+  with_order-numbered : (o : Order) (es : List Entry) → o.number ≡ k → Agree s k es → with_order k o (numbered es) ≡ numbered (with_order s o es)
+  with_order-numbered o [] h a = refl
+  with_order-numbered o (e ∷ es) h a =
+      let t = with_order-numbered o es h a.1 in
+      let one : reordered k o (by_number e) ≡ by_number (reordered s o e) = elim (eqb_tells e.slot s) [
+        | inl t ↦
+            let is : (e.order.number == k) ≡ true = sym a.0 ∙ t.0 in
+            ap (λ (b : Bool). cond b (renewed (by_number e) o) (by_number e)) is
+            ∙ ap (λ (x : ℕ). renewed (record e { slot = x }) o) (test-is e.order.number k is ∙ sym h)
+            ∙ ap (λ (b : Bool). by_number (cond b (renewed e o) e)) (sym t.0)
+        | inr t ↦
+            ap (λ (b : Bool). cond b (renewed (by_number e) o) (by_number e)) (sym a.0 ∙ t.0)
+            ∙ ap (λ (b : Bool). by_number (cond b (renewed e o) e)) (sym t.0)
+      ] in
+      ap (λ (x : Entry). x ∷ with_order k o (numbered es)) one ∙ ap (λ (q : List Entry). by_number (reordered s o e) ∷ q) t
+
+  settled-numbered : (o : Order) (es : List Entry) → o.number ≡ k → Agree s k es → settled k o (numbered es) ≡ numbered (settled s o es)
+  settled-numbered o es h a =
+      let n : Entry = record { slot = s; order = refreshed o; is_top = false } in
+      let m : Entry = record { slot = k; order = refreshed o; is_top = false } in
+      let gone = without-numbered es a in
+      let back : placed m (without k (numbered es)) ≡ numbered (placed n (without s es)) =
+      ap (placed m) gone
+      ∙ ap (λ (x : ℕ). placed (record m { slot = x }) (numbered (without s es))) (sym h)
+      ∙ placed-numbered n (without s es) in
+      let go : (x y : Bool) → cond x (without k (numbered es)) (cond y (placed m (without k (numbered es))) (with_order k o (numbered es)))
+      ≡ numbered (cond x (without s es) (cond y (placed n (without s es)) (with_order s o es))) = elim [
+        | true ↦ λ y. gone
+        | false ↦ elim [ true ↦ back | false ↦ with_order-numbered o es h a ]
+      ] in go (o.leaves == 0) (o.shown == 0)
+
+  traded-numbered : (n : ℕ) (es : List Entry) → Agree s k es → traded k n (numbered es) ≡ numbered (traded s n es)
+  traded-numbered n es a =
+      let o : Order = filled_by n (order_of s es) in
+      ap (λ (x : Order). settled k (filled_by n x) (numbered es)) (order-numbered es a)
+      ∙ elim (found (GoesWith s k) s es a) [
+        | inl g ↦ none-traded s k n es (numbered es) g.1 ∙ without-numbered es a ∙ ap numbered (sym (none-traded s s n es es g.1))
+        | inr p ↦ settled-numbered o es (test-is (order_of s es).number k (sym p ∙ same s)) a
+      ]
+
+  marked-numbered : (n : ℕ) (es : List Entry) → Agree s k es → with_order k (record (order_of k (numbered es)) { prorated = n }) (numbered es) ≡ numbered (with_order s (record (order_of s es) { prorated = n }) es)
+  marked-numbered n es a =
+      ap (λ (x : Order). with_order k (record x { prorated = n }) (numbered es)) (order-numbered es a)
+      ∙ elim (found (GoesWith s k) s es a) [
+        | inl g ↦ none-marked (record (order_of s es) { prorated = n }) es a g.0
+        | inr p ↦ with_order-numbered (record (order_of s es) { prorated = n }) es (test-is (order_of s es).number k (sym p ∙ same s)) a
+      ]
+    where
+      none-marked : (o : Order) (es : List Entry) → Agree s k es → (HasSlot s es → ⊥) → with_order k o (numbered es) ≡ numbered (with_order s o es)
+      none-marked o [] a h = refl
+      none-marked o (e ∷ es) a h =
+          let no : (e.slot == s) ≡ false = elim (eqb_tells e.slot s) [ inl t ↦ absurd (h (inl t.1)) | inr t ↦ t.0 ] in
+          ap (λ (b : Bool). cond b (renewed (by_number e) o) (by_number e) ∷ with_order k o (numbered es)) (sym a.0 ∙ no)
+          ∙ ap (λ (q : List Entry). by_number e ∷ q) (none-marked o es a.1 (λ x. h (inr x)))
+          ∙ ap (λ (b : Bool). by_number (cond b (renewed e o) e) ∷ numbered (with_order s o es)) (sym no)
+
+  -- ---- one gift
+
+  abbrev traded_as : StepName → ℕ → Order → Book → Moment → Moment
+  traded_as step lots resting b m =
+      let number = m.desk.trades + 1 in
+      let taken = taken_by lots m.taker.order in
+      report (fill lots resting.price step number) taken (report (fill lots resting.price step number) (filled_by lots resting) (record m {
+        book = b;
+        desk = record m.desk { trades = number };
+        taker = record m.taker { order = taken; range = lengthened resting.price m.taker.range };
+      }))
+
+  trade-numbered : (step : StepName) (n : ℕ) (m : Moment) → Agree s k m.book.resting → trade step k n (moment_numbered m) ≡ moment_numbered (trade step s n m)
+  trade-numbered step n m a =
+      let es = m.book.resting in
+      let b : List Entry → Book = λ x. record (book_numbered m.book) { resting = x } in
+      ap (λ (o : Order). traded_as step n o (b (traded k n (numbered es))) m) (order-numbered es a)
+      ∙ ap (λ (x : List Entry). traded_as step n (order_of s es) (b x) m) (traded-numbered n es a)
+
+  pub give-numbered : (step : StepName) (n : ℕ) (m : Moment) → Agree s k m.book.resting → give step k n (moment_numbered m) ≡ moment_numbered (give step s n m)
+  give-numbered step n m a =
+      let go : (c : Bool) → cond c (moment_numbered m) (trade step k n (moment_numbered m)) ≡ moment_numbered (cond c m (trade step s n m)) = elim [ true ↦ refl | false ↦ trade-numbered step n m a ] in
+      go (n == 0)
+
+  pub give_marked-numbered : (n : ℕ) (m : Moment) → Agree s k m.book.resting → give_marked k n (moment_numbered m) ≡ moment_numbered (give_marked s n m)
+  give_marked-numbered n m a =
+      let b : List Entry → Book = λ x. record (book_numbered m.book) { resting = x } in
+      ap (λ (x : List Entry). give name.ProRata k n (record m { book = b x })) (marked-numbered n m.book.resting a)
+      ∙ give-numbered name.ProRata n (record m { book = marked s n m.book }) (keeps-mark s n (GoesWith s k) m a)
+
+-- ---- shares
+
+-- the second shares are the first by number
+abbrev pub SameShares : List Entry → List Share → List Share → Type 0
+SameShares es [] [] = Unit {0}
+SameShares es [] (y ∷ ys) = ⊥
+SameShares es (x ∷ xs) [] = ⊥
+SameShares es (x ∷ xs) (y ∷ ys) = (x.1 ≡ y.1) × Agree x.0 y.0 es × SameShares es xs ys
+
+shares-kept : (f : Moment → Moment) → KeepsNames f → (m : Moment) (xs ys : List Share) → SameShares m.book.resting xs ys → SameShares (f m).book.resting xs ys
+shares-kept f k m [] [] h = h
+shares-kept f k m [] (y ∷ ys) h = absurd h
+shares-kept f k m (x ∷ xs) [] h = absurd h
+shares-kept f k m (x ∷ xs) (y ∷ ys) h = (h.0, k (GoesWith x.0 y.0) m h.1, shares-kept f k m xs ys h.2)
+
+pub gives-numbered : (step : StepName) (xs ys : List Share) (m : Moment) → SameShares m.book.resting xs ys → gives step ys (moment_numbered m) ≡ moment_numbered (gives step xs m)
+gives-numbered step [] [] m h = refl
+gives-numbered step [] (y ∷ ys) m h = absurd h
+gives-numbered step (x ∷ xs) [] m h = absurd h
+gives-numbered step (x ∷ xs) (y ∷ ys) m h =
+    ap (λ (n : ℕ). gives step ys (give step y.0 n (moment_numbered m))) (sym h.0)
+    ∙ ap (gives step ys) (give-numbered x.0 y.0 step x.1 m h.1)
+    ∙ gives-numbered step xs ys (give step x.0 x.1 m) (shares-kept (give step x.0 x.1) (keeps-give step x.0 x.1) m xs ys h.2)
+
+pub gives_marked-numbered : (xs ys : List Share) (m : Moment) → SameShares m.book.resting xs ys → gives_marked ys (moment_numbered m) ≡ moment_numbered (gives_marked xs m)
+gives_marked-numbered [] [] m h = refl
+gives_marked-numbered [] (y ∷ ys) m h = absurd h
+gives_marked-numbered (x ∷ xs) [] m h = absurd h
+gives_marked-numbered (x ∷ xs) (y ∷ ys) m h =
+    ap (λ (n : ℕ). gives_marked ys (give_marked y.0 n (moment_numbered m))) (sym h.0)
+    ∙ ap (gives_marked ys) (give_marked-numbered x.0 y.0 x.1 m h.1)
+    ∙ gives_marked-numbered xs ys (give_marked x.0 x.1 m) (shares-kept (give_marked x.0 x.1) (keeps-give_marked x.0 x.1) m xs ys h.2)

@@ -1,0 +1,91 @@
+//! The steps of a list, one after the other, at one price.
+ghost use Rattle.std.specs.Prelude.{◌≡◌, true};
+ghost use Rattle.std.specs.List.{AllByRecursion};
+ghost use Rattle.gx_base.specs.Emits.{Emits};
+ghost use Rattle.step_config.specs.Rules.{is_fifo};
+ghost use Rattle.step_config.specs.RightSteps.{IsRightStep};
+ghost use Rattle.plain_book.specs.Match.{moment, IsNow, CanTrade};
+ghost use Rattle.plain_book.specs.Steps.{IsOver};
+ghost use Rattle.plain_book.specs.Keeping.{KeepsRoom};
+ghost use Rattle.level_sweep.specs.Sweep.{step_of, wanted_step, level_match, with_resting, IsServed, AreServed};
+
+use gx_base::{Desk, Emit, Price, Taker};
+use plain_book::Book;
+use prorata_pass::prorata_pass;
+use split_pass::{fifo_pass, split_pass};
+use step_config::{Step, Steps};
+
+/// One step at a price.
+fn run_step<B: Book, E: Emit>(
+    book: &mut B,
+    desk: &mut Desk,
+    taker: &mut Taker,
+    price: Price,
+    step: &Step,
+    out: &mut E,
+)
+    requires right { IsRightStep step.now }
+    requires served { IsServed step.now }
+    requires can { CanTrade (B.book book.old) desk.old taker.old }
+    ensures now { IsNow (step_of step.now price (moment (B.book book.old) desk.old taker.old)) (B.book book.new) desk.new taker.new }
+    ensures told { Emits E.meanings out.old out.new (step_of step.now price (moment (B.book book.old) desk.old taker.old)).events }
+    ensures can { CanTrade (B.book book.new) desk.new taker.new }
+    ensures room { KeepsRoom desk.old taker.old.order.leaves desk.new taker.new.order.leaves }
+    ensures over { is_fifo step.now ≡ true → IsOver price (B.book book.new) taker.new }
+{
+    match step {
+        Step::Split(percent) => split_pass(book, desk, taker, price, *percent, out),
+        Step::ProRata(least) => prorata_pass(book, desk, taker, price, *least, out),
+        Step::Fifo => fifo_pass(book, desk, taker, price, out),
+        Step::Top(_) | Step::Lmm(_) | Step::Leveling => unreachable!(),
+    }
+}
+
+/// One step at a price, where anything is wanted.
+fn run_if_wanted<B: Book, E: Emit>(
+    book: &mut B,
+    desk: &mut Desk,
+    taker: &mut Taker,
+    price: Price,
+    step: &Step,
+    out: &mut E,
+)
+    requires right { IsRightStep step.now }
+    requires served { IsServed step.now }
+    requires can { CanTrade (B.book book.old) desk.old taker.old }
+    ensures now { IsNow (wanted_step step.now price (moment (B.book book.old) desk.old taker.old)) (B.book book.new) desk.new taker.new }
+    ensures told { Emits E.meanings out.old out.new (wanted_step step.now price (moment (B.book book.old) desk.old taker.old)).events }
+    ensures can { CanTrade (B.book book.new) desk.new taker.new }
+    ensures room { KeepsRoom desk.old taker.old.order.leaves desk.new taker.new.order.leaves }
+    ensures over { is_fifo step.now ≡ true → IsOver price (B.book book.new) taker.new }
+{
+    if taker.order.leaves > 0 {
+        run_step(book, desk, taker, price, step, out);
+    }
+}
+
+/// The level match: the steps in their order, each at this price and on the level as the step before it left it, and
+/// none once no lots are wanted. In the end no lots are wanted or no order is left at the price. Only resting orders
+/// change. After the exchange's published outline.
+pub fn match_level<B: Book, E: Emit>(
+    book: &mut B,
+    desk: &mut Desk,
+    taker: &mut Taker,
+    price: Price,
+    steps: &Steps,
+    out: &mut E,
+)
+    requires served { AreServed steps.now }
+    requires can { CanTrade (B.book book.old) desk.old taker.old }
+    ensures now { IsNow (level_match steps.now price (moment (B.book book.old) desk.old taker.old)) (B.book book.new) desk.new taker.new }
+    ensures told { Emits E.meanings out.old out.new (level_match steps.now price (moment (B.book book.old) desk.old taker.old)).events }
+    ensures can { CanTrade (B.book book.new) desk.new taker.new }
+    ensures room { KeepsRoom desk.old taker.old.order.leaves desk.new taker.new.order.leaves }
+    ensures over { IsOver price (B.book book.new) taker.new }
+    ensures stays { B.book book.new ≡ with_resting (B.book book.new).resting (B.book book.old) }
+{
+    let steps = steps.list();
+    for step in steps {
+        run_if_wanted(book, desk, taker, price, step, out);
+    }
+}

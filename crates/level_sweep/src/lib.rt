@@ -1,0 +1,10 @@
+//! A level match, which goes through a list of steps at one price, and a sweep over the prices within a limit.
+#![tactic(auto)]
+
+mod levels;
+mod sweeping;
+#[cfg(test)]
+mod tests;
+
+pub use levels::match_level;
+pub use sweeping::sweep;
