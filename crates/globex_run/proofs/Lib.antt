@@ -1,13 +1,10 @@
-pub mod Before
-pub mod Sorted
-pub mod Mapped
 pub mod Rooms
-pub mod Kept
-pub mod Told
-pub mod Rounds
-pub mod Going
-pub mod Heads
+pub mod Numbers
+pub mod Sweeping
+pub mod Resting
 pub mod Entered
+pub mod Cancelling
+pub mod ServedSteps
 pub mod Serving
 pub mod ServedFrames
 pub mod Statuses
@@ -16,6 +13,5 @@ pub mod Fronts
 pub mod Ends
 pub mod Complete
 pub mod Runs
-pub mod EachRule
 pub mod ProductReads
 pub mod Faults

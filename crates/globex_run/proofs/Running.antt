@@ -38,10 +38,10 @@ events-push product state (f ∷ frames) frame =
     ap (λ (l : List Event). (step_of product state f).1 ++ l) (events-push product (step_of product state f).0 frames frame)
     ∙ sym (append_assoc (step_of product state f).1 (events_from product (step_of product state f).0 frames) (step_of product (state_after product (step_of product state f).0 frames) frame).1)
 
-pub reports-push : (product : ProductLists) (frames : List (List ℕ)) (frame : List ℕ) → reports_of product (frames ++ frame ∷ []) ≡ reports_of product frames ++ lines_of product (step_of product (state_after product empty_state frames) frame).1
+pub reports-push : (product : ProductLists) (frames : List (List ℕ)) (frame : List ℕ) → reports_of product (frames ++ frame ∷ []) ≡ reports_of product frames ++ lines_of product (step_of product (state_after product (empty_state product) frames) frame).1
 reports-push product frames frame =
-    ap (λ (l : List Event). lines_of product l) (events-push product empty_state frames frame)
-    ∙ flat_map-append (line_of product.names) (events_from product empty_state frames) (step_of product (state_after product empty_state frames) frame).1
+    ap (λ (l : List Event). lines_of product l) (events-push product (empty_state product) frames frame)
+    ∙ flat_map-append (line_of product.names) (events_from product (empty_state product) frames) (step_of product (state_after product (empty_state product) frames) frame).1
 
 pub and_left-then : (bytes more : List ℕ) (left : Option (List ℕ)) → and_left bytes (and_left more left) ≡ and_left (bytes ++ more) left
 and_left-then bytes more None = refl
@@ -55,7 +55,7 @@ module _ {I S : Type 0} (inputs : SourceMeanings I) (stations : StationMeanings 
   abbrev Run : I → S → Framing → State → Type 0
   Run now after framing state = IsServed inputs stations product old now before after framing state
 
-  pub served-first : (framing : Framing) (state : State) → IsEmptyFramer framing → state ≡ empty_state → Run old before framing state
+  pub served-first : (framing : Framing) (state : State) → IsEmptyFramer framing → state ≡ empty_state product → Run old before framing state
   served-first framing state empty start = record {
     served = [];
     are_served = tt;
@@ -78,7 +78,7 @@ module _ {I S : Type 0} (inputs : SourceMeanings I) (stations : StationMeanings 
       let all = run.served ++ frame ∷ [] in
       let bytes : concat all ++ next.rest ≡ concat run.served ++ framing.rest =
       ap (λ (l : List ℕ). l ++ next.rest) (concat-push run.served frame) ∙ append_assoc (concat run.served) frame next.rest ∙ ap (λ (l : List ℕ). concat run.served ++ l) (sym given.front) in
-      let stepped : step_of product state frame ≡ step_of product (state_after product empty_state run.served) frame = ap (λ (s : State). step_of product s frame) run.is_state in
+      let stepped : step_of product state frame ≡ step_of product (state_after product (empty_state product) run.served) frame = ap (λ (s : State). step_of product s frame) run.is_state in
       record {
         served = all;
         are_served = served-push product run.served frame run.are_served did.3;
@@ -87,7 +87,7 @@ module _ {I S : Type 0} (inputs : SourceMeanings I) (stations : StationMeanings 
             ap (λ (l : List ℕ). messages_of (l ++ more)) bytes ∙ run.messages more ∙ ap (λ (l : List (List ℕ)). run.served ++ l) (given.message more) ∙ sym (append_assoc run.served (frame ∷ []) (messages_of (next.rest ++ more)));
         behind = λ more. ap (λ (l : List ℕ). rest_of (l ++ more)) bytes ∙ run.behind more ∙ given.behind more;
         offset = given.offset ∙ ap (λ (n : ℕ). n + length frame) run.offset ∙ sym (ap length (concat-push run.served frame) ∙ length-append (concat run.served) frame);
-        is_state = did.0 ∙ ap (λ (s : State × List Event). s.0) stepped ∙ sym (state-push product empty_state run.served frame);
+        is_state = did.0 ∙ ap (λ (s : State × List Event). s.0) stepped ∙ sym (state-push product (empty_state product) run.served frame);
         count = did.2 ∙ ap (λ (n : ℕ). n + 1) run.count ∙ sym (length-append run.served (frame ∷ []));
         sent =
             did.4

@@ -1,5 +1,5 @@
 -- Cancels, and messages that a session rule refuses.
-use Rattle.std.specs.Prelude.{ℕ, ◌+◌, false, ◌&&◌, ◌==◌, List, [], ◌∷◌, slice_index, slice_set, bytes_eq, find, Option, Some, None}
+use Rattle.std.specs.Prelude.{ℕ, ◌+◌, false, List, [], ◌∷◌, slice_index, slice_set, Option, Some, None}
 use Rattle.gx_base.specs.declared.order.Order.{Order}
 use Rattle.gx_base.specs.declared.order.Desk.{Desk}
 use Rattle.gx_base.specs.declared.event.Head.{Head}
@@ -9,9 +9,10 @@ use Rattle.gx_base.specs.declared.event.Cause.TheVariants.{Asked}
 use Rattle.gx_base.specs.declared.event.ChangeFault.TheVariants as change
 use Rattle.fix_request.specs.declared.request.CancelOrder.{CancelOrder}
 use Rattle.fix_request.specs.declared.request.Refusal.{Refusal}
+use Rattle.plain_book.specs.Orders.{order_of, slot_named}
+use Rattle.plain_book.specs.Book.{live_orders, book_without}
+use Rattle.plain_book.specs.Match.{reported, next_head}
 use Rattle.globex_run.specs.State.{State}
-use Rattle.globex_run.specs.Book.{is_named}
-use Rattle.globex_run.specs.Match.{reported, next_head, without}
 
 -- ---- report lines that are no execution reports
 
@@ -27,10 +28,6 @@ abbrev pub line_told : Desk → Option ℕ → Desk
 line_told desk firm = record desk { lines = slice_set desk.lines (line_place firm) (slice_index desk.lines (line_place firm) + 1) }
 
 -- ---- cancels
-
--- the live order of a firm with this id
-abbrev pub live_order : ℕ → List ℕ → List Order → Option Order
-live_order firm id resting = find (is_named firm id) resting
 
 abbrev pub unknown_order : CancelOrder → Desk → Event
 unknown_order request desk =
@@ -48,19 +45,21 @@ abbrev pub order_cancelled : CancelOrder → Order → Desk → Event
 order_cancelled request o desk =
     Cancelled (next_head desk request.sender.firm request.sender.time) (closed o) o.leaves (Some request.id) Asked
 
--- the order leaves, and what was open is reported to its firm, under the id of the cancel
-abbrev pub cancelled : CancelOrder → Order → State → State × List Event
-cancelled request o state = (
-  record { resting = without o.number state.resting; desk = reported state.desk request.sender.firm },
-  order_cancelled request o state.desk ∷ [],
-)
+-- the order of this number leaves, and what was open is reported to its firm, under the id of the cancel
+abbrev pub cancelled : CancelOrder → ℕ → State → State × List Event
+cancelled request number state =
+    let o = order_of number (live_orders state.book) in (
+      record { book = book_without number state.book; desk = reported state.desk request.sender.firm },
+      order_cancelled request o state.desk ∷ [],
+    )
 
-abbrev pub cancel_by : Option Order → CancelOrder → State → State × List Event
+abbrev pub cancel_by : Option ℕ → CancelOrder → State → State × List Event
 cancel_by None request state = cancel_refused request state
-cancel_by (Some o) request state = cancelled request o state
+cancel_by (Some number) request state = cancelled request number state
 
+-- the live order of the firm with the old id is cancelled
 abbrev pub cancel_step : CancelOrder → State → State × List Event
-cancel_step request state = cancel_by (live_order request.sender.firm request.old state.resting) request state
+cancel_step request state = cancel_by (slot_named request.sender.firm request.old (live_orders state.book)) request state
 
 -- ---- messages that a session rule refuses
 

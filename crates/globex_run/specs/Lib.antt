@@ -1,8 +1,6 @@
 pub mod Ticks
 pub mod ProductTexts
 pub mod State
-pub mod Book
-pub mod Match
 pub mod ServedRequests
 pub mod NewOrders
 pub mod Cancels

@@ -1,9 +1,10 @@
 -- New orders: which are refused, and what an accepted one does.
-use Rattle.std.specs.Prelude.{ℕ, ◌+◌, Bool, true, false, not, ◌&&◌, ◌||◌, ◌==◌, nat_le, if◌then◌else◌, List, [], ◌∷◌, length, Option, Some, None, pos}
+use Rattle.std.specs.Prelude.{ℕ, ◌+◌, Bool, true, false, not, ◌&&◌, ◌||◌, ◌==◌, nat_le, if◌then◌else◌, List, [], ◌∷◌, length, Option, Some, None, pos, slice_get, option_map, unwrap_or}
 use Rattle.gx_base.specs.declared.price.Price.{Price}
 use Rattle.gx_base.specs.declared.order.Order.{Order}
 use Rattle.gx_base.specs.declared.order.Desk.{Desk}
 use Rattle.gx_base.specs.declared.order.Taker.{Taker}
+use Rattle.gx_base.specs.declared.order.TopRule.{TopRule}
 use Rattle.gx_base.specs.declared.event.Event.{Event}
 use Rattle.gx_base.specs.declared.event.Event.TheVariants.{Accepted, RefusedNew}
 use Rattle.gx_base.specs.declared.event.NewFault.{NewFault}
@@ -15,9 +16,14 @@ use Rattle.fix_request.specs.declared.request.Named.{Named}
 use Rattle.fix_request.specs.declared.request.Named.TheVariants.{Known, Unknown}
 use Rattle.fix_request.specs.declared.request.Px.{Px}
 use Rattle.fix_request.specs.declared.request.Px.TheVariants.{Absent, At, Between}
+use Rattle.product_file.specs.declared.product.InstrumentRule.{InstrumentRule}
+use Rattle.step_config.specs.declared.step.Step.{Step}
+use Rattle.step_config.specs.Rules.{top_rule_of}
+use Rattle.plain_book.specs.Orders.{is_live}
+use Rattle.plain_book.specs.Book.{Book, live_orders, book_placed}
+use Rattle.plain_book.specs.Match.{Moment, moment, report, reported, next_head}
+use Rattle.level_sweep.specs.Sweep.{sweep}
 use Rattle.globex_run.specs.State.{State}
-use Rattle.globex_run.specs.Book.{is_live, placed}
-use Rattle.globex_run.specs.Match.{Moment, moment, report, reported, next_head, sweep}
 use Rattle.globex_run.specs.Ticks.{tick_of, is_off_tick}
 
 -- ---- refusals: the first of the rules that holds (our own order and words)
@@ -48,14 +54,14 @@ abbrev pub has_off_tick : ProductLists → NewOrder → Bool
 has_off_tick product new =
     let tick = tick_of product (instrument_number new.named) in is_off_tick tick new.price || is_off_tick tick new.trigger
 
-abbrev pub new_fault : ProductLists → NewOrder → List Order → Option NewFault
-new_fault product new resting =
+abbrev pub new_fault : ProductLists → NewOrder → Book → Option NewFault
+new_fault product new book =
     first_fault
     (fault_if (is_unknown new.named) fault.Symbol
-    ∷ fault_if (is_live new.sender.firm new.id resting) fault.Duplicate
+    ∷ fault_if (is_live new.sender.firm new.id (live_orders book)) fault.Duplicate
     ∷ fault_if (not (is_quantity new.quantity)) fault.Quantity
     ∷ fault_if (has_off_tick product new) fault.Tick
-    ∷ fault_if (length resting == product.max_orders) fault.BookFull
+    ∷ fault_if (length (live_orders book) == product.max_orders) fault.BookFull
     ∷ [])
 
 -- what is said of a refused new order
@@ -78,8 +84,8 @@ price_in Absent = record { 0 = pos 0 }
 price_in Between = record { 0 = pos 0 }
 
 -- the order that a message asks for, with the next order number
-abbrev pub order_of : NewOrder → ℕ → Order
-order_of new number = record {
+abbrev pub order_asked : NewOrder → ℕ → Order
+order_asked new number = record {
   number = number;
   firm = new.sender.firm;
   instrument = instrument_number new.named;
@@ -99,33 +105,43 @@ order_of new number = record {
 }
 
 abbrev pub taker_of : NewOrder → ℕ → Taker
-taker_of new number = record { order = order_of new number; time = new.sender.time; range = None }
+taker_of new number = record { order = order_asked new number; time = new.sender.time; range = None }
 
--- what is left of an order that has matched comes to rest
-abbrev pub rested : Moment → Moment
-rested m =
-    if m.taker.order.leaves == 0 then m
-    else record m { state = record m.state { resting = placed m.taker.order m.state.resting } }
+-- the steps of the instrument
+abbrev pub steps_for : ProductLists → NewOrder → List Step
+steps_for product new = unwrap_or (option_map (λ (r : InstrumentRule). r.steps) (slice_get product.rules (instrument_number new.named))) []
 
--- an order is entered: it sweeps the other side, and rests with what is left
-abbrev pub entered : Moment → Moment
-entered m = rested (sweep m)
+-- how many lots TOP asks of an order, where the steps have a TOP
+abbrev pub top_min_of : List Step → Option ℕ
+top_min_of steps = option_map (λ (rule : TopRule). rule.min) (top_rule_of steps)
+
+-- what is left of an order comes to rest
+abbrev pub with_rest : List Step → Order → Book → Book
+with_rest steps o book = if o.leaves == 0 then book else book_placed o.number o (top_min_of steps) book
+
+-- an order is entered: it sweeps the other side up to its price, and rests with what is left
+abbrev pub entered : List Step → Moment → Moment
+entered steps m =
+    let end = sweep steps m.taker.order.price m in record end { book = with_rest steps end.taker.order end.book }
 
 -- a new order is accepted, reported, and entered
-abbrev pub new_of : NewOrder → State → Moment
-new_of new state =
+abbrev pub new_of : List Step → NewOrder → State → Moment
+new_of steps new state =
     let number = state.desk.orders + 1 in
     let taker = taker_of new number in
-    let counted = record state { desk = record state.desk { orders = number } } in
-    entered (report Accepted taker.order (moment counted taker))
+    let desk = record state.desk { orders = number } in
+    entered steps (report Accepted taker.order (moment state.book desk taker))
 
-abbrev pub accepted : NewOrder → State → State × List Event
-accepted new state = let m = new_of new state in (m.state, m.events)
+abbrev pub state_in : Moment → State
+state_in m = record { book = m.book; desk = m.desk }
+
+abbrev pub accepted : List Step → NewOrder → State → State × List Event
+accepted steps new state = let m = new_of steps new state in (state_in m, m.events)
 
 -- a new order is refused by the first rule that holds, or else accepted
-abbrev pub new_by : Option NewFault → NewOrder → State → State × List Event
-new_by None new state = accepted new state
-new_by (Some f) new state = refused f new state
+abbrev pub new_by : Option NewFault → List Step → NewOrder → State → State × List Event
+new_by None steps new state = accepted steps new state
+new_by (Some f) steps new state = refused f new state
 
 abbrev pub new_step : ProductLists → NewOrder → State → State × List Event
-new_step product new state = new_by (new_fault product new state.resting) new state
+new_step product new state = new_by (new_fault product new state.book) (steps_for product new) new state

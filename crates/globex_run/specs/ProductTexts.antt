@@ -1,9 +1,10 @@
 -- The product's text, as it is taken from its source, and why it is refused.
-use Rattle.std.specs.Prelude.{◌≡◌, ◌≢◌, ℕ, ◌≤◌, Bool, IsTrue, IsFalse, List, length, take, Result, Ok, Err, IfOk, OnErr}
+use Rattle.std.specs.Prelude.{◌≡◌, ◌≢◌, ℕ, ◌≤◌, Bool, true, false, IsTrue, IsFalse, List, length, take, Result, Ok, Err, IfOk, OnErr}
 use Rattle.std.specs.List.{list_all}
 use Rattle.gx_station.specs.Counts.{Rose}
 use Rattle.gx_station.specs.Sources.{SourceMeanings, and_left, IsAtEnd}
-use Rattle.step_config.specs.Rules.{is_fifo}
+use Rattle.step_config.specs.declared.step.Step.{Step}
+use Rattle.step_config.specs.declared.step.Step.TheVariants.{Top, Lmm, Split, ProRata, Leveling, Fifo}
 use Rattle.product_file.specs.Products.{ProductLists}
 use Rattle.product_file.specs.Faults.{rule_number}
 use Rattle.product_file.specs.ProductTexts.{product_of}
@@ -30,9 +31,17 @@ pub record TakesText {P F : Type 0} (m : SourceMeanings P) (old new : P) (room :
   pub taken : IfOk result (λ n. IsProductText m old new (take n room))
   pub rose : OnErr result (Rose (m.faults old) (m.faults new))
 
--- FIFO alone is served yet. This goes away once every step is.
+-- SPLIT, PRORATA and FIFO are served yet. This goes away once every step is.
+abbrev pub is_step_served : Step → Bool
+is_step_served (Split percent) = true
+is_step_served (ProRata least) = true
+is_step_served Fifo = true
+is_step_served (Top rule) = false
+is_step_served (Lmm shares) = false
+is_step_served Leveling = false
+
 abbrev pub are_steps_served : ProductLists → Bool
-are_steps_served product = list_all (λ (r : InstrumentRule). list_all is_fifo r.steps) product.rules
+are_steps_served product = list_all (λ (r : InstrumentRule). list_all is_step_served r.steps) product.rules
 
 -- the place that status 3 tells: the number of the first rule that the text breaks, or 20 where it breaks none and has a
 -- step that is not served

@@ -28,7 +28,7 @@ pub record IsServed {I S : Type 0} (inputs : SourceMeanings I) (stations : Stati
   pub messages : (more : List ℕ) → messages_of ((concat served ++ framing.rest) ++ more) ≡ served ++ messages_of (framing.rest ++ more)
   pub behind : (more : List ℕ) → rest_of ((concat served ++ framing.rest) ++ more) ≡ rest_of (framing.rest ++ more)
   pub offset : framing.offset ≡ length (concat served)
-  pub is_state : state ≡ state_after product empty_state served
+  pub is_state : state ≡ state_after product (empty_state product) served
   pub count : state.desk.messages ≡ length served
   pub sent : stations.sent after ≡ sent_and (stations.sent before) (reports_of product served)
   pub reads : inputs.faults now ≡ inputs.faults old

@@ -1,16 +1,17 @@
--- The state of the engine: plain lists and counters.
-use Rattle.std.specs.Prelude.{List, [], replicate}
-use Rattle.gx_base.specs.declared.order.Order.{Order}
+-- The state of the engine: the live orders, each by its number, and the counters.
+use Rattle.std.specs.Prelude.{length, replicate}
 use Rattle.gx_base.specs.declared.order.Desk.{Desk}
+use Rattle.plain_book.specs.Book.{Book, empty_book}
+use Rattle.product_file.specs.Products.{ProductLists}
 
 pub record State : Type 0 where
-  -- all resting orders in book order: by instrument, then buy before sell, then better price first, then by priority
-  pub resting : List Order
+  -- the slot of an order is its number
+  pub book : Book
   pub desk : Desk
 
 abbrev pub empty_desk : Desk
 empty_desk = record { messages = 0; orders = 0; reports = 0; trades = 0; lines = replicate 65 0 }
 
--- no order, and all counters 0
-abbrev pub empty_state : State
-empty_state = record { resting = []; desk = empty_desk }
+-- no order, room for as many as the product allows, and all counters 0
+abbrev pub empty_state : ProductLists → State
+empty_state product = record { book = empty_book product.max_orders (length product.names.instruments); desk = empty_desk }

@@ -37,7 +37,7 @@ events_from product state (frame ∷ frames) = (step_of product state frame).1 +
 
 -- the events of these messages
 abbrev pub events_of : ProductLists → List (List ℕ) → List Event
-events_of product frames = events_from product empty_state frames
+events_of product frames = events_from product (empty_state product) frames
 
 -- the lines of these events, one behind the other
 abbrev pub lines_of : ProductLists → List Event → List ℕ

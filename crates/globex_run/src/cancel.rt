@@ -1,14 +1,15 @@
 //! Cancels, and messages that a session rule refuses.
-ghost use Rattle.std.specs.Prelude.{◌≡◌, ◌<◌, ◌≤◌, IfSome, [], ◌∷◌, vec_len, vec_capacity, Some};
+ghost use Rattle.std.specs.Prelude.{◌≡◌, ◌<◌, IfSome, [], ◌∷◌, Some};
 ghost use Rattle.gx_base.specs.Emits.{Emits};
-ghost use Rattle.globex_run.specs.Match.{reported, without};
+ghost use Rattle.plain_book.specs.Orders.{HasSlot, order_of};
+ghost use Rattle.plain_book.specs.Book.{live_orders, book_without};
+ghost use Rattle.plain_book.specs.Match.{reported};
 ghost use Rattle.globex_run.specs.Cancels.{line_head, line_told, closed, unknown_order, order_cancelled, cancel_step, rejected};
-ghost use Rattle.globex_run.specs.Fit.{HasRoom, IsState, IsCounting, IsServing, state_of, counter_limit};
+ghost use Rattle.globex_run.specs.Fit.{HasRoom, IsState, IsCounting, IsServing, IsSameSize, state_of, counter_limit};
 
-use crate::book::{find_order, remove};
-use crate::matching::count_report;
 use fix_request::{CancelOrder, Refusal};
-use gx_base::{Cause, ChangeFault, Desk, Emit, Event, Head, Order, Stamp};
+use gx_base::{Cause, ChangeFault, Desk, Emit, Event, Head, Order, Slot, Stamp};
+use plain_book::{Book, count_report};
 
 /// The place of the lines to nobody known, behind those of the firms.
 const UNKNOWN: usize = 64;
@@ -41,26 +42,25 @@ fn closed(order: &Order) -> Order
 }
 
 /// An order leaves the book as its firm asked. What was open is reported.
-fn cancel_order<E: Emit>(
-    orders: &mut Vec<Order>,
+fn cancel_order<B: Book, E: Emit>(
+    book: &mut B,
     desk: &mut Desk,
     request: &CancelOrder,
-    order: &Order,
+    slot: Slot,
     out: &mut E,
 )
+    requires live { HasSlot slot.0 (live_orders (B.book book.old)) }
     requires firm { request.now.sender.firm < 64 }
     requires room { HasRoom desk.old 1 counter_limit }
-    ensures orders { orders.new.items ≡ without order.now.number orders.old.items }
-    ensures fewer { vec_len orders.new ≤ vec_len orders.old }
-    ensures capacity { vec_capacity orders.new ≡ vec_capacity orders.old }
+    ensures left { B.book book.new ≡ book_without slot.0 (B.book book.old) }
     ensures desk { desk.new ≡ reported desk.old request.now.sender.firm }
-    ensures told { Emits E.meanings out.old out.new (order_cancelled request.now order.now desk.old ∷ []) }
+    ensures told { Emits E.meanings out.old out.new (order_cancelled request.now (order_of slot.0 (live_orders (B.book book.old))) desk.old ∷ []) }
 {
-    remove(orders, order.number);
+    let order = book.remove(slot);
     let head = count_report(desk, request.sender.firm, request.sender.time);
     out.put(&Event::Cancelled {
         head,
-        order: closed(order),
+        order: closed(&order),
         gone: order.leaves,
         by: Some(request.id),
         cause: Cause::Asked,
@@ -88,21 +88,23 @@ fn refuse_cancel<E: Emit>(desk: &mut Desk, request: &CancelOrder, out: &mut E)
 
 /// A cancel: the order of the firm with the old id leaves, and its firm is told what was open. It is refused where no live
 /// order of the firm has that id.
-pub fn apply_cancel<E: Emit>(
-    orders: &mut Vec<Order>,
+pub fn apply_cancel<B: Book, E: Emit>(
+    book: &mut B,
     desk: &mut Desk,
     request: &CancelOrder,
     out: &mut E,
 )
-    requires counting { IsCounting orders.old.items desk.old (vec_capacity orders.old) }
+    requires counting { IsCounting (B.book book.old) desk.old }
     requires firm { request.now.sender.firm < 64 }
-    ensures now { IsState (cancel_step request.now (state_of orders.old.items desk.old)).0 orders.new.items desk.new }
-    ensures told { Emits E.meanings out.old out.new (cancel_step request.now (state_of orders.old.items desk.old)).1 }
-    ensures serving { IsServing orders.new.items desk.new (vec_capacity orders.new) }
+    ensures now { IsState (cancel_step request.now (state_of (B.book book.old) desk.old)).0 (B.book book.new) desk.new }
+    ensures told { Emits E.meanings out.old out.new (cancel_step request.now (state_of (B.book book.old) desk.old)).1 }
+    ensures serving { IsServing (B.book book.new) desk.new }
+    ensures size { IsSameSize (B.book book.old) (B.book book.new) }
     ensures count { desk.new.messages ≡ desk.old.messages }
 {
-    match find_order(orders.as_slice(), request.sender.firm, &request.old) {
-        Some(order) => cancel_order(orders, desk, request, &order, out),
+    book.rules();
+    match book.find(request.sender.firm, &request.old) {
+        Some(slot) => cancel_order(book, desk, request, slot, out),
         None => refuse_cancel(desk, request, out),
     }
 }

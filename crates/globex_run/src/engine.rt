@@ -1,27 +1,29 @@
-//! The engine: the resting orders and the counters, and what each message does to them.
-ghost use Rattle.std.specs.Prelude.{◌≡◌, ◌+◌, ◌<◌, ◌≤◌, IsTrue, IfOk, length, vec_capacity};
+//! The engine: the live orders and the counters, and what each message does to them.
+ghost use Rattle.std.specs.Prelude.{◌≡◌, ◌+◌, ◌<◌, ◌≤◌, IsTrue, IfOk};
 ghost use Rattle.gx_base.specs.Emits.{Emits};
 ghost use Rattle.fix_request.specs.Given.{IsGivenRequest};
 ghost use Rattle.globex_run.specs.State.{empty_state};
 ghost use Rattle.globex_run.specs.ServedRequests.{is_served};
 ghost use Rattle.globex_run.specs.Step.{with_message, request_step};
-ghost use Rattle.globex_run.specs.Fit.{IsState, IsCounting, IsServing, state_of};
+ghost use Rattle.globex_run.specs.ProductTexts.{are_steps_served};
+ghost use Rattle.globex_run.specs.Fit.{IsState, IsCounting, IsServing, IsSameSize, FitsProduct, state_of};
 
 use crate::cancel::{apply_cancel, refuse_message};
 use crate::entry::apply_new;
 use fix_request::Request;
-use gx_base::{Desk, Emit, Order};
+use gx_base::{Desk, Emit};
+use plain_book::{Book, PlainBook};
 use product_file::Product;
 use std::alloc::{AllocError, Global};
 use std::marker::Model;
 
-/// How many messages are served in one run, for now. Each makes at most one order rest, so there is always room for it.
+/// How many messages are served in one run, for now.
 pub const MESSAGE_LIMIT: u64 = 10_000;
 
-/// The state of the engine. Contracts see it as the list of resting orders and the counters.
+/// The state of the engine. Contracts see it as the book of live orders, each by its number, and the counters.
 #[derive(Drop)]
 pub struct Engine {
-    orders: Vec<Order>,
+    book: PlainBook,
     desk: Desk,
 }
 
@@ -30,21 +32,21 @@ impl Model for Engine {
 
     ghost Value = { State };
 
-    ghost use Rattle.std.specs.Prelude.{vec_capacity};
     ghost use Rattle.globex_run.specs.Fit.{IsServing, state_of};
 
-    ghost view = { λ e. state_of e.orders.items e.desk };
+    ghost view = { λ e. state_of e.book e.desk };
 
-    ghost invariant = { λ e. IsServing e.orders.items e.desk (vec_capacity e.orders) };
+    ghost invariant = { λ e. IsServing e.book e.desk };
 }
 
 impl Engine {
-    /// An engine with no order, and room for as many as there are messages. An `Err` is want of memory.
-    pub fn new(alloc: Global) -> Result<Engine, AllocError>
-        ensures { IfOk result (λ e. e ≡ empty_state) }
+    /// An engine with no order, and room for as many as the product allows. An `Err` is want of memory.
+    pub fn new(alloc: Global, product: &Product) -> Result<Engine, AllocError>
+        ensures { IfOk result (λ e. e ≡ empty_state product.now) }
     {
+        let instruments = product.names().instrument_count() as u8;
         Ok(Engine {
-            orders: Vec::with_capacity(alloc, MESSAGE_LIMIT as usize)?,
+            book: PlainBook::new(alloc, product.max_orders(), instruments)?,
             desk: Desk {
                 messages: 0,
                 orders: 0,
@@ -68,35 +70,41 @@ impl Engine {
         requires few { self.old.desk.messages < 10000 }
         requires given { IsGivenRequest product.now request.now }
         requires served { IsTrue (is_served request.now) }
+        requires steps { IsTrue (are_steps_served product.now) }
+        requires fits { FitsProduct product.now self.old.book }
         ensures state { self.new ≡ (request_step product.now request.now (with_message self.old)).0 }
         ensures told { Emits E.meanings out.old out.new (request_step product.now request.now (with_message self.old)).1 }
         ensures count { self.new.desk.messages ≡ self.old.desk.messages + 1 }
+        ensures fits { FitsProduct product.now self.new.book }
     {
         self.desk.messages += 1;
-        apply_counted(&mut self.orders, &mut self.desk, product, request, out);
+        apply_counted(&mut self.book, &mut self.desk, product, request, out);
     }
 }
 
 /// Applies a message that is counted already.
-fn apply_counted<E: Emit>(
-    orders: &mut Vec<Order>,
+fn apply_counted<B: Book, E: Emit>(
+    book: &mut B,
     desk: &mut Desk,
     product: &Product,
     request: &Request,
     out: &mut E,
 )
-    requires counting { IsCounting orders.old.items desk.old (vec_capacity orders.old) }
+    requires counting { IsCounting (B.book book.old) desk.old }
     requires given { IsGivenRequest product.now request.now }
     requires served { IsTrue (is_served request.now) }
-    ensures now { IsState (request_step product.now request.now (state_of orders.old.items desk.old)).0 orders.new.items desk.new }
-    ensures told { Emits E.meanings out.old out.new (request_step product.now request.now (state_of orders.old.items desk.old)).1 }
-    ensures serving { IsServing orders.new.items desk.new (vec_capacity orders.new) }
+    requires steps { IsTrue (are_steps_served product.now) }
+    requires fits { FitsProduct product.now (B.book book.old) }
+    ensures now { IsState (request_step product.now request.now (state_of (B.book book.old) desk.old)).0 (B.book book.new) desk.new }
+    ensures told { Emits E.meanings out.old out.new (request_step product.now request.now (state_of (B.book book.old) desk.old)).1 }
+    ensures serving { IsServing (B.book book.new) desk.new }
+    ensures size { IsSameSize (B.book book.old) (B.book book.new) }
     ensures count { desk.new.messages ≡ desk.old.messages }
 {
     product.limits();
     match request {
-        Request::New(new) => apply_new(orders, desk, product, new, out),
-        Request::Cancel(cancel) => apply_cancel(orders, desk, cancel, out),
+        Request::New(new) => apply_new(book, desk, product, new, out),
+        Request::Cancel(cancel) => apply_cancel(book, desk, cancel, out),
         Request::Refused(refusal) => refuse_message(desk, refusal, out),
         Request::Passed(_) => {}
         Request::Replace(_) => unreachable!(),

@@ -1,17 +1,22 @@
 //! New orders: refused, or accepted, reported and entered.
-ghost use Rattle.std.specs.Prelude.{◌≡◌, ◌+◌, ◌<◌, ◌≤◌, ℕ, [], ◌∷◌, length, vec_len, vec_capacity};
+ghost use Rattle.std.specs.Prelude.{◌≡◌, ◌+◌, ◌<◌, ℕ, IsTrue, false, [], ◌∷◌, length};
 ghost use Rattle.gx_base.specs.Emits.{Emits};
 ghost use Rattle.fix_request.specs.Given.{IsListed};
-ghost use Rattle.globex_run.specs.NewOrders.{instrument_number, price_in, is_quantity, new_fault, order_of, new_of, new_step, refused_of, refusal};
-ghost use Rattle.globex_run.specs.Match.{reported};
-ghost use Rattle.globex_run.specs.Fit.{IsRight, HasRoom, IsState, IsCounting, IsServing, state_of, IsOrder, counter_limit};
+ghost use Rattle.plain_book.specs.Orders.{is_live};
+ghost use Rattle.plain_book.specs.Book.{live_orders};
+ghost use Rattle.plain_book.specs.Match.{reported};
+ghost use Rattle.level_sweep.specs.Sweep.{AreServed};
+ghost use Rattle.globex_run.specs.NewOrders.{instrument_number, price_in, is_quantity, new_fault, order_asked, steps_for, new_of, new_step, refused_of, refusal, state_in};
+ghost use Rattle.globex_run.specs.ProductTexts.{are_steps_served};
+ghost use Rattle.globex_run.specs.Fit.{AreNumbered, HasRoom, IsState, IsCounting, IsServing, IsSameSize, FitsProduct, state_of, IsPlain, IsOrder, counter_limit};
 
-use crate::book::{has_id, place};
-use crate::matching::{count_report, match_all};
+use crate::matching::{match_order, rest_order};
 use crate::ticks::{is_off_tick, tick_of};
 use fix_request::{Named, NewOrder, Px};
 use gx_base::{Desk, Emit, Event, NewFault, NewRefused, Order, Price, Taker};
+use plain_book::{Book, count_report};
 use product_file::Product;
+use step_config::Steps;
 
 /// The greatest quantity of an order, in lots.
 const MOST_LOTS: u32 = 999_999;
@@ -23,15 +28,22 @@ fn is_quantity(lots: u32) -> bool
     1 <= lots && lots <= MOST_LOTS
 }
 
+/// Whether a live order of the firm has the id of a new one.
+fn has_id<B: Book>(book: &B, new: &NewOrder) -> bool
+    ensures { result ≡ is_live new.now.sender.firm new.now.id (live_orders (B.book book.now)) }
+{
+    book.find(new.sender.firm, &new.id).is_some()
+}
+
 /// The first rule that refuses a new order, in the order of `NewFault`.
-fn fault_of(orders: &[Order], product: &Product, new: &NewOrder) -> Option<NewFault>
+fn fault_of<B: Book>(book: &B, product: &Product, new: &NewOrder) -> Option<NewFault>
     requires { IsListed product.now.names new.now.named }
-    ensures { result ≡ new_fault product.now new.now orders.now }
+    ensures { result ≡ new_fault product.now new.now (B.book book.now) }
 {
     let Named::Known(instrument) = new.named else {
         return Some(NewFault::Symbol);
     };
-    if has_id(orders, new.sender.firm, &new.id) {
+    if has_id(book, new) {
         return Some(NewFault::Duplicate);
     }
     if !is_quantity(new.quantity) {
@@ -41,7 +53,7 @@ fn fault_of(orders: &[Order], product: &Product, new: &NewOrder) -> Option<NewFa
     if is_off_tick(tick, new.price) || is_off_tick(tick, new.trigger) {
         return Some(NewFault::Tick);
     }
-    if orders.len() == product.max_orders() as usize {
+    if book.live() == product.max_orders() {
         return Some(NewFault::BookFull);
     }
     None
@@ -69,7 +81,7 @@ fn price_in(px: Px) -> Price
 
 /// The order that a message asks for, with its number.
 fn new_order(new: &NewOrder, number: u64) -> Order
-    ensures { result ≡ order_of new.now number }
+    ensures { result ≡ order_asked new.now number }
 {
     Order {
         number,
@@ -91,22 +103,38 @@ fn new_order(new: &NewOrder, number: u64) -> Order
     }
 }
 
+/// The steps of the instrument of a new order.
+fn steps_for<'a>(product: &'a Product, new: &NewOrder) -> &'a Steps
+    requires { instrument_number new.now.named < length product.now.names.instruments }
+    ensures { result.now ≡ steps_for product.now new.now }
+{
+    &product.rule(instrument_number(new.named)).steps
+}
+
 /// A new order is accepted under the next number, and reported. Then it sweeps the other side, and rests with what is
 /// left.
-pub fn enter_new<E: Emit>(orders: &mut Vec<Order>, desk: &mut Desk, new: &NewOrder, out: &mut E)
-    requires right { IsRight desk.old.orders orders.old.items }
-    requires order { IsOrder new.now }
+pub fn enter_new<B: Book, E: Emit>(
+    book: &mut B,
+    desk: &mut Desk,
+    steps: &Steps,
+    new: &NewOrder,
+    out: &mut E,
+)
+    requires served { AreServed steps.now }
+    requires order { IsOrder (B.book book.old).instruments new.now }
+    requires unnamed { is_live new.now.sender.firm new.now.id (live_orders (B.book book.old)) ≡ false }
+    requires spare { length (live_orders (B.book book.old)) < (B.book book.old).capacity }
+    requires numbered { AreNumbered desk.old.orders (B.book book.old) }
     requires numbers { desk.old.orders < counter_limit }
+    requires messages { desk.old.messages < counter_limit }
     requires room { HasRoom desk.old (new.now.quantity + 1) counter_limit }
-    requires spare { vec_len orders.old < vec_capacity orders.old }
-    ensures now { IsState (new_of new.now (state_of orders.old.items desk.old)).state orders.new.items desk.new }
-    ensures told { Emits E.meanings out.old out.new (new_of new.now (state_of orders.old.items desk.old)).events }
-    ensures right { IsRight desk.new.orders orders.new.items }
+    ensures now { IsState (state_in (new_of steps.now new.now (state_of (B.book book.old) desk.old))) (B.book book.new) desk.new }
+    ensures told { Emits E.meanings out.old out.new (new_of steps.now new.now (state_of (B.book book.old) desk.old)).events }
+    ensures numbered { AreNumbered desk.new.orders (B.book book.new) }
+    ensures size { IsSameSize (B.book book.old) (B.book book.new) }
     ensures room { (bound : ℕ) → HasRoom desk.old (new.now.quantity + 1) bound → HasRoom desk.new 0 bound }
     ensures messages { desk.new.messages ≡ desk.old.messages }
     ensures numbers { desk.new.orders ≡ desk.old.orders + 1 }
-    ensures few { vec_len orders.new ≤ vec_len orders.old + 1 }
-    ensures capacity { vec_capacity orders.new ≡ vec_capacity orders.old }
 {
     desk.orders += 1;
     let mut taker = Taker {
@@ -119,10 +147,8 @@ pub fn enter_new<E: Emit>(orders: &mut Vec<Order>, desk: &mut Desk, new: &NewOrd
         head,
         order: taker.order,
     });
-    match_all(orders, desk, &mut taker, out);
-    if taker.order.leaves > 0 {
-        place(orders, taker.order);
-    }
+    match_order(book, desk, &mut taker, steps, out);
+    rest_order(book, &taker.order, steps);
 }
 
 /// What is said of a refused new order.
@@ -155,24 +181,27 @@ pub fn refuse_new<E: Emit>(desk: &mut Desk, new: &NewOrder, fault: NewFault, out
 }
 
 /// A new order is refused by the first rule that holds, or else accepted.
-pub fn apply_new<E: Emit>(
-    orders: &mut Vec<Order>,
+pub fn apply_new<B: Book, E: Emit>(
+    book: &mut B,
     desk: &mut Desk,
     product: &Product,
     new: &NewOrder,
     out: &mut E,
 )
-    requires counting { IsCounting orders.old.items desk.old (vec_capacity orders.old) }
-    requires firm { new.now.sender.firm < 64 }
+    requires counting { IsCounting (B.book book.old) desk.old }
+    requires fits { FitsProduct product.now (B.book book.old) }
+    requires steps { IsTrue (are_steps_served product.now) }
+    requires plain { IsPlain new.now }
     requires named { IsListed product.now.names new.now.named }
-    requires no_display { new.now.show ≡ 0 }
-    ensures now { IsState (new_step product.now new.now (state_of orders.old.items desk.old)).0 orders.new.items desk.new }
-    ensures told { Emits E.meanings out.old out.new (new_step product.now new.now (state_of orders.old.items desk.old)).1 }
-    ensures serving { IsServing orders.new.items desk.new (vec_capacity orders.new) }
+    ensures now { IsState (new_step product.now new.now (state_of (B.book book.old) desk.old)).0 (B.book book.new) desk.new }
+    ensures told { Emits E.meanings out.old out.new (new_step product.now new.now (state_of (B.book book.old) desk.old)).1 }
+    ensures serving { IsServing (B.book book.new) desk.new }
+    ensures size { IsSameSize (B.book book.old) (B.book book.new) }
     ensures count { desk.new.messages ≡ desk.old.messages }
 {
-    match fault_of(orders.as_slice(), product, new) {
+    book.rules();
+    match fault_of(book, product, new) {
         Some(fault) => refuse_new(desk, new, fault, out),
-        None => enter_new(orders, desk, new, out),
+        None => enter_new(book, desk, steps_for(product, new), new, out),
     }
 }

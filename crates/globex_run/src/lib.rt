@@ -1,7 +1,6 @@
 //! The engine: messages in, reports out.
 #![tactic(auto)]
 
-mod book;
 mod cancel;
 mod engine;
 mod entry;

@@ -1,8 +1,7 @@
 //! The product, which is read before anything else is touched.
 ghost use Rattle.std.specs.Prelude.{◌≡◌, ◌≤◌, length, vec_len};
 ghost use Rattle.std.specs.List.{list_all};
-ghost use Rattle.step_config.specs.Rules.{is_fifo};
-ghost use Rattle.globex_run.specs.ProductTexts.{TakesText, TakesProduct, Judges, are_steps_served};
+ghost use Rattle.globex_run.specs.ProductTexts.{TakesText, TakesProduct, Judges, is_step_served, are_steps_served};
 
 use crate::outcome::Status;
 use crate::serve::Ending;
@@ -37,20 +36,27 @@ fn read_text<P: Source>(room: &mut Vec<u8>, source: &mut P) -> Result<usize, Fai
 }
 
 /// Whether each step of each instrument is served.
-fn are_steps_served(product: &Product) -> bool
+pub fn are_steps_served(product: &Product) -> bool
     ensures { result ≡ are_steps_served product.now }
 {
     product
         .rules()
         .iter()
-        .all(|rule| are_fifo(rule.steps.list()))
+        .all(|rule| are_served(rule.steps.list()))
 }
 
-/// Whether each of these steps is FIFO.
-fn are_fifo(steps: &[Step]) -> bool
-    ensures { result ≡ list_all is_fifo steps.now }
+/// Whether the step is served.
+fn is_step_served(step: &Step) -> bool
+    ensures { result ≡ is_step_served step.now }
 {
-    steps.iter().all(|step| matches!(step, Step::Fifo))
+    matches!(step, Step::Split(_) | Step::ProRata(_) | Step::Fifo)
+}
+
+/// Whether each of these steps is served.
+fn are_served(steps: &[Step]) -> bool
+    ensures { result ≡ list_all is_step_served steps.now }
+{
+    steps.iter().all(is_step_served)
 }
 
 /// Takes the product from its source. An `Err` says why there is none: want of memory, a read that failed, or a text

@@ -14,6 +14,7 @@ use crate::words::is_run;
 use exec_report::ReportBuffer;
 use fix_frame::Framer;
 use gx_station::{Source, Station};
+use product_file::Product;
 use std::alloc::{AllocError, Global};
 
 /// How many bytes of the input are read at once.
@@ -31,12 +32,12 @@ struct Rooms {
 impl Rooms {
     ghost use Rattle.globex_run.specs.Rooms.{AreNew};
 
-    /// Takes all the memory of a run. An `Err` is want of memory.
-    fn new(alloc: Global) -> Result<Rooms, AllocError>
-        ensures { IfOk result AreNew }
+    /// Takes all the memory of a run over a product. An `Err` is want of memory.
+    fn new(alloc: Global, product: &Product) -> Result<Rooms, AllocError>
+        ensures { IfOk result (AreNew product.now) }
     {
         Ok(Rooms {
-            engine: Engine::new(alloc)?,
+            engine: Engine::new(alloc, product)?,
             framer: Framer::new(alloc)?,
             chunk: vec![in alloc; 0; CHUNK]?,
             buffer: ReportBuffer::new(alloc)?,
@@ -91,7 +92,7 @@ pub fn globex<P: Source, I: Source, S: Station>(
         Ok(product) => product,
         Err(ending) => return ending.status.outcome(ending.at, 0),
     };
-    let Ok(mut rooms) = Rooms::new(alloc) else {
+    let Ok(mut rooms) = Rooms::new(alloc, &product) else {
         return Status::NoMemory.outcome(0, 0);
     };
     let ending = serve(

@@ -6,6 +6,8 @@ ghost use Rattle.fix_request.specs.Given.{IsGivenRequest};
 ghost use Rattle.globex_run.specs.ServedRequests.{is_served};
 ghost use Rattle.globex_run.specs.Step.{with_message, request_step, lines_of};
 ghost use Rattle.globex_run.specs.State.{empty_state};
+ghost use Rattle.globex_run.specs.ProductTexts.{are_steps_served};
+ghost use Rattle.globex_run.specs.Fit.{FitsProduct};
 ghost use Rattle.globex_run.specs.Outcomes.{place_of};
 ghost use Rattle.globex_run.specs.Ran.{Ran};
 ghost use Rattle.globex_run.specs.Serving.{TakesMore, CausedBy, ServesFrame, EndsServing, IsEmptyFramer};
@@ -53,9 +55,12 @@ fn serve_request<S: Station>(
     requires few { engine.old.desk.messages < 10000 }
     requires given { IsGivenRequest product.now request.now }
     requires served { IsTrue (is_served request.now) }
+    requires steps { IsTrue (are_steps_served product.now) }
+    requires fits { FitsProduct product.now engine.old.book }
     requires empty { buffer.old ≡ [] }
     ensures state { engine.new ≡ (request_step product.now request.now (with_message engine.old)).0 }
     ensures count { engine.new.desk.messages ≡ engine.old.desk.messages + 1 }
+    ensures fits { FitsProduct product.now engine.new.book }
     ensures sends { Sends S.meanings station.old station.new (lines_of product.now (request_step product.now request.now (with_message engine.old)).1) result }
     ensures empty { OnOk result (buffer.new ≡ []) }
 {
@@ -90,8 +95,11 @@ fn serve_frame<S: Station>(
     frame: &[u8],
 ) -> Result<(), Status>
     requires frame { IsFrame frame.now }
+    requires steps { IsTrue (are_steps_served product.now) }
+    requires fits { FitsProduct product.now engine.old.book }
     requires empty { buffer.old ≡ [] }
     ensures served { ServesFrame S.meanings product.now engine.old engine.new station.old station.new frame.now result }
+    ensures fits { FitsProduct product.now engine.new.book }
     ensures empty { OnOk result (buffer.new ≡ []) }
 {
     let request = read_request(frame, product);
@@ -119,7 +127,8 @@ pub fn serve<I: Source, S: Station>(
     input: &mut I,
     station: &mut S,
 ) -> Ending
-    requires start { engine.old ≡ empty_state }
+    requires steps { IsTrue (are_steps_served product.now) }
+    requires start { engine.old ≡ empty_state product.now }
     requires framer { IsEmptyFramer framer.old }
     requires chunk { vec_len chunk.old ≡ 4096 }
     requires buffer { buffer.old ≡ [] }

@@ -4,6 +4,7 @@ mod orders;
 mod products;
 mod refusals;
 mod runs;
+mod shares;
 
 ghost use Rattle.std.specs.Prelude.{◌≤◌};
 ghost use Rattle.std.specs.List.{AllByRecursion};

@@ -13,7 +13,7 @@ use Rattle.plain_book.specs.Orders.{opposite, is_within, top_of}
 use Rattle.plain_book.specs.Match.{Moment, moment, Share, give, gives}
 use Rattle.plain_book.specs.Steps.{give_marked, gives_marked, level_now, head_gives, fifo_rounds, prorata, prorata_shares, top_shares, lmm_shares, split_shares, leveling_shares}
 use Rattle.plain_book.proofs.Steps.{with_events, give-events}
-use Rattle.level_sweep.specs.Sweep.{step_of, level_match, match_within, facing_best, wanted_step, match_best}
+use Rattle.level_sweep.specs.Sweep.{step_of, level_match, match_within, facing_best, wanted_step, match_best, sweep_rounds, sweep}
 
 abbrev pub IsBlind : (Moment → Moment) → Type 0
 IsBlind f = (es : List Event) (m : Moment) → f (with_events es m) ≡ with_events es (f m)
@@ -79,3 +79,10 @@ within-blind steps limit (Some price) es m = choice (is_within (opposite m.taker
 
 pub best-blind : (steps : List Step) (limit : Price) → IsBlind (match_best steps limit)
 best-blind steps limit es m = choice (m.taker.order.leaves == 0) (λ x. x) (match_within steps limit (facing_best m)) es m same (within-blind steps limit (facing_best m))
+
+rounds-blind : (n : ℕ) (steps : List Step) (limit : Price) → IsBlind (sweep_rounds n steps limit)
+rounds-blind zero steps limit es m = refl
+rounds-blind (suc n) steps limit es m = ap (sweep_rounds n steps limit) (best-blind steps limit es m) ∙ rounds-blind n steps limit es (match_best steps limit m)
+
+pub sweep-blind : (steps : List Step) (limit : Price) → IsBlind (sweep steps limit)
+sweep-blind steps limit es m = rounds-blind m.taker.order.leaves steps limit es m

@@ -2,7 +2,9 @@ pub mod Blind
 pub mod Going
 pub mod Moves
 pub mod Ends
+pub mod Each
 pub mod Only
 pub mod Names
+pub mod Swept
 pub mod Numbered
 pub mod Renamed

@@ -7,18 +7,17 @@ use Rattle.std.proofs.lemmas.Bool.Decides.{eqb_tells}
 use Rattle.gx_base.specs.declared.price.Price.{Price}
 use Rattle.gx_base.specs.declared.order.Order.{Order}
 use Rattle.gx_base.specs.declared.event.StepName.{StepName}
-use Rattle.gx_base.specs.declared.event.StepName.TheVariants as name
 use Rattle.step_config.specs.declared.step.Step.{Step}
-use Rattle.step_config.specs.declared.step.Step.TheVariants.{Top, Lmm, Split, ProRata, Leveling, Fifo}
 use Rattle.plain_book.specs.declared.entry.Entry.{Entry}
-use Rattle.plain_book.specs.Orders.{HasSlot, order_of, no_order, without, with_order, reordered, placed, settled, traded, refreshed, filled_by, is_behind, is_within, opposite, top_of}
+use Rattle.plain_book.specs.Orders.{HasSlot, order_of, no_order, without, with_order, reordered, placed, settled, traded, refreshed, filled_by, is_behind}
 use Rattle.plain_book.specs.Book.{Book, AllDiffer}
-use Rattle.plain_book.specs.Match.{Moment, Share, trade, give, gives}
-use Rattle.plain_book.specs.Steps.{give_marked, gives_marked, level_now, head_gives, fifo_rounds, prorata_shares, top_shares, lmm_shares, split_shares, leveling_shares}
+use Rattle.plain_book.specs.Match.{Moment, give}
+use Rattle.plain_book.specs.Steps.{give_marked, head_gives}
 use Rattle.plain_book.proofs.Levels.{same, renewed, without-none, with_order-none}
 use Rattle.plain_book.proofs.Pairs.{all-filter, all-append, all-with, all-both}
 use Rattle.plain_book.proofs.Steps.{marked}
-use Rattle.level_sweep.specs.Sweep.{step_of, wanted_step, level_match, match_within, match_best, facing_best, sweep_rounds}
+use Rattle.level_sweep.specs.Sweep.{wanted_step, match_best, sweep}
+use Rattle.level_sweep.proofs.Each.{Relation, IsKept, each-give, each-give_marked, each-head, each-wanted, each-best, each-sweep}
 use Rattle.plain_book.specs.Numbers.{by_number, numbered}
 
 -- P holds of the slot and the number of each order
@@ -101,64 +100,37 @@ module _ (P : ℕ → ℕ → Type 0) where
 abbrev pub KeepsNames : (Moment → Moment) → Type 1
 KeepsNames f = (P : ℕ → ℕ → Type 0) (m : Moment) → Names P m.book.resting → Names P (f m).book.resting
 
-keeps-choice : (b : Bool) (f g : Moment → Moment) (P : ℕ → ℕ → Type 0) (m : Moment) → KeepsNames f → KeepsNames g → Names P m.book.resting → Names P (cond b (f m) (g m)).book.resting
-keeps-choice true f g P m p q a = p P m a
-keeps-choice false f g P m p q a = q P m a
+abbrev NamesStay : (ℕ → ℕ → Type 0) → Relation
+NamesStay P a b = Names P a.book.resting → Names P b.book.resting
 
-keeps-same : KeepsNames (λ m. m)
-keeps-same P m a = a
-
-keeps-trade : (step : StepName) (s n : ℕ) → KeepsNames (trade step s n)
-keeps-trade step s n P m a = names-traded P s n m.book.resting a
+names : (P : ℕ → ℕ → Type 0) → IsKept (NamesStay P)
+names P = record {
+  same = λ m a. a;
+  both = λ a b c h k x. k (h x);
+  trades = λ step s n m a. names-traded P s n m.book.resting a;
+  marks = λ s n m a. names-marked P s n m.book.resting a;
+}
 
 pub keeps-give : (step : StepName) (s n : ℕ) → KeepsNames (give step s n)
-keeps-give step s n P m a = keeps-choice (n == 0) (λ x. x) (trade step s n) P m keeps-same (keeps-trade step s n) a
-
-pub keeps-gives : (step : StepName) (shares : List Share) → KeepsNames (gives step shares)
-keeps-gives step [] P m a = a
-keeps-gives step (x ∷ xs) P m a = keeps-gives step xs P (give step x.0 x.1 m) (keeps-give step x.0 x.1 P m a)
+keeps-give step s n P m a = each-give (NamesStay P) (names P) step s n m a
 
 pub keeps-mark : (s n : ℕ) → KeepsNames (λ m. record m { book = marked s n m.book })
 keeps-mark s n P m a = names-marked P s n m.book.resting a
 
 pub keeps-give_marked : (s n : ℕ) → KeepsNames (give_marked s n)
-keeps-give_marked s n P m a = keeps-give name.ProRata s n P (record m { book = marked s n m.book }) (keeps-mark s n P m a)
-
-pub keeps-gives_marked : (shares : List Share) → KeepsNames (gives_marked shares)
-keeps-gives_marked [] P m a = a
-keeps-gives_marked (x ∷ xs) P m a = keeps-gives_marked xs P (give_marked x.0 x.1 m) (keeps-give_marked x.0 x.1 P m a)
+keeps-give_marked s n P m a = each-give_marked (NamesStay P) (names P) s n m a
 
 pub keeps-head : (es : List Entry) → KeepsNames (head_gives es)
-keeps-head [] P m a = a
-keeps-head (e ∷ es) P m a = keeps-give name.Fifo e.slot _ P m a
-
-pub keeps-fifo : (price : Price) (n : ℕ) → KeepsNames (fifo_rounds n price)
-keeps-fifo price zero P m a = a
-keeps-fifo price (suc n) P m a = keeps-fifo price n P (head_gives (level_now price m) m) (keeps-head (level_now price m) P m a)
-
-keeps-step : (s : Step) (price : Price) → KeepsNames (step_of s price)
-keeps-step (Top rule) price P m a = keeps-gives name.Top (top_shares rule.max (top_of m.taker.order.instrument (opposite m.taker.order.side) m.book.resting) m.taker.order.leaves (level_now price m)) P m a
-keeps-step (Lmm shares) price P m a = keeps-gives name.Lmm (lmm_shares shares.items m.taker.order.leaves (level_now price m)) P m a
-keeps-step (Split percent) price P m a = keeps-gives name.Split (split_shares percent m.taker.order.leaves (level_now price m)) P m a
-keeps-step (ProRata least) price P m a =
-    let shares = prorata_shares least m.taker.order.leaves (level_now price m) in
-    keeps-choice (m.taker.order.leaves == 0) (λ x. x) (gives_marked shares) P m keeps-same (keeps-gives_marked shares) a
-keeps-step Leveling price P m a = keeps-gives name.Leveling (leveling_shares m.taker.order.leaves (level_now price m)) P m a
-keeps-step Fifo price P m a = keeps-fifo price m.taker.order.leaves P m a
+keeps-head es P m a = each-head (NamesStay P) (names P) es m a
 
 pub keeps-wanted : (s : Step) (price : Price) → KeepsNames (wanted_step s price)
-keeps-wanted s price P m a = keeps-choice (m.taker.order.leaves == 0) (λ x. x) (step_of s price) P m keeps-same (keeps-step s price) a
-
-pub keeps-match : (steps : List Step) (price : Price) → KeepsNames (level_match steps price)
-keeps-match [] price P m a = a
-keeps-match (s ∷ ss) price P m a = keeps-match ss price P (wanted_step s price m) (keeps-wanted s price P m a)
-
-keeps-within : (steps : List Step) (limit : Price) (best : Option Price) → KeepsNames (match_within steps limit best)
-keeps-within steps limit None P m a = a
-keeps-within steps limit (Some price) P m a = keeps-choice (is_within (opposite m.taker.order.side) limit.0 price.0) (level_match steps price) (λ x. x) P m (keeps-match steps price) keeps-same a
+keeps-wanted s price P m a = each-wanted (NamesStay P) (names P) s price m a
 
 pub keeps-best : (steps : List Step) (limit : Price) → KeepsNames (match_best steps limit)
-keeps-best steps limit P m a = keeps-choice (m.taker.order.leaves == 0) (λ x. x) (match_within steps limit (facing_best m)) P m keeps-same (keeps-within steps limit (facing_best m)) a
+keeps-best steps limit P m a = each-best (NamesStay P) (names P) steps limit m a
+
+pub keeps-sweep : (steps : List Step) (limit : Price) → KeepsNames (sweep steps limit)
+keeps-sweep steps limit P m a = each-sweep (NamesStay P) (names P) steps limit m a
 
 -- ---- slots and numbers that go together
 

@@ -21,7 +21,7 @@ use Rattle.plain_book.proofs.Levels.{same, AllDiffer-front}
 use Rattle.plain_book.proofs.Pairs.{all-filter, all-with, all-append, all-front, all-back}
 use Rattle.level_sweep.specs.Sweep.{step_of, wanted_step, level_match, match_within, match_best, facing_best, sweep_rounds, sweep}
 use Rattle.plain_book.specs.Numbers.{by_number, numbered, book_numbered, moment_numbered}
-use Rattle.level_sweep.proofs.Names.{Names, KeepsNames, found, GoesWith, Agree, Matched, matched-from, matched-kept, keeps-head, keeps-wanted, keeps-best}
+use Rattle.level_sweep.proofs.Names.{Names, KeepsNames, found, GoesWith, Agree, Matched, matched-from, matched-kept, keeps-head, keeps-wanted, keeps-best, keeps-sweep}
 use Rattle.level_sweep.proofs.Only.{rest-sweep}
 use Rattle.level_sweep.proofs.Numbered.{SameShares, test-is, filter-numbered, filter-order, level-numbered, side-numbered, best-numbered, placed-numbered, without-numbered, give-numbered, gives-numbered, gives_marked-numbered}
 
@@ -188,16 +188,9 @@ rounds-same (suc n) steps limit m h =
 sweep-same : (steps : List Step) (limit : Price) → IsSame (sweep steps limit)
 sweep-same steps limit m h = rounds-same m.taker.order.leaves steps limit m h
 
-keeps-rounds : (n : ℕ) (steps : List Step) (limit : Price) → KeepsNames (sweep_rounds n steps limit)
-keeps-rounds zero steps limit P m a = a
-keeps-rounds (suc n) steps limit P m a = keeps-rounds n steps limit P (match_best steps limit m) (keeps-best steps limit P m a)
-
-keeps-sweep : (steps : List Step) (limit : Price) → KeepsNames (sweep steps limit)
-keeps-sweep steps limit P m a = keeps-rounds m.taker.order.leaves steps limit P m a
-
 -- ---- live orders
 
-live-numbered : (b : Book) → live_orders (book_numbered b) ≡ numbered (live_orders b)
+pub live-numbered : (b : Book) → live_orders (book_numbered b) ≡ numbered (live_orders b)
 live-numbered b = sym (map-append by_number b.resting b.waiting)
 
 matched-live : (b : Book) → AllDiffer (live_orders b) → AllDiffer (live_orders (book_numbered b)) → Matched (live_orders b)

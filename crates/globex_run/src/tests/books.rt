@@ -1,6 +1,9 @@
 //! A book of several prices and firms, whose lines are logged byte by byte.
+ghost use Rattle.globex_run.specs.Fit.{FitsProduct};
+
 use super::{PRODUCT, frames_of};
 use crate::engine::{Engine, MESSAGE_LIMIT};
+use crate::product_text::are_steps_served;
 use crate::served::is_served;
 use fix_frame::{Framer, Next};
 use fix_request::read_request;
@@ -38,8 +41,12 @@ fn apply_all(
     engine: &mut Engine,
     framer: &mut Framer,
     log: &mut ByteEmit<'_>,
-) {
-    for _ in 0..ORDERS.len() {
+)
+    requires fits { FitsProduct product.now engine.old.book }
+    ensures fits { FitsProduct product.now engine.new.book }
+{
+    assert!(rt; are_steps_served(product));
+    for _message in 0..ORDERS.len() {
         let Next::Frame(start, end) = framer.next() else {
             panic!(rt; "a frame is missing");
         };
@@ -54,7 +61,7 @@ fn apply_all(
 fn sweeps_two_prices(rt: HostRuntime) -> Result<(), Fail> {
     let alloc = rt.alloc();
     let product = read_product(alloc, PRODUCT.as_bytes())?;
-    let mut engine = Engine::new(alloc)?;
+    let mut engine = Engine::new(alloc, &product)?;
     let mut framer = Framer::new(alloc)?;
     let mut log = ByteEmit::new(alloc, product.names(), 4096)?;
     let bytes = frames_of(alloc, &ORDERS)?;

@@ -16,8 +16,8 @@ protection = 2
 algorithm = "F"
 "#;
 
-/// The algorithm is pro rata, whose steps are not served yet.
-const PRO_RATA: &str = r#"exchange = "GX"
+/// TOP comes first, which is not served yet.
+const ALLOCATION: &str = r#"exchange = "GX"
 firms = ["AAA"]
 
 [[instrument]]
@@ -25,7 +25,33 @@ name = "ESZ4"
 decimals = 2
 tick = 1
 protection = 2
-algorithm = "C"
+algorithm = "A"
+"#;
+
+/// A lead market maker comes first, which is not served yet.
+const LEAD_MARKET_MAKER: &str = r#"exchange = "GX"
+firms = ["AAA"]
+
+[[instrument]]
+name = "ESZ4"
+decimals = 2
+tick = 1
+protection = 2
+algorithm = "T"
+lmm = [{ firm = "AAA", percent = 40 }]
+"#;
+
+/// One lot each to those that pro rata gave nothing, which is not served yet.
+const LEVELING: &str = r#"exchange = "GX"
+firms = ["AAA"]
+
+[[instrument]]
+name = "ESZ4"
+decimals = 2
+tick = 1
+protection = 2
+algorithm = "K"
+steps = ["PRORATA", "LEVELING", "FIFO"]
 "#;
 
 /// Looks for status 3 with this number.
@@ -48,7 +74,9 @@ fn refused_products(rt: HostRuntime) -> Result<(), Fail> {
 
 #[test]
 fn steps_that_are_not_served(rt: HostRuntime) -> Result<(), Fail> {
-    expect_refused(&rt, PRO_RATA, 20)
+    expect_refused(&rt, ALLOCATION, 20)?;
+    expect_refused(&rt, LEAD_MARKET_MAKER, 20)?;
+    expect_refused(&rt, LEVELING, 20)
 }
 
 #[test]

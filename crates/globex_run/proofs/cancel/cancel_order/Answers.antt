@@ -4,14 +4,15 @@ use Rattle.gx_base.specs.declared.event.Head.{Head}
 use Rattle.gx_base.specs.declared.event.Event.TheVariants.{Cancelled}
 use Rattle.gx_base.specs.declared.event.Cause.TheVariants.{Asked}
 use Rattle.gx_base.proofs.Putting.{emits_as, emits_one}
-use Rattle.globex_run.specs.Cancels.{closed}
+use Rattle.globex_run.specs.Cancels.{closed, order_cancelled}
 use Rattle.globex_run.proofs.cancel.cancel_order.Goals as goal
 
 pub returns-clause-told : goal.returns-clause-told
 returns-clause-told g c =
     let by = Some c.args.request.now.id in
-    let order = c.args.order.now in
+    let order = c.remove-order.result in
     emits_as g.E.Emit.meanings _ _ _ _
     (ap (λ (o : Order). Cancelled c.count_report-head.result o order.leaves by Asked ∷ []) c.closed.ensures
-    ∙ ap (λ (h : Head). Cancelled h (closed order) order.leaves by Asked ∷ []) c.count_report-head.ensures.head)
+    ∙ ap (λ (h : Head). Cancelled h (closed order) order.leaves by Asked ∷ []) c.count_report-head.ensures.head
+    ∙ ap (λ (o : Order). order_cancelled c.args.request.now o c.args.desk.now ∷ []) c.remove-order.ensures.order)
     (emits_one g.E.Emit.meanings _ _ _ c.put.ensures)

@@ -1,69 +1,40 @@
-use Rattle.std.proofs.Common.{◌+◌, ℕ, arith}
+use Rattle.std.proofs.Common.{◌≡◌, ◌+◌, ◌-◌, ℕ, subst, sym, arith}
 use Rattle.gx_base.proofs.Putting.{emits_as, emits_joined, emits_one}
-use Rattle.globex_run.specs.Fit.{HasRoom, counter_limit}
-use Rattle.globex_run.proofs.Rooms.{room-less}
-use Rattle.globex_run.proofs.Entered.{IsAccepted, accepted-room, entered-none, right-none, entered-some, right-some}
+use Rattle.globex_run.specs.Fit.{AreNumbered}
+use Rattle.globex_run.proofs.Rooms.{room-matched}
+use Rattle.globex_run.proofs.Entered.{IsAccepted, accepted-room, accepted-can, accepted-number, entered-state, entered-events}
 use Rattle.globex_run.proofs.entry.enter_new.Given.{Over}
 use Rattle.globex_run.proofs.entry.enter_new.Goals as goal
-use Rattle.globex_run.proofs.entry.enter_new.Goals.{After-put, After-match_all}
+use Rattle.globex_run.proofs.entry.enter_new.Goals.{After-put}
 
 -- what stands after the first report
 accepted : (g : Over) (c : After-put g) → IsAccepted c.args.new.now c.args.desk.now c.count_report-head.new.desk c.new_order.result c.count_report-head.result
 accepted g c = record { is_order = c.new_order.ensures; is_head = c.count_report-head.ensures.head; is_desk = c.count_report-head.ensures.desk }
 
--- the match leaves the counters the room that they had
-keeps_room : (g : Over) (c : After-match_all g) → IsAccepted c.args.new.now c.args.desk.now c.count_report-head.new.desk c.new_order.result c.count_report-head.result
-    → (bound : ℕ) → HasRoom c.args.desk.now (c.args.new.now.quantity + 1) bound → HasRoom c.match_all.new.desk 0 bound
-keeps_room g c is bound room =
-    room-less c.match_all.new.desk c.match_all.new.taker.order.leaves bound (c.match_all.ensures.room bound (accepted-room _ _ _ _ _ is bound room))
+pub match_order-requires-clause-can : goal.match_order-requires-clause-can
+match_order-requires-clause-can g c =
+    accepted-can c.args.new.now (g.B.Book.book c.args.book.now) c.args.desk.now c.count_report-head.new.desk c.new_order.result c.count_report-head.result (accepted g (goal.at.match_order-requires-clause-can g c).After-put)
+    c.requires.order c.requires.unnamed c.requires.numbers c.requires.messages c.requires.room
 
-pub match_all-requires-clause-room : goal.match_all-requires-clause-room
-match_all-requires-clause-room g c =
-    accepted-room _ _ _ _ _ (accepted g (goal.at.match_all-requires-clause-room g c).After-put) counter_limit c.requires.room
+pub rest_order-requires-clause-numbered : goal.rest_order-requires-clause-numbered
+rest_order-requires-clause-numbered g c =
+    let is = accepted g (goal.at.rest_order-requires-clause-numbered g c).After-put in
+    let last : c.args.desk.now.orders ≡ c.match_order.new.taker.order.number - 1 =
+    omega (arith, accepted-number c.args.new.now c.args.desk.now c.count_report-head.new.desk c.new_order.result c.match_order.new.taker.order c.count_report-head.result is c.match_order.ensures.order) in
+    subst (λ (n : ℕ). AreNumbered n (g.B.Book.book c.match_order.new.book)) last (c.match_order.ensures.numbered c.args.desk.now.orders c.requires.numbered)
 
-pub place-requires-clause-sorted : goal.place-requires-clause-sorted
-place-requires-clause-sorted g c = (c.match_all.ensures.right c.args.desk.now.orders c.requires.right).sorted
+pub returns-clause-now : goal.returns-clause-now
+returns-clause-now g c =
+    let is = accepted g (goal.at.returns-clause-now g c).After-put in
+    entered-state c.args.steps.now c.args.new.now (g.B.Book.book c.args.book.now) c.args.desk.now _ _ _ is (g.B.Book.book c.match_order.new.book) _ _ _ c.match_order.ensures.now c.rest_order.ensures.now
 
-pub returns-then-taker-gt0-clause-now : goal.returns-then-taker-gt0-clause-now
-returns-then-taker-gt0-clause-now g c =
-    let is = accepted g (goal.at.returns-then-taker-gt0-clause-now g c).After-put in
-    (entered-some _ c.args.orders.now.items _ _ _ _ is _ _ _ c.match_all.ensures.now _ (omega arith) c.place.ensures.placed).state
-
-pub returns-then-taker-gt0-clause-told : goal.returns-then-taker-gt0-clause-told
-returns-then-taker-gt0-clause-told g c =
+pub returns-clause-told : goal.returns-clause-told
+returns-clause-told g c =
     let m = g.E.Emit.meanings in
-    let is = accepted g (goal.at.returns-then-taker-gt0-clause-told g c).After-put in
-    let after = entered-some _ c.args.orders.now.items _ _ _ _ is _ _ _ c.match_all.ensures.now _ (omega arith) c.place.ensures.placed in
-    emits_as m _ _ _ _ after.events (emits_joined m _ _ _ _ _ (emits_one m _ _ _ c.put.ensures) c.match_all.ensures.told)
+    let is = accepted g (goal.at.returns-clause-told g c).After-put in
+    emits_as m _ _ _ _ (entered-events c.args.steps.now c.args.new.now (g.B.Book.book c.args.book.now) c.args.desk.now _ _ _ is) (emits_joined m _ _ _ _ _ (emits_one m _ _ _ c.put.ensures) c.match_order.ensures.told)
 
-pub returns-then-taker-gt0-clause-right : goal.returns-then-taker-gt0-clause-right
-returns-then-taker-gt0-clause-right g c =
-    let is = accepted g (goal.at.returns-then-taker-gt0-clause-right g c).After-put in
-    right-some _ c.args.orders.now.items _ _ _ _ is _ _ _ c.match_all.ensures.now _ (omega arith) c.place.ensures.placed c.match_all.ensures.incoming (c.match_all.ensures.right c.args.desk.now.orders c.requires.right)
-
-pub returns-then-taker-gt0-clause-room : goal.returns-then-taker-gt0-clause-room
-returns-then-taker-gt0-clause-room g c =
-    let is = accepted g (goal.at.returns-then-taker-gt0-clause-room g c).After-put in
-    keeps_room g (goal.at.returns-then-taker-gt0-clause-room g c).After-match_all is
-
-pub returns-else-taker-gt0-clause-now : goal.returns-else-taker-gt0-clause-now
-returns-else-taker-gt0-clause-now g c =
-    let is = accepted g (goal.at.returns-else-taker-gt0-clause-now g c).After-put in
-    (entered-none _ c.args.orders.now.items _ _ _ _ is _ _ _ c.match_all.ensures.now (omega arith)).state
-
-pub returns-else-taker-gt0-clause-told : goal.returns-else-taker-gt0-clause-told
-returns-else-taker-gt0-clause-told g c =
-    let m = g.E.Emit.meanings in
-    let is = accepted g (goal.at.returns-else-taker-gt0-clause-told g c).After-put in
-    let after = entered-none _ c.args.orders.now.items _ _ _ _ is _ _ _ c.match_all.ensures.now (omega arith) in
-    emits_as m _ _ _ _ after.events (emits_joined m _ _ _ _ _ (emits_one m _ _ _ c.put.ensures) c.match_all.ensures.told)
-
-pub returns-else-taker-gt0-clause-right : goal.returns-else-taker-gt0-clause-right
-returns-else-taker-gt0-clause-right g c =
-    let is = accepted g (goal.at.returns-else-taker-gt0-clause-right g c).After-put in
-    right-none _ c.args.orders.now.items _ _ _ _ is _ _ _ c.match_all.ensures.now (c.match_all.ensures.right c.args.desk.now.orders c.requires.right)
-
-pub returns-else-taker-gt0-clause-room : goal.returns-else-taker-gt0-clause-room
-returns-else-taker-gt0-clause-room g c =
-    let is = accepted g (goal.at.returns-else-taker-gt0-clause-room g c).After-put in
-    keeps_room g (goal.at.returns-else-taker-gt0-clause-room g c).After-match_all is
+pub returns-clause-room : goal.returns-clause-room
+returns-clause-room g c bound room =
+    let is = accepted g (goal.at.returns-clause-room g c).After-put in
+    room-matched c.count_report-head.new.desk c.match_order.new.desk c.new_order.result.leaves c.match_order.new.taker.order.leaves bound c.match_order.ensures.room (accepted-room _ _ _ _ _ is bound room)

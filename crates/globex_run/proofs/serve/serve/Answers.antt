@@ -16,6 +16,7 @@ pub turns-preserved-in_default : goal.turns-preserved-in_default
 turns-preserved-in_default g c = record {
   run = served-next g.I.Source.meanings g.S.Station.meanings c.args.product.now c.args.input.now c.args.station.now c.turns.input c.turns.station c.serve_frame.new.station c.turns.framer c.next.new.self c.turns.engine c.serve_frame.new.engine
       c.in-Frame.start c.in-Frame.end c.frame-frame.result.now c.in_default.field-0 c.turns.invariant.run c.in-Frame.ensures c.frame-frame.ensures c.in_default.ensures.served;
+  fits = c.serve_frame.ensures.fits;
   chunk = c.turns.invariant.chunk;
   buffer = c.in_default.ensures.empty;
   offset = subst (λ (n : ℕ). c.next.new.self.offset ≤ n * 8192) (sym c.in_default.ensures.served.2)
@@ -50,6 +51,7 @@ pub turns-preserved : goal.turns-preserved
 turns-preserved g c = record {
   run = served-read g.I.Source.meanings g.S.Station.meanings c.args.product.now c.args.input.now c.args.station.now c.turns.input c.take_more.new.input c.turns.station c.turns.framer c.next.new.self c.take_more.new.framer c.turns.engine
       c.take_more.result c.in-More.ensures.0 c.turns.invariant.run c.take_more.ensures.takes c.in-Ok.ensures.takes.cause.ok;
+  fits = c.turns.invariant.fits;
   chunk = c.take_more.ensures.chunk;
   buffer = c.turns.invariant.buffer;
   offset = omega (arith, c.take_more.ensures.takes.offset, ap (λ (f : Framing). f.offset) c.in-More.ensures.0, c.turns.invariant.offset);

@@ -1,0 +1,7 @@
+use Rattle.globex_run.specs.Fit.{FitsProduct}
+use Rattle.globex_run.proofs.tests.books.apply_all.Given as goal
+
+abbrev pub invariant-loop-message : goal.invariant-loop-message
+invariant-loop-message g l = record {
+  fits : FitsProduct l.product l.engine.book;
+}
