@@ -1,0 +1,148 @@
+-- Where the TOP order stands, and what it gives there.
+use Rattle.std.proofs.Common.{◌≡◌, ℕ, min, Bool, true, false, cond, ◌&&◌, List, [], ◌∷◌, map, filter, refl, sym, ap, subst, ◌∙◌, inl, inr, Option, Some, None}
+use Rattle.std.specs.Prelude.{◌==◌, option_map}
+use Rattle.std.specs.Ordering.{int_eq}
+use Rattle.std.proofs.lemmas.Bool.Decides.{eqb_tells}
+use Rattle.gx_base.specs.declared.order.Order.{Order}
+use Rattle.gx_base.specs.declared.price.Price.{Price}
+use Rattle.gx_base.specs.declared.order.Side.{Side}
+use Rattle.gx_base.specs.declared.order.Slot.{Slot}
+use Rattle.gx_base.specs.declared.order.Taker.{Taker}
+use Rattle.gx_base.specs.declared.order.TopRule.{TopRule}
+use Rattle.gx_base.specs.declared.event.StepName.TheVariants.{Top}
+use Rattle.plain_book.specs.declared.entry.Entry.{Entry}
+use Rattle.plain_book.specs.Orders.{Level, level_of, is_level, is_at, is_on, is_side, is_slot, orders_at, side_of, slot_of, top_of, HasSlot, order_of, opposite}
+use Rattle.plain_book.specs.Book.{AllDiffer, live_orders, slot_number}
+use Rattle.plain_book.specs.Match.{Moment, Share, give, gives}
+use Rattle.plain_book.specs.Steps.{top_shares, top, level_now, facing}
+use Rattle.plain_book.proofs.Levels.{AllDiffer-front, HasSlot-left, order_of-left}
+
+-- the shares of the entries of one slot
+abbrev shares : ℕ → ℕ → List Entry → List Share
+shares most q es = map (λ (e : Entry). (e.slot, min q (min e.order.shown most))) es
+
+none-of : (k : Level) (s : ℕ) (es : List Entry) → (HasSlot s es → ⊥) → filter (is_slot s) (orders_at k es) ≡ []
+none-of k s [] h = refl
+none-of k s (e ∷ es) h =
+    let t = none-of k s es (λ a. h (inr a)) in
+    let n : is_slot s e ≡ false = elim (eqb_tells e.slot s) [ inl u ↦ absurd (h (inl u.1)) | inr u ↦ u.0 ] in
+    let go : (b : Bool) → filter (is_slot s) (cond b (e ∷ orders_at k es) (orders_at k es)) ≡ [] = elim [
+      | true ↦ ap (λ (c : Bool). cond c (e ∷ filter (is_slot s) (orders_at k es)) (filter (is_slot s) (orders_at k es))) n ∙ t
+      | false ↦ t
+    ] in go (is_at k e)
+
+-- the order of a slot is the only one of it in its level
+pub shares_at : (k : Level) (s most q : ℕ) (es : List Entry) → AllDiffer es → HasSlot s es
+    → shares most q (filter (is_slot s) (orders_at k es)) ≡ cond (is_level (level_of (order_of s es)) k) ((s, min q (min (order_of s es).shown most)) ∷ []) []
+shares_at k s most q [] d h = absurd h
+shares_at k s most q (e ∷ es) d h =
+    let F = filter (is_slot s) (orders_at k es) in
+    elim (eqb_tells e.slot s) [
+      | inl t ↦
+          let none : F ≡ [] = none-of k s es (λ a. d.0 (subst (λ (n : ℕ). HasSlot n es) (sym t.1) a)) in
+          let is : e.order ≡ order_of s (e ∷ es) = sym (ap (λ (c : Bool). cond c e.order (order_of s es)) t.0) in
+          let go : (b : Bool) → shares most q (filter (is_slot s) (cond b (e ∷ orders_at k es) (orders_at k es))) ≡ cond b ((s, min q (min e.order.shown most)) ∷ []) [] = elim [
+            | true ↦
+                ap (λ (c : Bool). shares most q (cond c (e ∷ F) F)) t.0
+                ∙ ap (λ (x : List Entry). (e.slot, min q (min e.order.shown most)) ∷ shares most q x) none
+                ∙ ap (λ (n : ℕ). (n, min q (min e.order.shown most)) ∷ []) t.1
+            | false ↦ ap (shares most q) none
+          ] in
+          go (is_at k e) ∙ ap (λ (o : Order). cond (is_level (level_of o) k) ((s, min q (min o.shown most)) ∷ []) []) is
+      | inr t ↦
+          let rest = shares_at k s most q es d.1 (elim h [ inl a ↦ absurd (t.1 a) | inr a ↦ a ]) in
+          let is : order_of s es ≡ order_of s (e ∷ es) = sym (ap (λ (c : Bool). cond c e.order (order_of s es)) t.0) in
+          let go : (b : Bool) → shares most q (filter (is_slot s) (cond b (e ∷ orders_at k es) (orders_at k es))) ≡ shares most q F = elim [
+            | true ↦ ap (λ (c : Bool). shares most q (cond c (e ∷ F) F)) t.0
+            | false ↦ refl
+          ] in
+          go (is_at k e) ∙ rest ∙ ap (λ (o : Order). cond (is_level (level_of o) k) ((s, min q (min o.shown most)) ∷ []) []) is
+    ]
+
+abbrev on_side : ℕ → Side → Order → Bool
+on_side i d o = (o.instrument == i) && is_side o.side d
+
+-- the TOP order is an order of its side
+pub record IsTopOf (i : ℕ) (d : Side) (es : List Entry) (s : ℕ) : Type 0 where
+  pub has : HasSlot s es
+  pub on : on_side i d (order_of s es) ≡ true
+
+here : (e : Entry) (es : List Entry) (s : ℕ) → e.slot ≡ s → order_of s (e ∷ es) ≡ e.order
+here e es s h = elim (eqb_tells e.slot s) [ inl t ↦ ap (λ (c : Bool). cond c e.order (order_of s es)) t.0 | inr t ↦ absurd (t.1 h) ]
+
+there : (e : Entry) (es : List Entry) (s : ℕ) → AllDiffer (e ∷ es) → HasSlot s es → order_of s (e ∷ es) ≡ order_of s es
+there e es s d h = elim (eqb_tells e.slot s) [
+  | inl t ↦ absurd (d.0 (subst (λ (n : ℕ). HasSlot n es) (sym t.1) h))
+  | inr t ↦ ap (λ (c : Bool). cond c e.order (order_of s es)) t.0
+]
+
+pub top_is : (i : ℕ) (d : Side) (es : List Entry) (s : ℕ) → AllDiffer es → Some s ≡ top_of i d es → IsTopOf i d es s
+top_is i d [] s differ h = absurd (let k : Some s ≡ None = h in cc)
+top_is i d (e ∷ es) s differ h =
+    let S = side_of i d es in
+    let later : Some s ≡ top_of i d es → IsTopOf i d (e ∷ es) s = λ k.
+    let r = top_is i d es s differ.1 k in
+    record { has = inr r.has; on = ap (on_side i d) (there e es s differ r.has) ∙ r.on } in
+    let first : on_side i d e.order ≡ true → (c : Bool) → Some s ≡ slot_of (cond c (e ∷ filter (λ (x : Entry). x.is_top) S) (filter (λ (x : Entry). x.is_top) S)) → IsTopOf i d (e ∷ es) s = λ on. elim [
+      | true ↦ λ k.
+          let j : Some s ≡ Some e.slot = k in
+          let r : e.slot ≡ s = cc in
+          record { has = inl r; on = ap (on_side i d) (here e es s r) ∙ on }
+      | false ↦ later
+    ] in
+    let go : (b : Bool) → is_on i d e ≡ b → Some s ≡ slot_of (filter (λ (x : Entry). x.is_top) (cond b (e ∷ S) S)) → IsTopOf i d (e ∷ es) s = elim [
+      | true ↦ λ on k. first on e.is_top k
+      | false ↦ λ on k. later k
+    ] in go (is_on i d e) refl h
+
+-- of an order of the side, only the price is left to test
+at-price : (a b c : Bool) → (a && b) ≡ true → (a && (b && c)) ≡ c
+at-price true true c h = refl
+at-price true false c h = cc
+at-price false b c h = cc
+
+-- the answer of a book for the side that an incoming order meets
+pub met_top : (t : Taker) (side : Side) (es : List Entry) (at : Option Slot) (slot : Slot) → side ≡ opposite t.order.side
+    → option_map slot_number at ≡ top_of t.order.instrument side es → at ≡ Some slot → Some slot.0 ≡ top_of t.order.instrument (opposite t.order.side) es
+met_top t side es at slot met top is = sym (ap (option_map slot_number) is) ∙ top ∙ ap (λ (d : Side). top_of t.order.instrument d es) met
+
+module _ (rule : TopRule) (price : Price) (m : Moment) (s : ℕ) (differ : AllDiffer (live_orders m.book)) (found : Some s ≡ top_of m.taker.order.instrument (opposite m.taker.order.side) m.book.resting) where
+  abbrev the_order : Order
+  the_order = order_of s m.book.resting
+
+  abbrev the_lots : ℕ
+  the_lots = min m.taker.order.leaves (min the_order.shown rule.max)
+
+  apart : AllDiffer m.book.resting
+  apart = AllDiffer-front m.book.resting m.book.waiting differ
+
+  the_top : IsTopOf m.taker.order.instrument (opposite m.taker.order.side) m.book.resting s
+  the_top = top_is m.taker.order.instrument (opposite m.taker.order.side) m.book.resting s apart found
+
+  pub top_rests : HasSlot s m.book.resting
+  top_rests = the_top.has
+
+  pub top_lives : HasSlot s (live_orders m.book)
+  top_lives = HasSlot-left s m.book.resting m.book.waiting top_rests
+
+  pub top_order : order_of s (live_orders m.book) ≡ the_order
+  top_order = order_of-left s m.book.resting m.book.waiting top_rests
+
+  by_price : top rule price m ≡ gives Top (cond (int_eq the_order.price.0 price.0) ((s, the_lots) ∷ []) []) m
+  by_price =
+      ap (λ (t : Option ℕ). gives Top (top_shares rule.max t m.taker.order.leaves (level_now price m)) m) (sym found)
+      ∙ ap (λ (x : List Share). gives Top x m) (shares_at (facing price m.taker) s rule.max m.taker.order.leaves m.book.resting apart top_rests
+      ∙ ap (λ (c : Bool). cond c ((s, the_lots) ∷ []) []) (at-price _ _ (int_eq the_order.price.0 price.0) the_top.on))
+
+  -- at this price, the order gives its share
+  pub top_here : (o : Order) (n : ℕ) → o ≡ order_of s (live_orders m.book) → int_eq o.price.0 price.0 ≡ true → n ≡ min m.taker.order.leaves (min o.shown rule.max)
+      → give Top s n m ≡ top rule price m
+  top_here o n is h share =
+      let o_is : o ≡ the_order = is ∙ top_order in
+      ap (λ (x : ℕ). give Top s x m) (share ∙ ap (λ (x : Order). min m.taker.order.leaves (min x.shown rule.max)) o_is)
+      ∙ sym (by_price ∙ ap (λ (c : Bool). gives Top (cond c ((s, the_lots) ∷ []) []) m) (sym (ap (λ (x : Order). int_eq x.price.0 price.0) o_is) ∙ h))
+
+  -- at another price, nothing is done
+  pub top_away : (o : Order) → o ≡ order_of s (live_orders m.book) → int_eq o.price.0 price.0 ≡ false → m ≡ top rule price m
+  top_away o is h =
+      sym (by_price ∙ ap (λ (c : Bool). gives Top (cond c ((s, the_lots) ∷ []) []) m) (sym (ap (λ (x : Order). int_eq x.price.0 price.0) (is ∙ top_order)) ∙ h))

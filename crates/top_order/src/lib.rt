@@ -1,0 +1,8 @@
+//! The step TOP of a match, over any book.
+#![tactic(auto)]
+
+mod pass;
+#[cfg(test)]
+mod tests;
+
+pub use pass::top_pass;
