@@ -1,0 +1,4 @@
+pub mod Others
+pub mod Parts
+pub mod Unmoved
+pub mod Going

@@ -1,0 +1,8 @@
+//! The LMM step of a match: lead market makers get their percentages, over any book.
+#![tactic(auto)]
+
+mod pass;
+#[cfg(test)]
+mod tests;
+
+pub use pass::lmm_pass;
