@@ -2,3 +2,4 @@ pub mod Others
 pub mod Parts
 pub mod Unmoved
 pub mod Going
+pub mod Found

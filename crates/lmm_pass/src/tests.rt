@@ -19,6 +19,7 @@ const BBB: u8 = 1;
 const CCC: u8 = 2;
 
 /// Keeps the first fills that it takes: the number of the order, the lots, and the step.
+#[derive(Drop)]
 struct FillLog {
     rows: [(u64, u32, StepName); 8],
     count: usize,

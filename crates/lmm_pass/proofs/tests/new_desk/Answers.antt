@@ -1,0 +1,5 @@
+use Rattle.lmm_pass.proofs.Found.{all-zero}
+use Rattle.lmm_pass.proofs.tests.new_desk.Goals as goal
+
+pub returns-clause-lines : goal.returns-clause-lines
+returns-clause-lines c = λ i. all-zero 65 i
