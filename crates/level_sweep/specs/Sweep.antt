@@ -1,7 +1,6 @@
 -- Level matches and sweeps. After the exchange's published outline; that a list of steps may be any right one is our own
 -- rule.
 use Rattle.std.specs.Prelude.{◌≡◌, ℕ, ◌==◌, if◌then◌else◌, List, [], ◌∷◌, Option, Some, None, IsTrue, ◌⊎◌}
-use Rattle.std.specs.List.{AllByRecursion}
 use Prim.Native.Nat.{zero, suc}
 use Rattle.gx_base.specs.declared.price.Price.{Price}
 use Rattle.gx_base.specs.declared.order.Taker.{Taker}
@@ -59,18 +58,6 @@ abbrev pub sweep : List Step → Price → Moment → Moment
 sweep steps limit m = sweep_rounds m.taker.order.leaves steps limit m
 
 -- ---- what the functions say of their arguments
-
--- the steps that are served so far
-abbrev pub IsServed : Step → Type 0
-IsServed (Top rule) = ⊥
-IsServed (Lmm shares) = ⊥
-IsServed (Split percent) = Unit {0}
-IsServed (ProRata least) = Unit {0}
-IsServed Leveling = ⊥
-IsServed Fifo = Unit {0}
-
-abbrev pub AreServed : List Step → Type 0
-AreServed steps = AllByRecursion IsServed steps
 
 -- a book with these resting orders, and else as it was
 abbrev pub with_resting : List Entry → Book → Book

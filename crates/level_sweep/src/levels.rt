@@ -1,19 +1,21 @@
 //! The steps of a list, one after the other, at one price.
 ghost use Rattle.std.specs.Prelude.{◌≡◌, true};
-ghost use Rattle.std.specs.List.{AllByRecursion};
 ghost use Rattle.gx_base.specs.Emits.{Emits};
 ghost use Rattle.step_config.specs.Rules.{is_fifo};
 ghost use Rattle.step_config.specs.RightSteps.{IsRightStep};
 ghost use Rattle.plain_book.specs.Match.{moment, IsNow, CanTrade};
 ghost use Rattle.plain_book.specs.Steps.{IsOver};
 ghost use Rattle.plain_book.specs.Keeping.{KeepsRoom};
-ghost use Rattle.level_sweep.specs.Sweep.{step_of, wanted_step, level_match, with_resting, IsServed, AreServed};
+ghost use Rattle.level_sweep.specs.Sweep.{step_of, wanted_step, level_match, with_resting};
 
 use gx_base::{Desk, Emit, Price, Taker};
+use leveling_pass::leveling_pass;
+use lmm_pass::lmm_pass;
 use plain_book::Book;
 use prorata_pass::prorata_pass;
 use split_pass::{fifo_pass, split_pass};
 use step_config::{Step, Steps};
+use top_order::top_pass;
 
 /// One step at a price.
 fn run_step<B: Book, E: Emit>(
@@ -25,7 +27,6 @@ fn run_step<B: Book, E: Emit>(
     out: &mut E,
 )
     requires right { IsRightStep step.now }
-    requires served { IsServed step.now }
     requires can { CanTrade (B.book book.old) desk.old taker.old }
     ensures now { IsNow (step_of step.now price (moment (B.book book.old) desk.old taker.old)) (B.book book.new) desk.new taker.new }
     ensures told { Emits E.meanings out.old out.new (step_of step.now price (moment (B.book book.old) desk.old taker.old)).events }
@@ -34,10 +35,12 @@ fn run_step<B: Book, E: Emit>(
     ensures over { is_fifo step.now ≡ true → IsOver price (B.book book.new) taker.new }
 {
     match step {
+        Step::Top(rule) => top_pass(book, desk, taker, price, rule, out),
+        Step::Lmm(shares) => lmm_pass(book, desk, taker, price, shares, out),
         Step::Split(percent) => split_pass(book, desk, taker, price, *percent, out),
         Step::ProRata(least) => prorata_pass(book, desk, taker, price, *least, out),
+        Step::Leveling => leveling_pass(book, desk, taker, price, out),
         Step::Fifo => fifo_pass(book, desk, taker, price, out),
-        Step::Top(_) | Step::Lmm(_) | Step::Leveling => unreachable!(),
     }
 }
 
@@ -51,7 +54,6 @@ fn run_if_wanted<B: Book, E: Emit>(
     out: &mut E,
 )
     requires right { IsRightStep step.now }
-    requires served { IsServed step.now }
     requires can { CanTrade (B.book book.old) desk.old taker.old }
     ensures now { IsNow (wanted_step step.now price (moment (B.book book.old) desk.old taker.old)) (B.book book.new) desk.new taker.new }
     ensures told { Emits E.meanings out.old out.new (wanted_step step.now price (moment (B.book book.old) desk.old taker.old)).events }
@@ -75,7 +77,6 @@ pub fn match_level<B: Book, E: Emit>(
     steps: &Steps,
     out: &mut E,
 )
-    requires served { AreServed steps.now }
     requires can { CanTrade (B.book book.old) desk.old taker.old }
     ensures now { IsNow (level_match steps.now price (moment (B.book book.old) desk.old taker.old)) (B.book book.new) desk.new taker.new }
     ensures told { Emits E.meanings out.old out.new (level_match steps.now price (moment (B.book book.old) desk.old taker.old)).events }

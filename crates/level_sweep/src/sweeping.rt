@@ -4,7 +4,7 @@ ghost use Rattle.gx_base.specs.Emits.{Emits};
 ghost use Rattle.plain_book.specs.Orders.{is_within, opposite, best_of};
 ghost use Rattle.plain_book.specs.Match.{moment, IsNow, CanTrade};
 ghost use Rattle.plain_book.specs.Keeping.{KeepsRoom};
-ghost use Rattle.level_sweep.specs.Sweep.{match_within, match_best, sweep, with_resting, AreServed, IsWorkedOff, IsThrough};
+ghost use Rattle.level_sweep.specs.Sweep.{match_within, match_best, sweep, with_resting, IsWorkedOff, IsThrough};
 
 use crate::levels::match_level;
 use gx_base::{Desk, Emit, Price, Side, Taker};
@@ -39,7 +39,6 @@ fn match_within<B: Book, E: Emit>(
     steps: &Steps,
     out: &mut E,
 )
-    requires served { AreServed steps.now }
     requires can { CanTrade (B.book book.old) desk.old taker.old }
     ensures now { IsNow (match_within steps.now limit best (moment (B.book book.old) desk.old taker.old)) (B.book book.new) desk.new taker.new }
     ensures told { Emits E.meanings out.old out.new (match_within steps.now limit best (moment (B.book book.old) desk.old taker.old)).events }
@@ -67,7 +66,6 @@ fn match_best<B: Book, E: Emit>(
     steps: &Steps,
     out: &mut E,
 )
-    requires served { AreServed steps.now }
     requires can { CanTrade (B.book book.old) desk.old taker.old }
     ensures now { IsNow (match_best steps.now limit (moment (B.book book.old) desk.old taker.old)) (B.book book.new) desk.new taker.new }
     ensures told { Emits E.meanings out.old out.new (match_best steps.now limit (moment (B.book book.old) desk.old taker.old)).events }
@@ -93,7 +91,6 @@ pub fn sweep<B: Book, E: Emit>(
     steps: &Steps,
     out: &mut E,
 )
-    requires served { AreServed steps.now }
     requires can { CanTrade (B.book book.old) desk.old taker.old }
     ensures now { IsNow (sweep steps.now limit (moment (B.book book.old) desk.old taker.old)) (B.book book.new) desk.new taker.new }
     ensures told { Emits E.meanings out.old out.new (sweep steps.now limit (moment (B.book book.old) desk.old taker.old)).events }

@@ -1,7 +1,6 @@
 //! Sweeps worked by hand.
 ghost use Rattle.std.specs.Prelude.{◌≡◌, ◌≤◌, ◌<◌};
 ghost use Rattle.plain_book.specs.Book.{IsFitToRest};
-ghost use Rattle.level_sweep.specs.Sweep.{AreServed};
 
 use crate::sweep;
 use gx_base::{Desk, Kind, Life, NullEmit, Order, Price, ShortId, Side, Stamp, Taker};
@@ -57,7 +56,6 @@ fn rest<B: Book>(rt: &impl Abort, book: &mut B, order: Order)
 fn buy<B: Book>(rt: &impl Abort, book: &mut B, order: Order, steps: &Steps) -> (u64, u32)
     requires one { (B.book book.old).instruments ≡ 1 }
     requires fit { IsFitToRest 1 order }
-    requires served { AreServed steps.now }
     ensures { (B.book book.new).instruments ≡ 1 }
 {
     let mut desk = Desk {

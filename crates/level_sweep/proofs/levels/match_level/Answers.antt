@@ -6,7 +6,7 @@ use Rattle.step_config.specs.RightSteps.{IsRightStep}
 use Rattle.plain_book.specs.Match.{moment}
 use Rattle.plain_book.specs.Steps.{IsOver}
 use Rattle.plain_book.proofs.Trading.{keeps-then}
-use Rattle.level_sweep.specs.Sweep.{level_match, wanted_step, AreServed}
+use Rattle.level_sweep.specs.Sweep.{level_match, wanted_step}
 use Rattle.level_sweep.proofs.Blind.{wanted-blind}
 use Rattle.level_sweep.proofs.Ends.{LastOr, last_more}
 use Rattle.level_sweep.proofs.Going.{IsOnTheWay, way-more}
@@ -33,13 +33,11 @@ loop-step-preserved g c =
     let is : get_or steps i s ≡ s = sym (c.step-item.is ∙ ap (λ (q : List Step). get_or q i s) list) in
     let cut : drop i steps ≡ s ∷ rest = drop-cons steps i s lt ∙ ap (λ (n : ℕ). get_or steps i s ∷ drop n steps) (sym (add-one i)) ∙ ap (λ (x : Step). x ∷ rest) is in
     let right : AllByRecursion IsRightStep (s ∷ rest) = subst (λ (q : List Step). AllByRecursion IsRightStep q) cut l.invariant.right in
-    let served : AreServed (s ∷ rest) = subst AreServed cut l.invariant.served in
     let way : IsOnTheWay m start l.out (λ x. level_match rest price (wanted_step s price x)) end b l.desk l.taker =
     subst (λ (q : List Step). IsOnTheWay m start l.out (level_match q price) end b l.desk l.taker) cut l.invariant.way in
     record {
       way = way-more m start end l.out r.new.out (wanted_step s price) (level_match rest price) b next l.desk r.new.desk l.taker r.new.taker (wanted-blind s price) way r.ensures.now r.ensures.told;
       right = right.1;
-      served = served.1;
       can = r.ensures.can;
       room = keeps-then c.args.desk.now l.desk r.new.desk c.args.taker.now.order.leaves l.taker.order.leaves r.new.taker.order.leaves l.invariant.room r.ensures.room;
       stays = rest-then (g.B.Book.book c.args.book.now) b next l.invariant.stays (rest-now at (wanted_step s price at) next (rest-wanted s price at) r.ensures.now.book);

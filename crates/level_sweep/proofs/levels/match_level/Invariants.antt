@@ -4,7 +4,7 @@ use Rattle.step_config.specs.RightSteps.{IsRightStep}
 use Rattle.plain_book.specs.Match.{moment, CanTrade}
 use Rattle.plain_book.specs.Steps.{IsOver}
 use Rattle.plain_book.specs.Keeping.{KeepsRoom}
-use Rattle.level_sweep.specs.Sweep.{level_match, with_resting, AreServed}
+use Rattle.level_sweep.specs.Sweep.{level_match, with_resting}
 use Rattle.level_sweep.proofs.Ends.{LastOr}
 use Rattle.level_sweep.proofs.Going.{IsOnTheWay}
 use Rattle.level_sweep.proofs.levels.match_level.Given as goal
@@ -15,7 +15,6 @@ invariant-loop-step g l =
     record {
       way : IsOnTheWay g.E.Emit.meanings l.fn.out l.out (level_match left l.fn.price) (level_match l.fn.steps l.fn.price (moment (g.B.Book.book l.fn.book) l.fn.desk l.fn.taker)) (g.B.Book.book l.book) l.desk l.taker;
       right : AllByRecursion IsRightStep left;
-      served : AreServed left;
       can : CanTrade (g.B.Book.book l.book) l.desk l.taker;
       room : KeepsRoom l.fn.desk l.fn.taker.order.leaves l.desk l.taker.order.leaves;
       stays : g.B.Book.book l.book ≡ with_resting (g.B.Book.book l.book).resting (g.B.Book.book l.fn.book);
