@@ -8,3 +8,9 @@ pub mod Names
 pub mod Swept
 pub mod Numbered
 pub mod Renamed
+pub mod Lots
+pub mod Showing
+pub mod Ended
+pub mod Marked
+pub mod Standing
+pub mod Uncrossed
