@@ -1,6 +1,6 @@
 #!/bin/sh
-# Builds the program, runs the stored example in a folder of its own, and shows the reports: `|` stands for SOH, and
-# each report has a line. Ends with a status other than 0 where anything differs from what is stored.
+# Builds the program, runs the stored example and the one of each algorithm in a folder of its own, and shows the reports:
+# `|` stands for SOH, and each report has a line. Ends with a status other than 0 where anything differs from what is stored.
 set -u
 
 fail() {
@@ -32,16 +32,34 @@ rm -f -- "$program"
 (cd "$crate" && rt run -- run </dev/null)
 [ -x "$program" ] || fail 'the program was not built'
 
-cp -- "$crate/data/product.toml" "$crate/stdin" "$folder/" || exit 1
-(cd "$folder" && "$program" run <stdin >reports)
-status=$?
-[ "$status" -eq 0 ] || fail "the program ended with status $status"
-
-{
-    tr '\001' '|' <"$folder/reports"
-    echo
-} | sed 's/|8=FIX\.4\.2|/|\
+# Bytes as text: a line for each frame.
+shown() {
+    tr '\001' '|' | sed 's/|8=FIX\.4\.2|/|\
 8=FIX.4.2|/g'
+}
 
+# Runs over the product and the orders in the folder.
+serve() {
+    (cd "$folder" && "$program" run <orders >reports)
+    status=$?
+    [ "$status" -eq 0 ] || fail "the program ended with status $status"
+}
+
+cp -- "$crate/data/product.toml" "$folder/product.toml" || exit 1
+cp -- "$crate/stdin" "$folder/orders" || exit 1
+serve
+shown <"$folder/reports"
+echo
 cmp -- "$folder/reports" "$crate/stdout" || fail 'these are not the stored reports'
+
+for example in "$top"/examples/*/; do
+    echo
+    echo "$(basename -- "$example"):"
+    cp -- "$example/product.toml" "$folder/product.toml" || exit 1
+    tr -d '\n' <"$example/orders.txt" | tr '|' '\001' >"$folder/orders"
+    serve
+    { shown <"$folder/reports" && echo; } | tee -- "$folder/text"
+    cmp -- "$folder/text" "$example/reports.txt" || fail "these are not the reports of $example"
+done
+echo
 echo 'run-example: the stored reports, byte for byte'

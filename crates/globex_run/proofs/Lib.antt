@@ -4,7 +4,6 @@ pub mod Sweeping
 pub mod Resting
 pub mod Entered
 pub mod Cancelling
-pub mod ServedSteps
 pub mod Serving
 pub mod ServedFrames
 pub mod Statuses

@@ -47,6 +47,6 @@ module _ {P : Type 0} (m : SourceMeanings P) (old new : P) (text : List ℕ) (re
 
   pub taken-product : (result : Result ProductLists Ending) → Judges read result → TakesProduct m old new result
   taken-product (Ok product) judged =
-      let there : read ≢ Err NoMemory = λ no. let e : Ok product ≡ Err NoMemory = sym judged.0 ∙ no in cc e in
-      (text, taken, sym (gives there) ∙ judged.0, judged.1)
+      let there : read ≢ Err NoMemory = λ no. let e : Ok product ≡ Err NoMemory = sym judged ∙ no in cc e in
+      (text, taken, sym (gives there) ∙ judged)
   taken-product (Err ending) judged = refused-product ending.status ending.at judged

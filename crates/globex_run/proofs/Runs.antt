@@ -42,10 +42,7 @@ whole-text m first last taken text product was told is =
 module _ {P : Type 0} (products : SourceMeanings P) (first last : P) (lists : ProductLists) (tells : TellsProduct products first lists) (quiet : NoFault (products.faults first) (products.faults last)) where
   right_text : (place : ℕ) (text : List ℕ) → IsProductText products first last text → IsRefusedAt place (product_of text) → ⊥
   right_text place text taken refused =
-      let right : product_of text ≡ Ok lists = whole-text products first last text tells.text lists taken tells.told tells.is in
-      let unserved = (subst (λ (r : Result ProductLists ProductFault). IsRefusedAt place r) right refused).1 in
-      let e : true ≡ false = sym tells.steps ∙ unserved in
-      cc e
+      subst (λ (r : Result ProductLists ProductFault). IsRefusedAt place r) (whole-text products first last text tells.text lists taken tells.told tells.is) refused
 
   -- where the product is told and served, and no read of it failed, it is want of memory alone
   pub unserved-memory : (how : Status) (place : ℕ) → RefusesAs products first last how place → how ≡ status.NoMemory

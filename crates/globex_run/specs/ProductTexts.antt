@@ -1,14 +1,10 @@
 -- The product's text, as it is taken from its source, and why it is refused.
-use Rattle.std.specs.Prelude.{◌≡◌, ◌≢◌, ℕ, ◌≤◌, Bool, true, false, IsTrue, IsFalse, List, length, take, Result, Ok, Err, IfOk, OnErr}
-use Rattle.std.specs.List.{list_all}
+use Rattle.std.specs.Prelude.{◌≡◌, ◌≢◌, ℕ, ◌≤◌, List, length, take, Result, Ok, Err, IfOk, OnErr}
 use Rattle.gx_station.specs.Counts.{Rose}
 use Rattle.gx_station.specs.Sources.{SourceMeanings, and_left, IsAtEnd}
-use Rattle.step_config.specs.declared.step.Step.{Step}
-use Rattle.step_config.specs.declared.step.Step.TheVariants.{Top, Lmm, Split, ProRata, Leveling, Fifo}
 use Rattle.product_file.specs.Products.{ProductLists}
 use Rattle.product_file.specs.Faults.{rule_number}
 use Rattle.product_file.specs.ProductTexts.{product_of}
-use Rattle.product_file.specs.declared.product.InstrumentRule.{InstrumentRule}
 use Rattle.product_file.specs.declared.faults.ProductFault.{ProductFault}
 use Rattle.product_file.specs.declared.faults.ProductFault.TheVariants.{NoMemory}
 use Rattle.globex_run.specs.declared.outcome.Status.TheVariants as status
@@ -31,25 +27,12 @@ pub record TakesText {P F : Type 0} (m : SourceMeanings P) (old new : P) (room :
   pub taken : IfOk result (λ n. IsProductText m old new (take n room))
   pub rose : OnErr result (Rose (m.faults old) (m.faults new))
 
--- SPLIT, PRORATA and FIFO are served yet. This goes away once every step is.
-abbrev pub is_step_served : Step → Bool
-is_step_served (Split percent) = true
-is_step_served (ProRata least) = true
-is_step_served Fifo = true
-is_step_served (Top rule) = false
-is_step_served (Lmm shares) = false
-is_step_served Leveling = false
-
-abbrev pub are_steps_served : ProductLists → Bool
-are_steps_served product = list_all (λ (r : InstrumentRule). list_all is_step_served r.steps) product.rules
-
--- the place that status 3 tells: the number of the first rule that the text breaks, or 20 where it breaks none and has a
--- step that is not served
+-- the place that status 3 tells: the number of the first rule that the text breaks
 abbrev pub IsRefusedAt : ℕ → Result ProductLists ProductFault → Type 0
 IsRefusedAt place (Err fault) = place ≡ rule_number fault
-IsRefusedAt place (Ok product) = (place ≡ 20) × IsFalse (are_steps_served product)
+IsRefusedAt place (Ok product) = ⊥
 
--- a product that was read is served, or refused, at a place; there is none to read where memory was refused
+-- why a text that was read gives no product: it is refused, at a place, or memory was
 abbrev pub JudgesAs : Result ProductLists ProductFault → Status → ℕ → Type 0
 JudgesAs read status.NoMemory place = (place ≡ 0) × (read ≡ Err NoMemory)
 JudgesAs read status.Product place = (read ≢ Err NoMemory) × IsRefusedAt place read
@@ -62,7 +45,7 @@ JudgesAs read status.Truncated place = ⊥
 JudgesAs read status.JournalFull place = ⊥
 
 abbrev pub Judges : Result ProductLists ProductFault → Result ProductLists Ending → Type 0
-Judges read (Ok product) = (read ≡ Ok product) × IsTrue (are_steps_served product)
+Judges read (Ok product) = read ≡ Ok product
 Judges read (Err ending) = JudgesAs read ending.status ending.at
 
 -- why no product was taken
@@ -79,5 +62,5 @@ RefusesAs m old new status.JournalFull place = ⊥
 
 -- a product was taken from its source, or none was
 abbrev pub TakesProduct : {P : Type 0} → SourceMeanings P → P → P → Result ProductLists Ending → Type 0
-TakesProduct m old new (Ok product) = (text : List ℕ) × IsProductText m old new text × (product_of text ≡ Ok product) × IsTrue (are_steps_served product)
+TakesProduct m old new (Ok product) = (text : List ℕ) × IsProductText m old new text × (product_of text ≡ Ok product)
 TakesProduct m old new (Err ending) = RefusesAs m old new ending.status ending.at

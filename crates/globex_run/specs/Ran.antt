@@ -9,7 +9,7 @@ use Rattle.fix_frame.specs.Grammar.{IsFrame}
 use Rattle.fix_frame.specs.Stream.{messages_of, rest_of, IsBroken, IsCut}
 use Rattle.product_file.specs.Products.{ProductLists}
 use Rattle.product_file.specs.ProductTexts.{product_of}
-use Rattle.globex_run.specs.ProductTexts.{IsProductText, IsRefusedAt, are_steps_served}
+use Rattle.globex_run.specs.ProductTexts.{IsProductText, IsRefusedAt}
 use Rattle.globex_run.specs.Step.{reports_of}
 use Rattle.globex_run.specs.ServedRequests.{is_served_frame}
 use Rattle.globex_run.specs.Served.{AreServed, AreServedFrames}
@@ -97,7 +97,7 @@ pub record ProductUnread {P : Type 0} (products : SourceMeanings P) (first last 
   pub nowhere : place ≡ 0
   pub rose : Rose (products.faults first) (products.faults last)
 
--- the product's text breaks a rule, of which the place is the number, or has a step that is not served
+-- the product's text breaks a rule, of which the place is the number
 pub record ProductRefused {P : Type 0} (products : SourceMeanings P) (first last : P) (how : Status) (place : ℕ) : Type 0 where
   pub is : how ≡ status.Product
   pub text : List ℕ
@@ -110,7 +110,6 @@ pub record ProductServed {P I S : Type 0} (products : SourceMeanings P) (inputs 
   pub taken : IsProductText products first last text
   pub product : ProductLists
   pub is : product_of text ≡ Ok product
-  pub steps : IsTrue (are_steps_served product)
   pub ran : Ran inputs stations product old new before after how place count
 
 -- what a run did that ended with this outcome
@@ -122,12 +121,11 @@ pub record RanTo {P I S : Type 0} (products : SourceMeanings P) (inputs : Source
       ⊎ ((ProductRefused products first last how outcome.at × IsUntouched old new before after outcome.messages)
       ⊎ ProductServed products inputs stations first last old new before after how outcome.at outcome.messages)
 
--- the product is told, and is one that is served
+-- the product is told, and its text breaks no rule
 pub record TellsProduct {P : Type 0} (products : SourceMeanings P) (source : P) (product : ProductLists) : Type 0 where
   pub text : List ℕ
   pub told : products.left source ≡ Some text
   pub is : product_of text ≡ Ok product
-  pub steps : IsTrue (are_steps_served product)
 
 -- the input is told, and is a list of frames that are served, of at most as many as may be
 pub record IsServedInput {I : Type 0} (inputs : SourceMeanings I) (product : ProductLists) (input : I) : Type 0 where

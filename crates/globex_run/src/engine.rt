@@ -5,7 +5,6 @@ ghost use Rattle.fix_request.specs.Given.{IsGivenRequest};
 ghost use Rattle.globex_run.specs.State.{empty_state};
 ghost use Rattle.globex_run.specs.ServedRequests.{is_served};
 ghost use Rattle.globex_run.specs.Step.{with_message, request_step};
-ghost use Rattle.globex_run.specs.ProductTexts.{are_steps_served};
 ghost use Rattle.globex_run.specs.Fit.{IsState, IsCounting, IsServing, IsSameSize, FitsProduct, state_of};
 
 use crate::cancel::{apply_cancel, refuse_message};
@@ -70,7 +69,6 @@ impl Engine {
         requires few { self.old.desk.messages < 10000 }
         requires given { IsGivenRequest product.now request.now }
         requires served { IsTrue (is_served request.now) }
-        requires steps { IsTrue (are_steps_served product.now) }
         requires fits { FitsProduct product.now self.old.book }
         ensures state { self.new ≡ (request_step product.now request.now (with_message self.old)).0 }
         ensures told { Emits E.meanings out.old out.new (request_step product.now request.now (with_message self.old)).1 }
@@ -93,7 +91,6 @@ fn apply_counted<B: Book, E: Emit>(
     requires counting { IsCounting (B.book book.old) desk.old }
     requires given { IsGivenRequest product.now request.now }
     requires served { IsTrue (is_served request.now) }
-    requires steps { IsTrue (are_steps_served product.now) }
     requires fits { FitsProduct product.now (B.book book.old) }
     ensures now { IsState (request_step product.now request.now (state_of (B.book book.old) desk.old)).0 (B.book book.new) desk.new }
     ensures told { Emits E.meanings out.old out.new (request_step product.now request.now (state_of (B.book book.old) desk.old)).1 }

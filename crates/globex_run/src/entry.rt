@@ -5,9 +5,7 @@ ghost use Rattle.fix_request.specs.Given.{IsListed};
 ghost use Rattle.plain_book.specs.Orders.{is_live};
 ghost use Rattle.plain_book.specs.Book.{live_orders};
 ghost use Rattle.plain_book.specs.Match.{reported};
-ghost use Rattle.level_sweep.specs.Sweep.{AreServed};
 ghost use Rattle.globex_run.specs.NewOrders.{instrument_number, price_in, is_quantity, new_fault, order_asked, steps_for, new_of, new_step, refused_of, refusal, state_in};
-ghost use Rattle.globex_run.specs.ProductTexts.{are_steps_served};
 ghost use Rattle.globex_run.specs.Fit.{AreNumbered, HasRoom, IsState, IsCounting, IsServing, IsSameSize, FitsProduct, state_of, IsPlain, IsOrder, counter_limit};
 
 use crate::matching::{match_order, rest_order};
@@ -120,7 +118,6 @@ pub fn enter_new<B: Book, E: Emit>(
     new: &NewOrder,
     out: &mut E,
 )
-    requires served { AreServed steps.now }
     requires order { IsOrder (B.book book.old).instruments new.now }
     requires unnamed { is_live new.now.sender.firm new.now.id (live_orders (B.book book.old)) ≡ false }
     requires spare { length (live_orders (B.book book.old)) < (B.book book.old).capacity }
@@ -190,7 +187,6 @@ pub fn apply_new<B: Book, E: Emit>(
 )
     requires counting { IsCounting (B.book book.old) desk.old }
     requires fits { FitsProduct product.now (B.book book.old) }
-    requires steps { IsTrue (are_steps_served product.now) }
     requires plain { IsPlain new.now }
     requires named { IsListed product.now.names new.now.named }
     ensures now { IsState (new_step product.now new.now (state_of (B.book book.old) desk.old)).0 (B.book book.new) desk.new }

@@ -6,7 +6,7 @@ ghost use Rattle.plain_book.specs.Book.{AllDiffer, IsFitToRest, live_orders};
 ghost use Rattle.plain_book.specs.Match.{moment, IsNow, CanTrade};
 ghost use Rattle.plain_book.specs.Keeping.{KeepsRoom};
 ghost use Rattle.plain_book.specs.Numbers.{book_numbered};
-ghost use Rattle.level_sweep.specs.Sweep.{sweep, AreServed};
+ghost use Rattle.level_sweep.specs.Sweep.{sweep};
 ghost use Rattle.globex_run.specs.NewOrders.{top_min_of, with_rest};
 ghost use Rattle.globex_run.specs.Fit.{AreNumbered, IsSameSize, filled_as};
 
@@ -23,7 +23,6 @@ pub fn match_order<B: Book, E: Emit>(
     steps: &Steps,
     out: &mut E,
 )
-    requires served { AreServed steps.now }
     requires can { CanTrade (B.book book.old) desk.old taker.old }
     requires differ { AllDiffer (live_orders (book_numbered (B.book book.old))) }
     ensures now { IsNow (sweep steps.now taker.old.order.price (moment (book_numbered (B.book book.old)) desk.old taker.old)) (book_numbered (B.book book.new)) desk.new taker.new }

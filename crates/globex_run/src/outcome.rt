@@ -9,7 +9,7 @@ ghost use Rattle.globex_run.specs.Outcomes.{outcome_of};
 /// | 0 | Ok | 0 |
 /// | 1 | NoMemory | 0 |
 /// | 2 | BadWords | 0 |
-/// | 3 | Product | the number of the rule that the product's text breaks, or 20 for a step that is not served |
+/// | 3 | Product | the number of the rule that the product's text breaks |
 /// | 4 | ReadFault | how many bytes of the input were read |
 /// | 6 | SendFault | 0 |
 /// | 7 | BadFrame | the offset of the bytes that are no frame, or of the frame that is not served |

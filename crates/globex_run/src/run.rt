@@ -52,7 +52,7 @@ impl Rooms {
 /// many as `messages` says: all of these, or at a send fault a part from their front. `Outcome` lists the statuses.
 /// Memory is taken only before the first read of the input and the first send; want of it is status 1. The words are
 /// tried first: 2 comes exactly where they are not the one word `run`. The product is tried next: 3 comes exactly where
-/// its text breaks a rule, or has a step that is not served.
+/// its text breaks a rule.
 pub fn globex<P: Source, I: Source, S: Station>(
     alloc: Global,
     words: &[String],

@@ -6,7 +6,6 @@ ghost use Rattle.fix_request.specs.Given.{IsGivenRequest};
 ghost use Rattle.globex_run.specs.ServedRequests.{is_served};
 ghost use Rattle.globex_run.specs.Step.{with_message, request_step, lines_of};
 ghost use Rattle.globex_run.specs.State.{empty_state};
-ghost use Rattle.globex_run.specs.ProductTexts.{are_steps_served};
 ghost use Rattle.globex_run.specs.Fit.{FitsProduct};
 ghost use Rattle.globex_run.specs.Outcomes.{place_of};
 ghost use Rattle.globex_run.specs.Ran.{Ran};
@@ -55,7 +54,6 @@ fn serve_request<S: Station>(
     requires few { engine.old.desk.messages < 10000 }
     requires given { IsGivenRequest product.now request.now }
     requires served { IsTrue (is_served request.now) }
-    requires steps { IsTrue (are_steps_served product.now) }
     requires fits { FitsProduct product.now engine.old.book }
     requires empty { buffer.old ≡ [] }
     ensures state { engine.new ≡ (request_step product.now request.now (with_message engine.old)).0 }
@@ -95,7 +93,6 @@ fn serve_frame<S: Station>(
     frame: &[u8],
 ) -> Result<(), Status>
     requires frame { IsFrame frame.now }
-    requires steps { IsTrue (are_steps_served product.now) }
     requires fits { FitsProduct product.now engine.old.book }
     requires empty { buffer.old ≡ [] }
     ensures served { ServesFrame S.meanings product.now engine.old engine.new station.old station.new frame.now result }
@@ -127,7 +124,6 @@ pub fn serve<I: Source, S: Station>(
     input: &mut I,
     station: &mut S,
 ) -> Ending
-    requires steps { IsTrue (are_steps_served product.now) }
     requires start { engine.old ≡ empty_state product.now }
     requires framer { IsEmptyFramer framer.old }
     requires chunk { vec_len chunk.old ≡ 4096 }

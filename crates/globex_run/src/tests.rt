@@ -1,5 +1,5 @@
 //! Runs over a source and a station in memory.
-mod books;
+mod letters;
 mod orders;
 mod products;
 mod refusals;

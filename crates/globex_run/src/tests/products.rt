@@ -16,44 +16,6 @@ protection = 2
 algorithm = "F"
 "#;
 
-/// TOP comes first, which is not served yet.
-const ALLOCATION: &str = r#"exchange = "GX"
-firms = ["AAA"]
-
-[[instrument]]
-name = "ESZ4"
-decimals = 2
-tick = 1
-protection = 2
-algorithm = "A"
-"#;
-
-/// A lead market maker comes first, which is not served yet.
-const LEAD_MARKET_MAKER: &str = r#"exchange = "GX"
-firms = ["AAA"]
-
-[[instrument]]
-name = "ESZ4"
-decimals = 2
-tick = 1
-protection = 2
-algorithm = "T"
-lmm = [{ firm = "AAA", percent = 40 }]
-"#;
-
-/// One lot each to those that pro rata gave nothing, which is not served yet.
-const LEVELING: &str = r#"exchange = "GX"
-firms = ["AAA"]
-
-[[instrument]]
-name = "ESZ4"
-decimals = 2
-tick = 1
-protection = 2
-algorithm = "K"
-steps = ["PRORATA", "LEVELING", "FIFO"]
-"#;
-
 /// Looks for status 3 with this number.
 fn expect_refused(rt: &(impl Abort + AllocGlobal), product: &str, number: u64) -> Result<(), Fail> {
     let outcome = Outcome {
@@ -70,13 +32,6 @@ fn refused_products(rt: HostRuntime) -> Result<(), Fail> {
     expect_refused(&rt, "", 3)?;
     expect_refused(&rt, "=", 2)?;
     expect_refused(&rt, NO_TICK, 3)
-}
-
-#[test]
-fn steps_that_are_not_served(rt: HostRuntime) -> Result<(), Fail> {
-    expect_refused(&rt, ALLOCATION, 20)?;
-    expect_refused(&rt, LEAD_MARKET_MAKER, 20)?;
-    expect_refused(&rt, LEVELING, 20)
 }
 
 #[test]

@@ -2,19 +2,13 @@ use Rattle.std.proofs.Common.{◌≡◌, None, Some, ◌∙◌, ℕ, ◌+◌, �
 use Rattle.gx_base.specs.declared.event.Event.{Event}
 use Rattle.gx_base.proofs.Putting.{emits_as}
 use Rattle.step_config.specs.declared.step.Step.{Step}
-use Rattle.level_sweep.specs.Sweep.{AreServed}
 use Rattle.globex_run.specs.State.{State}
-use Rattle.globex_run.specs.NewOrders.{instrument_number, new_fault, new_of, state_in}
+use Rattle.globex_run.specs.NewOrders.{new_fault, new_of, state_in}
 use Rattle.globex_run.specs.Fit.{HasRoom, IsState, state_of}
 use Rattle.globex_run.proofs.Faults.{few-lots}
 use Rattle.globex_run.proofs.Numbers.{step-by-fault}
 use Rattle.globex_run.proofs.Serving.{room-fewer}
-use Rattle.globex_run.proofs.ServedSteps.{steps-served}
 use Rattle.globex_run.proofs.entry.apply_new.Goals as goal
-
-pub enter_new-requires-clause-served : goal.enter_new-requires-clause-served
-enter_new-requires-clause-served g c =
-    subst AreServed (sym c.steps_for.ensures) (steps-served c.args.product.now.rules (instrument_number c.args.new.now.named) c.requires.steps)
 
 pub returns-in-Some-clause-now : goal.returns-in-Some-clause-now
 returns-in-Some-clause-now g c =
