@@ -1,3 +1,1 @@
-pub mod Found
 pub mod Ones
-pub mod Turned

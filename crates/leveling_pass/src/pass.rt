@@ -1,25 +1,14 @@
 //! Each order of a level that had no share of a pro rata step gives one lot.
-ghost use Rattle.std.specs.Prelude.{◌≡◌, ◌<◌, ◌==◌, if◌then◌else◌, min, length, option_map};
+ghost use Rattle.std.specs.Prelude.{◌≡◌, ◌==◌, if◌then◌else◌, min};
 ghost use Rattle.gx_base.specs.Emits.{Emits};
-ghost use Rattle.plain_book.specs.Orders.{HasSlot, order_of, orders_at, slot_of};
-ghost use Rattle.plain_book.specs.Book.{live_orders, slot_number};
+ghost use Rattle.plain_book.specs.Orders.{HasSlot, order_of};
+ghost use Rattle.plain_book.specs.Book.{live_orders};
 ghost use Rattle.plain_book.specs.Match.{moment, IsNow, CanTrade};
-ghost use Rattle.plain_book.specs.Steps.{facing, leveling};
+ghost use Rattle.plain_book.specs.Steps.{leveling};
 ghost use Rattle.plain_book.specs.Keeping.{KeepsRoom};
 
 use gx_base::{Desk, Emit, Price, Slot, StepName, Taker};
-use plain_book::{Book, give_lots, opposite_side};
-
-/// The first order at a price that the incoming one meets, and how many there are.
-fn queue_at<B: Book>(book: &B, taker: &Taker, price: Price) -> (Option<Slot>, u32)
-    requires listed { taker.now.order.instrument < (B.book book.now).instruments }
-    ensures first { option_map slot_number result.0 ≡ slot_of (orders_at (facing price taker.now) (B.book book.now).resting) }
-    ensures count { result.1 ≡ length (orders_at (facing price taker.now) (B.book book.now).resting) }
-{
-    let side = opposite_side(taker.order.side);
-    let first = book.first(taker.order.instrument, side, price);
-    (first, book.count(taker.order.instrument, side, price))
-}
+use plain_book::{Book, give_lots, queue_at};
 
 /// What a live order gives: one lot, where it had no share and a lot is wanted, and else none.
 fn lots_of<B: Book>(book: &B, slot: Slot, wanted: u32) -> u32

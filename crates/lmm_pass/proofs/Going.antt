@@ -1,23 +1,19 @@
 -- How far the shares of a step have come that are given in runs.
-use Rattle.std.proofs.Common.{◌≡◌, ℕ, ◌<◌, ◌-◌, Bool, true, false, cond, List, [], ◌∷◌, ◌++◌, min, refl, sym, ap, ◌∙◌, append_assoc, length, drop, Option, Some, arith}
+use Rattle.std.proofs.Common.{◌≡◌, ℕ, ◌-◌, Bool, true, false, cond, List, [], ◌∷◌, ◌++◌, min, refl, sym, ap, ◌∙◌, append_assoc, arith}
 use Rattle.std.proofs.lemmas.List.{append-nil}
-use Rattle.std.specs.Prelude.{◌==◌, option_map}
+use Rattle.std.specs.Prelude.{◌==◌}
 use Rattle.gx_base.specs.declared.price.Price.{Price}
 use Rattle.gx_base.specs.declared.order.Desk.{Desk}
-use Rattle.gx_base.specs.declared.order.Slot.{Slot}
 use Rattle.gx_base.specs.declared.order.Taker.{Taker}
 use Rattle.gx_base.specs.declared.event.Event.{Event}
 use Rattle.gx_base.specs.declared.event.StepName.{StepName}
 use Rattle.gx_base.specs.Emits.{EmitMeanings, Emits}
 use Rattle.gx_base.proofs.Putting.{emits_none, emits_joined}
 use Rattle.plain_book.specs.declared.entry.Entry.{Entry}
-use Rattle.plain_book.specs.Orders.{Level, slot_of}
-use Rattle.plain_book.specs.Book.{Book, IsRight, slot_number}
+use Rattle.plain_book.specs.Book.{Book}
 use Rattle.plain_book.specs.Match.{Moment, moment, Share, trade, give, gives, IsNow}
 use Rattle.plain_book.specs.Steps.{facing, spent}
 use Rattle.plain_book.proofs.Steps.{moment_with, with_events, give-events}
-use Rattle.plain_book.proofs.Walks.{Remains}
-use Rattle.plain_book.proofs.Turns.{IsTurn, turn}
 use Rattle.lmm_pass.specs.Firms.{orders_of, gift_of}
 
 -- ---- a run of shares
@@ -90,10 +86,3 @@ gift-spent step firm left e rest m =
       | true ↦ refl
       | false ↦ ap (λ (x : ℕ). gives step (spent x (orders_of firm rest)) m) (omega arith)
     ] in go (e.order.firm == firm)
-
--- the order whose turn it is
-pub turn_now : (k : Level) (es : List Entry) (b : Book) (i n : ℕ) (at : Option Slot) (slot : Slot)
-    → n ≡ length es → IsRight b → Remains k b.resting (drop i es) → (i < length es → option_map slot_number at ≡ slot_of (drop i es)) → i < n → at ≡ Some slot → IsTurn k es i slot.0 b
-turn_now k es b i n at slot many right remains found more is =
-    let lt : i < length es = omega (arith, many, more) in
-    turn k es i slot.0 b right remains lt (sym (ap (option_map slot_number) is) ∙ found lt)

@@ -2,4 +2,3 @@ pub mod Others
 pub mod Parts
 pub mod Unmoved
 pub mod Going
-pub mod Found

@@ -1,18 +1,18 @@
 //! Each lead market maker's percentage of what is wanted is spent over its own orders of a level.
-ghost use Rattle.std.specs.Prelude.{◌≡◌, ◌≤◌, ◌<◌, ◌+◌, ◌*◌, ◌/◌, ◌==◌, map, sum_by, length, option_map};
+ghost use Rattle.std.specs.Prelude.{◌≡◌, ◌≤◌, ◌+◌, ◌*◌, ◌/◌, ◌==◌, map, sum_by};
 ghost use Rattle.std.specs.List.{IsDistinct, AllByRecursion};
 ghost use Rattle.gx_base.specs.Emits.{Emits};
 ghost use Rattle.gx_base.specs.declared.event.StepName.TheVariants.{Lmm};
 ghost use Rattle.gx_base.specs.declared.order.LmmShare.{LmmShare};
-ghost use Rattle.plain_book.specs.Orders.{HasSlot, order_of, orders_at, slot_of};
-ghost use Rattle.plain_book.specs.Book.{live_orders, slot_number};
+ghost use Rattle.plain_book.specs.Orders.{HasSlot, order_of};
+ghost use Rattle.plain_book.specs.Book.{live_orders};
 ghost use Rattle.plain_book.specs.Match.{moment, gives, IsNow, CanTrade};
 ghost use Rattle.plain_book.specs.Steps.{facing, lmm, spent};
 ghost use Rattle.plain_book.specs.Keeping.{KeepsRoom};
 ghost use Rattle.lmm_pass.specs.Firms.{queue_of, gift_of, KeepsOthers};
 
 use gx_base::{Desk, Emit, LmmShare, Price, Slot, StepName, Taker};
-use plain_book::{Book, give_lots, opposite_side};
+use plain_book::{Book, give_lots, queue_at};
 
 /// A percentage of some lots, rounded down.
 fn part_of(wanted: u32, percent: u8) -> u32
@@ -20,17 +20,6 @@ fn part_of(wanted: u32, percent: u8) -> u32
     ensures { result ≡ wanted * percent / 100 }
 {
     (u64::from(wanted) * u64::from(percent) / 100) as u32
-}
-
-/// The first order at a price that the incoming one meets, and how many there are.
-fn queue_at<B: Book>(book: &B, taker: &Taker, price: Price) -> (Option<Slot>, u32)
-    requires listed { taker.now.order.instrument < (B.book book.now).instruments }
-    ensures first { option_map slot_number result.0 ≡ slot_of (orders_at (facing price taker.now) (B.book book.now).resting) }
-    ensures count { result.1 ≡ length (orders_at (facing price taker.now) (B.book book.now).resting) }
-{
-    let side = opposite_side(taker.order.side);
-    let first = book.first(taker.order.instrument, side, price);
-    (first, book.count(taker.order.instrument, side, price))
 }
 
 /// What a live order gives of the lots that are left for a firm: what it shows, and nothing where it is another firm's.

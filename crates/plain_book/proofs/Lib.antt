@@ -5,6 +5,7 @@ pub mod Live
 pub mod Walks
 pub mod Steps
 pub mod Turns
+pub mod Found
 pub mod Going
 pub mod Trading
 pub mod Before

@@ -1,12 +1,14 @@
 -- One turn of a walk along a level: the order whose turn it is, and the one after it.
-use Rattle.std.proofs.Common.{◌≡◌, ℕ, ◌+◌, ◌<◌, List, ◌∷◌, ◌++◌, sym, ap, subst, ◌∙◌, length, drop, Some, None, add-one}
+use Rattle.std.proofs.Common.{◌≡◌, ℕ, ◌+◌, ◌<◌, List, ◌∷◌, ◌++◌, sym, ap, subst, ◌∙◌, length, drop, arith, Option, Some, None, add-one}
+use Rattle.std.specs.Prelude.{option_map}
 use Rattle.std.proofs.Math.Seq.{drop-cons}
+use Rattle.gx_base.specs.declared.order.Slot.{Slot}
 use Rattle.plain_book.specs.declared.entry.Entry.{Entry}
 use Rattle.plain_book.specs.Orders.{Level, level_of, orders_at, HasSlot, order_of, slot_of, slot_after, no_entry, entry_at}
-use Rattle.plain_book.specs.Book.{Book, IsResting, IsRight}
+use Rattle.plain_book.specs.Book.{Book, IsResting, IsRight, live_orders, slot_number}
 use Rattle.plain_book.proofs.Walks.{Stands, Remains, stands-has, stands-order, stands-after}
 use Rattle.plain_book.proofs.Live.{fit_of}
-use Rattle.plain_book.proofs.Levels.{AllDiffer-front}
+use Rattle.plain_book.proofs.Levels.{AllDiffer-front, HasSlot-left, order_of-left}
 
 -- ---- one turn
 
@@ -51,3 +53,27 @@ module _ (k : Level) (es : List Entry) (i slot : ℕ) (b : Book) where
 
 pub no_end : (es : List Entry) (i : ℕ) → i < length es → None ≡ slot_of (drop i es) → ⊥
 no_end es i lt h = let e : None ≡ Some (entry_at es i).slot = h ∙ ap slot_of (rest_at es i lt) in cc
+
+-- ---- the turn of a loop over a count
+
+-- what is known of the order of turn i, and of what the book answers for it
+pub record IsTurned (k : Level) (es : List Entry) (i slot : ℕ) (b : Book) : Type 0 where
+  pub turn : IsTurn k es i slot b
+  pub live : HasSlot slot (live_orders b)
+  pub live_order : order_of slot (live_orders b) ≡ (entry_at es i).order
+
+module _ (k : Level) (es : List Entry) (count i : ℕ) (counted : count ≡ length es) (more : i < count) (at : Option Slot) (stands : i < length es → option_map slot_number at ≡ slot_of (drop i es)) where
+  before_end : i < length es
+  before_end = omega (arith, counted, more)
+
+  pub turn_now : (slot : Slot) (b : Book) → at ≡ Some slot → IsRight b → Remains k b.resting (drop i es) → IsTurned k es i slot.0 b
+  turn_now slot b is right remains =
+      let u = turn k es i slot.0 b right remains before_end (sym (ap (option_map slot_number) is) ∙ stands before_end) in
+      record {
+        turn = u;
+        live = HasSlot-left slot.0 b.resting b.waiting u.has;
+        live_order = order_of-left slot.0 b.resting b.waiting u.has ∙ u.order;
+      }
+
+  pub turn_end : at ≡ None → ⊥
+  turn_end is = no_end es i before_end (sym (ap (option_map slot_number) is) ∙ stands before_end)

@@ -13,4 +13,4 @@ mod trade;
 pub use book::Book;
 pub use entry::Entry;
 pub use plain::PlainBook;
-pub use trade::{count_report, give_lots, give_marked, opposite_side, trade_lots};
+pub use trade::{count_report, give_lots, give_marked, opposite_side, queue_at, trade_lots};

@@ -1,9 +1,10 @@
 //! One trade of a resting order and the incoming one, over any book.
-ghost use Rattle.std.specs.Prelude.{◌≡◌, ◌≤◌, ◌<◌, ◌+◌, ◌^◌, [], ◌∷◌, slice_index};
+ghost use Rattle.std.specs.Prelude.{◌≡◌, ◌≤◌, ◌<◌, ◌+◌, ◌^◌, [], ◌∷◌, slice_index, length, option_map};
 ghost use Rattle.gx_base.specs.Emits.{Emits};
-ghost use Rattle.plain_book.specs.Orders.{HasSlot, order_of, opposite};
+ghost use Rattle.plain_book.specs.Orders.{HasSlot, order_of, orders_at, slot_of, opposite};
+ghost use Rattle.plain_book.specs.Book.{slot_number};
 ghost use Rattle.plain_book.specs.Match.{moment, trade, give, lower, higher, lengthened, next_head, reported, taken_by, IsNow, CanTrade};
-ghost use Rattle.plain_book.specs.Steps.{give_marked};
+ghost use Rattle.plain_book.specs.Steps.{facing, give_marked};
 ghost use Rattle.plain_book.specs.Keeping.{KeepsRoom};
 
 use crate::book::Book;
@@ -17,6 +18,17 @@ pub fn opposite_side(side: Side) -> Side
         Side::Buy => Side::Sell,
         Side::Sell => Side::Buy,
     }
+}
+
+/// The first order at a price that the incoming one meets, and how many there are.
+pub fn queue_at<B: Book>(book: &B, taker: &Taker, price: Price) -> (Option<Slot>, u32)
+    requires listed { taker.now.order.instrument < (B.book book.now).instruments }
+    ensures first { option_map slot_number result.0 ≡ slot_of (orders_at (facing price taker.now) (B.book book.now).resting) }
+    ensures count { result.1 ≡ length (orders_at (facing price taker.now) (B.book book.now).resting) }
+{
+    let side = opposite_side(taker.order.side);
+    let first = book.first(taker.order.instrument, side, price);
+    (first, book.count(taker.order.instrument, side, price))
 }
 
 /// Counts an execution report to a firm, and gives its head.

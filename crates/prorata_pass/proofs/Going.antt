@@ -1,8 +1,6 @@
 -- How far a walk along a level has come that marks each order with its share.
-use Rattle.std.proofs.Common.{◌≡◌, ℕ, ◌-◌, ◌≤◌, ◌<◌, min, List, ◌∷◌, ◌++◌, map, sym, ap, subst, ◌∙◌, arith, sum_by, length, drop, Option, Some}
-use Rattle.std.specs.Prelude.{option_map}
+use Rattle.std.proofs.Common.{◌≡◌, ℕ, ◌-◌, ◌≤◌, min, List, ◌∷◌, ◌++◌, map, sym, ap, subst, ◌∙◌, arith, sum_by}
 use Rattle.std.proofs.lemmas.List.Sums.{sum_by-cons}
-use Rattle.gx_base.specs.declared.order.Slot.{Slot}
 use Rattle.gx_base.specs.declared.order.Desk.{Desk}
 use Rattle.gx_base.specs.declared.order.Taker.{Taker}
 use Rattle.gx_base.specs.declared.event.Event.{Event}
@@ -10,13 +8,12 @@ use Rattle.gx_base.specs.declared.event.StepName.TheVariants.{ProRata}
 use Rattle.gx_base.specs.Emits.{EmitMeanings, Emits}
 use Rattle.gx_base.proofs.Putting.{emits_joined}
 use Rattle.plain_book.specs.declared.entry.Entry.{Entry}
-use Rattle.plain_book.specs.Orders.{Level, slot_of}
-use Rattle.plain_book.specs.Book.{Book, AllDiffer, IsRight, slot_number}
+use Rattle.plain_book.specs.Orders.{Level}
+use Rattle.plain_book.specs.Book.{Book, AllDiffer}
 use Rattle.plain_book.specs.Match.{Moment, moment, Share, IsNow}
 use Rattle.plain_book.specs.Steps.{prorata_share, give_marked, gives_marked}
 use Rattle.plain_book.proofs.Walks.{Stands, Remains}
 use Rattle.plain_book.proofs.Steps.{moment_with, give_marked-events, give_marked-remains, give-leaves, marked}
-use Rattle.plain_book.proofs.Turns.{IsTurn, turn}
 use Rattle.prorata_pass.proofs.Floors.{shown_of, share_in}
 
 abbrev pub shares_by : (Entry → ℕ) → List Entry → List Share
@@ -57,13 +54,6 @@ module _ {E : Type 0} (m : EmitMeanings E) (start : E) (k : Level) (share : Entr
       }
 
 -- ---- one turn
-
--- the order whose turn it is
-pub turn_now : (k : Level) (es : List Entry) (b : Book) (i n : ℕ) (at : Option Slot) (slot : Slot)
-    → n ≡ length es → IsRight b → Remains k b.resting (drop i es) → (i < length es → option_map slot_number at ≡ slot_of (drop i es)) → i < n → at ≡ Some slot → IsTurn k es i slot.0 b
-turn_now k es b i n at slot many right remains found more is =
-    let lt : i < length es = omega (arith, many, more) in
-    turn k es i slot.0 b right remains lt (sym (ap (option_map slot_number) is) ∙ found lt)
 
 -- the share that is computed is that of the order
 pub share_is : (least least' pool total q shown : ℕ) (es : List Entry) (e : Entry) → least' ≡ least → total ≡ sum_by shown_of es → pool ≡ min q (sum_by shown_of es) → shown ≡ e.order.shown

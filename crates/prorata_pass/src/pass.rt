@@ -1,14 +1,13 @@
 //! Each order of a level gives its part of what is wanted, as the level stood when the step began.
-ghost use Rattle.std.specs.Prelude.{◌≡◌, ◌≤◌, ◌<◌, ◌+◌, min, length, option_map};
+ghost use Rattle.std.specs.Prelude.{◌≡◌, ◌≤◌, ◌<◌, ◌+◌, min};
 ghost use Rattle.gx_base.specs.Emits.{Emits};
-ghost use Rattle.plain_book.specs.Orders.{HasSlot, order_of, orders_at, slot_of, shown_at};
-ghost use Rattle.plain_book.specs.Book.{slot_number};
+ghost use Rattle.plain_book.specs.Orders.{HasSlot, order_of, shown_at};
 ghost use Rattle.plain_book.specs.Match.{moment, IsNow, CanTrade};
 ghost use Rattle.plain_book.specs.Steps.{facing, prorata, prorata_share, give_marked};
 ghost use Rattle.plain_book.specs.Keeping.{KeepsRoom};
 
 use gx_base::{Desk, Emit, Price, Slot, Taker};
-use plain_book::{Book, give_marked, opposite_side};
+use plain_book::{Book, give_marked, opposite_side, queue_at};
 
 /// What the shares of a step are computed from, in lots.
 #[derive(Clone, Copy)]
@@ -32,17 +31,6 @@ fn ratio_at<B: Book>(book: &B, taker: &Taker, price: Price, least: u32) -> Ratio
     let total = book.shown_total(taker.order.instrument, side, price);
     let pool = total.min(u64::from(taker.order.leaves));
     Ratio { least, pool, total }
-}
-
-/// The first order at a price that the incoming one meets, and how many there are.
-fn queue_at<B: Book>(book: &B, taker: &Taker, price: Price) -> (Option<Slot>, u32)
-    requires listed { taker.now.order.instrument < (B.book book.now).instruments }
-    ensures first { option_map slot_number result.0 ≡ slot_of (orders_at (facing price taker.now) (B.book book.now).resting) }
-    ensures count { result.1 ≡ length (orders_at (facing price taker.now) (B.book book.now).resting) }
-{
-    let side = opposite_side(taker.order.side);
-    let first = book.first(taker.order.instrument, side, price);
-    (first, book.count(taker.order.instrument, side, price))
 }
 
 /// The share of an order that shows so much: its part of the pool, rounded down, and nothing where that is below the

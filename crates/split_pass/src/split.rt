@@ -8,7 +8,7 @@ ghost use Rattle.plain_book.specs.Keeping.{KeepsRoom};
 
 use crate::gift::lots_of;
 use gx_base::{Desk, Emit, Price, StepName, Taker};
-use plain_book::{Book, give_lots, opposite_side};
+use plain_book::{Book, give_lots, queue_at};
 
 /// A percentage of some lots, rounded down.
 fn part_of(wanted: u32, percent: u8) -> u32
@@ -60,11 +60,9 @@ fn spend<B: Book, E: Emit>(
     ensures can { CanTrade (B.book book.new) desk.new taker.new }
     ensures room { KeepsRoom desk.old taker.old.order.leaves desk.new taker.new.order.leaves }
 {
-    let instrument = taker.order.instrument;
-    let side = opposite_side(taker.order.side);
     let mut left = lots;
-    let mut at = book.first(instrument, side, price);
-    for _k in 0..book.count(instrument, side, price) {
+    let (mut at, count) = queue_at(book, taker, price);
+    for _k in 0..count {
         book.rules();
         match at {
             None => unreachable!(),

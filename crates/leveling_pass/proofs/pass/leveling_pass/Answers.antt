@@ -10,10 +10,10 @@ use Rattle.plain_book.specs.Match.{Moment, moment, give, IsNow}
 use Rattle.plain_book.specs.Steps.{facing, leveling, leveling_shares}
 use Rattle.plain_book.proofs.Steps.{give-leaves}
 use Rattle.plain_book.proofs.Levels.{AllDiffer-front}
+use Rattle.plain_book.proofs.Turns.{turn_now, turn_end}
 use Rattle.plain_book.proofs.Trading.{keeps-same, keeps-then}
 use Rattle.plain_book.proofs.Going.{IsWalk, walk-start, walk-more}
 use Rattle.leveling_pass.proofs.Ones.{is_left_out, one_of, one-wanted, one-shown, one-read, walk-ones}
-use Rattle.leveling_pass.proofs.Turned.{turn_now, turn_end}
 use Rattle.leveling_pass.proofs.pass.leveling_pass.Goals as goal
 
 pub next-at-requires : goal.next-at-requires

@@ -1,4 +1,4 @@
-use Rattle.leveling_pass.proofs.Found.{all-zero}
+use Rattle.plain_book.proofs.Found.{all-zero}
 use Rattle.leveling_pass.proofs.tests.new_desk.Goals as goal
 
 pub returns-clause-lines : goal.returns-clause-lines

@@ -1,23 +1,22 @@
-use Rattle.std.proofs.Common.{◌≡◌, ◌<◌, ◌+◌, ◌-◌, ◌∷◌, [], ◌++◌, ℕ, List, length, drop, sym, ap, subst, ◌∙◌, arith, refl}
-use Rattle.std.specs.Prelude.{option_map}
+use Rattle.std.proofs.Common.{◌≡◌, ◌+◌, ◌-◌, ◌∷◌, [], ◌++◌, ℕ, List, drop, sym, ap, subst, ◌∙◌, arith, refl}
 use Rattle.std.proofs.lemmas.List.{append-nil}
 use Rattle.gx_base.specs.declared.event.StepName.TheVariants.{Lmm}
 use Rattle.gx_base.specs.declared.order.Taker.{Taker}
 use Rattle.gx_base.specs.Emits.{Emits}
 use Rattle.plain_book.specs.declared.entry.Entry.{Entry}
 use Rattle.plain_book.specs.Orders.{orders_at, entry_at, order_of}
-use Rattle.plain_book.specs.Book.{Book, slot_number}
+use Rattle.plain_book.specs.Book.{Book}
 use Rattle.plain_book.specs.Match.{Moment, moment, give, gives, IsNow}
 use Rattle.plain_book.specs.Steps.{facing, spent}
 use Rattle.plain_book.proofs.Steps.{give-leaves, moment_with}
-use Rattle.plain_book.proofs.Levels.{AllDiffer-front, HasSlot-left, order_of-left}
+use Rattle.plain_book.proofs.Levels.{AllDiffer-front}
 use Rattle.plain_book.proofs.Walks.{Stands}
-use Rattle.plain_book.proofs.Turns.{no_end}
+use Rattle.plain_book.proofs.Turns.{turn_now, turn_end}
 use Rattle.plain_book.proofs.Trading.{keeps-same, keeps-then}
 use Rattle.plain_book.proofs.Going.{IsWalk, walk-start, walk-more}
 use Rattle.lmm_pass.specs.Firms.{orders_of, gift_of}
 use Rattle.lmm_pass.proofs.Others.{gift-others, gift-small}
-use Rattle.lmm_pass.proofs.Going.{turn_now, gift-spent}
+use Rattle.lmm_pass.proofs.Going.{gift-spent}
 use Rattle.lmm_pass.proofs.pass.spend_on_firm.Goals as goal
 
 pub next-at-requires : goal.next-at-requires
@@ -27,8 +26,8 @@ next-at-requires g c =
     let b = g.B.Book.book l.book in
     let k = facing c.args.price c.args.taker.now in
     let es = orders_at k b0.resting in
-    let u = turn_now k es b l._k c.queue_at-at.result.1 l.at c.in-Some.slot c.queue_at-at.ensures.count c.rules.ensures l.invariant.walk.remains l.invariant.at c.loop-k-test.true c.in-Some.is in
-    u.has
+    let u = turn_now k es _ l._k c.queue_at-at.ensures.count c.loop-k-test.true l.at l.invariant.at c.in-Some.slot b c.in-Some.is c.rules.ensures l.invariant.walk.remains in
+    u.turn.has
 
 pub gift_of-lots-requires : goal.gift_of-lots-requires
 gift_of-lots-requires g c =
@@ -37,8 +36,8 @@ gift_of-lots-requires g c =
     let b = g.B.Book.book l.book in
     let k = facing c.args.price c.args.taker.now in
     let es = orders_at k b0.resting in
-    let u = turn_now k es b l._k c.queue_at-at.result.1 l.at c.in-Some.slot c.queue_at-at.ensures.count c.rules.ensures l.invariant.walk.remains l.invariant.at c.loop-k-test.true c.in-Some.is in
-    HasSlot-left c.in-Some.slot.0 b.resting b.waiting u.has
+    let u = turn_now k es _ l._k c.queue_at-at.ensures.count c.loop-k-test.true l.at l.invariant.at c.in-Some.slot b c.in-Some.is c.rules.ensures l.invariant.walk.remains in
+    u.live
 
 pub give_lots-requires-clause-rests : goal.give_lots-requires-clause-rests
 give_lots-requires-clause-rests g c =
@@ -47,8 +46,8 @@ give_lots-requires-clause-rests g c =
     let b = g.B.Book.book l.book in
     let k = facing c.args.price c.args.taker.now in
     let es = orders_at k b0.resting in
-    let u = turn_now k es b l._k c.queue_at-at.result.1 l.at c.in-Some.slot c.queue_at-at.ensures.count c.rules.ensures l.invariant.walk.remains l.invariant.at c.loop-k-test.true c.in-Some.is in
-    u.has
+    let u = turn_now k es _ l._k c.queue_at-at.ensures.count c.loop-k-test.true l.at l.invariant.at c.in-Some.slot b c.in-Some.is c.rules.ensures l.invariant.walk.remains in
+    u.turn.has
 
 pub give_lots-requires-clause-shown : goal.give_lots-requires-clause-shown
 give_lots-requires-clause-shown g c =
@@ -57,17 +56,16 @@ give_lots-requires-clause-shown g c =
     let b = g.B.Book.book l.book in
     let k = facing c.args.price c.args.taker.now in
     let es = orders_at k b0.resting in
-    let u = turn_now k es b l._k c.queue_at-at.result.1 l.at c.in-Some.slot c.queue_at-at.ensures.count c.rules.ensures l.invariant.walk.remains l.invariant.at c.loop-k-test.true c.in-Some.is in
+    let u = turn_now k es _ l._k c.queue_at-at.ensures.count c.loop-k-test.true l.at l.invariant.at c.in-Some.slot b c.in-Some.is c.rules.ensures l.invariant.walk.remains in
     let o = order_of c.in-Some.slot.0 b.resting in
-    let is : c.gift_of-lots.result ≡ gift_of c.args.firm l.left o = c.gift_of-lots.ensures ∙ ap (gift_of c.args.firm l.left) (order_of-left c.in-Some.slot.0 b.resting b.waiting u.has) in
+    let is : c.gift_of-lots.result ≡ gift_of c.args.firm l.left o = c.gift_of-lots.ensures ∙ ap (gift_of c.args.firm l.left) (u.live_order ∙ sym u.turn.order) in
     omega (arith, is, (gift-small c.args.firm l.left o).0)
 
 pub unreachable-requires : goal.unreachable-requires
 unreachable-requires g c =
     let k = facing c.args.price c.args.taker.now in
     let es = orders_at k (g.B.Book.book c.args.book.now).resting in
-    let lt : c.loop-k._k < length es = omega (arith, c.queue_at-at.ensures.count, c.loop-k-test.true) in
-    no_end es c.loop-k._k lt (sym (ap (option_map slot_number) c.in-None.is) ∙ c.loop-k.invariant.at lt)
+    turn_end k es _ c.loop-k._k c.queue_at-at.ensures.count c.loop-k-test.true c.loop-k.at c.loop-k.invariant.at c.in-None.is
 
 pub loop-k-init : goal.loop-k-init
 loop-k-init g c =
@@ -94,7 +92,7 @@ loop-k-preserved g c =
     let b = g.B.Book.book l.book in
     let k = facing c.args.price c.args.taker.now in
     let es = orders_at k b0.resting in
-    let u = turn_now k es b l._k c.queue_at-at.result.1 l.at c.in-Some.slot c.queue_at-at.ensures.count c.rules.ensures l.invariant.walk.remains l.invariant.at c.loop-k-test.true c.in-Some.is in
+    let u = turn_now k es _ l._k c.queue_at-at.ensures.count c.loop-k-test.true l.at l.invariant.at c.in-Some.slot b c.in-Some.is c.rules.ensures l.invariant.walk.remains in
     let t0 = c.args.taker.now in
     let firm = c.args.firm in
     let i = l._k in
@@ -109,17 +107,17 @@ loop-k-preserved g c =
     let r = c.give_lots in
     let next = g.B.Book.book r.new.book in
     let end = gives Lmm (spent c.args.lots (orders_of firm es)) (moment b0 c.args.desk.now t0) in
-    let order : order_of c.in-Some.slot.0 (b.resting ++ b.waiting) ≡ e.order = order_of-left c.in-Some.slot.0 b.resting b.waiting u.has ∙ u.order in
+    let order : order_of c.in-Some.slot.0 (b.resting ++ b.waiting) ≡ e.order = u.live_order in
     let lots : n ≡ gift_of firm l.left e.order = c.gift_of-lots.ensures ∙ ap (gift_of firm l.left) order in
     let differ = AllDiffer-front b.resting b.waiting c.rules.ensures.differ in
-    let walk : IsWalk m start l.out k Lmm end (e ∷ rest) (spent l.left (orders_of firm (e ∷ rest))) b d t = subst (λ (q : List Entry). IsWalk m start l.out k Lmm end q (spent l.left (orders_of firm q)) b d t) u.rest l.invariant.walk in
+    let walk : IsWalk m start l.out k Lmm end (e ∷ rest) (spent l.left (orders_of firm (e ∷ rest))) b d t = subst (λ (q : List Entry). IsWalk m start l.out k Lmm end q (spent l.left (orders_of firm q)) b d t) u.turn.rest l.invariant.walk in
     let walk2 : IsWalk m start l.out k Lmm end (e ∷ rest) ((e.slot, n) ∷ spent (l.left - n) (orders_of firm rest)) b d t = record {
       events = walk.events;
       told = walk.told;
       leads = ap (λ (x : ℕ). gives Lmm ((e.slot, x) ∷ spent (l.left - x) (orders_of firm rest)) (moment_with b d t walk.events)) lots ∙ gift-spent Lmm firm l.left e rest (moment_with b d t walk.events) ∙ walk.leads;
       remains = walk.remains;
     } in
-    let same : give Lmm c.in-Some.slot.0 n now ≡ give Lmm e.slot n now = ap (λ (s : ℕ). give Lmm s n now) u.slot_is in
+    let same : give Lmm c.in-Some.slot.0 n now ≡ give Lmm e.slot n now = ap (λ (s : ℕ). give Lmm s n now) u.turn.slot_is in
     let left : r.new.taker.order.leaves ≡ t.order.leaves - n = ap (λ (x : Taker). x.order.leaves) r.ensures.now.taker ∙ give-leaves Lmm c.in-Some.slot.0 n now in
     let gone : next ≡ (give Lmm e.slot (gift_of firm l.left e.order) now).book = r.ensures.now.book ∙ ap (λ (x : Moment). x.book) same ∙ ap (λ (x : ℕ). (give Lmm e.slot x now).book) lots in
     let remains = walk.remains in
@@ -129,7 +127,7 @@ loop-k-preserved g c =
           differ walk2
           (subst (λ (x : Moment). IsNow x next r.new.desk r.new.taker) same r.ensures.now)
           (subst (λ (x : Moment). Emits m l.out r.new.out x.events) same r.ensures.told);
-      at = λ more. c.next-at.ensures ∙ u.next more;
+      at = λ more. c.next-at.ensures ∙ u.turn.next more;
       enough = omega (arith, left, l.invariant.enough, lots, (gift-small firm l.left e.order).1);
       given = omega (arith, left, l.invariant.given, l.invariant.enough, lots, (gift-small firm l.left e.order).1);
       others = λ f apart.

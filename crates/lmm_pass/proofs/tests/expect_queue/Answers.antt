@@ -2,7 +2,7 @@ use Rattle.std.specs.Prelude.{pos}
 use Rattle.gx_base.specs.declared.order.Side.TheVariants.{Sell}
 use Rattle.plain_book.specs.Orders.{level, level_of, order_of}
 use Rattle.plain_book.proofs.Levels.{HasSlot-left}
-use Rattle.lmm_pass.proofs.Found.{first-rests, next-rests}
+use Rattle.plain_book.proofs.Found.{first-rests, next-rests}
 use Rattle.lmm_pass.proofs.tests.expect_queue.Goals as goal
 
 pub order-order-requires : goal.order-order-requires

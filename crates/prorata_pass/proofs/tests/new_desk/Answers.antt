@@ -1,4 +1,4 @@
-use Rattle.prorata_pass.proofs.Found.{all-zero}
+use Rattle.plain_book.proofs.Found.{all-zero}
 use Rattle.prorata_pass.proofs.tests.new_desk.Goals as goal
 
 pub returns-clause-lines : goal.returns-clause-lines

@@ -10,43 +10,49 @@ use Rattle.plain_book.specs.Match.{Moment, moment, give, gives, IsNow}
 use Rattle.plain_book.specs.Steps.{facing, spent}
 use Rattle.plain_book.proofs.Steps.{give-leaves}
 use Rattle.plain_book.proofs.Levels.{AllDiffer-front}
+use Rattle.plain_book.proofs.Turns.{turn_now, turn_end}
 use Rattle.plain_book.proofs.Trading.{keeps-same, keeps-then}
 use Rattle.plain_book.proofs.Going.{IsWalk, walk-start, walk-more}
-use Rattle.split_pass.proofs.Turned.{met_turn, met_end, met_first}
 use Rattle.split_pass.proofs.split.spend.Goals as goal
 
 pub next-at-requires : goal.next-at-requires
 next-at-requires g c =
-    let b0 = g.B.Book.book c.args.book.now in
+    let k = facing c.args.price c.args.taker.now in
+    let es = orders_at k (g.B.Book.book c.args.book.now).resting in
     let l = c.loop-k in
-    let u = met_turn c.args.price c.args.taker.now c.opposite_side-side.result b0 c.opposite_side-side.ensures c.count-k-end.result l._k c.count-k-end.ensures c.loop-k-test.true l.at l.invariant.at c.in-Some.slot (g.B.Book.book l.book) c.in-Some.is c.rules.ensures l.invariant.walk.remains in
+    let u = turn_now k es _ l._k c.queue_at-at.ensures.count c.loop-k-test.true l.at l.invariant.at c.in-Some.slot (g.B.Book.book l.book) c.in-Some.is c.rules.ensures l.invariant.walk.remains in
     u.turn.has
 
 pub lots_of-lots-requires : goal.lots_of-lots-requires
 lots_of-lots-requires g c =
-    let b0 = g.B.Book.book c.args.book.now in
+    let k = facing c.args.price c.args.taker.now in
+    let es = orders_at k (g.B.Book.book c.args.book.now).resting in
     let l = c.loop-k in
-    let u = met_turn c.args.price c.args.taker.now c.opposite_side-side.result b0 c.opposite_side-side.ensures c.count-k-end.result l._k c.count-k-end.ensures c.loop-k-test.true l.at l.invariant.at c.in-Some.slot (g.B.Book.book l.book) c.in-Some.is c.rules.ensures l.invariant.walk.remains in
+    let u = turn_now k es _ l._k c.queue_at-at.ensures.count c.loop-k-test.true l.at l.invariant.at c.in-Some.slot (g.B.Book.book l.book) c.in-Some.is c.rules.ensures l.invariant.walk.remains in
     u.live
 
 pub give_lots-requires-clause-rests : goal.give_lots-requires-clause-rests
 give_lots-requires-clause-rests g c =
-    let b0 = g.B.Book.book c.args.book.now in
+    let k = facing c.args.price c.args.taker.now in
+    let es = orders_at k (g.B.Book.book c.args.book.now).resting in
     let l = c.loop-k in
-    let u = met_turn c.args.price c.args.taker.now c.opposite_side-side.result b0 c.opposite_side-side.ensures c.count-k-end.result l._k c.count-k-end.ensures c.loop-k-test.true l.at l.invariant.at c.in-Some.slot (g.B.Book.book l.book) c.in-Some.is c.rules.ensures l.invariant.walk.remains in
+    let u = turn_now k es _ l._k c.queue_at-at.ensures.count c.loop-k-test.true l.at l.invariant.at c.in-Some.slot (g.B.Book.book l.book) c.in-Some.is c.rules.ensures l.invariant.walk.remains in
     u.turn.has
 
 pub give_lots-requires-clause-shown : goal.give_lots-requires-clause-shown
 give_lots-requires-clause-shown g c =
-    let b0 = g.B.Book.book c.args.book.now in
+    let k = facing c.args.price c.args.taker.now in
+    let es = orders_at k (g.B.Book.book c.args.book.now).resting in
     let l = c.loop-k in
-    let u = met_turn c.args.price c.args.taker.now c.opposite_side-side.result b0 c.opposite_side-side.ensures c.count-k-end.result l._k c.count-k-end.ensures c.loop-k-test.true l.at l.invariant.at c.in-Some.slot (g.B.Book.book l.book) c.in-Some.is c.rules.ensures l.invariant.walk.remains in
+    let u = turn_now k es _ l._k c.queue_at-at.ensures.count c.loop-k-test.true l.at l.invariant.at c.in-Some.slot (g.B.Book.book l.book) c.in-Some.is c.rules.ensures l.invariant.walk.remains in
     omega (arith, c.lots_of-lots.ensures, ap (λ (o : Order). o.shown) (u.live_order ∙ sym u.turn.order))
 
 pub unreachable-requires : goal.unreachable-requires
 unreachable-requires g c =
+    let k = facing c.args.price c.args.taker.now in
+    let es = orders_at k (g.B.Book.book c.args.book.now).resting in
     let l = c.loop-k in
-    met_end c.args.price c.args.taker.now c.opposite_side-side.result (g.B.Book.book c.args.book.now) c.opposite_side-side.ensures c.count-k-end.result l._k c.count-k-end.ensures c.loop-k-test.true l.at l.invariant.at c.in-None.is
+    turn_end k es _ l._k c.queue_at-at.ensures.count c.loop-k-test.true l.at l.invariant.at c.in-None.is
 
 pub loop-k-init : goal.loop-k-init
 loop-k-init g c =
@@ -58,7 +64,7 @@ loop-k-init g c =
     record {
       walk = walk-start g.E.Emit.meanings c.args.out.now k Split (gives Split (spent c.args.lots es) now) es (spent c.args.lots es) b0 c.args.desk.now t
           (record { before = []; behind = []; is = sym (append-nil es) }) refl;
-      at = λ lt. met_first c.args.price t c.opposite_side-side.result b0 c.opposite_side-side.ensures c.first-at.result c.first-at.ensures;
+      at = λ lt. c.queue_at-at.ensures.first;
       enough = c.requires.lots;
       can = c.requires.can;
       room = keeps-same c.args.desk.now t.order.leaves;
@@ -68,10 +74,10 @@ pub loop-k-preserved : goal.loop-k-preserved
 loop-k-preserved g c =
     let b0 = g.B.Book.book c.args.book.now in
     let l = c.loop-k in
-    let u = met_turn c.args.price c.args.taker.now c.opposite_side-side.result b0 c.opposite_side-side.ensures c.count-k-end.result l._k c.count-k-end.ensures c.loop-k-test.true l.at l.invariant.at c.in-Some.slot (g.B.Book.book l.book) c.in-Some.is c.rules.ensures l.invariant.walk.remains in
     let t0 = c.args.taker.now in
     let k = facing c.args.price t0 in
     let es = orders_at k b0.resting in
+    let u = turn_now k es _ l._k c.queue_at-at.ensures.count c.loop-k-test.true l.at l.invariant.at c.in-Some.slot (g.B.Book.book l.book) c.in-Some.is c.rules.ensures l.invariant.walk.remains in
     let i = l._k in
     let e = entry_at es i in
     let b = g.B.Book.book l.book in

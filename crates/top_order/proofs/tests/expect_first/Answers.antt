@@ -2,7 +2,7 @@ use Rattle.std.specs.Prelude.{pos}
 use Rattle.gx_base.specs.declared.order.Side.TheVariants.{Sell}
 use Rattle.plain_book.specs.Orders.{level}
 use Rattle.plain_book.proofs.Levels.{HasSlot-left}
-use Rattle.top_order.proofs.Found.{first-rests}
+use Rattle.plain_book.proofs.Found.{first-rests}
 use Rattle.top_order.proofs.tests.expect_first.Goals as goal
 
 pub order-order-requires : goal.order-order-requires
