@@ -1,30 +1,28 @@
-use Rattle.std.proofs.Common.{◌≡◌, ℕ, zero, suc, slice_index, replicate, refl, sym, ap, ◌∙◌, arith}
+use Rattle.std.proofs.Common.{sym, ap, ◌∙◌, arith}
 use Rattle.std.specs.Option.{option_map}
 use Rattle.plain_book.specs.Book.{Book, live_orders, slot_number}
+use Rattle.plain_book.proofs.Found.{all-zero}
 use Rattle.plain_book.proofs.Live.{unnamed-none}
 use Rattle.level_sweep.proofs.tests.buy.Goals as goal
 
-no-lines : (n i : ℕ) → slice_index (replicate n 0) i ≡ 0
-no-lines zero i = refl
-no-lines (suc n) zero = refl
-no-lines (suc n) (suc i) = no-lines n i
-
-pub sweep-requires-clause-can : goal.sweep-requires-clause-can
-sweep-requires-clause-can g c =
+pub sweep-requires : goal.sweep-requires
+sweep-requires g c =
     let live = live_orders (g.B.Book.book c.args.book.now) in
     let o = c.args.order in
     let fit = c.requires.fit in
     record {
-      listed = omega (arith, fit.listed, c.requires.one);
-      firm = fit.firm;
-      unnamed = unnamed-none o.firm o.id live (sym c.find.ensures ∙ ap (option_map slot_number) c.in-None.is);
-      whole = fit.whole;
-      small = fit.small;
-      messages = omega (arith, fit.whole, fit.small);
-      orders = omega (arith, fit.whole, fit.small);
-      trades = omega (arith, fit.whole, fit.small);
-      reports = omega (arith, fit.whole, fit.small);
-      lines = λ i. omega (arith, no-lines 65 i, fit.whole, fit.small);
+      can = record {
+        listed = omega (arith, fit.listed, c.requires.one);
+        firm = fit.firm;
+        unnamed = unnamed-none o.firm o.id live (sym c.find.ensures ∙ ap (option_map slot_number) c.in-None.is);
+        whole = fit.whole;
+        small = fit.small;
+        messages = omega (arith, fit.whole, fit.small);
+        orders = omega (arith, fit.whole, fit.small);
+        trades = omega (arith, fit.whole, fit.small);
+        reports = omega (arith, fit.whole, fit.small);
+        lines = λ i. omega (arith, all-zero 65 i, fit.whole, fit.small);
+      };
     }
 
 pub returns : goal.returns
