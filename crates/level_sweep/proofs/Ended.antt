@@ -6,6 +6,10 @@ use Rattle.std.proofs.lemmas.List.{append-nil}
 use Rattle.std.proofs.lemmas.Bool.Decides.{eqb_tells}
 use Rattle.gx_base.specs.declared.price.Price.{Price}
 use Rattle.gx_base.specs.declared.event.Event.{Event}
+use Rattle.gx_base.specs.declared.order.Desk.{Desk}
+use Rattle.gx_base.specs.declared.order.Taker.{Taker}
+use Rattle.gx_base.specs.Emits.{EmitMeanings, Emits}
+use Rattle.plain_book.specs.Book.{Book}
 use Rattle.gx_base.specs.declared.event.StepName.TheVariants as name
 use Rattle.step_config.specs.declared.step.Step.{Step}
 use Rattle.step_config.specs.declared.step.Step.TheVariants.{Top, Lmm, Split, ProRata, Leveling, Fifo}
@@ -16,10 +20,11 @@ use Rattle.plain_book.specs.Match.{Moment, moment, IsNow}
 use Rattle.plain_book.specs.Steps.{IsOver, level_now, facing, head_gives, fifo_rounds, fifo}
 use Rattle.plain_book.proofs.Pairs.{all-filter}
 use Rattle.plain_book.proofs.Live.{AllOrders}
-use Rattle.plain_book.proofs.Steps.{give-leaves, with_events}
+use Rattle.plain_book.proofs.Steps.{give-leaves, moment_with, with_events}
 use Rattle.level_sweep.specs.Sweep.{IsThrough, IsWorkedOff, wanted_step, level_match, match_within, match_best, facing_best, sweep_rounds, sweep}
 use Rattle.level_sweep.proofs.Blind.{best-blind}
-use Rattle.level_sweep.proofs.Ends.{LastOr, last_more, last_first, goes_from, through_stays}
+use Rattle.level_sweep.proofs.Ends.{LastOr, last_more, last_first, goes_from, through_stays, rounds-none}
+use Rattle.level_sweep.proofs.Going.{IsOnTheWay, way-more, way-end}
 use Rattle.level_sweep.proofs.Showing.{IsShowing, AreShowing, showing-head, showing-wanted, showing-best}
 
 abbrev pub Over : Price → Moment → Type 0
@@ -118,3 +123,16 @@ rounds-end (suc n) steps limit m f a h =
 -- where FIFO stands last, nothing more is wanted or no price within the limit is left
 pub sweep-ends : (steps : List Step) (limit : Price) (m : Moment) → is_fifo_last steps ≡ true → AreShowing m.book.resting → Through limit (sweep steps limit m)
 sweep-ends steps limit m f a = rounds-end m.taker.order.leaves steps limit m f a (inl (omega arith))
+
+-- a sweep that is through after one more match has come to its end
+pub way-through : {E : Type 0} (meanings : EmitMeanings E) (start now next : E) (n : ℕ) (steps : List Step) (limit : Price) (end : Moment) (b b' : Book) (d d' : Desk) (t t' : Taker)
+    → IsOnTheWay meanings start now (λ x. sweep_rounds n steps limit (match_best steps limit x)) end b d t
+    → IsNow (match_best steps limit (moment b d t)) b' d' t' → Emits meanings now next (match_best steps limit (moment b d t)).events → IsThrough limit b' t'
+    → IsNow end b' d' t' × Emits meanings start next end.events
+way-through meanings start now next n steps limit end b b' d d' t t' way is told h =
+    let more = way-more meanings start end now next (match_best steps limit) (sweep_rounds n steps limit) b b' d d' t t' (best-blind steps limit) way is told in
+    way-end meanings start end next b' d' t' (record {
+      events = more.events;
+      told = more.told;
+      leads = sym (rounds-none n steps limit (moment_with b' d' t' more.events) h) ∙ more.leads;
+    })

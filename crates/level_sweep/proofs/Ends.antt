@@ -1,6 +1,6 @@
 -- What a level match and a sweep leave.
 use Rattle.std.proofs.Common.{◌≡◌, ◌≢◌, ℕ, ◌-◌, ◌<◌, Bool, true, false, cond, ◌&&◌, List, [], ◌∷◌, length, refl, sym, ap, subst, ◌∙◌, arith, rules, inl, inr, ◌⊎◌, Option, Some, None, IsTrue, slice_get}
-use Prim.Native.Nat.{suc}
+use Prim.Native.Nat.{zero, suc}
 use Rattle.std.specs.Prelude.{◌==◌}
 use Rattle.std.specs.Ordering.{int_eq}
 use Rattle.std.proofs.lemmas.Bool.Decides.{eqb_tells, Decides-int_eq}
@@ -15,7 +15,7 @@ use Rattle.plain_book.specs.Orders.{level, is_at, is_on, is_side, is_within, opp
 use Rattle.plain_book.specs.Book.{Book, AllDiffer}
 use Rattle.plain_book.specs.Match.{Moment, moment, IsNow}
 use Rattle.plain_book.specs.Steps.{IsOver, level_now, facing}
-use Rattle.level_sweep.specs.Sweep.{IsMet, IsWorkedOff, IsThrough, level_match, match_within, match_best, facing_best}
+use Rattle.level_sweep.specs.Sweep.{IsMet, IsWorkedOff, IsThrough, level_match, match_within, match_best, facing_best, sweep_rounds}
 use Rattle.level_sweep.proofs.Moves.{match-moves}
 
 -- the last of the steps is FIFO, or none is left and P holds
@@ -111,15 +111,22 @@ goes_from steps limit b b' d d' t t' (Some p) differ w h n over =
       | false ↦ λ q k. inr (inr (λ f. let g : IsTrue within = subst (IsMet limit t) (sym h) (met-before limit b b' d d' t t' k f) in let r : within ≡ true = true_is within g in cc))
     ] in go within refl n
 
--- where the sweep is through, nothing changes
+-- where the sweep is through, a match at the best price does nothing
+best-none : (steps : List Step) (limit : Price) (m : Moment) → IsThrough limit m.book m.taker → match_best steps limit m ≡ m
+best-none steps limit m h = elim (eqb_tells m.taker.order.leaves 0) [
+  | inl z ↦ ap (λ (c : Bool). cond c m (match_within steps limit (facing_best m) m)) z.0
+  | inr z ↦ ap (λ (c : Bool). cond c m (match_within steps limit (facing_best m) m)) z.0 ∙ unmet steps limit m (facing_best m) (elim h [ inl k ↦ absurd (z.1 k) | inr k ↦ k ])
+]
+
+-- and nor do more of them
+pub rounds-none : (n : ℕ) (steps : List Step) (limit : Price) (m : Moment) → IsThrough limit m.book m.taker → sweep_rounds n steps limit m ≡ m
+rounds-none zero steps limit m h = refl
+rounds-none (suc n) steps limit m h = ap (sweep_rounds n steps limit) (best-none steps limit m h) ∙ rounds-none n steps limit m h
+
+-- where the sweep is through, it stays so
 pub through_stays : (steps : List Step) (limit : Price) (b b' : Book) (d d' : Desk) (t t' : Taker) → IsThrough limit b t → IsNow (match_best steps limit (moment b d t)) b' d' t' → IsThrough limit b' t'
 through_stays steps limit b b' d d' t t' h n =
-    let m = moment b d t in
-    let same : match_best steps limit m ≡ m = elim (eqb_tells t.order.leaves 0) [
-      | inl z ↦ ap (λ (c : Bool). cond c m (match_within steps limit (facing_best m) m)) z.0
-      | inr z ↦ ap (λ (c : Bool). cond c m (match_within steps limit (facing_best m) m)) z.0 ∙ unmet steps limit m (facing_best m) (elim h [ inl k ↦ absurd (z.1 k) | inr k ↦ k ])
-    ] in
-    let k : IsNow m b' d' t' = subst (λ (x : Moment). IsNow x b' d' t') same n in
+    let k : IsNow (moment b d t) b' d' t' = subst (λ (x : Moment). IsNow x b' d' t') (best-none steps limit (moment b d t) h) n in
     elim h [
       | inl z ↦ inl (ap (λ (x : Taker). x.order.leaves) k.taker ∙ z)
       | inr f ↦ inr (λ g. f (met-before limit b b' d d' t t' k g))

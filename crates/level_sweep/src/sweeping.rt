@@ -100,6 +100,11 @@ pub fn sweep<B: Book, E: Emit>(
     ensures stays { B.book book.new ≡ with_resting (B.book book.new).resting (B.book book.old) }
 {
     for _k in 0..taker.order.leaves {
+        let wanted = taker.order.leaves;
         match_best(book, desk, taker, limit, steps, out);
+        // Where nothing was taken, nothing would be from here on.
+        if taker.order.leaves == wanted {
+            return;
+        }
     }
 }
