@@ -1,5 +1,5 @@
 -- What a new order without a fault is like.
-use Rattle.std.proofs.Common.{◌≡◌, ◌≢◌, ◌≤◌, ◌<◌, ℕ, Bool, true, false, not, cond, List, length, Option, Some, None, sym, ap, ◌∙◌, arith, eqb}
+use Rattle.std.proofs.Common.{◌≡◌, ◌≢◌, ◌≤◌, ◌<◌, true, false, length, None, arith}
 use Rattle.std.proofs.lemmas.Grind.{common_steps}
 use Rattle.gx_base.specs.NameLists.{NameLists}
 use Rattle.product_file.specs.Products.{ProductLists}

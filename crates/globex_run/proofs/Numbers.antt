@@ -1,7 +1,6 @@
 -- What is asked of a book is the same where each order is named by its number.
 use Rattle.std.proofs.Common.{◌≡◌, ℕ, Bool, true, false, cond, ◌||◌, List, [], ◌∷◌, filter, length, suc, Option, Some, None, option_map, is_some, refl, sym, ap, subst, ◌∙◌, inl}
 use Rattle.std.specs.Prelude.{◌==◌}
-use Rattle.gx_base.specs.declared.event.Event.{Event}
 use Rattle.gx_base.specs.declared.event.NewFault.{NewFault}
 use Rattle.gx_base.specs.declared.order.Desk.{Desk}
 use Rattle.gx_base.specs.declared.order.Slot.{Slot}
@@ -16,7 +15,6 @@ use Rattle.level_sweep.proofs.Numbered.{filter-order}
 use Rattle.level_sweep.proofs.Renamed.{live-numbered}
 use Rattle.product_file.specs.Products.{ProductLists}
 use Rattle.fix_request.specs.declared.request.NewOrder.{NewOrder}
-use Rattle.globex_run.specs.State.{State}
 use Rattle.globex_run.specs.NewOrders.{new_fault, new_by, new_step, steps_for}
 use Rattle.globex_run.specs.Fit.{state_of}
 

@@ -1,9 +1,8 @@
 -- How a product's text is taken.
-use Rattle.std.proofs.Common.{◌≡◌, ◌≢◌, ℕ, ◌+◌, ◌<◌, ◌≤◌, List, [], ◌++◌, length, take, drop, Option, Result, Ok, Err, IfOk, IfErr, refl, sym, ap, subst, ◌∙◌, append_assoc, length-take, arith}
+use Rattle.std.proofs.Common.{◌≡◌, ◌≢◌, ℕ, ◌+◌, ◌≤◌, List, ◌++◌, length, take, Option, Result, Ok, Err, IfOk, IfErr, sym, ap, subst, ◌∙◌, append_assoc, length-take, arith}
 use Rattle.std.proofs.lemmas.List.{take-append-le, take-take}
-use Rattle.std.proofs.lemmas.Grind.{common_steps}
 use Rattle.std.proofs.Math.Seq.{take-append-add}
-use Rattle.gx_station.specs.Sources.{SourceMeanings, and_left, IsAtEnd}
+use Rattle.gx_station.specs.Sources.{SourceMeanings, and_left}
 use Rattle.product_file.specs.Products.{ProductLists}
 use Rattle.product_file.specs.ProductTexts.{product_of}
 use Rattle.product_file.specs.declared.faults.ProductFault.{ProductFault}
@@ -12,7 +11,7 @@ use Rattle.globex_run.specs.ProductTexts.{IsProductText, IsRefusedAt, JudgesAs, 
 use Rattle.globex_run.specs.declared.serve.Ending.{Ending}
 use Rattle.globex_run.specs.declared.outcome.Status.{Status}
 use Rattle.globex_run.specs.declared.outcome.Status.TheVariants as status
-use Rattle.globex_run.proofs.Running.{and_left-then, and_left-none}
+use Rattle.globex_run.proofs.Running.{and_left-then}
 
 -- what was read stands behind what was read before
 pub read-more : (len n N : ℕ) (xs into post tail : List ℕ) → len ≤ length xs → n ≤ length into → len + n ≤ N

@@ -1,22 +1,21 @@
 -- An order comes to rest, by its slot and by its number.
-use Rattle.std.proofs.Common.{◌≡◌, ◌≢◌, ℕ, ◌+◌, ◌-◌, ◌<◌, ◌≤◌, Bool, true, false, cond, List, [], ◌∷◌, ◌++◌, map, Option, None, refl, sym, ap, subst, ◌∙◌, arith, inl, inr}
+use Rattle.std.proofs.Common.{◌≡◌, ◌≢◌, ℕ, ◌-◌, ◌<◌, ◌≤◌, Bool, true, false, cond, List, [], ◌∷◌, ◌++◌, Option, None, sym, ap, subst, ◌∙◌, arith, inl, inr}
 use Rattle.std.specs.Prelude.{◌==◌, ◌&&◌}
 use Rattle.std.specs.List.{AllByRecursion}
 use Rattle.std.proofs.lemmas.Bool.{ne_eqb}
-use Rattle.std.proofs.lemmas.List.{map-append}
 use Rattle.gx_base.specs.declared.order.Side.{Side}
 use Rattle.gx_base.specs.declared.order.Order.{Order}
 use Rattle.step_config.specs.declared.step.Step.{Step}
 use Rattle.plain_book.specs.declared.entry.Entry.{Entry}
-use Rattle.plain_book.specs.Orders.{HasSlot, placed, is_new_best, topped, with_top}
+use Rattle.plain_book.specs.Orders.{HasSlot, is_new_best, with_top}
 use Rattle.plain_book.specs.Book.{Book, AllDiffer, EachPair, AreInBookOrder, live_orders, first_shown, is_enough, book_placed}
 use Rattle.plain_book.specs.Numbers.{by_number, numbered, book_numbered}
-use Rattle.plain_book.proofs.Pairs.{all-with, all-insert, all-append, all-front, all-back, all-map}
+use Rattle.plain_book.proofs.Pairs.{all-with, all-map}
 use Rattle.plain_book.proofs.Sorted.{IsInserted, inserted-differ, inserted-all}
-use Rattle.plain_book.proofs.Right.{resting_as, live-placed, ordered-marked, slots-marked}
+use Rattle.plain_book.proofs.Right.{live-placed, ordered-marked, slots-marked}
 use Rattle.level_sweep.proofs.Renamed.{live-numbered, placed-same}
 use Rattle.globex_run.specs.NewOrders.{top_min_of, with_rest}
-use Rattle.globex_run.specs.Fit.{AreNumbered, IsSameSize}
+use Rattle.globex_run.specs.Fit.{AreNumbered}
 
 -- ---- numbers stay apart
 

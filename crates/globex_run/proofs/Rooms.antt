@@ -1,5 +1,5 @@
 -- Counters and the room below their bound.
-use Rattle.std.proofs.Common.{ℕ, zero, suc, ◌+◌, ◌-◌, ◌*◌, ◌^◌, ◌<◌, ◌≤◌, List, [], ◌∷◌, slice_index, slice_set, arith}
+use Rattle.std.proofs.Common.{ℕ, zero, suc, ◌+◌, ◌≤◌, List, [], ◌∷◌, slice_index, slice_set, arith}
 use Rattle.gx_base.specs.declared.order.Desk.{Desk}
 use Rattle.plain_book.specs.Match.{reported}
 use Rattle.plain_book.specs.Keeping.{KeepsRoom}

@@ -1,9 +1,8 @@
 -- What a call did, from the way that it ended.
-use Rattle.std.proofs.Common.{◌≡◌, ◌≢◌, ◌⊎◌, inl, inr, ℕ, nat_lt, ◌<◌, ◌≤◌, true, false, List, [], ◌++◌, length, Option, Some, Result, Ok, Err, refl, sym, ap, subst, ◌∙◌, length-append, arith}
+use Rattle.std.proofs.Common.{◌≡◌, ◌⊎◌, inl, inr, ℕ, nat_lt, ◌<◌, List, [], ◌++◌, length, Some, Result, Ok, Err, refl, sym, ap, subst, ◌∙◌, length-append, arith}
 use Rattle.std.proofs.lemmas.Bool.{cases_lt, cond-true, lt-ltb}
 use Rattle.std.proofs.lemmas.List.{append-nil}
-use Rattle.gx_station.specs.Counts.{Rose}
-use Rattle.gx_station.specs.Sources.{SourceMeanings, IsAtEnd}
+use Rattle.gx_station.specs.Sources.{SourceMeanings}
 use Rattle.gx_station.specs.Stations.{StationMeanings}
 use Rattle.product_file.specs.Products.{ProductLists}
 use Rattle.product_file.specs.ProductTexts.{product_of}

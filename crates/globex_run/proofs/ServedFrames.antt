@@ -1,5 +1,5 @@
 -- One frame served, or not.
-use Rattle.std.proofs.Common.{◌≡◌, ℕ, ◌+◌, ◌<◌, true, false, List, IsTrue, Result, Ok, Err, OnOk, OnErr, is_err, refl, sym, ap, subst, ◌∙◌}
+use Rattle.std.proofs.Common.{◌≡◌, ℕ, ◌+◌, ◌<◌, true, false, List, IsTrue, Result, Ok, Err, OnOk, OnErr, is_err, ap, subst, ◌∙◌}
 use Rattle.gx_base.specs.Told.{TellsPrefix}
 use Rattle.gx_station.specs.Stations.{StationMeanings, Sends, sent_and}
 use Rattle.product_file.specs.Products.{ProductLists}

@@ -1,24 +1,19 @@
 -- What holds between two messages, at the start and after one more.
-use Rattle.std.proofs.Common.{◌≡◌, ℕ, zero, suc, ◌+◌, ◌*◌, ◌^◌, ◌<◌, ◌≤◌, List, [], length, slice_index, replicate, refl, sym, subst, arith}
+use Rattle.std.proofs.Common.{◌≡◌, ℕ, ◌+◌, ◌*◌, ◌^◌, ◌<◌, ◌≤◌, sym, subst, arith}
 use Rattle.gx_base.specs.declared.order.Desk.{Desk}
 use Rattle.plain_book.specs.Book.{Book, empty_book}
 use Rattle.plain_book.specs.Match.{reported}
+use Rattle.plain_book.proofs.Found.{all-zero}
 use Rattle.globex_run.specs.State.{empty_desk}
-use Rattle.globex_run.specs.Cancels.{line_told}
 use Rattle.globex_run.specs.Fit.{HasRoom, AreNumbered, IsServing, IsCounting}
-use Rattle.globex_run.proofs.Rooms.{room-reported, counted_line}
-
-no_line : (n i : ℕ) → slice_index (replicate n 0) i ≡ 0
-no_line zero i = refl
-no_line (suc n) zero = refl
-no_line (suc n) (suc i) = no_line n i
+use Rattle.globex_run.proofs.Rooms.{room-reported}
 
 pub serving-empty : (capacity instruments : ℕ) (book : Book) → book ≡ empty_book capacity instruments → IsServing book empty_desk
 serving-empty capacity instruments book none = subst (λ (b : Book). IsServing b empty_desk) (sym none) (record {
   numbered = record { differ = tt; given = tt };
   counted = omega arith;
   bounded = omega arith;
-  counters_fit = record { trades = omega arith; reports = omega arith; lines = λ i. omega (arith, no_line 65 i) };
+  counters_fit = record { trades = omega arith; reports = omega arith; lines = λ i. omega (arith, all-zero 65 i) };
 })
 
 -- room for one more message, whose order has so many lots

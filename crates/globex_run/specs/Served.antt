@@ -1,5 +1,5 @@
 -- How far the input was served.
-use Rattle.std.specs.Prelude.{◌≡◌, ℕ, Bool, IsTrue, List, ◌++◌, length}
+use Rattle.std.specs.Prelude.{◌≡◌, ℕ, IsTrue, List, ◌++◌, length}
 use Rattle.std.specs.List.{concat, AllByRecursion}
 use Rattle.gx_station.specs.Sources.{SourceMeanings, and_left}
 use Rattle.gx_station.specs.Stations.{StationMeanings, sent_and}

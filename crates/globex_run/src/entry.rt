@@ -1,5 +1,5 @@
 //! New orders: refused, or accepted, reported and entered.
-ghost use Rattle.std.specs.Prelude.{◌≡◌, ◌+◌, ◌<◌, ℕ, IsTrue, false, [], ◌∷◌, length};
+ghost use Rattle.std.specs.Prelude.{◌≡◌, ◌+◌, ◌<◌, ℕ, false, [], ◌∷◌, length};
 ghost use Rattle.gx_base.specs.Emits.{Emits};
 ghost use Rattle.fix_request.specs.Given.{IsListed};
 ghost use Rattle.plain_book.specs.Orders.{is_live};

@@ -1,6 +1,5 @@
 -- The slot and the number of each order go together, and stay together while orders trade.
-use Rattle.std.proofs.Common.{◌≡◌, ◌≢◌, ℕ, ◌+◌, ◌-◌, Bool, true, false, cond, not, List, [], ◌∷◌, ◌++◌, map, filter, refl, sym, ap, subst, ◌∙◌, arith, inl, inr, ◌⊎◌, Option, Some, None}
-use Prim.Native.Nat.{zero, suc}
+use Rattle.std.proofs.Common.{◌≡◌, ◌≢◌, ℕ, ◌-◌, Bool, true, false, cond, not, List, [], ◌∷◌, filter, refl, sym, ap, subst, ◌∙◌, arith, inl, inr, ◌⊎◌}
 use Rattle.std.specs.Prelude.{◌==◌}
 use Rattle.std.specs.List.{AllByRecursion}
 use Rattle.std.proofs.lemmas.Bool.Decides.{eqb_tells}
@@ -9,16 +8,16 @@ use Rattle.gx_base.specs.declared.order.Order.{Order}
 use Rattle.gx_base.specs.declared.event.StepName.{StepName}
 use Rattle.step_config.specs.declared.step.Step.{Step}
 use Rattle.plain_book.specs.declared.entry.Entry.{Entry}
-use Rattle.plain_book.specs.Orders.{HasSlot, order_of, no_order, without, with_order, reordered, placed, settled, traded, refreshed, filled_by, is_behind}
-use Rattle.plain_book.specs.Book.{Book, AllDiffer}
+use Rattle.plain_book.specs.Orders.{HasSlot, order_of, no_order, without, with_order, placed, settled, traded, refreshed, filled_by, is_behind}
+use Rattle.plain_book.specs.Book.{AllDiffer}
 use Rattle.plain_book.specs.Match.{Moment, give}
 use Rattle.plain_book.specs.Steps.{give_marked, head_gives}
-use Rattle.plain_book.proofs.Levels.{same, renewed, without-none, with_order-none}
+use Rattle.plain_book.proofs.Levels.{same, renewed, with_order-none}
 use Rattle.plain_book.proofs.Pairs.{all-filter, all-append, all-with, all-both}
 use Rattle.plain_book.proofs.Steps.{marked}
 use Rattle.level_sweep.specs.Sweep.{wanted_step, match_best, sweep}
 use Rattle.level_sweep.proofs.Each.{Relation, IsKept, each-give, each-give_marked, each-head, each-wanted, each-best, each-sweep}
-use Rattle.plain_book.specs.Numbers.{by_number, numbered}
+use Rattle.plain_book.specs.Numbers.{numbered}
 
 -- P holds of the slot and the number of each order
 abbrev pub Names : (ℕ → ℕ → Type 0) → List Entry → Type 0

@@ -1,6 +1,5 @@
 -- Where each order is named by its number in place of its slot, a match does the same.
-use Rattle.std.proofs.Common.{◌≡◌, ◌≢◌, ℕ, ◌+◌, ◌-◌, ◌*◌, ◌/◌, min, Bool, true, false, cond, not, ◌&&◌, List, [], ◌∷◌, ◌++◌, map, filter, sum_by, refl, sym, ap, subst, ◌∙◌, arith, inl, inr, ◌⊎◌, Option, Some, None}
-use Prim.Native.Nat.{zero, suc}
+use Rattle.std.proofs.Common.{◌≡◌, ℕ, ◌+◌, Bool, true, false, cond, not, List, [], ◌∷◌, ◌++◌, filter, refl, sym, ap, ◌∙◌, inl, inr}
 use Rattle.std.specs.Prelude.{◌==◌}
 use Rattle.std.specs.List.{AllByRecursion}
 use Rattle.std.proofs.lemmas.List.{map-append}
@@ -8,19 +7,18 @@ use Rattle.std.proofs.lemmas.Bool.Decides.{eqb_tells}
 use Rattle.gx_base.specs.declared.price.Price.{Price}
 use Rattle.gx_base.specs.declared.order.Order.{Order}
 use Rattle.gx_base.specs.declared.order.Side.{Side}
-use Rattle.gx_base.specs.declared.order.LmmShare.{LmmShare}
 use Rattle.gx_base.specs.declared.event.StepName.{StepName}
 use Rattle.gx_base.specs.declared.event.StepName.TheVariants as name
 use Rattle.plain_book.specs.declared.entry.Entry.{Entry}
-use Rattle.plain_book.specs.Orders.{Level, HasSlot, is_at, is_on, is_slot, is_behind, order_of, without, with_order, reordered, placed, settled, traded, refreshed, filled_by, orders_at, side_of, price_of, best_of, slot_of, top_of}
-use Rattle.plain_book.specs.Book.{Book, book_traded}
+use Rattle.plain_book.specs.Orders.{HasSlot, is_at, is_on, is_behind, order_of, without, with_order, reordered, placed, settled, traded, refreshed, filled_by, side_of, price_of, best_of}
+use Rattle.plain_book.specs.Book.{Book}
 use Rattle.plain_book.specs.Match.{Moment, Share, trade, report, fill, taken_by, lengthened, give, gives}
-use Rattle.plain_book.specs.Steps.{facing, level_now, give_marked, gives_marked, head_gives, fifo_rounds, spent, ones, prorata_share}
-use Rattle.plain_book.proofs.Levels.{same, renewed, with_order-none}
-use Rattle.plain_book.proofs.Pairs.{all-filter, all-from, all-with}
+use Rattle.plain_book.specs.Steps.{facing, level_now, give_marked, gives_marked}
+use Rattle.plain_book.proofs.Levels.{same, renewed}
+use Rattle.plain_book.proofs.Pairs.{all-from, all-with}
 use Rattle.plain_book.proofs.Steps.{marked}
 use Rattle.plain_book.specs.Numbers.{by_number, numbered, book_numbered, moment_numbered}
-use Rattle.level_sweep.proofs.Names.{Names, GoesWith, Agree, Matched, KeepsNames, found, none-traded, keeps-give, keeps-mark, keeps-give_marked, keeps-head, matched-kept}
+use Rattle.level_sweep.proofs.Names.{GoesWith, Agree, KeepsNames, found, none-traded, keeps-give, keeps-mark, keeps-give_marked}
 
 -- ---- lists
 

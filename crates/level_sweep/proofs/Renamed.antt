@@ -13,15 +13,15 @@ use Rattle.gx_base.specs.declared.event.StepName.TheVariants as name
 use Rattle.step_config.specs.declared.step.Step.{Step}
 use Rattle.step_config.specs.declared.step.Step.TheVariants.{Top, Lmm, Split, ProRata, Leveling, Fifo}
 use Rattle.plain_book.specs.declared.entry.Entry.{Entry}
-use Rattle.plain_book.specs.Orders.{HasSlot, order_of, without, is_at, is_on, is_slot, is_within, opposite, side_of, slot_of, top_of, topped, with_top, is_best_price, is_new_best, placed, lined_up, waits_behind}
-use Rattle.plain_book.specs.Book.{Book, AllDiffer, live_orders, first_shown, is_enough, resting_placed, book_placed, book_waited, book_without}
+use Rattle.plain_book.specs.Orders.{HasSlot, order_of, without, is_at, is_on, is_slot, is_within, opposite, side_of, slot_of, top_of, topped, with_top, is_best_price, is_new_best, placed, waits_behind}
+use Rattle.plain_book.specs.Book.{Book, AllDiffer, live_orders, first_shown, is_enough, book_placed, book_waited, book_without}
 use Rattle.plain_book.specs.Match.{Moment, Share, gives}
 use Rattle.plain_book.specs.Steps.{facing, level_now, gives_marked, head_gives, fifo_rounds, spent, ones, top_shares, lmm_shares, split_shares, leveling_shares, prorata_shares, prorata_share}
 use Rattle.plain_book.proofs.Levels.{same, AllDiffer-front}
 use Rattle.plain_book.proofs.Pairs.{all-filter, all-with, all-append, all-front, all-back}
 use Rattle.level_sweep.specs.Sweep.{step_of, wanted_step, level_match, match_within, match_best, facing_best, sweep_rounds, sweep}
 use Rattle.plain_book.specs.Numbers.{by_number, numbered, book_numbered, moment_numbered}
-use Rattle.level_sweep.proofs.Names.{Names, KeepsNames, found, GoesWith, Agree, Matched, matched-from, matched-kept, keeps-head, keeps-wanted, keeps-best, keeps-sweep}
+use Rattle.level_sweep.proofs.Names.{Names, found, GoesWith, Agree, Matched, matched-from, matched-kept, keeps-head, keeps-wanted, keeps-best, keeps-sweep}
 use Rattle.level_sweep.proofs.Only.{rest-sweep}
 use Rattle.level_sweep.proofs.Numbered.{SameShares, test-is, filter-numbered, filter-order, level-numbered, side-numbered, best-numbered, placed-numbered, without-numbered, give-numbered, gives-numbered, gives_marked-numbered}
 

@@ -1,4 +1,4 @@
-use Rattle.std.proofs.Common.{◌≡◌, Some, None, List, option_map, refl, sym, ap, subst, ◌∙◌}
+use Rattle.std.proofs.Common.{List, option_map, refl, sym, ap, subst, ◌∙◌}
 use Rattle.gx_base.specs.declared.event.Event.{Event}
 use Rattle.gx_base.proofs.Putting.{emits_as}
 use Rattle.plain_book.specs.Book.{live_orders, slot_number}

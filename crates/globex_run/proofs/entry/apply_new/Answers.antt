@@ -1,4 +1,4 @@
-use Rattle.std.proofs.Common.{◌≡◌, None, Some, ◌∙◌, ℕ, ◌+◌, ◌*◌, ◌^◌, List, length, refl, sym, ap, subst, arith}
+use Rattle.std.proofs.Common.{◌≡◌, None, Some, ◌∙◌, ℕ, ◌+◌, ◌*◌, ◌^◌, List, refl, sym, ap, subst, arith}
 use Rattle.gx_base.specs.declared.event.Event.{Event}
 use Rattle.gx_base.proofs.Putting.{emits_as}
 use Rattle.step_config.specs.declared.step.Step.{Step}

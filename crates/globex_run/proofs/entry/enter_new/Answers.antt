@@ -1,4 +1,4 @@
-use Rattle.std.proofs.Common.{◌≡◌, ◌+◌, ◌-◌, ℕ, subst, sym, arith}
+use Rattle.std.proofs.Common.{◌≡◌, ◌-◌, ℕ, subst, arith}
 use Rattle.gx_base.proofs.Putting.{emits_as, emits_joined, emits_one}
 use Rattle.globex_run.specs.Fit.{AreNumbered}
 use Rattle.globex_run.proofs.Rooms.{room-matched}

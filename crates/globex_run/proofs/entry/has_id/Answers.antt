@@ -1,4 +1,4 @@
-use Rattle.std.proofs.Common.{sym, ◌∙◌}
+use Rattle.std.proofs.Common.{◌∙◌}
 use Rattle.plain_book.specs.Book.{live_orders}
 use Rattle.globex_run.proofs.Numbers.{found-live}
 use Rattle.globex_run.proofs.entry.has_id.Goals as goal

@@ -1,4 +1,4 @@
-use Rattle.std.proofs.Common.{Option, ℕ, ◌-◌, ◌≤◌, sym, ap, subst, ◌∙◌, arith}
+use Rattle.std.proofs.Common.{Option, ℕ, ◌-◌, sym, ap, subst, ◌∙◌, arith}
 use Rattle.plain_book.specs.Book.{book_placed}
 use Rattle.plain_book.specs.Numbers.{book_numbered}
 use Rattle.globex_run.specs.Fit.{AreNumbered}

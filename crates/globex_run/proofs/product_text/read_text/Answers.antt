@@ -1,4 +1,4 @@
-use Rattle.std.proofs.Common.{◌≡◌, ◌+◌, ◌-◌, ◌≤◌, List, ℕ, length, take, drop, Option, ◌++◌, sym, ap, ◌∙◌, arith}
+use Rattle.std.proofs.Common.{◌≡◌, ◌-◌, ◌≤◌, List, ℕ, length, take, sym, ap, ◌∙◌, arith}
 use Rattle.gx_station.specs.Sources.{and_left}
 use Rattle.globex_run.proofs.ProductReads.{read-more, left-more}
 use Rattle.globex_run.proofs.product_text.read_text.Goals as goal

@@ -1,7 +1,5 @@
-use Rattle.std.proofs.Common.{refl, ap, ◌∙◌}
-use Rattle.globex_run.specs.declared.outcome.Status.TheVariants.{BadWords, NoMemory}
+use Rattle.std.proofs.Common.{ap, ◌∙◌}
 use Rattle.globex_run.specs.Outcomes.{outcome_of}
-use Rattle.globex_run.proofs.Statuses.{made_outcome}
 use Rattle.globex_run.proofs.Runs.{unserved-outcome, all-served}
 use Rattle.globex_run.proofs.run.globex.Goals as goal
 
