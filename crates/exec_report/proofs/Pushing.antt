@@ -2,7 +2,8 @@
 use Rattle.std.proofs.Common.{◌≡◌, ◌++◌, List, ℕ, [], Result, Ok, Err, IsErr, true, false, refl, ap, subst, ◌∙◌}
 use Rattle.gx_base.specs.Told.{TellsPrefix, tells_then}
 use Rattle.gx_station.specs.Counts.{Rose}
-use Rattle.gx_station.specs.Stations.{StationMeanings, quiet_itself, quiet_then, sent_and}
+use Rattle.gx_station.specs.Stations.{StationMeanings, sent_and}
+use Rattle.gx_station.specs.Quiet.{quiet_itself, quiet_then}
 use Rattle.exec_report.specs.Pushes.{Pushes}
 use Rattle.exec_report.proofs.Sent.{sent_and-append, sent_and_none, tells_front}
 

@@ -11,7 +11,8 @@ use Rattle.gx_base.proofs.Lines.{fold-with_line}
 use Rattle.gx_base.specs.Emits.{Emits, seen_after}
 use Rattle.gx_base.specs.declared.event.Event.{Event}
 use Rattle.gx_base.specs.NameLists.{NameLists}
-use Rattle.gx_station.specs.Stations.{StationMeanings, Quiet, Sends, sent_and}
+use Rattle.gx_station.specs.Stations.{StationMeanings, sent_and}
+use Rattle.gx_station.specs.Quiet.{Quiet, Sends}
 use Rattle.exec_report.specs.Outgoing.{outgoing_seen, IsLaterOutgoing, IsNew, Flushes, outgoing_then, outgoing_meanings}
 use Rattle.exec_report.specs.declared.outgoing.Outgoing.{Outgoing}
 

@@ -7,7 +7,8 @@ use Rattle.gx_base.specs.NameLists.{NameLists}
 use Rattle.gx_base.specs.ByteLog.{with_line}
 use Rattle.gx_base.specs.Emits.{EmitMeanings}
 use Rattle.gx_station.specs.Counts.{Rose}
-use Rattle.gx_station.specs.Stations.{StationMeanings, Quiet, quiet_itself, quiet_then, sent_and}
+use Rattle.gx_station.specs.Stations.{StationMeanings, sent_and}
+use Rattle.gx_station.specs.Quiet.{Quiet, quiet_itself, quiet_then}
 use Rattle.exec_report.specs.declared.outgoing.Outgoing.{Outgoing}
 
 true_or_false : (b : Bool) → (b ≡ true) ⊎ (b ≡ false)

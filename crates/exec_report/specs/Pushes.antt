@@ -2,7 +2,8 @@
 use Rattle.std.specs.Prelude.{◌≡◌, ℕ, ◌+◌, ◌==◌, nat_lt, if◌then◌else◌, List, [], ◌++◌, length, Result, OnOk, OnErr}
 use Rattle.gx_base.specs.Told.{TellsPrefix}
 use Rattle.gx_station.specs.Counts.{Rose}
-use Rattle.gx_station.specs.Stations.{StationMeanings, Quiet, sent_and}
+use Rattle.gx_station.specs.Stations.{StationMeanings, sent_and}
+use Rattle.gx_station.specs.Quiet.{Quiet}
 
 -- how many bytes may wait
 abbrev pub buffer_room : ℕ

@@ -1,7 +1,8 @@
 -- One frame served, or not.
 use Rattle.std.proofs.Common.{◌≡◌, ℕ, ◌+◌, ◌<◌, true, false, List, IsTrue, Result, Ok, Err, OnOk, OnErr, is_err, ap, subst, ◌∙◌}
 use Rattle.gx_base.specs.Told.{TellsPrefix}
-use Rattle.gx_station.specs.Stations.{StationMeanings, Sends, sent_and}
+use Rattle.gx_station.specs.Stations.{StationMeanings, sent_and}
+use Rattle.gx_station.specs.Quiet.{Sends}
 use Rattle.product_file.specs.Products.{ProductLists}
 use Rattle.globex_run.specs.State.{State}
 use Rattle.globex_run.specs.ServedRequests.{is_served, is_served_frame}

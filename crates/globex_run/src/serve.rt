@@ -1,6 +1,6 @@
 //! Serving the input: frames in, reports out, one message after the other.
 ghost use Rattle.std.specs.Prelude.{◌≡◌, ◌≢◌, ◌+◌, ◌*◌, ◌^◌, ◌<◌, ◌≤◌, [], OnOk, IsTrue, vec_len, length};
-ghost use Rattle.gx_station.specs.Stations.{Sends};
+ghost use Rattle.gx_station.specs.Quiet.{Sends};
 ghost use Rattle.fix_frame.specs.Grammar.{IsFrame};
 ghost use Rattle.fix_request.specs.Given.{IsGivenRequest};
 ghost use Rattle.globex_run.specs.ServedRequests.{is_served};

@@ -1,37 +1,33 @@
--- Where reports go.
-use Rattle.std.specs.Prelude.{◌≡◌, ℕ, ◌≤◌, List, ◌++◌, Option, option_map, Result, OnOk, OnErr}
-use Rattle.std.proofs.Common.{arith}
-use Rattle.gx_base.specs.Told.{TellsPrefix, tells_itself, tells_then}
-use Rattle.gx_station.specs.Counts.{HasCause}
+-- A store of one image, and an output: what a station stands for.
+use Rattle.std.specs.Prelude.{ℕ, List, ◌++◌, Option, Some, option_map}
+use Rattle.gx_base.specs.Told.{TellsPrefix}
 
--- what a station stands for
-pub record StationMeanings (S : Type 0) : Type 0 where
+pub record StationMeanings (S : Type 0) : Type 1 where
   -- all that was sent, where that is told
   pub sent : S → Option (List ℕ)
   pub send_faults : S → ℕ
+  -- the image as a read gives it, where that is told
+  pub holds : S → Option (List ℕ)
+  -- how many bytes were read, where that is told
+  pub bytes_read : S → Option ℕ
+  pub store_faults : S → ℕ
+  -- the greatest of the lengths that were answered and of the ends of the writes that were Ok, 0 at first
+  pub reach : S → ℕ
+  -- the time on the one clock of image and output
+  pub time : S → ℕ
+  -- It tells its image, its output and its moments, and these are as `Honest` says. Of any other station nothing is known
+  -- of its moments.
+  pub is_honest : S → Type 0
+  -- a crash now could leave this image
+  pub may_leave : S → List ℕ → Type 0
+  -- at some moment since that time a crash could leave this image while this had been sent
+  pub left_since : S → ℕ → List ℕ → List ℕ → Type 0
 
 -- what was sent, and then these bytes
 abbrev pub sent_and : Option (List ℕ) → List ℕ → Option (List ℕ)
 sent_and sent bytes = option_map (λ s. s ++ bytes) sent
 
-module _ {S : Type 0} (m : StationMeanings S) where
-  -- nothing but sends happened to a station
-  pub record Quiet (old new : S) : Type 0 where
-    pub sent : TellsPrefix (m.sent old) (m.sent new)
-    pub send_faults : m.send_faults old ≤ m.send_faults new
-
-  pub quiet_itself : (a : S) → Quiet a a
-  quiet_itself a = record { sent = tells_itself (m.sent a); send_faults = omega arith }
-
-  pub quiet_then : (a b c : S) → Quiet a b → Quiet b c → Quiet a c
-  quiet_then a b c p q = record {
-    sent = tells_then (m.sent a) (m.sent b) (m.sent c) p.sent q.sent;
-    send_faults = omega (arith, p.send_faults, q.send_faults);
-  }
-
-  -- a send adds all of the bytes, or fails and adds a part from their front
-  pub record Sends {T F : Type 0} (old new : S) (bytes : List ℕ) (result : Result T F) : Type 0 where
-    pub quiet : Quiet old new
-    pub cause : HasCause (m.send_faults old) (m.send_faults new) result
-    pub all : OnOk result (m.sent new ≡ sent_and (m.sent old) bytes)
-    pub part : OnErr result (TellsPrefix (m.sent new) (sent_and (m.sent old) bytes))
+-- an output on the way from the one before to the one after
+pub record IsBetween (before : Option (List ℕ)) (out : List ℕ) (after : Option (List ℕ)) : Type 0 where
+  pub low : TellsPrefix before (Some out)
+  pub high : TellsPrefix (Some out) after

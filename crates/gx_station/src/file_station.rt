@@ -1,67 +1,154 @@
 //! The adapter to a journal file and a std writer.
-ghost use Rattle.std.specs.Prelude.{◌≡◌, OnOk};
-ghost use Rattle.std.specs.Io.KnownBytes.{Appends};
-ghost use Rattle.gx_station.specs.Adapters.{file_of, writer_of, send_faults_of};
+ghost use Rattle.std.specs.Prelude.{◌≡◌, ◌≤◌, length, OnOk, OnErr, IfOk};
+ghost use Rattle.std.specs.Io.KnownBytes.{Appends, WriteAppends};
+ghost use Rattle.gx_station.specs.FileStations.{file_of, writer_of, reach_of, send_faults_of, store_faults_of, AppendsFront};
 
 use crate::count::count_up;
 use crate::station::{Failed, Station};
 use std::fs::File;
 use std::io;
-use std::io::Write;
+use std::io::{ErrorKind, Write};
+use std::os::unix::fs::FileExt;
 
-/// Sends to a std writer, and holds the std file of the journal, which no call touches yet. Its meanings tell nothing
-/// of what was sent.
+/// Keeps the image in a std file, and sends to a std writer. `None` stands for a file that could not be opened: each call
+/// on the image is then `Failed`. Its meanings tell nothing of the content, and nothing of what a crash leaves.
 #[derive(Drop)]
 pub struct FileStation<W> {
     file: Option<File>,
     out: W,
+    reach: u64,
+    store_faults: u64,
     send_faults: u64,
 }
 
 impl<W: Write> FileStation<W> {
-    /// A station over these, with no faults counted. `None` stands for a file that could not be opened.
+    /// A station over these, with a reach of 0 and no faults counted.
     pub fn new(file: Option<File>, out: W) -> FileStation<W>
         ensures file { file_of result ≡ file }
         ensures writer { writer_of result ≡ out }
+        ensures reach { reach_of result ≡ 0 }
+        ensures store_faults { store_faults_of result ≡ 0 }
         ensures send_faults { send_faults_of result ≡ 0 }
     {
         FileStation {
             file,
             out,
+            reach: 0,
+            store_faults: 0,
             send_faults: 0,
         }
     }
 }
 
 impl<W: Write> Station for FileStation<W> {
-    ghost use Rattle.std.specs.Prelude.{◌≡◌, OnOk};
+    ghost use Rattle.std.specs.Prelude.{◌≡◌, OnOk, OnErr};
     ghost use Rattle.std.specs.Io.KnownBytes.{Appends};
-    ghost use Rattle.gx_station.specs.Stations.{Sends};
-    ghost use Rattle.gx_station.specs.Adapters.{file_meanings, file_of, writer_of};
+    ghost use Rattle.gx_station.specs.Honest.{PassesOutputs};
+    ghost use Rattle.gx_station.specs.Quiet.{Sends};
+    ghost use Rattle.gx_station.specs.FileStations.{file_meanings, file_honest, file_of, writer_of, AppendsFront};
 
     ghost meanings = { file_meanings };
 
-    /// As the trait says. Ok says that the writer took all of the bytes and was flushed; `Failed` that it failed at one
-    /// of the two, and then a part of the bytes may be sent.
+    ghost honest = { file_honest };
+
+    fn length(&mut self) -> Result<u64, Failed> {
+        let Ok(length) = file_length(&self.file) else {
+            self.store_faults = count_up(self.store_faults);
+            return Err(Failed);
+        };
+        self.reach = self.reach.max(length);
+        Ok(length)
+    }
+
+    fn read(&mut self, at: u64, into: &mut [u8]) -> Result<(), Failed> {
+        if read_at(&self.file, at, into).is_err() {
+            self.store_faults = count_up(self.store_faults);
+            return Err(Failed);
+        }
+        Ok(())
+    }
+
+    fn write(&mut self, at: u64, bytes: &[u8]) -> Result<(), Failed> {
+        if write_at(&self.file, at, bytes).is_err() {
+            self.store_faults = count_up(self.store_faults);
+            return Err(Failed);
+        }
+        self.reach = self.reach.max(at + bytes.len() as u64);
+        Ok(())
+    }
+
+    fn sync(&mut self) -> Result<(), Failed> {
+        if sync_file(&self.file).is_err() {
+            self.store_faults = count_up(self.store_faults);
+            return Err(Failed);
+        }
+        Ok(())
+    }
+
+    /// As the trait says. Ok says that the writer took all of the bytes. `Failed` says that it failed, or did so when it was
+    /// flushed; it then has taken a part from their front, or all.
     fn send(&mut self, bytes: &[u8]) -> Result<(), Failed>
         ensures sends { Sends file_meanings self.old self.new bytes.now result }
+        ensures passes { PassesOutputs file_meanings self.old self.new }
         ensures written { OnOk result (Appends (W.contents (writer_of self.old)) (W.contents (writer_of self.new)) bytes.now) }
+        ensures part { OnErr result (AppendsFront (W.contents (writer_of self.old)) (W.contents (writer_of self.new)) bytes.now) }
         ensures file { file_of self.new ≡ file_of self.old }
     {
-        match write_out(&mut self.out, bytes) {
-            Ok(()) => Ok(()),
-            Err(_) => {
-                self.send_faults = count_up(self.send_faults);
-                Err(Failed)
-            }
+        if write_out(&mut self.out, bytes).is_err() {
+            self.send_faults = count_up(self.send_faults);
+            return Err(Failed);
         }
+        Ok(())
     }
 }
 
-/// Writes all of the bytes, and leaves none in a buffer.
-fn write_out<W: Write>(out: &mut W, bytes: &[u8]) -> io::Result<()>
-    ensures { OnOk result (Appends (W.contents out.old) (W.contents out.new) bytes.now) }
+/// Writes once, and says how many bytes were written: none where it was interrupted. A write that takes nothing fails.
+fn write_some<W: Write>(out: &mut W, bytes: &[u8]) -> io::Result<usize>
+    ensures bound { IfOk result (λ n. n ≤ length bytes.now) }
+    ensures bytes { WriteAppends (W.contents out.old) (W.contents out.new) result bytes.now }
 {
-    out.write_all(bytes)?;
-    out.flush()
+    match out.write(bytes) {
+        Ok(0) => Err(io::Error::from(ErrorKind::WriteZero)),
+        Err(e) if e.kind() == ErrorKind::Interrupted => Ok(0),
+        written => written,
+    }
+}
+
+/// Writes all of the bytes, and leaves none in a buffer of the writer's. Where it fails, a part from their front is
+/// written.
+fn write_out<W: Write>(out: &mut W, bytes: &[u8]) -> io::Result<()>
+    ensures all { OnOk result (Appends (W.contents out.old) (W.contents out.new) bytes.now) }
+    ensures part { OnErr result (AppendsFront (W.contents out.old) (W.contents out.new) bytes.now) }
+{
+    let mut count = 0;
+    for _ in 0..u64::MAX {
+        if count == bytes.len() {
+            return out.flush();
+        }
+        count += write_some(out, &bytes[count..])?;
+    }
+    Err(io::Error::from(ErrorKind::Interrupted))
+}
+
+/// The file, where there is one.
+fn opened(file: &Option<File>) -> io::Result<&File> {
+    file.as_ref().ok_or(io::Error::from(ErrorKind::NotFound))
+}
+
+fn file_length(file: &Option<File>) -> io::Result<u64> {
+    Ok(opened(file)?.metadata()?.len())
+}
+
+fn read_at(file: &Option<File>, at: u64, into: &mut [u8]) -> io::Result<()> {
+    opened(file)?.read_exact_at(into, at)
+}
+
+/// Writes all of the bytes at their place in the file.
+fn write_at(file: &Option<File>, at: u64, bytes: &[u8]) -> io::Result<()> {
+    opened(file)?.write_all_at(bytes, at)
+}
+
+/// The full sync of the file's data and length.
+fn sync_file(file: &Option<File>) -> io::Result<()> {
+    opened(file)?.sync_all()
 }
