@@ -1,5 +1,5 @@
 //! Events to a station: their lines are put into a buffer, and sent when it is full or flushed.
-ghost use Rattle.std.specs.Prelude.{◌≡◌, ◌+◌, ◌<◌, [], false, OnOk, length};
+ghost use Rattle.std.specs.Prelude.{◌≡◌, ◌+◌, ◌<◌, [], false, IsOk, OnOk, length};
 ghost use Rattle.gx_base.specs.Emits.{Puts};
 ghost use Rattle.gx_base.specs.Line.{line_of};
 ghost use Rattle.exec_report.specs.Pushes.{Pushes, added_to, waiting_with};
@@ -12,11 +12,15 @@ use gx_station::Station;
 #[derive(Clone, Copy, Debug, PartialEq, Eq)]
 pub struct SendFault;
 
-/// Sends what waits.
+/// Sends what waits. Where nothing does, the station is not called.
 fn send_waiting<S: Station>(buffer: &mut ReportBuffer, station: &mut S) -> Result<(), SendFault>
     ensures pushes { Pushes S.meanings station.old station.new buffer.old buffer.new [] result }
     ensures empty { OnOk result (buffer.new ≡ []) }
+    ensures idle { buffer.old ≡ [] → IsOk result × (station.new ≡ station.old) }
 {
+    if buffer.is_empty() {
+        return Ok(());
+    }
     match station.send(buffer.bytes()) {
         Ok(()) => {
             buffer.clear();
@@ -97,9 +101,11 @@ impl<'b, 's, 'n, S: Station> Outgoing<'b, 's, 'n, S> {
     }
 
     /// Sends what waits. `Ok` leaves the buffer empty and what is seen as it was. `SendFault` comes exactly where a send
-    /// has failed, now or before, and a part of what was seen is left then.
+    /// has failed, now or before, and a part of what was seen is left then. Where nothing waits and no send has failed, the
+    /// answer is `Ok` and the station is not called.
     pub fn flush(&mut self) -> Result<(), SendFault>
-        ensures { Flushes S.meanings self.old self.new result }
+        ensures flushes { Flushes S.meanings self.old self.new result }
+        ensures idle { self.old.stopped ≡ false → self.old.buffer.now ≡ [] → IsOk result × (self.new ≡ self.old) }
     {
         if self.stopped {
             return Err(SendFault);

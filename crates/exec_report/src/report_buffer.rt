@@ -61,6 +61,13 @@ impl ReportBuffer {
         true
     }
 
+    /// Whether no byte waits.
+    pub(crate) fn is_empty(&self) -> bool
+        ensures { IsTrue result ↔ (self.now ≡ []) }
+    {
+        self.len == 0
+    }
+
     /// Whether as many bytes wait as may.
     pub(crate) fn is_full(&self) -> bool
         ensures { result ≡ (length self.now == 65536) }
