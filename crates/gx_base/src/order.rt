@@ -95,7 +95,8 @@ pub struct Taker {
     pub range: Option<(Price, Price)>,
 }
 
-/// Limits of the step that favors the order that bettered the market, in lots.
+/// Limits of the step that favors the order that bettered the market, in lots. What bettering is, how an order loses
+/// that favor, and these limits are our own rule, after the exchange's published outline.
 #[derive(Clone, Copy, Debug, PartialEq, Eq)]
 pub struct TopRule {
     /// The least open quantity of an order that it favors.
@@ -104,7 +105,7 @@ pub struct TopRule {
     pub max: u32,
 }
 
-/// What a lead market maker gets of an incoming order.
+/// What a lead market maker gets of an incoming order: our own rule, after the exchange's published outline.
 #[derive(Clone, Copy, Debug, Default, PartialEq, Eq)]
 pub struct LmmShare {
     /// The number of its firm in the product's list.
