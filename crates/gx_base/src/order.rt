@@ -10,7 +10,8 @@ pub enum Side {
     Sell,
 }
 
-/// Order type (40 in FIX 4.2). A market order is one with protection: it trades within a range of prices.
+/// Order type (40 in FIX 4.2). That a market order is one with protection, which trades within a range of prices, is our
+/// own rule.
 #[derive(Clone, Copy, Debug, PartialEq, Eq)]
 pub enum Kind {
     Limit,
@@ -18,7 +19,7 @@ pub enum Kind {
     StopLimit,
 }
 
-/// Time in force (59 in FIX 4.2).
+/// Time in force (59 in FIX 4.2). Its immediate or cancel is read as fill and kill, which is our own rule.
 #[derive(Clone, Copy, Debug, PartialEq, Eq)]
 pub enum Life {
     /// Good for the day.
