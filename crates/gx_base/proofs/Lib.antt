@@ -4,5 +4,6 @@ pub mod PriceTexts
 pub mod Times
 pub mod Putting
 pub mod Lines
+mod Logs
 mod Framing
 mod Rows

@@ -1,8 +1,10 @@
 -- What a `ByteEmit` and a `NullEmit` stand for.
-use Rattle.std.specs.Prelude.{◌≡◌, ℕ, Bool, false, List, [], ◌++◌, Some, refl}
-use Rattle.std.proofs.Common.{◌∙◌, ap}
+use Rattle.std.specs.Prelude.{◌≡◌, ◌⊎◌, ℕ, ◌+◌, ◌<◌, Bool, true, false, List, [], ◌++◌, length, Some, refl}
+use Rattle.std.proofs.Common.{inl, inr, sym, ◌∙◌, ap, subst}
+use Rattle.std.proofs.lemmas.Bool.{true≢false}
 use Rattle.gx_base.specs.NameLists.{NameLists}
 use Rattle.gx_base.specs.Line.{line_of}
+use Rattle.gx_base.specs.Told.{IsPrefix, prefix_itself, prefix_then}
 use Rattle.gx_base.specs.Emits.{EmitMeanings}
 use Rattle.gx_base.specs.declared.event.Event.{Event}
 use Rattle.gx_base.specs.declared.emit.NullEmit.{NullEmit}
@@ -18,6 +20,10 @@ pub record ByteLog : Type 0 where
 abbrev pub with_line : NameLists → List ℕ → Event → List ℕ
 with_line names bytes event = bytes ++ line_of names event
 
+true_or_false : (b : Bool) → (b ≡ true) ⊎ (b ≡ false)
+true_or_false true = inl refl
+true_or_false false = inr refl
+
 abbrev pub null_meanings : EmitMeanings NullEmit
 null_meanings = record {
   seen = λ _. Some [];
@@ -29,14 +35,48 @@ null_meanings = record {
   after_stays = λ _ _ _. refl;
 }
 
--- it is later where it has the same names
+-- there is no room behind the lines for the line of some event
+pub record Overflows (log : ByteLog) : Type 0 where
+  pub event : Event
+  pub above : log.room < length log.bytes + length (line_of log.names event)
+
+-- the same log later: names and room stay and lines are only added; it is full only where a line did not fit, and then
+-- nothing changes any more
+pub record IsLaterLog (before after : ByteLog) : Type 0 where
+  pub same_names : after.names ≡ before.names
+  pub same_room : after.room ≡ before.room
+  pub grows : IsPrefix before.bytes after.bytes
+  pub overflows : before.full ≡ false → after.full ≡ true → Overflows after
+  pub stays : before.full ≡ true → after ≡ before
+
+pub log_itself : (a : ByteLog) → IsLaterLog a a
+log_itself a = record {
+  same_names = refl;
+  same_room = refl;
+  grows = prefix_itself a.bytes;
+  overflows = λ no yes. absurd (true≢false (sym yes ∙ no));
+  stays = λ full. refl;
+}
+
+pub log_then : (a b c : ByteLog) → IsLaterLog a b → IsLaterLog b c → IsLaterLog a c
+log_then a b c first second = record {
+  same_names = second.same_names ∙ first.same_names;
+  same_room = second.same_room ∙ first.same_room;
+  grows = prefix_then a.bytes b.bytes c.bytes first.grows second.grows;
+  overflows = λ no yes. elim (true_or_false b.full) [
+    | inl was ↦ subst Overflows (sym (second.stays was)) (first.overflows no was)
+    | inr was_not ↦ second.overflows was_not yes
+  ];
+  stays = λ full. second.stays (ap (λ (l : ByteLog). l.full) (first.stays full) ∙ full) ∙ first.stays full;
+}
+
 abbrev pub byte_meanings : EmitMeanings ByteLog
 byte_meanings = record {
   seen = λ e. Some e.bytes;
   after = λ e. with_line e.names;
   has_failed = λ e. e.full;
-  Later = λ a b. b.names ≡ a.names;
-  later_itself = λ a. refl;
-  later_then = λ a b c first second. second ∙ first;
-  after_stays = λ a b later. ap with_line later;
+  Later = IsLaterLog;
+  later_itself = log_itself;
+  later_then = log_then;
+  after_stays = λ a b later. ap with_line later.same_names;
 }

@@ -4,7 +4,8 @@ use crate::order::{Kind, Life, Order, Side};
 use crate::price::Price;
 use crate::stamp::Stamp;
 
-/// The step of a match that gave a fill. A report names it in tag 9001, which is our own.
+/// The step of a match that gave a fill. A report names it in tag 9001, which is our own. The steps follow the
+/// exchange's published outline; their names, and what each gives, are our own rule.
 #[derive(Clone, Copy, Debug, PartialEq, Eq)]
 pub enum StepName {
     /// To the order that bettered the market.

@@ -10,7 +10,8 @@ pub enum Side {
     Sell,
 }
 
-/// Order type (40 in FIX 4.2). A market order is one with protection: it trades within a range of prices.
+/// Order type (40 in FIX 4.2). That a market order is one with protection, which trades within a range of prices, is our
+/// own rule.
 #[derive(Clone, Copy, Debug, PartialEq, Eq)]
 pub enum Kind {
     Limit,
@@ -18,7 +19,7 @@ pub enum Kind {
     StopLimit,
 }
 
-/// Time in force (59 in FIX 4.2).
+/// Time in force (59 in FIX 4.2). Its immediate or cancel is read as fill and kill, which is our own rule.
 #[derive(Clone, Copy, Debug, PartialEq, Eq)]
 pub enum Life {
     /// Good for the day.
@@ -95,7 +96,8 @@ pub struct Taker {
     pub range: Option<(Price, Price)>,
 }
 
-/// Limits of the step that favors the order that bettered the market, in lots.
+/// Limits of the step that favors the order that bettered the market, in lots. What bettering is, how an order loses
+/// that favor, and these limits are our own rule, after the exchange's published outline.
 #[derive(Clone, Copy, Debug, PartialEq, Eq)]
 pub struct TopRule {
     /// The least open quantity of an order that it favors.
@@ -104,7 +106,7 @@ pub struct TopRule {
     pub max: u32,
 }
 
-/// What a lead market maker gets of an incoming order.
+/// What a lead market maker gets of an incoming order: our own rule, after the exchange's published outline.
 #[derive(Clone, Copy, Debug, Default, PartialEq, Eq)]
 pub struct LmmShare {
     /// The number of its firm in the product's list.

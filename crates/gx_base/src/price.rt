@@ -6,19 +6,23 @@ ghost use Rattle.gx_base.specs.Numbers.{are_digits, are_zeros, has_minus, signed
 use crate::digits::{CEILING, are_digits, are_zeros, read_on, split_at_point, write_fixed_digits};
 use itoa::Buffer;
 use std::cmp;
+use thiserror::Error;
 
 /// A price in units, which are 10 to the power of minus the instrument's decimals.
 #[derive(Clone, Copy, Debug, PartialEq, Eq)]
 pub struct Price(pub i64);
 
 /// Why a text is no price of an instrument. The faults are tried in this order.
-#[derive(Clone, Copy, Debug, PartialEq, Eq)]
+#[derive(Clone, Copy, Debug, Error, PartialEq, Eq)]
 pub enum PriceFault {
     /// Not an optional minus sign, digits, and optionally a point and digits, in at most 32 bytes.
+    #[error("the price is not written as a number in at most 32 bytes")]
     Format,
     /// A digit behind the instrument's decimals is not 0.
+    #[error("the price has more decimals than the instrument")]
     Scale,
     /// Beyond 999,999,999,999 units, either way.
+    #[error("the price is beyond 999999999999 units")]
     Range,
 }
 

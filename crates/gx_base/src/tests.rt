@@ -80,3 +80,13 @@ fn places_of_names(rt: HostRuntime) -> Result<(), Fail> {
     assert_eq!(rt; names.find_instrument(b"TWO"), None);
     Ok(())
 }
+
+#[test]
+fn fault_texts(rt: HostRuntime) -> Result<(), Fail> {
+    let text = format!(in rt.alloc(); "{}", PriceFault::Scale)?;
+    assert_eq!(rt;
+        text.as_str(),
+        "the price has more decimals than the instrument"
+    );
+    Ok(())
+}

@@ -1,4 +1,4 @@
--- The exchange's algorithms as lists of steps.
+-- The lists of steps that letters stand for: our own rule, after the exchange's published outline.
 use Rattle.std.specs.Prelude.{Bool, true, false, List, [], ◌∷◌}
 use Rattle.step_config.specs.declared.step.Step.{Step}
 use Rattle.step_config.specs.declared.step.Step.TheVariants.{Top, Lmm, ProRata, Fifo}

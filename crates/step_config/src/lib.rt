@@ -1,5 +1,5 @@
-//! The steps by which an instrument's orders share an incoming order: which lists of them are right, and the exchange's
-//! own algorithms as such lists.
+//! The steps by which an instrument's orders share an incoming order: which lists of them are right, and which lists
+//! letters stand for.
 #![tactic(auto)]
 
 mod faults;

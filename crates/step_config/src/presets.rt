@@ -1,4 +1,4 @@
-//! The exchange's own algorithms as lists of steps.
+//! The lists of steps that letters stand for.
 ghost use Rattle.std.specs.Prelude.{◌≡◌, IsTrue};
 ghost use Rattle.step_config.specs.Rules.{steps_of};
 ghost use Rattle.step_config.specs.Presets.{is_preset, preset_steps};
@@ -8,7 +8,8 @@ use crate::steps::Steps;
 use arrayvec::ArrayVec;
 use gx_base::{LmmShare, TopRule};
 
-/// The exchange's own names of its algorithms, which are single letters in its published outline.
+/// The letter of an algorithm, named after those of the exchange's tag 1142. What each stands for is our own rule, after
+/// the exchange's published outline.
 #[derive(Clone, Copy, Debug, Default, PartialEq, Eq)]
 pub enum Letter {
     /// By priority alone.
@@ -40,9 +41,9 @@ pub struct Params {
 }
 
 /// The steps of an algorithm with these parameters, or the fault that `Steps::read` finds in its list, which comes of a
-/// parameter that is out of its range. The lists are those of the exchange's published outline: `F` is FIFO; `T` LMM,
-/// FIFO; `C` PRORATA, FIFO; `A` TOP within 1 and 999,999 lots, PRORATA, FIFO; `O` TOP, PRORATA, FIFO; and `Q` TOP, LMM,
-/// PRORATA, FIFO. `K` has no list of its own, and is not asked for.
+/// parameter that is out of its range. `F` is FIFO; `T` LMM, FIFO; `C` PRORATA, FIFO; `A` TOP within 1 and 999,999 lots,
+/// PRORATA, FIFO; `O` TOP, PRORATA, FIFO; and `Q` TOP, LMM, PRORATA, FIFO. `K` has no list of its own, and is not asked
+/// for. The lists and their order are our own rule, after the exchange's published outline.
 pub fn preset(letter: Letter, params: &Params) -> Result<Steps, StepFault>
     requires { IsTrue (is_preset letter) }
     ensures { result ≡ steps_of (preset_steps letter params.now) }

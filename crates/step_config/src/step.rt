@@ -6,8 +6,8 @@ use arrayvec::ArrayVec;
 use gx_base::{LmmShare, StepName, TopRule};
 use thiserror::Error;
 
-/// One step of a match: to whom it gives how much of an incoming order. The exchange's published outline names the
-/// steps; what each takes as parameters, and their limits, are our own rule.
+/// One step of a match: to whom it gives how much of an incoming order. The steps follow the exchange's published
+/// outline; what each gives, what it takes as parameters, and their limits are our own rule.
 #[derive(Debug, Default, Drop, PartialEq, Eq)]
 pub enum Step {
     /// To the order that bettered the market, within these limits in lots.
