@@ -3,10 +3,10 @@ use Rattle.std.proofs.Common.{◌≡◌, ℕ, suc, ◌<◌, true, false, cond, t
 use Rattle.std.proofs.lemmas.Bool.{cond-true, cond-false, false_from_ne_true, cases_Bool, cases_lt}
 use Rattle.std.proofs.lemmas.List.{nil_from_length}
 use Rattle.std.specs.List.{concat}
-use Rattle.fix_frame.specs.Grammar.{is_frame, IsFrame, BeginsWithNone}
+use Rattle.fix_frame.specs.Grammar.{is_frame, IsFrame, IsUnfinished, BeginsWithNone, IsRefused}
 use Rattle.fix_frame.specs.Stream.{messages_from, rest_from, messages_of, rest_of}
 use Rattle.fix_frame.proofs.Frames.{frame_alone, frame_least}
-use Rattle.fix_frame.proofs.Fronts.{none_push, none_in_none}
+use Rattle.fix_frame.proofs.Fronts.{none_push, none_in_none, unfinished_none}
 
 -- ---- a stream in two parts
 
@@ -109,6 +109,12 @@ messages_from-none front (b ∷ u) none =
 
 pub messages_of-none : (u : List ℕ) → BeginsWithNone u → messages_of u ≡ []
 messages_of-none u none = (messages_from-none [] u (λ n _ h. none n h)).0
+
+pub messages_of-unfinished : (u : List ℕ) → IsUnfinished u → messages_of u ≡ []
+messages_of-unfinished u is = messages_of-none u (unfinished_none u is)
+
+pub messages_of-refused : (u : List ℕ) → IsRefused u → messages_of u ≡ []
+messages_of-refused u refused = messages_of-none u refused.none
 
 pub rest_of-none : (u : List ℕ) → BeginsWithNone u → rest_of u ≡ u
 rest_of-none u none = (messages_from-none [] u (λ n _ h. none n h)).1
