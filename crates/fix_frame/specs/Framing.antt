@@ -41,7 +41,8 @@ pub record GivesFrame (old new : Framing) (start end : ℕ) : Type 0 where
   pub ends : end ≡ start + length frame
 
 -- What the bytes held are: they begin with a frame, which is given; or they are the front of one, and not all of it; or
--- they begin with none and are the front of none. No two of these hold of the same bytes.
+-- they begin with none and are the front of none. No two of these hold of the same bytes: the front of a frame, and not
+-- all of it, begins with none (proved: `unfinished_frames_begin_with_none`).
 abbrev pub GivesNext : Framing → Framing → Next → Type 0
 GivesNext old new (Frame start end) = GivesFrame old new start end
 GivesNext old new More = (new ≡ old) × IsUnfinished old.rest

@@ -1,5 +1,5 @@
 //! Laws of frames and streams. Their functions do nothing: what is proved is what their contracts say.
-ghost use Rattle.std.specs.Prelude.{◌≡◌, ◌⊎◌, ◌<◌, List, ℕ, [], ◌∷◌, ◌++◌, length};
+ghost use Rattle.std.specs.Prelude.{◌≡◌, ◌⊎◌, ◌<◌, List, ℕ, [], ◌∷◌, ◌++◌, length, All};
 ghost use Rattle.std.specs.List.{concat};
 ghost use Rattle.fix_frame.specs.Grammar.{IsFrame, IsUnfinished, BeginsWithNone, IsRefused};
 ghost use Rattle.fix_frame.specs.Stream.{messages_of, rest_of, IsBroken, IsCut};
@@ -28,16 +28,17 @@ pub fn frames_are_the_next_messages()
     ensures rest { (frame more : List ℕ) → IsFrame frame → rest_of (frame ++ more) ≡ rest_of more }
 {}
 
-/// Where a stream begins with no frame, it has no message, and all of it is its rest. The rest of each stream is such.
+/// Where a stream begins with no frame, it has no message, and all of it is its rest.
 pub fn nothing_else_is_a_message()
     ensures messages { (stream : List ℕ) → BeginsWithNone stream → messages_of stream ≡ [] }
     ensures rest { (stream : List ℕ) → BeginsWithNone stream → rest_of stream ≡ stream }
-    ensures last { (stream : List ℕ) → BeginsWithNone (rest_of stream) }
 {}
 
-/// A stream is its messages, one behind the other, and its rest.
+/// A stream is its messages, one behind the other, and its rest. Each message is a frame, and the rest begins with none.
 pub fn messages_and_rest_are_the_stream()
-    ensures { (stream : List ℕ) → concat (messages_of stream) ++ rest_of stream ≡ stream }
+    ensures whole { (stream : List ℕ) → concat (messages_of stream) ++ rest_of stream ≡ stream }
+    ensures messages { (stream : List ℕ) → All IsFrame (messages_of stream) }
+    ensures rest { (stream : List ℕ) → BeginsWithNone (rest_of stream) }
 {}
 
 /// The messages and the rest of a stream do not depend on how it was cut: where it comes in two parts, the rest of the
