@@ -8,8 +8,8 @@ use Rattle.fix_frame.specs.Scans.{begin_text, trailer_with, InBegin, InLength, I
 use Rattle.fix_frame.specs.declared.place.Place.{Place}
 use Rattle.fix_frame.specs.declared.place.Place.TheVariants.{Begin, Length, Body, Trailer, Whole, Broken}
 use Rattle.fix_frame.proofs.Frames.{frame_alone}
-use Rattle.fix_frame.proofs.Fronts.{proper_front, frame_front, refused_more}
-use Rattle.fix_frame.proofs.Places.{nothing_scanned, begin_to_begin, begin_to_length, begin_refused, begin_proper, may_be_decided, length_to_body, length_to_length, length_refused_at_no_digit, length_refused_at_digit, length_proper, body_to_body, body_to_trailer, body_refused, body_proper, trailer_to_trailer, trailer_to_whole, trailer_refused, trailer_proper}
+use Rattle.fix_frame.proofs.Fronts.{unfinished_front, frame_front, refused_more}
+use Rattle.fix_frame.proofs.Places.{nothing_scanned, begin_to_begin, begin_to_length, begin_refused, begin_unfinished, may_be_decided, length_to_body, length_to_length, length_refused_at_no_digit, length_refused_at_digit, length_unfinished, body_to_body, body_to_trailer, body_refused, body_unfinished, trailer_to_trailer, trailer_to_whole, trailer_refused, trailer_unfinished}
 
 -- ---- bytes are the front of a frame, or they are not
 
@@ -92,10 +92,10 @@ find_next before Whole checksum byte u at = inl (whole_past before u byte at)
 find_next before Broken checksum byte u at = inl (refused_more before (byte ∷ u) at).no_front
 
 find_here : (bytes : List ℕ) (place : Place) (checksum : ℕ) → IsAt bytes place checksum → IsFrameFront bytes ⊎ (IsFrameFront bytes → ⊥)
-find_here bytes (Begin count) checksum at = inl (proper_front bytes (begin_proper bytes count checksum at))
-find_here bytes (Length digits number) checksum at = inl (proper_front bytes (length_proper bytes digits number checksum at))
-find_here bytes (Body left) checksum at = inl (proper_front bytes (body_proper bytes left checksum at))
-find_here bytes (Trailer count) checksum at = inl (proper_front bytes (trailer_proper bytes count checksum at))
+find_here bytes (Begin count) checksum at = inl (unfinished_front bytes (begin_unfinished bytes count checksum at))
+find_here bytes (Length digits number) checksum at = inl (unfinished_front bytes (length_unfinished bytes digits number checksum at))
+find_here bytes (Body left) checksum at = inl (unfinished_front bytes (body_unfinished bytes left checksum at))
+find_here bytes (Trailer count) checksum at = inl (unfinished_front bytes (trailer_unfinished bytes count checksum at))
 find_here bytes Whole checksum at = inl (frame_front bytes at)
 find_here bytes Broken checksum at = inr at.no_front
 
@@ -113,7 +113,7 @@ front_decided u = find_all u [] (Begin 0) 0 nothing_scanned
 -- ---- the rest of a stream
 
 pub broken_or_whole : (u : List ℕ) → IsBroken u → rest_of u ≡ [] → ⊥
-broken_or_whole u broken none = broken (subst (λ (x : List ℕ). IsFrameFront x) (sym none) (proper_front [] (begin_proper [] 0 0 nothing_scanned)))
+broken_or_whole u broken none = broken (subst (λ (x : List ℕ). IsFrameFront x) (sym none) (unfinished_front [] (begin_unfinished [] 0 0 nothing_scanned)))
 
 cases_nil : (u : List ℕ) → (u ≡ []) ⊎ (u ≢ [])
 cases_nil [] = inl refl

@@ -1,5 +1,5 @@
 -- What a framer holds, seen in its buffer.
-use Rattle.std.proofs.Common.{append_assoc, ◌≡◌, ℕ, ◌+◌, ◌-◌, ◌≤◌, List, [], ◌∷◌, ◌++◌, length, take, drop, slice_range, refl, sym, ap, subst, ◌∙◌, arith, append_assoc, length-append, length-drop, length-take, length-take-le, take-append-drop, take-take, take-add}
+use Rattle.std.proofs.Common.{◌≡◌, ℕ, ◌+◌, ◌-◌, ◌≤◌, List, [], ◌∷◌, ◌++◌, length, take, drop, slice_range, refl, sym, ap, subst, ◌∙◌, arith, append_assoc, append-nil, length-append, length-drop, length-take, length-take-le, take-append-drop, take-take, take-add}
 use Rattle.std.proofs.lemmas.List.{take_at, drop_at, drop-drop, drop-take, take_all, drop-append-le}
 use Rattle.std.proofs.lemmas.Slice.{between_is}
 use borrow.Rule.Slice.PartMut.{put_mid}
@@ -10,22 +10,17 @@ use Rattle.fix_frame.specs.Framing.{Framing, IsGiven, given_bytes, GivesFrame}
 use Rattle.fix_frame.specs.Scans.{IsScanOf}
 use Rattle.fix_frame.specs.declared.scan.Scan.{Scan}
 use Rattle.fix_frame.proofs.Scanning.{scan_of_more}
-use Rattle.fix_frame.proofs.Streams.{rest_of-frame-append, messages_of-frame-append, messages_of-push, rest_of-push, concat-messages_of-whole}
+use Rattle.fix_frame.proofs.Streams.{rest_of-frame-append, messages_of-frame-append, messages_of-push, concat-messages_of-whole}
 
 -- what is seen of a framer's fields
-abbrev pub framing : List ℕ → ℕ → ℕ → ℕ → ℕ → Framing
-framing buffer first start end base = record { given = messages_of (slice_range buffer first start); first = first; rest = slice_range buffer start end; offset = base + start }
+abbrev pub framing : List ℕ → ℕ → ℕ → ℕ → Framing
+framing buffer start end base = record { given = messages_of (take start buffer); rest = slice_range buffer start end; offset = base + start }
 
 -- ---- parts of the buffer
 
-pub slice_range-push : (buffer : List ℕ) (first start end n : ℕ) → first ≤ start → start + n ≤ end → slice_range buffer first (start + n) ≡ slice_range buffer first start ++ take n (slice_range buffer start end)
-slice_range-push buffer first start end n below within =
-    let behind : drop (start - first) (drop first buffer) ≡ drop start buffer = drop-drop (start - first) first buffer ∙ ap (λ (x : ℕ). drop x buffer) (omega arith) in
-    let count : start + n - first ≡ (start - first) + n = omega arith in
-    let shorter : take n (slice_range buffer start end) ≡ take n (drop start buffer) = take-take n (end - start) (drop start buffer) (omega arith) in
-    ap (λ (x : ℕ). take x (drop first buffer)) count
-    ∙ (take-add (start - first) n (drop first buffer)
-    ∙ ap (λ (x : List ℕ). slice_range buffer first start ++ x) (ap (λ (x : List ℕ). take n x) behind ∙ sym shorter))
+pub take-push : (buffer : List ℕ) (start end n : ℕ) → start + n ≤ end → take (start + n) buffer ≡ take start buffer ++ take n (slice_range buffer start end)
+take-push buffer start end n within =
+    take-add start n buffer ∙ ap (λ (x : List ℕ). take start buffer ++ x) (sym (take-take n (end - start) (drop start buffer) (omega arith)))
 
 pub slice_range-rest : (buffer : List ℕ) (start end n : ℕ) → start + n ≤ end → drop n (slice_range buffer start end) ≡ slice_range buffer (start + n) end
 slice_range-rest buffer start end n within =
@@ -38,58 +33,76 @@ length-slice_range buffer start end within = length-take-le (end - start) (drop 
 
 -- ---- one more frame is given
 
-pub gives_frame : (buffer : List ℕ) (first start end n base : ℕ) → first ≤ start → start + n ≤ end → end ≤ length buffer → rest_of (slice_range buffer first start) ≡ [] → IsFrame (take n (slice_range buffer start end)) → GivesFrame (framing buffer first start end base) (framing buffer first (start + n) end base) start (start + n)
-gives_frame buffer first start end n base below within room whole h =
-    let before = slice_range buffer first start in
+pub gives_frame : (buffer : List ℕ) (start end n base : ℕ) → start + n ≤ end → end ≤ length buffer → rest_of (take start buffer) ≡ [] → IsFrame (take n (slice_range buffer start end)) → GivesFrame (framing buffer start end base) (framing buffer (start + n) end base) start (start + n)
+gives_frame buffer start end n base within room whole h =
+    let before = take start buffer in
     let rest = slice_range buffer start end in
     let frame = take n rest in
-    let after = slice_range buffer first (start + n) in
-    let left = slice_range buffer (start + n) end in
-    let given = messages_of before in
     let rest_long : length rest ≡ end - start = length-slice_range buffer start end room in
-    let before_long : length before ≡ start - first = length-slice_range buffer first start (omega arith) in
+    let before_long : length before ≡ start = length-take-le start buffer (omega arith) in
     let frame_long : length frame ≡ n = length-take-le n rest (omega arith) in
-    let after_is : after ≡ before ++ frame = slice_range-push buffer first start end n below within in
-    let split : rest ≡ frame ++ left = sym (take-append-drop n rest) ∙ ap (λ (x : List ℕ). frame ++ x) (slice_range-rest buffer start end n within) in
-    let pushed : messages_of after ≡ given ++ frame ∷ [] = ap messages_of after_is ∙ messages_of-push before frame whole h in
-    let after_whole : rest_of after ≡ [] = ap rest_of after_is ∙ rest_of-push before frame whole h in
-    let bytes : concat (messages_of after) ≡ before ++ frame = concat-messages_of-whole after after_whole ∙ after_is in
-    let given_bytes_are : concat given ≡ before = concat-messages_of-whole before whole in
-    let all : take (length given) given ≡ given = take_all (length given) given (omega arith) in
-    let place : length (concat (take (length given) given)) ≡ start - first = ap (λ (x : List (List ℕ)). length (concat x)) all ∙ (ap length given_bytes_are ∙ before_long) in
-    let front : take (length given) (messages_of after) ≡ given = ap (λ (x : List (List ℕ)). take (length given) x) pushed ∙ take_at given (frame ∷ []) (length given) refl in
-    let from_place : length (concat (take (length given) (messages_of after))) ≡ start - first = ap (λ (x : List (List ℕ)). length (concat x)) front ∙ (ap length given_bytes_are ∙ before_long) in
-    let count : length (messages_of after) ≡ length given + 1 = ap length pushed ∙ length-append given (frame ∷ []) in
-    let everything : take (length given + 1) (messages_of after) ≡ messages_of after = take_all (length given + 1) (messages_of after) (omega arith) in
-    let to_place : length (concat (take (length given + 1) (messages_of after))) ≡ (start - first) + n = ap (λ (x : List (List ℕ)). length (concat x)) everything ∙ (ap length bytes ∙ omega (arith, length-append before frame)) in
-    let cut : drop (start - first) (concat (messages_of after)) ≡ frame = ap (λ (x : List ℕ). drop (start - first) x) bytes ∙ drop_at before frame (start - first) before_long in
     record {
       frame = frame;
       is_frame = h;
-      front = split;
-      given = pushed;
-      first = refl;
+      front = sym (take-append-drop n rest) ∙ ap (λ (x : List ℕ). frame ++ x) (slice_range-rest buffer start end n within);
+      given = ap messages_of (take-push buffer start end n within) ∙ messages_of-push before frame whole h;
       offset = omega arith;
-      starts = omega arith;
+      starts = sym (ap length (concat-messages_of-whole before whole) ∙ before_long);
       ends = omega arith;
-      is_given = record {
-        from = length given;
-        to = length given + 1;
-        some = omega arith;
-        within = omega arith;
-        starts = omega arith;
-        ends = omega arith;
-      };
-      bytes = ap (λ (x : List ℕ). take ((start + n) - start) x) cut ∙ take_all ((start + n) - start) frame (omega arith);
-      message = λ more. ap (λ (x : List ℕ). messages_of (x ++ more)) split ∙ ap messages_of (append_assoc frame left more) ∙ messages_of-frame-append frame (left ++ more) h;
-      behind = λ more. ap (λ (x : List ℕ). rest_of (x ++ more)) split ∙ ap rest_of (append_assoc frame left more) ∙ rest_of-frame-append frame (left ++ more) h;
     }
 
--- ---- a given frame lies in the buffer
+-- ---- so it can be lent
 
 concat-append : (xs ys : List (List ℕ)) → concat (xs ++ ys) ≡ concat xs ++ concat ys
 concat-append [] ys = refl
 concat-append (x ∷ xs) ys = ap (λ (z : List ℕ). x ++ z) (concat-append xs ys) ∙ sym (append_assoc x (concat xs) (concat ys))
+
+concat-push : (xs : List (List ℕ)) (x : List ℕ) → concat (xs ++ x ∷ []) ≡ concat xs ++ x
+concat-push xs x = concat-append xs (x ∷ []) ∙ ap (λ (z : List ℕ). concat xs ++ z) (append-nil x)
+
+module _ (old new : Framing) (start end : ℕ) (gives : GivesFrame old new start end) where
+  all_given : concat new.given ≡ concat old.given ++ gives.frame
+  all_given = ap concat gives.given ∙ concat-push old.given gives.frame
+
+  is_given : IsGiven new start end
+  is_given =
+      let frame = gives.frame in
+      let n = length old.given in
+      let count : length new.given ≡ n + 1 = ap length gives.given ∙ length-append old.given (frame ∷ []) in
+      let front : take n new.given ≡ old.given = ap (λ (x : List (List ℕ)). take n x) gives.given ∙ take_at old.given (frame ∷ []) n refl in
+      let everything : take (n + 1) new.given ≡ new.given = take_all (n + 1) new.given (omega arith) in
+      let to_place : length (concat (take (n + 1) new.given)) ≡ length (concat old.given) + length frame =
+      ap (λ (x : List (List ℕ)). length (concat x)) everything ∙ ap length all_given ∙ length-append (concat old.given) frame in
+      record {
+        from = n;
+        to = n + 1;
+        some = omega arith;
+        within = omega arith;
+        starts = gives.starts ∙ sym (ap (λ (x : List (List ℕ)). length (concat x)) front);
+        ends = gives.ends ∙ ap (λ (x : ℕ). x + length frame) gives.starts ∙ sym to_place;
+      }
+
+  pub bytes_given : given_bytes new start end ≡ gives.frame
+  bytes_given =
+      let frame = gives.frame in
+      let ends = gives.ends in
+      let cut : drop start (concat new.given) ≡ frame = ap (λ (x : List ℕ). drop start x) all_given ∙ drop_at (concat old.given) frame start (sym gives.starts) in
+      ap (λ (x : List ℕ). take (end - start) x) cut ∙ take_all (end - start) frame (omega arith)
+
+  pub can_be_lent : IsGiven new start end × IsFrame (given_bytes new start end)
+  can_be_lent = (is_given, subst (λ (x : List ℕ). IsFrame x) (sym bytes_given) gives.is_frame)
+
+  -- and it is the next message, however the stream goes on
+  rest_goes_on : (more : List ℕ) → old.rest ++ more ≡ gives.frame ++ (new.rest ++ more)
+  rest_goes_on more = ap (λ (x : List ℕ). x ++ more) gives.front ∙ append_assoc gives.frame new.rest more
+
+  pub message_given : (more : List ℕ) → messages_of (old.rest ++ more) ≡ gives.frame ∷ messages_of (new.rest ++ more)
+  message_given more = ap messages_of (rest_goes_on more) ∙ messages_of-frame-append gives.frame (new.rest ++ more) gives.is_frame
+
+  pub rest_given : (more : List ℕ) → rest_of (old.rest ++ more) ≡ rest_of (new.rest ++ more)
+  rest_given more = ap rest_of (rest_goes_on more) ∙ rest_of-frame-append gives.frame (new.rest ++ more) gives.is_frame
+
+-- ---- a given frame lies in the buffer
 
 concat-take-le : (xs : List (List ℕ)) (i : ℕ) → length (concat (take i xs)) ≤ length (concat xs)
 concat-take-le xs i =
@@ -102,41 +115,37 @@ concat-take-rises xs i j le =
     omega (arith, concat-take-le (take j xs) i, ap (λ (x : List (List ℕ)). length (concat x)) front)
 
 pub record LiesIn (buffer : List ℕ) (f : Framing) (held start end : ℕ) : Type 0 where
-  pub above : f.first ≤ start
   pub order : start ≤ end
   pub below : end ≤ held
   pub bytes : take (end - start) (drop start buffer) ≡ given_bytes f start end
 
-pub lies_in : (buffer : List ℕ) (first held end base from to : ℕ) → first ≤ held → held ≤ length buffer → rest_of (slice_range buffer first held) ≡ [] → IsGiven (framing buffer first held end base) from to → LiesIn buffer (framing buffer first held end base) held from to
-lies_in buffer first held end base from to below room whole is =
-    let all = slice_range buffer first held in
+pub lies_in : (buffer : List ℕ) (held end base from to : ℕ) → held ≤ length buffer → rest_of (take held buffer) ≡ [] → IsGiven (framing buffer held end base) from to → LiesIn buffer (framing buffer held end base) held from to
+lies_in buffer held end base from to room whole is =
+    let all = take held buffer in
     let given = messages_of all in
     let bytes : concat given ≡ all = concat-messages_of-whole all whole in
-    let long : length (concat given) ≡ held - first = ap length bytes ∙ length-slice_range buffer first held room in
+    let long : length (concat given) ≡ held = ap length bytes ∙ length-take-le held buffer room in
     let some = is.some in
     let starts = is.starts in
     let ends = is.ends in
     let rises : length (concat (take is.from given)) ≤ length (concat (take is.to given)) = concat-take-rises given is.from is.to (omega arith) in
     let most : length (concat (take is.to given)) ≤ length (concat given) = concat-take-le given is.to in
-    let above : first ≤ from = omega arith in
     let order : from ≤ to = omega arith in
     let within : to ≤ held = omega arith in
-    let count : held - first ≡ (from - first) + (held - from) = omega arith in
-    let cut : drop (from - first) all ≡ take (held - from) (drop from buffer) = ap (λ (x : ℕ). drop (from - first) (take x (drop first buffer))) count
-    ∙ (drop-take (from - first) (held - from) (drop first buffer) ∙ ap (λ (x : List ℕ). take (held - from) x) (drop-drop (from - first) first buffer ∙ ap (λ (x : ℕ). drop x buffer) (omega arith))) in
+    let count : held ≡ from + (held - from) = omega arith in
+    let cut : drop from all ≡ take (held - from) (drop from buffer) = ap (λ (x : ℕ). drop from (take x buffer)) count ∙ drop-take from (held - from) buffer in
     let shorter : take (to - from) (take (held - from) (drop from buffer)) ≡ take (to - from) (drop from buffer) = take-take (to - from) (held - from) (drop from buffer) (omega arith) in
     record {
-      above = above;
       order = order;
       below = within;
-      bytes = sym (ap (λ (x : List ℕ). take (to - from) (drop (from - first) x)) bytes ∙ (ap (λ (x : List ℕ). take (to - from) x) cut ∙ shorter));
+      bytes = sym (ap (λ (x : List ℕ). take (to - from) (drop from x)) bytes ∙ (ap (λ (x : List ℕ). take (to - from) x) cut ∙ shorter));
     }
 
 -- the same of what is seen of the fields
-pub lies_in_seen : (f : Framing) (buffer : List ℕ) (first held end base from to : ℕ) → framing buffer first held end base ≡ f → first ≤ held → held ≤ length buffer → rest_of (slice_range buffer first held) ≡ [] → IsGiven f from to → LiesIn buffer f held from to
-lies_in_seen f buffer first held end base from to seen below room whole is =
+pub lies_in_seen : (f : Framing) (buffer : List ℕ) (held end base from to : ℕ) → framing buffer held end base ≡ f → held ≤ length buffer → rest_of (take held buffer) ≡ [] → IsGiven f from to → LiesIn buffer f held from to
+lies_in_seen f buffer held end base from to seen room whole is =
     subst (λ (x : Framing). LiesIn buffer x held from to) seen
-    (lies_in buffer first held end base from to below room whole (subst (λ (x : Framing). IsGiven x from to) (sym seen) is))
+    (lies_in buffer held end base from to room whole (subst (λ (x : Framing). IsGiven x from to) (sym seen) is))
 
 -- ---- bytes behind those held
 
@@ -187,8 +196,6 @@ pub scan_fed : (items lent new : List ℕ) (len start end count : ℕ) (scan : S
 scan_fed items lent new len start end count scan same whole order room long is =
     subst (λ (x : List ℕ). IsScanOf scan x) (sym (slice_range-fed items lent new len start end count same whole order room long)) (scan_of_more scan (slice_range items start end) new is)
 
--- no bytes between two places that are one
-pub none_between : (buffer : List ℕ) (first start : ℕ) → first ≡ start → rest_of (slice_range buffer first start) ≡ []
-none_between buffer first start same =
-    let none : start - first ≡ 0 = omega arith in
-    ap (λ (x : ℕ). rest_of (take x (drop first buffer))) none
+-- no bytes before the first
+pub none_before : (buffer : List ℕ) (start : ℕ) → start ≡ 0 → rest_of (take start buffer) ≡ []
+none_before buffer start none = ap (λ (x : ℕ). rest_of (take x buffer)) none

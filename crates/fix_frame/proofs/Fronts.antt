@@ -3,17 +3,11 @@ use Rattle.std.proofs.Common.{◌≡◌, ℕ, ◌+◌, ◌-◌, ◌<◌, List, [
 use Rattle.std.proofs.Math.Seq.{take-append-add}
 use Rattle.std.proofs.lemmas.Bool.{cases_lt}
 use Rattle.std.proofs.lemmas.List.{take_all, take-append-le}
-use Rattle.fix_frame.specs.Grammar.{IsFrame, IsFrameFront, BeginsWithNone, IsRefused}
+use Rattle.fix_frame.specs.Grammar.{IsFrame, IsFrameFront, IsUnfinished, BeginsWithNone, IsRefused}
 use Rattle.fix_frame.proofs.Frames.{frame_alone, frame_least, frame_most}
 
--- these bytes go on to a frame, and are not all of it
-pub record IsProper (b : List ℕ) : Type 0 where
-  pub more : List ℕ
-  pub some : 0 < length more
-  pub whole : IsFrame (b ++ more)
-
-pub proper_before : (b xs : List ℕ) → IsProper (b ++ xs) → IsProper b
-proper_before b xs is =
+pub unfinished_before : (b xs : List ℕ) → IsUnfinished (b ++ xs) → IsUnfinished b
+unfinished_before b xs is =
     let some = is.some in
     record {
       more = xs ++ is.more;
@@ -21,18 +15,18 @@ proper_before b xs is =
       whole = subst (λ (x : List ℕ). IsFrame x) (append_assoc b xs is.more) is.whole;
     }
 
-pub proper_front : (b : List ℕ) → IsProper b → IsFrameFront b
-proper_front b is = (is.more, is.whole)
+pub unfinished_front : (b : List ℕ) → IsUnfinished b → IsFrameFront b
+unfinished_front b is = (is.more, is.whole)
 
-pub proper_none : (b : List ℕ) → IsProper b → BeginsWithNone b
-proper_none b is k h =
+pub unfinished_none : (b : List ℕ) → IsUnfinished b → BeginsWithNone b
+unfinished_none b is k h =
     let whole : IsFrame (take k b ++ (drop k b ++ is.more)) = subst (λ (x : List ℕ). IsFrame x) (ap (λ (x : List ℕ). x ++ is.more) (sym (take-append-drop k b)) ∙ append_assoc (take k b) (drop k b) is.more) is.whole in
     let nothing = frame_alone (take k b) (drop k b ++ is.more) h whole in
     let some = is.some in
     absurd (omega (arith, ap length nothing, length-append (drop k b) is.more))
 
-pub proper_short : (b : List ℕ) → IsProper b → length b < 4096
-proper_short b is = omega (arith, frame_most (b ++ is.more) is.whole, length-append b is.more)
+pub unfinished_short : (b : List ℕ) → IsUnfinished b → length b < 4096
+unfinished_short b is = omega (arith, frame_most (b ++ is.more) is.whole, length-append b is.more)
 
 -- no bytes begin with none
 pub none_in_none : BeginsWithNone []
@@ -60,8 +54,8 @@ none_push b byte none no_frame =
     none_past b (byte ∷ []) none
     (λ k lt h. no_frame (subst (λ (x : List ℕ). IsFrame x) (take_all k (b ++ byte ∷ []) (omega (arith, length-append b (byte ∷ [])))) h))
 
-pub refused_push : (b : List ℕ) (byte : ℕ) → IsProper b → (IsFrameFront (b ++ byte ∷ []) → ⊥) → IsRefused (b ++ byte ∷ [])
-refused_push b byte is no_front = record { none = none_push b byte (proper_none b is) (λ h. no_front (frame_front (b ++ byte ∷ []) h)); no_front = no_front }
+pub refused_push : (b : List ℕ) (byte : ℕ) → IsUnfinished b → (IsFrameFront (b ++ byte ∷ []) → ⊥) → IsRefused (b ++ byte ∷ [])
+refused_push b byte is no_front = record { none = none_push b byte (unfinished_none b is) (λ h. no_front (frame_front (b ++ byte ∷ []) h)); no_front = no_front }
 
 -- it stays so
 pub refused_more : (b xs : List ℕ) → IsRefused b → IsRefused (b ++ xs)

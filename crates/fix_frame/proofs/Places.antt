@@ -8,11 +8,11 @@ use Rattle.std.proofs.lemmas.Int.Digits.{digits_value_push}
 use Rattle.std.specs.Char.{is_ascii_digit}
 use Rattle.std.specs.Str.Parse.{digits_value}
 use Rattle.gx_base.specs.Frames.{head_of, trailer_of, frame_of}
-use Rattle.fix_frame.specs.Grammar.{IsFrame, IsFrameFront, length_text, body_in, IsRefused}
+use Rattle.fix_frame.specs.Grammar.{IsFrame, IsFrameFront, IsUnfinished, length_text, body_in, IsRefused}
 use Rattle.fix_frame.specs.Scans.{begin_text, IsLengthText, MayBeLength, InBegin, InLength, InBody, InTrailer, trailer_with}
 use Rattle.fix_frame.proofs.Heads.{IsLength, DigitsSoFar, digit_value_is, digits_more, no_length_from_stop, no_length_from_digits, no_length_from_zeros}
 use Rattle.fix_frame.proofs.Frames.{frame_head, frame_parts, text_made, made_frame}
-use Rattle.fix_frame.proofs.Fronts.{IsProper, proper_before, refused_push}
+use Rattle.fix_frame.proofs.Fronts.{unfinished_before, refused_push}
 
 -- ---- the sum
 
@@ -256,8 +256,8 @@ trailer_breaks before count checksum byte at apart (more, h) =
 
 -- ---- each place but the last goes on to a frame
 
-pub trailer_proper : (before : List ℕ) (count checksum : ℕ) → InTrailer before count checksum → IsProper before
-trailer_proper before count checksum at =
+pub trailer_unfinished : (before : List ℕ) (count checksum : ℕ) → InTrailer before count checksum → IsUnfinished before
+trailer_unfinished before count checksum at =
     let front = head_of at.text ++ at.body in
     let t = trailer_of front in
     let lt = at.some_left in
@@ -271,34 +271,34 @@ trailer_proper before count checksum at =
     }
 
 -- the rest of a body: any bytes, and SOH
-pub body_proper : (before : List ℕ) (left checksum : ℕ) → InBody before left checksum → IsProper before
-body_proper before left checksum at =
+pub body_unfinished : (before : List ℕ) (left checksum : ℕ) → InBody before left checksum → IsUnfinished before
+body_unfinished before left checksum at =
     let filler = replicate (left - 1) 0 in
     let rest = filler ++ 1 ∷ [] in
     let some_left = at.some_left in
     let long : length filler ≡ left - 1 = length-replicate (left - 1) 0 in
     let total : length rest ≡ length filler + 1 = length_push filler 1 in
     let last : get_or rest (length rest - 1) 0 ≡ 1 = get_or_push filler 1 0 (length rest - 1) (omega arith) in
-    proper_before before rest
-    (trailer_proper (before ++ rest) 0 ((checksum + sum rest % 256) % 256) (body_to_trailer before left checksum rest at (omega arith) last))
+    unfinished_before before rest
+    (trailer_unfinished (before ++ rest) 0 ((checksum + sum rest % 256) % 256) (body_to_trailer before left checksum rest at (omega arith) last))
 
-length_proper_above_0 : (before : List ℕ) (digits number checksum : ℕ) → InLength before digits number checksum → 0 < number → IsProper before
-length_proper_above_0 before digits number checksum at some =
-    proper_before before (1 ∷ []) (body_proper (before ++ 1 ∷ []) number ((checksum + 1) % 256) (length_to_body before digits number checksum at some))
+length_unfinished_above_0 : (before : List ℕ) (digits number checksum : ℕ) → InLength before digits number checksum → 0 < number → IsUnfinished before
+length_unfinished_above_0 before digits number checksum at some =
+    unfinished_before before (1 ∷ []) (body_unfinished (before ++ 1 ∷ []) number ((checksum + 1) % 256) (length_to_body before digits number checksum at some))
 
 -- zeros alone go on with a one
-pub length_proper : (before : List ℕ) (digits number checksum : ℕ) → InLength before digits number checksum → IsProper before
-length_proper before digits number checksum at =
+pub length_unfinished : (before : List ℕ) (digits number checksum : ℕ) → InLength before digits number checksum → IsUnfinished before
+length_unfinished before digits number checksum at =
     elim (cases_lt 0 number) [
-      | inl some ↦ length_proper_above_0 before digits number checksum at some
+      | inl some ↦ length_unfinished_above_0 before digits number checksum at some
       | inr none ↦
           let few : digits < 6 = at.may_be.2 (omega arith) in
           let next = length_to_length before digits number checksum 49 at refl (omega arith, omega arith, λ zero. absurd (omega arith)) in
-          proper_before before (49 ∷ []) (length_proper_above_0 (before ++ 49 ∷ []) (digits + 1) (number * 10 + (49 - 48)) ((checksum + 49) % 256) next (omega arith))
+          unfinished_before before (49 ∷ []) (length_unfinished_above_0 (before ++ 49 ∷ []) (digits + 1) (number * 10 + (49 - 48)) ((checksum + 49) % 256) next (omega arith))
     ]
 
-pub begin_proper : (before : List ℕ) (count checksum : ℕ) → InBegin before count checksum → IsProper before
-begin_proper before count checksum at =
+pub begin_unfinished : (before : List ℕ) (count checksum : ℕ) → InBegin before count checksum → IsUnfinished before
+begin_unfinished before count checksum at =
     let whole : before ++ drop count begin_text ≡ begin_text ++ [] = ap (λ (x : List ℕ). x ++ drop count begin_text) at.front ∙ take-append-drop count begin_text in
     let all : InLength (before ++ drop count begin_text) 0 0 (sum (before ++ drop count begin_text) % 256) = record {
       text = [];
@@ -308,7 +308,7 @@ begin_proper before count checksum at =
       may_be = (omega arith, omega arith, λ _. omega arith);
       summed = refl;
     } in
-    proper_before before (drop count begin_text) (length_proper (before ++ drop count begin_text) 0 0 (sum (before ++ drop count begin_text) % 256) all)
+    unfinished_before before (drop count begin_text) (length_unfinished (before ++ drop count begin_text) 0 0 (sum (before ++ drop count begin_text) % 256) all)
 
 -- digits may go on to a length, or they may not
 pub may_be_decided : (digits number : ℕ) → MayBeLength digits number ⊎ (MayBeLength digits number → ⊥)
@@ -330,15 +330,15 @@ may_be_decided digits number =
 -- ---- bytes with which no frame goes on
 
 pub begin_refused : (before : List ℕ) (count checksum byte : ℕ) → InBegin before count checksum → (byte ≡ get_or begin_text count 0 → ⊥) → IsRefused (before ++ byte ∷ [])
-begin_refused before count checksum byte at apart = refused_push before byte (begin_proper before count checksum at) (begin_breaks before count checksum byte at apart)
+begin_refused before count checksum byte at apart = refused_push before byte (begin_unfinished before count checksum at) (begin_breaks before count checksum byte at apart)
 
 pub length_refused_at_no_digit : (before : List ℕ) (digits number checksum byte : ℕ) → InLength before digits number checksum → is_ascii_digit byte ≡ false → (byte ≡ 1 → number ≡ 0) → IsRefused (before ++ byte ∷ [])
 length_refused_at_no_digit before digits number checksum byte at no_digit apart =
-    refused_push before byte (length_proper before digits number checksum at) (length_breaks_at_no_digit before digits number checksum byte at no_digit apart)
+    refused_push before byte (length_unfinished before digits number checksum at) (length_breaks_at_no_digit before digits number checksum byte at no_digit apart)
 
 pub length_refused_at_digit : (before : List ℕ) (digits number checksum byte : ℕ) → InLength before digits number checksum → is_ascii_digit byte ≡ true → (MayBeLength (digits + 1) (number * 10 + (byte - 48)) → ⊥) → IsRefused (before ++ byte ∷ [])
 length_refused_at_digit before digits number checksum byte at digit apart =
-    refused_push before byte (length_proper before digits number checksum at) (length_breaks_at_digit before digits number checksum byte at digit apart)
+    refused_push before byte (length_unfinished before digits number checksum at) (length_breaks_at_digit before digits number checksum byte at digit apart)
 
 -- the body was right before its last byte
 pub body_refused : (before : List ℕ) (left checksum : ℕ) (part : List ℕ) → InBody before left checksum → length part ≡ left → (get_or part (length part - 1) 0 ≡ 1 → ⊥) → IsRefused (before ++ part)
@@ -353,8 +353,8 @@ body_refused before left checksum part at all apart =
     let here = body_to_body before left checksum init at (omega arith) in
     let no_front = body_breaks before left checksum part at all apart in
     subst (λ (x : List ℕ). IsRefused x) whole
-    (refused_push (before ++ init) last (body_proper (before ++ init) (left - length init) ((checksum + sum init % 256) % 256) here)
+    (refused_push (before ++ init) last (body_unfinished (before ++ init) (left - length init) ((checksum + sum init % 256) % 256) here)
     (λ front. no_front (subst (λ (x : List ℕ). IsFrameFront x) whole front)))
 
 pub trailer_refused : (before : List ℕ) (count checksum byte : ℕ) → InTrailer before count checksum → (byte ≡ get_or (trailer_with checksum) count 0 → ⊥) → IsRefused (before ++ byte ∷ [])
-trailer_refused before count checksum byte at apart = refused_push before byte (trailer_proper before count checksum at) (trailer_breaks before count checksum byte at apart)
+trailer_refused before count checksum byte at apart = refused_push before byte (trailer_unfinished before count checksum at) (trailer_breaks before count checksum byte at apart)

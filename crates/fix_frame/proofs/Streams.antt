@@ -2,11 +2,12 @@
 use Rattle.std.proofs.Common.{◌≡◌, ℕ, suc, ◌<◌, true, false, cond, true≢false, List, [], ◌∷◌, ◌++◌, length, take, drop, refl, sym, ap, ap₂, subst, ◌∙◌, inl, inr, arith, append_assoc, append-nil, take-append-drop}
 use Rattle.std.proofs.lemmas.Bool.{cond-true, cond-false, false_from_ne_true, cases_Bool, cases_lt}
 use Rattle.std.proofs.lemmas.List.{nil_from_length}
-use Rattle.std.specs.List.{concat}
-use Rattle.fix_frame.specs.Grammar.{is_frame, IsFrame, BeginsWithNone}
+use Rattle.std.proofs.lemmas.List.Elements.{All-nil, All-cons, All-same}
+use Rattle.std.specs.List.{concat, All}
+use Rattle.fix_frame.specs.Grammar.{is_frame, IsFrame, IsUnfinished, BeginsWithNone, IsRefused}
 use Rattle.fix_frame.specs.Stream.{messages_from, rest_from, messages_of, rest_of}
 use Rattle.fix_frame.proofs.Frames.{frame_alone, frame_least}
-use Rattle.fix_frame.proofs.Fronts.{none_push, none_in_none}
+use Rattle.fix_frame.proofs.Fronts.{none_push, none_in_none, unfinished_none}
 
 -- ---- a stream in two parts
 
@@ -41,6 +42,23 @@ concat-messages_from front (b ∷ u) =
 
 pub concat-messages_of : (u : List ℕ) → concat (messages_of u) ++ rest_of u ≡ u
 concat-messages_of u = concat-messages_from [] u
+
+-- and each message is a frame
+messages_from-are_frames : (front u : List ℕ) → All IsFrame (messages_from front u)
+messages_from-are_frames front [] = All-nil IsFrame
+messages_from-are_frames front (b ∷ u) =
+    let front' = front ++ b ∷ [] in
+    elim (cases_Bool (is_frame front')) [
+      | inl is ↦
+          All-same IsFrame (messages_from front (b ∷ u)) (front' ∷ messages_of u) (cond-true (is_frame front') (front' ∷ messages_of u) (messages_from front' u) is)
+          (All-cons IsFrame front' (messages_of u) is (messages_from-are_frames [] u))
+      | inr no_frame ↦
+          All-same IsFrame (messages_from front (b ∷ u)) (messages_from front' u) (cond-false (is_frame front') (front' ∷ messages_of u) (messages_from front' u) no_frame)
+          (messages_from-are_frames front' u)
+    ]
+
+pub messages_of-are_frames : (u : List ℕ) → All IsFrame (messages_of u)
+messages_of-are_frames u = messages_from-are_frames [] u
 
 -- ---- a stream that begins with a frame
 
@@ -109,6 +127,12 @@ messages_from-none front (b ∷ u) none =
 
 pub messages_of-none : (u : List ℕ) → BeginsWithNone u → messages_of u ≡ []
 messages_of-none u none = (messages_from-none [] u (λ n _ h. none n h)).0
+
+pub messages_of-unfinished : (u : List ℕ) → IsUnfinished u → messages_of u ≡ []
+messages_of-unfinished u is = messages_of-none u (unfinished_none u is)
+
+pub messages_of-refused : (u : List ℕ) → IsRefused u → messages_of u ≡ []
+messages_of-refused u refused = messages_of-none u refused.none
 
 pub rest_of-none : (u : List ℕ) → BeginsWithNone u → rest_of u ≡ u
 rest_of-none u none = (messages_from-none [] u (λ n _ h. none n h)).1

@@ -1,5 +1,5 @@
 -- What a frame is (FIX 4.2, this profile).
-use Rattle.std.specs.Prelude.{ℕ, ◌+◌, ◌-◌, Bool, ◌&&◌, ◌==◌, nat_le, List, ◌++◌, length, take, drop, take_while, slice_index, bytes_eq, IsTrue}
+use Rattle.std.specs.Prelude.{ℕ, ◌+◌, ◌-◌, ◌<◌, Bool, ◌&&◌, ◌==◌, nat_le, List, ◌++◌, length, take, drop, take_while, slice_index, bytes_eq, IsTrue}
 use Rattle.std.specs.Char.{is_ascii_digit}
 use Rattle.std.specs.Str.Parse.{digits_value}
 use Rattle.gx_base.specs.Frames.{soh, frame_of}
@@ -36,11 +36,17 @@ IsFrame b = IsTrue (is_frame b)
 abbrev pub IsFrameFront : List ℕ → Type 0
 IsFrameFront b = (more : List ℕ) × IsFrame (b ++ more)
 
+-- the front of a frame, and not all of it
+pub record IsUnfinished (b : List ℕ) : Type 0 where
+  pub more : List ℕ
+  pub some : 0 < length more
+  pub whole : IsFrame (b ++ more)
+
 -- no front of these bytes is a frame
 abbrev pub BeginsWithNone : List ℕ → Type 0
 BeginsWithNone b = (n : ℕ) → IsFrame (take n b) → ⊥
 
--- and they are the front of none: no frame begins with them, however they go on
+-- and they are the front of none, so no frame begins with them, however they go on
 pub record IsRefused (b : List ℕ) : Type 0 where
   pub none : BeginsWithNone b
   pub no_front : IsFrameFront b → ⊥

@@ -4,7 +4,7 @@ use Rattle.std.specs.Char.{is_ascii_digit}
 use Rattle.std.specs.Str.Parse.{digits_value}
 use Rattle.gx_base.specs.Frames.{soh, field, head_of, trailer_of}
 use Rattle.gx_base.specs.Numbers.{fixed_digits}
-use Rattle.fix_frame.specs.Grammar.{IsFrame, IsFrameFront, BeginsWithNone, IsRefused, longest_body}
+use Rattle.fix_frame.specs.Grammar.{IsFrame, IsUnfinished, IsRefused, longest_body}
 use Rattle.fix_frame.specs.declared.place.Place.{Place}
 use Rattle.fix_frame.specs.declared.place.Place.TheVariants.{Begin, Length, Body, Trailer, Whole, Broken}
 use Rattle.fix_frame.specs.declared.scan.Scan.{Scan}
@@ -88,5 +88,5 @@ trailer_with checksum = field "10" (fixed_digits 3 checksum)
 -- what the bytes begin with
 abbrev pub GivesFront : List ℕ → Front → Type 0
 GivesFront bytes (fronts.Frame n) = (n ≤ length bytes) × IsFrame (take n bytes)
-GivesFront bytes fronts.NeedsMore = BeginsWithNone bytes × (length bytes < 4096) × IsFrameFront bytes
+GivesFront bytes fronts.NeedsMore = IsUnfinished bytes
 GivesFront bytes fronts.Broken = IsRefused bytes

@@ -1,6 +1,6 @@
 //! A buffer that is fed in pieces, and gives the frames of the stream.
 ghost use Rattle.std.specs.Prelude.{◌≡◌, ℕ, ◌+◌, ◌-◌, ◌^◌, ◌<◌, ◌≤◌, min, [], ◌++◌, length, take, IfOk};
-ghost use Rattle.fix_frame.specs.Framing.{Framing, IsGiven, given_bytes, GivesNext};
+ghost use Rattle.fix_frame.specs.Framing.{Framing, IsGiven, given_bytes, GivesNext, CanBeLent, LeavesRoom};
 
 use crate::next::Next;
 use crate::scan::{Front, Scan};
@@ -16,8 +16,7 @@ const ROOM: usize = 8192;
 pub struct Framer {
     /// `ROOM` bytes.
     buffer: Vec<u8>,
-    /// The frames given lie in `first..start`, and the bytes held in `start..end`.
-    first: usize,
+    /// The frames given lie in `0..start`, and the bytes held in `start..end`.
     start: usize,
     end: usize,
     /// The offset in the stream of the buffer's first byte.
@@ -31,13 +30,13 @@ impl Model for Framer {
 
     ghost Value = { Framing };
 
-    ghost use Rattle.std.specs.Prelude.{◌≡◌, ◌+◌, ◌-◌, ◌^◌, ◌<◌, ◌≤◌, [], vec_len, slice_range};
+    ghost use Rattle.std.specs.Prelude.{◌≡◌, ◌+◌, ◌-◌, ◌^◌, ◌<◌, ◌≤◌, [], take, vec_len, slice_range};
     ghost use Rattle.fix_frame.specs.Stream.{messages_of, rest_of};
     ghost use Rattle.fix_frame.specs.Scans.{IsScanOf};
 
-    ghost view = { λ f. record { given = messages_of (slice_range f.buffer.items f.first f.start); first = f.first; rest = slice_range f.buffer.items f.start f.end; offset = f.base + f.start } };
+    ghost view = { λ f. record { given = messages_of (take f.start f.buffer.items); rest = slice_range f.buffer.items f.start f.end; offset = f.base + f.start } };
 
-    ghost invariant = { λ f. (vec_len f.buffer ≡ 8192) × (f.first ≤ f.start) × (f.start ≤ f.end) × (f.end ≤ 8192) × (rest_of (slice_range f.buffer.items f.first f.start) ≡ []) × (f.base + f.end < 2 ^ 63) × IsScanOf f.scan (slice_range f.buffer.items f.start f.end) };
+    ghost invariant = { λ f. (vec_len f.buffer ≡ 8192) × (f.start ≤ f.end) × (f.end ≤ 8192) × (rest_of (take f.start f.buffer.items) ≡ []) × (f.base + f.end < 2 ^ 63) × IsScanOf f.scan (slice_range f.buffer.items f.start f.end) };
 }
 
 impl Framer {
@@ -47,7 +46,6 @@ impl Framer {
     {
         Ok(Framer {
             buffer: vec![in alloc; 0; ROOM]?,
-            first: 0,
             start: 0,
             end: 0,
             base: 0,
@@ -68,7 +66,6 @@ impl Framer {
             self.buffer.copy_within(self.start..self.end, 0);
             self.base += self.start as u64;
             self.end -= self.start;
-            self.first = 0;
             self.start = 0;
         }
         let count = bytes.len().min(ROOM - self.end);
@@ -78,11 +75,13 @@ impl Framer {
         count
     }
 
-    /// The frame with which the bytes held begin; `More` exactly where they are the front of a frame and not all of it,
-    /// and so fewer than 4,096; `Bad`, with the offset of the first of them, exactly where they begin with no frame and
-    /// are the front of none, and then it stays until `clear`. Each byte is scanned once, however the stream is cut.
+    /// The frame with which the bytes held begin; `More` exactly where they are the front of a frame and not all of it;
+    /// `Bad`, with the offset of the first of them, exactly where they begin with no frame and are the front of none.
+    /// Then no bytes that are fed mend it (`refused_bytes_stay_refused`), and it stays until `clear`.
     pub fn next(&mut self) -> Next
-        ensures { GivesNext self.old self.new result }
+        ensures front { GivesNext self.old self.new result }
+        ensures lent { CanBeLent self.new result }
+        ensures room { LeavesRoom self.new result }
     {
         match self.scan.go_on(&self.buffer[self.start..self.end]) {
             Front::Frame(length) => {
@@ -123,7 +122,6 @@ impl Framer {
     pub fn clear(&mut self)
         ensures { (self.new.given ≡ []) × (self.new.rest ≡ []) × (self.new.offset ≡ 0) }
     {
-        self.first = 0;
         self.start = 0;
         self.end = 0;
         self.base = 0;

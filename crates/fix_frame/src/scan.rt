@@ -1,4 +1,4 @@
-//! A scan of the bytes held, which goes over each of them once.
+//! A scan of the bytes held, which goes on where it stopped. That it looks at no byte twice is no claim of the proof.
 ghost use Rattle.std.specs.Prelude.{◌≡◌, ◌+◌, ◌%◌, ◌^◌, ◌↔◌, ◌<◌, [], length, take, IsTrue};
 ghost use Rattle.fix_frame.specs.Scans.{InBody, IsAt, IsOpen, IsScanOf, GivesFront};
 

@@ -12,6 +12,7 @@ use Rattle.fix_frame.specs.Stream.{messages_of, rest_of}
 use Rattle.product_file.specs.Products.{ProductLists}
 use Rattle.globex_run.specs.State.{State}
 use Rattle.fix_frame.proofs.Streams.{concat-messages_of}
+use Rattle.fix_frame.proofs.Framings.{message_given, bytes_given}
 use Rattle.globex_run.specs.Step.{step_of, reports_of, lines_of}
 use Rattle.globex_run.specs.Serving.{ServesFrame, TakesMore}
 use Rattle.globex_run.specs.Endings.{ending_of}
@@ -127,7 +128,7 @@ module _ {I S : Type 0} (inputs : SourceMeanings I) (stations : StationMeanings 
 
   module _ (next : Framing) (start end : ℕ) (given : GivesFrame framing next start end) where
     next_message : messages_of framing.rest ≡ given.frame ∷ messages_of next.rest
-    next_message = ap messages_of (sym (append-nil framing.rest)) ∙ given.message [] ∙ ap (λ (l : List ℕ). given.frame ∷ messages_of l) (append-nil next.rest)
+    next_message = ap messages_of (sym (append-nil framing.rest)) ∙ message_given framing next start end given [] ∙ ap (λ (l : List ℕ). given.frame ∷ messages_of l) (append-nil next.rest)
 
     begins : (P : List ℕ → Type 0) → P given.frame → BeginsWith P (bytes_at framing.offset (concat run.served ++ framing.rest))
     begins P passes = record { frame = given.frame; more = next.rest; is_frame = given.is_frame; front = behind_it ∙ given.front; passes = passes }
@@ -190,4 +191,4 @@ module _ {I S : Type 0} (inputs : SourceMeanings I) (stations : StationMeanings 
         → (at : ℕ) → at ≡ framing.offset → (ending : Ending) → ending ≡ ending_of how at → Ran inputs stations product old now before then ending.status ending.at state'.desk.messages
     ran-stopped how then state' frame lent did at is ending ends =
         subst (λ (e : Ending). Ran inputs stations product old now before then e.status e.at state'.desk.messages) (sym (ends ∙ ap (ending_of how) is))
-        (ran-with how then state' (subst (λ (f : List ℕ). ServesFrame stations product state state' after then f (Err how)) (lent ∙ given.bytes) did))
+        (ran-with how then state' (subst (λ (f : List ℕ). ServesFrame stations product state state' after then f (Err how)) (lent ∙ bytes_given framing next start end given) did))

@@ -9,6 +9,7 @@ use Rattle.gx_station.specs.Sources.{SourceMeanings, and_left}
 use Rattle.gx_station.specs.Stations.{StationMeanings, sent_and}
 use Rattle.fix_frame.specs.Framing.{Framing, GivesFrame, given_bytes}
 use Rattle.fix_frame.specs.Stream.{messages_of, rest_of}
+use Rattle.fix_frame.proofs.Framings.{message_given, rest_given, bytes_given}
 use Rattle.product_file.specs.Products.{ProductLists}
 use Rattle.globex_run.specs.State.{State, empty_state}
 use Rattle.globex_run.specs.Step.{step_of, state_after, events_from, reports_of, lines_of}
@@ -84,8 +85,8 @@ module _ {I S : Type 0} (inputs : SourceMeanings I) (stations : StationMeanings 
         are_served = served-push product run.served frame run.are_served did.3;
         left = run.left ∙ ap (λ (l : List ℕ). and_left l (inputs.left now)) (sym bytes);
         messages = λ more.
-            ap (λ (l : List ℕ). messages_of (l ++ more)) bytes ∙ run.messages more ∙ ap (λ (l : List (List ℕ)). run.served ++ l) (given.message more) ∙ sym (append_assoc run.served (frame ∷ []) (messages_of (next.rest ++ more)));
-        behind = λ more. ap (λ (l : List ℕ). rest_of (l ++ more)) bytes ∙ run.behind more ∙ given.behind more;
+            ap (λ (l : List ℕ). messages_of (l ++ more)) bytes ∙ run.messages more ∙ ap (λ (l : List (List ℕ)). run.served ++ l) (message_given framing next start end given more) ∙ sym (append_assoc run.served (frame ∷ []) (messages_of (next.rest ++ more)));
+        behind = λ more. ap (λ (l : List ℕ). rest_of (l ++ more)) bytes ∙ run.behind more ∙ rest_given framing next start end given more;
         offset = given.offset ∙ ap (λ (n : ℕ). n + length frame) run.offset ∙ sym (ap length (concat-push run.served frame) ∙ length-append (concat run.served) frame);
         is_state = did.0 ∙ ap (λ (s : State × List Event). s.0) stepped ∙ sym (state-push product (empty_state product) run.served frame);
         count = did.2 ∙ ap (λ (n : ℕ). n + 1) run.count ∙ sym (length-append run.served (frame ∷ []));
@@ -101,7 +102,7 @@ module _ {I S : Type 0} (inputs : SourceMeanings I) (stations : StationMeanings 
   pub served-next : (now : I) (after then : S) (framing next : Framing) (state state' : State) (start end : ℕ) (frame : List ℕ) (t : Unit {0}) → Run now after framing state
       → (given : GivesFrame framing next start end) → frame ≡ given_bytes next start end → ServesFrame stations product state state' after then frame (Ok t) → Run now then next state'
   served-next now after then framing next state state' start end frame t run given lent did =
-      served-more now after then framing next state state' start end run given (subst (λ (f : List ℕ). ServesFrame stations product state state' after then f (Ok tt)) (lent ∙ given.bytes) did)
+      served-more now after then framing next state state' start end run given (subst (λ (f : List ℕ). ServesFrame stations product state state' after then f (Ok tt)) (lent ∙ bytes_given framing next start end given) did)
 
   pub place-next : (framing next : Framing) (start end count : ℕ) → GivesFrame framing next start end → length framing.rest ≤ 8192 → framing.offset ≤ count * 8192 → next.offset ≤ (count + 1) * 8192
   place-next framing next start end count given fits below =

@@ -1,26 +1,33 @@
-use Rattle.std.proofs.Common.{◌≤◌, ◌+◌, ◌*◌, ℕ, sym, ap, subst, ◌∙◌, arith}
+use Rattle.std.proofs.Common.{◌≤◌, ◌+◌, ◌*◌, ℕ, List, sym, ap, subst, ◌∙◌, arith}
+use Rattle.fix_frame.specs.Grammar.{IsFrame}
 use Rattle.fix_frame.specs.Framing.{Framing}
+use Rattle.fix_frame.proofs.Fronts.{unfinished_front}
+use Rattle.fix_frame.proofs.Streams.{messages_of-unfinished, messages_of-refused}
 use Rattle.globex_run.proofs.Running.{served-next, served-read, place-next}
 use Rattle.globex_run.proofs.Ends.{ran-ok, ran-read_fault, ran-truncated, ran-broken, ran-stopped}
 use Rattle.globex_run.proofs.serve.serve.Goals as goal
+
+-- src/serve.rt:142:38
+pub serve_frame-requires-clause-frame : goal.serve_frame-requires-clause-frame
+serve_frame-requires-clause-frame g c = subst (λ (x : List ℕ). IsFrame x) (sym c.frame-frame.ensures) c.in-Frame.ensures.lent.1
 
 -- src/serve.rt:138:21
 pub returns-in-Err-clause-ran : goal.returns-in-Err-clause-ran
 returns-in-Err-clause-ran g c =
     ran-stopped g.I.Source.meanings g.S.Station.meanings c.args.product.now c.args.input.now c.turns.input c.args.station.now c.turns.station c.turns.framer c.turns.engine c.turns.invariant.run c.turns.invariant.few
-    c.next.new.self c.in-Frame.start c.in-Frame.end c.in-Frame.ensures c.in-Err.status c.serve_frame.new.station c.serve_frame.new.engine c.frame-frame.result.now c.frame-frame.ensures c.in-Err.ensures.served
+    c.next.new.self c.in-Frame.start c.in-Frame.end c.in-Frame.ensures.front c.in-Err.status c.serve_frame.new.station c.serve_frame.new.engine c.frame-frame.result.now c.frame-frame.ensures c.in-Err.ensures.served
     c.offset-at.result c.offset-at.ensures c.new.result c.new.ensures
 
 -- src/serve.rt:131:5
 pub turns-preserved-in_default : goal.turns-preserved-in_default
 turns-preserved-in_default g c = record {
   run = served-next g.I.Source.meanings g.S.Station.meanings c.args.product.now c.args.input.now c.args.station.now c.turns.input c.turns.station c.serve_frame.new.station c.turns.framer c.next.new.self c.turns.engine c.serve_frame.new.engine
-      c.in-Frame.start c.in-Frame.end c.frame-frame.result.now c.in_default.field-0 c.turns.invariant.run c.in-Frame.ensures c.frame-frame.ensures c.in_default.ensures.served;
+      c.in-Frame.start c.in-Frame.end c.frame-frame.result.now c.in_default.field-0 c.turns.invariant.run c.in-Frame.ensures.front c.frame-frame.ensures c.in_default.ensures.served;
   fits = c.serve_frame.ensures.fits;
   chunk = c.turns.invariant.chunk;
   buffer = c.in_default.ensures.empty;
   offset = subst (λ (n : ℕ). c.next.new.self.offset ≤ n * 8192) (sym c.in_default.ensures.served.2)
-      (place-next g.I.Source.meanings g.S.Station.meanings c.args.product.now c.args.input.now c.args.station.now c.turns.framer c.next.new.self c.in-Frame.start c.in-Frame.end c.turns.engine.desk.messages c.in-Frame.ensures (omega (arith, c.rest-held.ensures.count, c.rest-held.ensures.fits)) c.turns.invariant.offset);
+      (place-next g.I.Source.meanings g.S.Station.meanings c.args.product.now c.args.input.now c.args.station.now c.turns.framer c.next.new.self c.in-Frame.start c.in-Frame.end c.turns.engine.desk.messages c.in-Frame.ensures.front (omega (arith, c.rest-held.ensures.count, c.rest-held.ensures.fits)) c.turns.invariant.offset);
   few = omega (arith, c.in_default.ensures.served.1, c.in_default.ensures.served.2);
 }
 
@@ -28,32 +35,32 @@ turns-preserved-in_default g c = record {
 pub returns-in-Ok-eq0-2-clause-ran : goal.returns-in-Ok-eq0-2-clause-ran
 returns-in-Ok-eq0-2-clause-ran g c =
     ran-truncated g.I.Source.meanings g.S.Station.meanings c.args.product.now c.args.input.now c.turns.input c.args.station.now c.turns.station c.turns.framer c.turns.engine c.turns.invariant.run c.turns.invariant.few
-    c.take_more.new.input c.next.new.self c.take_more.new.framer c.in-More.ensures.3 c.in-Ok-eq0.field-0 c.in-Ok-eq0.field-0-test c.new-in-Ok-eq0-2.result c.in-Ok-eq0.ensures.takes (λ none. c.if-held-eq0.false (c.rest-held.ensures.count ∙ none)) c.in-More.ensures.4 c.offset-at.result c.offset-at.ensures c.new-in-Ok-eq0-2.ensures
+    c.take_more.new.input c.next.new.self c.take_more.new.framer (messages_of-unfinished c.turns.framer.rest c.in-More.ensures.front.1) c.in-Ok-eq0.field-0 c.in-Ok-eq0.field-0-test c.new-in-Ok-eq0-2.result c.in-Ok-eq0.ensures.takes (λ none. c.if-held-eq0.false (c.rest-held.ensures.count ∙ none)) (unfinished_front c.turns.framer.rest c.in-More.ensures.front.1) c.offset-at.result c.offset-at.ensures c.new-in-Ok-eq0-2.ensures
 
 pub returns-in-Ok-eq0-clause-ran : goal.returns-in-Ok-eq0-clause-ran
 returns-in-Ok-eq0-clause-ran g c =
     ran-ok g.I.Source.meanings g.S.Station.meanings c.args.product.now c.args.input.now c.turns.input c.args.station.now c.turns.station c.turns.framer c.turns.engine c.turns.invariant.run c.turns.invariant.few
-    c.take_more.new.input c.next.new.self c.take_more.new.framer c.in-More.ensures.3 c.in-Ok-eq0.field-0 c.in-Ok-eq0.field-0-test c.new-in-Ok-eq0.result c.in-Ok-eq0.ensures.takes (sym c.rest-held.ensures.count ∙ c.if-held-eq0.true) c.offset-at.result c.new-in-Ok-eq0.ensures
+    c.take_more.new.input c.next.new.self c.take_more.new.framer (messages_of-unfinished c.turns.framer.rest c.in-More.ensures.front.1) c.in-Ok-eq0.field-0 c.in-Ok-eq0.field-0-test c.new-in-Ok-eq0.result c.in-Ok-eq0.ensures.takes (sym c.rest-held.ensures.count ∙ c.if-held-eq0.true) c.offset-at.result c.new-in-Ok-eq0.ensures
 
 -- src/serve.rt:145:32
 pub returns-in-Err-take_more-clause-ran : goal.returns-in-Err-take_more-clause-ran
 returns-in-Err-take_more-clause-ran g c =
     ran-read_fault g.I.Source.meanings g.S.Station.meanings c.args.product.now c.args.input.now c.turns.input c.args.station.now c.turns.station c.turns.framer c.turns.engine c.turns.invariant.run c.turns.invariant.few
-    c.take_more.new.input c.next.new.self c.take_more.new.framer c.in-More.ensures.3 c.in-Err-take_more.field-0 (c.offset-at.result + c.rest-held.result) c.new-in-Err-take_more.result c.in-Err-take_more.ensures.takes (omega (arith, c.offset-at.ensures, c.rest-held.ensures.count)) c.new-in-Err-take_more.ensures
+    c.take_more.new.input c.next.new.self c.take_more.new.framer (messages_of-unfinished c.turns.framer.rest c.in-More.ensures.front.1) c.in-Err-take_more.field-0 (c.offset-at.result + c.rest-held.result) c.new-in-Err-take_more.result c.in-Err-take_more.ensures.takes (omega (arith, c.offset-at.ensures, c.rest-held.ensures.count)) c.new-in-Err-take_more.ensures
 
 -- src/serve.rt:147:30
 pub returns-in-Bad-clause-ran : goal.returns-in-Bad-clause-ran
 returns-in-Bad-clause-ran g c =
     ran-broken g.I.Source.meanings g.S.Station.meanings c.args.product.now c.args.input.now c.turns.input c.args.station.now c.turns.station c.turns.framer c.turns.engine c.turns.invariant.run c.turns.invariant.few
-    c.in-Bad.ensures.3 c.in-Bad.ensures.2 c.in-Bad.at c.in-Bad.ensures.1 c.new-in-Bad.result c.new-in-Bad.ensures
+    (messages_of-refused c.turns.framer.rest c.in-Bad.ensures.front.2) c.in-Bad.ensures.front.2.no_front c.in-Bad.at c.in-Bad.ensures.front.1 c.new-in-Bad.result c.new-in-Bad.ensures
 
 pub turns-preserved : goal.turns-preserved
 turns-preserved g c = record {
   run = served-read g.I.Source.meanings g.S.Station.meanings c.args.product.now c.args.input.now c.args.station.now c.turns.input c.take_more.new.input c.turns.station c.turns.framer c.next.new.self c.take_more.new.framer c.turns.engine
-      c.take_more.result c.in-More.ensures.0 c.turns.invariant.run c.take_more.ensures.takes c.in-Ok.ensures.takes.cause.ok;
+      c.take_more.result c.in-More.ensures.front.0 c.turns.invariant.run c.take_more.ensures.takes c.in-Ok.ensures.takes.cause.ok;
   fits = c.turns.invariant.fits;
   chunk = c.take_more.ensures.chunk;
   buffer = c.turns.invariant.buffer;
-  offset = omega (arith, c.take_more.ensures.takes.offset, ap (λ (f : Framing). f.offset) c.in-More.ensures.0, c.turns.invariant.offset);
+  offset = omega (arith, c.take_more.ensures.takes.offset, ap (λ (f : Framing). f.offset) c.in-More.ensures.front.0, c.turns.invariant.offset);
   few = c.turns.invariant.few;
 }

@@ -2,14 +2,14 @@ use Rattle.std.proofs.Common.{◌≡◌, ℕ, ◌+◌, ◌-◌, ◌^◌, ◌<◌
 use Rattle.fix_frame.specs.Scans.{IsScanOf}
 use Rattle.fix_frame.specs.Framing.{Framing}
 use Rattle.fix_frame.specs.declared.framer.Framer.TheInside.{Inside}
-use Rattle.fix_frame.proofs.Framings.{slice_range-fed, slice_range-moved, length-slice_range, scan_fed, none_between, held_within}
+use Rattle.fix_frame.proofs.Framings.{slice_range-fed, slice_range-moved, length-slice_range, scan_fed, none_before, held_within}
 use Rattle.fix_frame.proofs.framer.Framer.feed.Goals as goal
 use Rattle.fix_frame.proofs.framer.Framer.feed.Goals.{then-self-gt0, else-self-gt0}
 
 -- the fields hold these bytes from this offset on, and no frame before them
 record Holds (rest : List ℕ) (from : ℕ) (s : Inside) : Type 0 where
   bytes : slice_range s.buffer.items s.start s.end ≡ rest
-  none_given : s.first ≡ s.start
+  none_given : s.start ≡ 0
   order : s.start ≤ s.end
   room : s.end ≤ 8192
   len : s.buffer.len ≡ 8192
@@ -24,7 +24,7 @@ held c =
     let offset = c.args.self.now.offset in
     let seen : slice_range old.buffer.items old.start old.end ≡ rest = ap (λ (x : Framing). x.rest) c.self.view_is in
     let from : old.base + old.start ≡ offset = ap (λ (x : Framing). x.offset) c.self.view_is in
-    let scan = subst (λ (x : List ℕ). IsScanOf old.scan x) seen c.self.invariant.6 in
+    let scan = subst (λ (x : List ℕ). IsScanOf old.scan x) seen c.self.invariant.5 in
     let whole : length s.buffer.items ≡ s.buffer.len = sym (ap length c.deref_mut.ensures.value) ∙ c.deref_mut.ensures.len in
     elim c.if-self-gt0.branch [
       | then-self-gt0 w ↦
@@ -69,8 +69,7 @@ invariant_of-self c =
       h.len,
       omega arith,
       omega arith,
-      omega arith,
-      none_between _ s.first s.start h.none_given,
+      none_before _ s.start h.none_given,
       offset,
       scan_fed s.buffer.items c.deref_mut.result.now c.copy_from_slice.new.self s.buffer.len s.start s.end count s.scan c.deref_mut.ensures.value (omega arith) (omega arith) (omega arith) (omega (arith, ap length c.copy_from_slice.ensures.after)) scan,
     )
