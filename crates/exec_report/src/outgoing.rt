@@ -7,9 +7,11 @@ ghost use Rattle.exec_report.specs.Pushes.{Pushes, added_to, waiting_with};
 use crate::report_buffer::ReportBuffer;
 use gx_base::{Emit, Event, Names};
 use gx_station::Station;
+use thiserror::Error;
 
 /// A send has failed.
-#[derive(Clone, Copy, Debug, PartialEq, Eq)]
+#[derive(Clone, Copy, Debug, Error, PartialEq, Eq)]
+#[error("a send of reports has failed")]
 pub struct SendFault;
 
 /// Sends what waits. Where nothing does, the station is not called.

@@ -81,13 +81,14 @@ module _ {I S : Type 0} (inputs : SourceMeanings I) (stations : StationMeanings 
     stays : (read : List ℕ) → inputs.left now ≡ and_left read (inputs.left then) → read ≡ [] → inputs.left now ≡ inputs.left then
     stays read left empty = left ∙ ap (λ (l : List ℕ). and_left l (inputs.left then)) empty ∙ sym (and_left-none (inputs.left then))
 
-    pub ran-read_fault : {F : Type 0} (fault : F) (at : ℕ) (ending : Ending) → TakesMore inputs now then held next (Err fault) → at ≡ framing.offset + length framing.rest → ending ≡ ending_of status.ReadFault at
+    pub ran-read_fault : {F : Type 0} (fault : F) (at : ℕ) (ending : Ending) → TakesMore inputs now then held next (Err fault) → IsFrameFront framing.rest → at ≡ framing.offset + length framing.rest → ending ≡ ending_of status.ReadFault at
         → Ran inputs stations product old then before after ending.status ending.at state.desk.messages
-    ran-read_fault fault at ending takes is ends =
+    ran-read_fault fault at ending takes front is ends =
         subst (λ (e : Ending). Ran inputs stations product old then before after e.status e.at state.desk.messages) (sym ends)
         (ran-as then (stays takes.taken takes.left takes.none) status.ReadFault at run.sent (
           is ∙ ap (λ (n : ℕ). n + length framing.rest) run.offset ∙ sym (length-append (concat run.served) framing.rest),
-          no_more none,
+          all_count none,
+          subst (λ (l : List ℕ). IsFrameFront l) (sym (rest_is none)) front,
         ))
 
     module _ {F : Type 0} (n : ℕ) (zero : n ≡ 0) (ending : Ending) (takes : TakesMore {F = F} inputs now then held next (Ok n)) where

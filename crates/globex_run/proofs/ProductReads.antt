@@ -1,17 +1,18 @@
 -- How a product's text is taken.
-use Rattle.std.proofs.Common.{◌≡◌, ◌≢◌, ℕ, ◌+◌, ◌≤◌, List, ◌++◌, length, take, Option, Result, Ok, Err, IfOk, IfErr, sym, ap, subst, ◌∙◌, append_assoc, length-take, arith}
+use Rattle.std.proofs.Common.{◌≡◌, ◌≢◌, inl, inr, ℕ, ◌+◌, ◌<◌, ◌≤◌, List, [], ◌++◌, length, take, Option, Result, Ok, Err, IfOk, IfErr, sym, ap, subst, ◌∙◌, append_assoc, length-take, arith}
+use Rattle.std.proofs.lemmas.Bool.{cases_lt}
 use Rattle.std.proofs.lemmas.List.{take-append-le, take-take}
 use Rattle.std.proofs.Math.Seq.{take-append-add}
 use Rattle.gx_station.specs.Sources.{SourceMeanings, and_left}
 use Rattle.product_file.specs.Products.{ProductLists}
 use Rattle.product_file.specs.ProductTexts.{product_of}
 use Rattle.product_file.specs.declared.faults.ProductFault.{ProductFault}
-use Rattle.product_file.specs.declared.faults.ProductFault.TheVariants.{NoMemory}
-use Rattle.globex_run.specs.ProductTexts.{IsProductText, IsRefusedAt, JudgesAs, Judges, RefusesAs, TakesProduct}
+use Rattle.product_file.specs.declared.faults.ProductFault.TheVariants.{NoMemory, TooLong}
+use Rattle.globex_run.specs.ProductTexts.{TakesAtMost, IsProductText, IsRefusedAt, JudgesAs, Judges, RefusesAs, TakesProduct}
 use Rattle.globex_run.specs.declared.serve.Ending.{Ending}
 use Rattle.globex_run.specs.declared.outcome.Status.{Status}
 use Rattle.globex_run.specs.declared.outcome.Status.TheVariants as status
-use Rattle.globex_run.proofs.Running.{and_left-then}
+use Rattle.globex_run.proofs.Running.{and_left-none, and_left-then}
 
 -- what was read stands behind what was read before
 pub read-more : (len n N : ℕ) (xs into post tail : List ℕ) → len ≤ length xs → n ≤ length into → len + n ≤ N
@@ -32,9 +33,29 @@ pub as-defined : (read : Result ProductLists ProductFault) (text : List ℕ) →
 as-defined (Ok product) text ok err there = sym ok
 as-defined (Err fault) text ok err there = sym (err (λ no. there (ap (λ (f : ProductFault). Err f) no)))
 
-module _ {P : Type 0} (m : SourceMeanings P) (old new : P) (text : List ℕ) (read : Result ProductLists ProductFault) (taken : IsProductText m old new text) (gives : read ≢ Err NoMemory → read ≡ product_of text) where
+-- a read failed behind what was taken
+pub unread-text : {P : Type 0} (m : SourceMeanings P) (old now new : P) (taken : List ℕ) → m.left old ≡ and_left taken (m.left now) → m.left new ≡ m.left now → length taken ≤ 65536 → TakesAtMost m 65536 old new
+unread-text m old now new taken was same few = record { text = taken; left = was ∙ ap (λ (l : Option (List ℕ)). and_left taken l) (sym same); few = few }
+
+pub none-taken : {P : Type 0} (m : SourceMeanings P) (source : P) → TakesAtMost m 65536 source source
+none-taken m source = record { text = []; left = and_left-none (m.left source); few = omega arith }
+
+-- a longer text is refused as too long, whatever memory there is
+pub few-taken : {P : Type 0} (m : SourceMeanings P) (old new : P) (text : List ℕ) (read : Result ProductLists ProductFault) → IsProductText m old new text → (65536 < length text → read ≡ Err TooLong) → read ≢ Err TooLong → TakesAtMost m 65536 old new
+few-taken m old new text read taken limit other = record {
+  text = text;
+  left = taken.left;
+  few = elim (cases_lt 65536 (length text)) [
+    | inl long ↦ absurd (other (limit long))
+    | inr short ↦ short
+  ];
+}
+
+module _ {P : Type 0} (m : SourceMeanings P) (old new : P) (text : List ℕ) (read : Result ProductLists ProductFault) (taken : IsProductText m old new text) (limit : 65536 < length text → read ≡ Err TooLong) (gives : read ≢ Err NoMemory → read ≡ product_of text) where
   refused-product : (how : Status) (place : ℕ) → JudgesAs read how place → RefusesAs m old new how place
-  refused-product status.NoMemory place j = (j.0, taken.quiet)
+  refused-product status.NoMemory place j =
+      let other : read ≢ Err TooLong = λ long. let e : Err NoMemory ≡ Err TooLong = sym j.1 ∙ long in cc e in
+      (j.0, few-taken m old new text read taken limit other, taken.quiet)
   refused-product status.Product place j = (text, taken, subst (λ (r : Result ProductLists ProductFault). IsRefusedAt place r) (gives j.0) j.1)
   refused-product status.Ok place j = absurd j
   refused-product status.BadWords place j = absurd j

@@ -46,7 +46,7 @@ module _ {P : Type 0} (products : SourceMeanings P) (first last : P) (lists : Pr
   -- where the product is told and served, and no read of it failed, it is want of memory alone
   pub unserved-memory : (how : Status) (place : ℕ) → RefusesAs products first last how place → how ≡ status.NoMemory
   unserved-memory status.NoMemory place did = refl
-  unserved-memory status.ReadFault place did = absurd (quiet did.1)
+  unserved-memory status.ReadFault place did = absurd (quiet did.2)
   unserved-memory status.Product place did = absurd (right_text place did.0 did.1 did.2)
   unserved-memory status.Ok place did = absurd did
   unserved-memory status.BadWords place did = absurd did

@@ -15,16 +15,28 @@ use Rattle.globex_run.specs.declared.outcome.Status.{Status}
 abbrev pub longest_text : ℕ
 longest_text = 65536
 
+-- the most bytes that are taken of it: those of the longest text, and of one read more
+abbrev pub most_taken : ℕ
+most_taken = 69632
+
+-- at most so many bytes were taken from a source
+pub record TakesAtMost {P : Type 0} (m : SourceMeanings P) (most : ℕ) (old new : P) : Type 0 where
+  pub text : List ℕ
+  pub left : m.left old ≡ and_left text (m.left new)
+  pub few : length text ≤ most
+
 -- these bytes were taken from a source: all that it had, or more than a product's text may have
 pub record IsProductText {P : Type 0} (m : SourceMeanings P) (old new : P) (text : List ℕ) : Type 0 where
   pub left : m.left old ≡ and_left text (m.left new)
   pub whole : length text ≤ longest_text → IsAtEnd (m.left new)
+  pub few : length text ≤ most_taken
   pub quiet : m.faults new ≡ m.faults old
 
 -- a text was taken into the front of some room, or a read failed
 pub record TakesText {P F : Type 0} (m : SourceMeanings P) (old new : P) (room : List ℕ) (result : Result ℕ F) : Type 0 where
   pub within : IfOk result (λ n. n ≤ length room)
   pub taken : IfOk result (λ n. IsProductText m old new (take n room))
+  pub unread : OnErr result (TakesAtMost m longest_text old new)
   pub rose : OnErr result (Rose (m.faults old) (m.faults new))
 
 -- the place that status 3 tells: the number of the first rule that the text breaks
@@ -50,8 +62,8 @@ Judges read (Err ending) = JudgesAs read ending.status ending.at
 
 -- why no product was taken
 abbrev pub RefusesAs : {P : Type 0} → SourceMeanings P → P → P → Status → ℕ → Type 0
-RefusesAs m old new status.NoMemory place = (place ≡ 0) × (m.faults new ≡ m.faults old)
-RefusesAs m old new status.ReadFault place = (place ≡ 0) × Rose (m.faults old) (m.faults new)
+RefusesAs m old new status.NoMemory place = (place ≡ 0) × TakesAtMost m longest_text old new × (m.faults new ≡ m.faults old)
+RefusesAs m old new status.ReadFault place = (place ≡ 0) × TakesAtMost m longest_text old new × Rose (m.faults old) (m.faults new)
 RefusesAs m old new status.Product place = (text : List ℕ) × IsProductText m old new text × IsRefusedAt place (product_of text)
 RefusesAs m old new status.Ok place = ⊥
 RefusesAs m old new status.BadWords place = ⊥

@@ -5,11 +5,11 @@ use Rattle.gx_base.specs.Told.{TellsPrefix}
 use Rattle.gx_station.specs.Counts.{Rose}
 use Rattle.gx_station.specs.Sources.{SourceMeanings, and_left, IsAtEnd}
 use Rattle.gx_station.specs.Stations.{StationMeanings, sent_and}
-use Rattle.fix_frame.specs.Grammar.{IsFrame}
+use Rattle.fix_frame.specs.Grammar.{IsFrame, IsFrameFront}
 use Rattle.fix_frame.specs.Stream.{messages_of, rest_of, IsBroken, IsCut}
 use Rattle.product_file.specs.Products.{ProductLists}
 use Rattle.product_file.specs.ProductTexts.{product_of}
-use Rattle.globex_run.specs.ProductTexts.{IsProductText, IsRefusedAt}
+use Rattle.globex_run.specs.ProductTexts.{longest_text, TakesAtMost, IsProductText, IsRefusedAt}
 use Rattle.globex_run.specs.Step.{reports_of}
 use Rattle.globex_run.specs.ServedRequests.{is_served_frame}
 use Rattle.globex_run.specs.Served.{AreServed, AreServedFrames}
@@ -44,8 +44,9 @@ abbrev pub EndsAs : ProductLists → Status → ℕ → ℕ → List ℕ → Typ
 -- all was read, and all was served
 EndsAs product status.Ok place count taken AtEnd =
     AtEnd × (count ≡ length (messages_of taken)) × (rest_of taken ≡ [])
+-- all frames were served, and what stands behind them is the front of one
 EndsAs product status.ReadFault place count taken AtEnd =
-    (place ≡ length taken) × (count ≡ length (served_front product taken))
+    (place ≡ length taken) × (count ≡ length (messages_of taken)) × IsFrameFront (rest_of taken)
 EndsAs product status.SendFault place count taken AtEnd = Unit {0}
 -- the next frame is not served; or all frames were served, and what stands behind them is the front of none
 EndsAs product status.BadFrame place count taken AtEnd =
@@ -91,10 +92,11 @@ pub record IsUntouched {I S : Type 0} (old new : I) (before after : S) (count : 
   pub station : after ≡ before
   pub none : count ≡ 0
 
--- a read of the product failed
+-- a read of the product failed, and no more was taken of it than a product's text may have
 pub record ProductUnread {P : Type 0} (products : SourceMeanings P) (first last : P) (how : Status) (place : ℕ) : Type 0 where
   pub is : how ≡ status.ReadFault
   pub nowhere : place ≡ 0
+  pub taken : TakesAtMost products longest_text first last
   pub rose : Rose (products.faults first) (products.faults last)
 
 -- the product's text breaks a rule, of which the place is the number

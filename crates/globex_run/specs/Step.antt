@@ -1,5 +1,5 @@
 -- One message after the other: what each does to the state, and what is reported.
-use Rattle.std.specs.Prelude.{ℕ, ◌+◌, List, [], ◌∷◌, ◌++◌, flat_map}
+use Rattle.std.specs.Prelude.{ℕ, ◌+◌, Bool, true, false, List, [], ◌∷◌, ◌++◌, flat_map}
 use Rattle.gx_base.specs.Line.{line_of}
 use Rattle.gx_base.specs.declared.event.Event.{Event}
 use Rattle.product_file.specs.Products.{ProductLists}
@@ -13,6 +13,14 @@ use Rattle.globex_run.specs.Cancels.{cancel_step, session_step}
 -- every message counts
 abbrev pub with_message : State → State
 with_message state = record state { desk = record state.desk { messages = state.desk.messages + 1 } }
+
+-- a session message, which has no report
+abbrev pub is_passed : Request → Bool
+is_passed (Passed sender) = true
+is_passed (New order) = false
+is_passed (Cancel order) = false
+is_passed (Replace order) = false
+is_passed (Refused refusal) = false
 
 -- what a request does: the state after it, and its events. A replace is not served yet.
 abbrev pub request_step : ProductLists → Request → State → State × List Event

@@ -4,7 +4,7 @@ ghost use Rattle.gx_base.specs.Emits.{Emits};
 ghost use Rattle.fix_request.specs.Given.{IsGivenRequest};
 ghost use Rattle.globex_run.specs.State.{empty_state};
 ghost use Rattle.globex_run.specs.ServedRequests.{is_served};
-ghost use Rattle.globex_run.specs.Step.{with_message, request_step};
+ghost use Rattle.globex_run.specs.Step.{with_message, is_passed, request_step};
 ghost use Rattle.globex_run.specs.Fit.{IsState, IsCounting, IsServing, IsSameSize, FitsProduct, state_of};
 
 use crate::cancel::{apply_cancel, refuse_message};
@@ -72,6 +72,7 @@ impl Engine {
         requires fits { FitsProduct product.now self.old.book }
         ensures state { self.new ≡ (request_step product.now request.now (with_message self.old)).0 }
         ensures told { Emits E.meanings out.old out.new (request_step product.now request.now (with_message self.old)).1 }
+        ensures silent { IsTrue (is_passed request.now) → out.new ≡ out.old }
         ensures count { self.new.desk.messages ≡ self.old.desk.messages + 1 }
         ensures fits { FitsProduct product.now self.new.book }
     {
@@ -94,6 +95,7 @@ fn apply_counted<B: Book, E: Emit>(
     requires fits { FitsProduct product.now (B.book book.old) }
     ensures now { IsState (request_step product.now request.now (state_of (B.book book.old) desk.old)).0 (B.book book.new) desk.new }
     ensures told { Emits E.meanings out.old out.new (request_step product.now request.now (state_of (B.book book.old) desk.old)).1 }
+    ensures silent { IsTrue (is_passed request.now) → out.new ≡ out.old }
     ensures serving { IsServing (B.book book.new) desk.new }
     ensures size { IsSameSize (B.book book.old) (B.book book.new) }
     ensures count { desk.new.messages ≡ desk.old.messages }

@@ -4,6 +4,7 @@ ghost use Rattle.gx_station.specs.Counts.{Rose};
 ghost use Rattle.product_file.specs.Products.{ProductLists};
 ghost use Rattle.globex_run.specs.Words.{is_run};
 ghost use Rattle.globex_run.specs.Outcomes.{is_outcome};
+ghost use Rattle.globex_run.specs.ProductTexts.{longest_text, TakesAtMost};
 ghost use Rattle.globex_run.specs.Ran.{RanTo, TellsProduct, IsServedInput, NoFault};
 
 use crate::engine::Engine;
@@ -73,8 +74,9 @@ pub fn globex<P: Source, I: Source, S: Station>(
     ensures all_served { IsTrue (is_run words.now) → (lists : ProductLists) → TellsProduct P.meanings product.old lists → IsServedInput I.meanings lists input.old → NoFault (P.meanings.faults product.old) (P.meanings.faults product.new) → NoFault (I.meanings.faults input.old) (I.meanings.faults input.new) → NoFault (S.meanings.send_faults station.old) (S.meanings.send_faults station.new) → (result.status ≡ 0) ⊎ (result.status ≡ 1) }
 
     // Want of memory, words that are no command, or a product that is refused, leave the input and the station untouched.
+    // At want of memory no more was taken of the product than its text may have.
     ensures none { (result.status ≡ 1) ⊎ ((result.status ≡ 2) ⊎ (result.status ≡ 3)) → result.messages ≡ 0 }
-    ensures no_memory { result.status ≡ 1 → (input.new ≡ input.old) × (station.new ≡ station.old) }
+    ensures no_memory { result.status ≡ 1 → (input.new ≡ input.old) × (station.new ≡ station.old) × TakesAtMost P.meanings longest_text product.old product.new }
     ensures bad_words { result.status ≡ 2 → (product.new ≡ product.old) × (input.new ≡ input.old) × (station.new ≡ station.old) }
     ensures bad_product { result.status ≡ 3 → (input.new ≡ input.old) × (station.new ≡ station.old) }
 

@@ -1,10 +1,10 @@
 //! Serving the input: frames in, reports out, one message after the other.
-ghost use Rattle.std.specs.Prelude.{◌≡◌, ◌≢◌, ◌+◌, ◌*◌, ◌^◌, ◌<◌, ◌≤◌, [], OnOk, IsTrue, vec_len, length};
+ghost use Rattle.std.specs.Prelude.{◌≡◌, ◌≢◌, ◌+◌, ◌*◌, ◌^◌, ◌<◌, ◌≤◌, [], IsOk, OnOk, IsTrue, vec_len, length};
 ghost use Rattle.gx_station.specs.Quiet.{Sends};
 ghost use Rattle.fix_frame.specs.Grammar.{IsFrame};
 ghost use Rattle.fix_request.specs.Given.{IsGivenRequest};
 ghost use Rattle.globex_run.specs.ServedRequests.{is_served};
-ghost use Rattle.globex_run.specs.Step.{with_message, request_step, lines_of};
+ghost use Rattle.globex_run.specs.Step.{with_message, is_passed, request_step, lines_of};
 ghost use Rattle.globex_run.specs.State.{empty_state};
 ghost use Rattle.globex_run.specs.Fit.{FitsProduct};
 ghost use Rattle.globex_run.specs.Outcomes.{place_of};
@@ -43,7 +43,7 @@ impl Ending {
     }
 }
 
-/// Applies a message, and sends its reports.
+/// Applies a message, and sends its reports. A session message has none, and the station is not called.
 fn serve_request<S: Station>(
     product: &Product,
     engine: &mut Engine,
@@ -60,6 +60,7 @@ fn serve_request<S: Station>(
     ensures count { engine.new.desk.messages ≡ engine.old.desk.messages + 1 }
     ensures fits { FitsProduct product.now engine.new.book }
     ensures sends { Sends S.meanings station.old station.new (lines_of product.now (request_step product.now request.now (with_message engine.old)).1) result }
+    ensures silent { IsTrue (is_passed request.now) → IsOk result × (station.new ≡ station.old) }
     ensures empty { OnOk result (buffer.new ≡ []) }
 {
     let mut out = Outgoing::new(buffer, station, product.names());

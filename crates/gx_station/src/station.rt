@@ -5,8 +5,11 @@ ghost use Rattle.gx_station.specs.Honest.{IsHonestNow, PassesOutputs};
 ghost use Rattle.gx_station.specs.Quiet.{Sends};
 ghost use Rattle.gx_station.specs.StoreCalls.{Measures, Reads, Writes, Syncs};
 
+use thiserror::Error;
+
 /// The one fault of the outside.
-#[derive(Clone, Copy, Debug, PartialEq, Eq)]
+#[derive(Clone, Copy, Debug, Error, PartialEq, Eq)]
+#[error("a call on the outside has failed")]
 pub struct Failed;
 
 /// A store of one image, and an output. Offsets and lengths are in bytes. The four calls on the image are `Failed` only where

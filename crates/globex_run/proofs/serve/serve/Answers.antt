@@ -46,7 +46,7 @@ returns-in-Ok-eq0-clause-ran g c =
 pub returns-in-Err-take_more-clause-ran : goal.returns-in-Err-take_more-clause-ran
 returns-in-Err-take_more-clause-ran g c =
     ran-read_fault g.I.Source.meanings g.S.Station.meanings c.args.product.now c.args.input.now c.turns.input c.args.station.now c.turns.station c.turns.framer c.turns.engine c.turns.invariant.run c.turns.invariant.few
-    c.take_more.new.input c.next.new.self c.take_more.new.framer (messages_of-unfinished c.turns.framer.rest c.in-More.ensures.front.1) c.in-Err-take_more.field-0 (c.offset-at.result + c.rest-held.result) c.new-in-Err-take_more.result c.in-Err-take_more.ensures.takes (omega (arith, c.offset-at.ensures, c.rest-held.ensures.count)) c.new-in-Err-take_more.ensures
+    c.take_more.new.input c.next.new.self c.take_more.new.framer (messages_of-unfinished c.turns.framer.rest c.in-More.ensures.front.1) c.in-Err-take_more.field-0 (c.offset-at.result + c.rest-held.result) c.new-in-Err-take_more.result c.in-Err-take_more.ensures.takes (unfinished_front c.turns.framer.rest c.in-More.ensures.front.1) (omega (arith, c.offset-at.ensures, c.rest-held.ensures.count)) c.new-in-Err-take_more.ensures
 
 -- src/serve.rt:147:30
 pub returns-in-Bad-clause-ran : goal.returns-in-Bad-clause-ran
