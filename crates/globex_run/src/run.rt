@@ -46,8 +46,8 @@ impl Rooms {
     }
 }
 
-/// Runs the command of the words: `run` takes the product, serves the input and sends the reports, each message applied
-/// and its reports sent before the next one.
+/// Runs the command of the words: `run` takes the product, serves the input and sends the reports. Each message is applied
+/// and its reports are sent before the next one: that is tested, and the clauses speak of what was sent at the end.
 ///
 /// However the input is cut into reads, what is sent are the reports of the first messages of the bytes taken, of as
 /// many as `messages` says: all of these, or at a send fault a part from their front. `Outcome` lists the statuses.

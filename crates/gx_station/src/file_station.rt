@@ -86,7 +86,7 @@ impl<W: Write> Station for FileStation<W> {
     }
 
     /// As the trait says. Ok says that the writer took all of the bytes. `Failed` says that it failed, or did so when it was
-    /// flushed; it then has taken a part from their front, or all.
+    /// flushed; it then has taken a part from their front, or all. That it is flushed is tested, and no claim of the proof.
     fn send(&mut self, bytes: &[u8]) -> Result<(), Failed>
         ensures sends { Sends file_meanings self.old self.new bytes.now result }
         ensures passes { PassesOutputs file_meanings self.old self.new }

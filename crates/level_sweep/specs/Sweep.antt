@@ -1,5 +1,4 @@
--- Level matches and sweeps. After the exchange's published outline; that a list of steps may be any right one is our own
--- rule.
+-- Level matches and sweeps: our own rule, after the exchange's published outline.
 use Rattle.std.specs.Prelude.{◌≡◌, ℕ, ◌==◌, if◌then◌else◌, List, [], ◌∷◌, Option, Some, None, IsTrue, ◌⊎◌}
 use Prim.Native.Nat.{zero, suc}
 use Rattle.gx_base.specs.declared.price.Price.{Price}

@@ -68,7 +68,7 @@ fn run_if_wanted<B: Book, E: Emit>(
 
 /// The level match: the steps in their order, each at this price and on the level as the step before it left it, and
 /// none once no lots are wanted. In the end no lots are wanted or no order is left at the price. Only resting orders
-/// change. After the exchange's published outline.
+/// change. Our own rule, after the exchange's published outline.
 pub fn match_level<B: Book, E: Emit>(
     book: &mut B,
     desk: &mut Desk,

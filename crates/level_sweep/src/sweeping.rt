@@ -81,8 +81,8 @@ fn match_best<B: Book, E: Emit>(
 }
 
 /// The sweep: while lots are wanted and the best opposite price is within the limit, a level match at that price. In the
-/// end no lots are wanted or no price within the limit is left. Only resting orders change. After the exchange's published
-/// outline.
+/// end no lots are wanted or no price within the limit is left. Only resting orders change. Our own rule, after the
+/// exchange's published outline.
 pub fn sweep<B: Book, E: Emit>(
     book: &mut B,
     desk: &mut Desk,

@@ -25,8 +25,8 @@ fn lots_of<B: Book>(book: &B, slot: Slot, wanted: u32) -> u32
 /// The leveling step at a price: one lot, by priority, goes to each order of the side opposite to the taker's at this
 /// price that the pro rata step last marked with a share of 0, while any lots are wanted. They are the orders that stand
 /// there as the step starts, so that one which is refreshed gives once. Their marks stay. Each trade puts two Fill events,
-/// the resting order's first, and lengthens the taker's range. Where nothing is wanted, nothing is done. After the
-/// exchange's published outline.
+/// the resting order's first, and lengthens the taker's range. Where nothing is wanted, nothing is done. Our own
+/// rule, after the exchange's published outline.
 pub fn leveling_pass<B: Book, E: Emit>(
     book: &mut B,
     desk: &mut Desk,

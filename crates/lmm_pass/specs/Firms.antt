@@ -1,4 +1,4 @@
--- The orders of one firm at a level, and what they give of its share. After the exchange's published outline.
+-- The orders of one firm at a level, and what they give of its share: our own rule, after the exchange's published outline.
 use Rattle.std.specs.Prelude.{◌≡◌, ℕ, ◌==◌, min, Bool, false, if◌then◌else◌, List, filter}
 use Rattle.gx_base.specs.declared.price.Price.{Price}
 use Rattle.gx_base.specs.declared.order.Order.{Order}

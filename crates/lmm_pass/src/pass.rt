@@ -76,7 +76,7 @@ fn spend_on_firm<B: Book, E: Emit>(
 /// priority, and each gives at most what it shows. What a firm's orders cannot give is passed on to no other firm. The
 /// orders are those that stand there as the step starts, so that one which is refreshed gives once. Each trade puts two
 /// Fill events, the resting order's first, and lengthens the taker's range. The orders of all other firms stay as they
-/// are. After the exchange's published outline.
+/// are. Our own rule, after the exchange's published outline.
 pub fn lmm_pass<B: Book, E: Emit>(
     book: &mut B,
     desk: &mut Desk,

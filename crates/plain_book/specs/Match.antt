@@ -1,4 +1,4 @@
--- One trade of a resting order and the incoming one, with its reports. After the exchange's published outline.
+-- One trade of a resting order and the incoming one, with its reports: our own rule, after the exchange's published outline.
 use Rattle.std.specs.Prelude.{◌≡◌, ℕ, ◌+◌, ◌-◌, ◌*◌, ◌^◌, ◌<◌, ◌≤◌, ◌==◌, int_lt, if◌then◌else◌, List, [], ◌∷◌, ◌++◌, slice_index, slice_set, Option, Some, None, false}
 use Rattle.gx_base.specs.declared.price.Price.{Price}
 use Rattle.gx_base.specs.declared.order.Order.{Order}

@@ -1,4 +1,4 @@
--- Lists of live orders: what is asked of them, and what they become. After the exchange's published outline.
+-- Lists of live orders: what is asked of them, and what they become: our own rule, after the exchange's published outline.
 --
 -- A definition names an order by a number, its slot. In the contract of a call that is the order's slot in its
 -- container. Where a state has no slots, it is the order's own number: the definitions are the same.

@@ -1,4 +1,4 @@
--- The shares that each step of a match gives, and what the step does. After the exchange's published outline.
+-- The shares that each step of a match gives, and what the step does: our own rule, after the exchange's published outline.
 --
 -- The shares are slots and lots, of q lots that are wanted as the step starts, and of the level as it stands then. They are
 -- traded in this order. FIFO alone looks again after each trade.

@@ -75,9 +75,9 @@ fn give_share<B: Book, E: Emit>(
     give_marked(book, desk, taker, slot, share, out);
 }
 
-/// Makes exactly the trades of a pro rata step at a price, and marks each order of the level with its share, after the
-/// exchange's published outline. All shares are taken of the level as it stands at the start. Where nothing is wanted, it
-/// does nothing.
+/// Makes exactly the trades of a pro rata step at a price, and marks each order of the level with its share. All shares
+/// are taken of the level as it stands at the start. Where nothing is wanted, it does nothing. Our own rule, after the
+/// exchange's published outline.
 pub fn prorata_pass<B: Book, E: Emit>(
     book: &mut B,
     desk: &mut Desk,

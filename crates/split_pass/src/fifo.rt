@@ -12,7 +12,7 @@ use plain_book::{Book, opposite_side, trade_lots};
 /// The FIFO step at a price: the first order of the opposite side at this price gives what it shows, as far as it is
 /// wanted, and then the order that is first after that trade, until no lots are wanted or no order is left there. Each
 /// trade puts two Fill events, the resting order's first, and lengthens the taker's range. Where nothing is wanted,
-/// nothing is done. After the exchange's published outline.
+/// nothing is done. Our own rule, after the exchange's published outline.
 pub fn fifo_pass<B: Book, E: Emit>(
     book: &mut B,
     desk: &mut Desk,

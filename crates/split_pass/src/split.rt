@@ -22,8 +22,8 @@ fn part_of(wanted: u32, percent: u8) -> u32
 /// The SPLIT step at a price: of the lots that are wanted, a percentage from 1 to 100, rounded down, goes to the orders of
 /// the opposite side at this price, by priority, and each gives at most what it shows. They are the orders that stand
 /// there as the step starts, so that one which is refreshed gives once. Each trade puts two Fill events, the resting
-/// order's first, and lengthens the taker's range. Where nothing is wanted, nothing is done. After the exchange's
-/// published outline.
+/// order's first, and lengthens the taker's range. Where nothing is wanted, nothing is done. Our own rule,
+/// after the exchange's published outline.
 pub fn split_pass<B: Book, E: Emit>(
     book: &mut B,
     desk: &mut Desk,

@@ -18,7 +18,7 @@ fn is_same_price(a: Price, b: Price) -> bool
 /// The TOP step at a price: the TOP order of the side opposite to the taker's gives what is wanted, at most what it shows
 /// and at most `rule.max` lots. Where it gives any, the trade puts two Fill events, the resting order's first, and
 /// lengthens the taker's range. Where that side has no TOP order, or where it stands at another price, nothing is done.
-/// `rule.min` decides which orders become TOP, and nothing here. After the exchange's published outline.
+/// `rule.min` decides which orders become TOP, and nothing here. Our own rule, after the exchange's published outline.
 pub fn top_pass<B: Book, E: Emit>(
     book: &mut B,
     desk: &mut Desk,

@@ -166,15 +166,16 @@ fn failed_read_after_an_order(rt: HostRuntime) -> Result<(), Fail> {
     Ok(())
 }
 
+/// The first message is reported before the second one is applied.
 #[test]
-fn failed_send_of_an_order(rt: HostRuntime) -> Result<(), Fail> {
+fn failed_send_of_the_second_order(rt: HostRuntime) -> Result<(), Fail> {
     let alloc = rt.alloc();
     let words = vec![in alloc; String::from_str(alloc, "run")?]?;
     let text = PRODUCT.as_bytes().to_vec(alloc)?;
     let mut product = MemSource::new(alloc, text, Vec::new(alloc), Vec::new(alloc))?;
     let input = bytes_of(alloc, ORDERS)?;
     let mut input = MemSource::new(alloc, input, Vec::new(alloc), Vec::new(alloc))?;
-    let fail = vec![in alloc; 1]?;
+    let fail = vec![in alloc; 2]?;
     let mut station = MemStation::new(alloc, Vec::new(alloc), 0, 65_536, 100, fail)?;
     let got = globex(
         alloc,
@@ -183,7 +184,34 @@ fn failed_send_of_an_order(rt: HostRuntime) -> Result<(), Fail> {
         &mut input,
         &mut station,
     );
-    assert_eq!(rt; got, after_one(6, 0));
-    assert_eq!(rt; station.output().len(), 0);
+    let outcome = Outcome {
+        status: 6,
+        at: 0,
+        messages: 2,
+    };
+    assert_eq!(rt; got, outcome);
+    assert_eq!(rt; station.output(), bytes_of(alloc, ACCEPTED)?.as_slice());
+    assert_eq!(rt; station.calls(), 2);
+    Ok(())
+}
+
+/// The station has room for no call.
+#[test]
+fn a_heartbeat_calls_no_station(rt: HostRuntime) -> Result<(), Fail> {
+    let alloc = rt.alloc();
+    let words = vec![in alloc; String::from_str(alloc, "run")?]?;
+    let text = PRODUCT.as_bytes().to_vec(alloc)?;
+    let mut product = MemSource::new(alloc, text, Vec::new(alloc), Vec::new(alloc))?;
+    let input = bytes_of(alloc, HEARTBEAT)?;
+    let mut input = MemSource::new(alloc, input, Vec::new(alloc), Vec::new(alloc))?;
+    let mut station = MemStation::new(alloc, Vec::new(alloc), 0, 0, 0, Vec::new(alloc))?;
+    let got = globex(
+        alloc,
+        words.as_slice(),
+        &mut product,
+        &mut input,
+        &mut station,
+    );
+    assert_eq!(rt; got, after_one(0, 0));
     Ok(())
 }
