@@ -4,7 +4,8 @@ ghost use Rattle.toml.specs.View.{view};
 ghost use Rattle.product_file.specs.declared.faults.ProductFault.TheVariants.{NoMemory, Text};
 ghost use Rattle.toml.specs.Data.{table};
 ghost use Rattle.toml.specs.Parse.{parse_document};
-ghost use Rattle.product_file.specs.ProductTexts.{document_of, product_of_document, product_of};
+ghost use Rattle.product_file.specs.ProductTexts.{document_of, product_of};
+ghost use Rattle.product_file.specs.Inner.Documents.{product_of_document};
 
 use crate::faults::{Key, ProductFault};
 use crate::firms::firms_of;
@@ -58,7 +59,7 @@ fn parsed(alloc: Global, text: &str) -> Result<Value, ProductFault>
 }
 
 /// The product of a document. Takes memory for the numbers of its firms.
-#[tactic(auto, unfolding(crate::specs::ProductTexts::product_of_document))]
+#[tactic(auto, unfolding(crate::specs::Inner::Documents::product_of_document))]
 fn product_of_document(alloc: Global, document: &Value) -> Result<Product, ProductFault>
     ensures read { IfOk result (λ product. product_of_document (view document.now) ≡ Ok product) }
     ensures refused { IfErr result (λ fault. fault ≢ NoMemory → product_of_document (view document.now) ≡ Err fault) }
