@@ -10,7 +10,7 @@ use Rattle.product_file.specs.Values.{entries_of, value_at}
 
 -- ---- rows
 
--- whether a key has to be there: always, never, or where the table that it stands in is such
+-- when a key has to be there: always, never, or only where the table that it stands in is such
 pub data Need : Type 0 where
   always : Need
   optional : Need
