@@ -1,7 +1,7 @@
 -- What is known of the steps of a reading that gave something.
 use Rattle.std.proofs.Common.{◌≡◌, Bool, true, false, cond, Option, Some, None, ok_or, Result, Ok, Err, refl}
 use Rattle.product_file.specs.declared.faults.ProductFault.{ProductFault}
-use Rattle.product_file.specs.Keys.{◌>>=◌}
+use Rattle.product_file.specs.Inner.Keys.{◌>>=◌}
 
 -- both steps gave something
 pub both_gave : {A B : Type 0} (r : Result A ProductFault) (f : A → Result B ProductFault) (b : B) → (r >>= f) ≡ Ok b → (a : A) × (r ≡ Ok a) × (f a ≡ Ok b)

@@ -1,10 +1,10 @@
 -- One table further in the instruments of a document.
-use Rattle.std.proofs.Common.{◌≡◌, ℕ, List, [], ◌∷◌, ◌++◌, Result, Ok, Err, refl}
+use Rattle.std.proofs.Common.{◌≡◌, ℕ, List, [], ◌∷◌, ◌++◌, Ok, Err, refl}
 use Rattle.gx_base.specs.declared.names.Listed.{Listed}
 use Rattle.toml.specs.Data.{Data}
 use Rattle.product_file.specs.declared.product.InstrumentRule.{InstrumentRule}
 use Rattle.product_file.specs.declared.faults.ProductFault.{ProductFault}
-use Rattle.product_file.specs.Instruments.{listed_of, rule_of, InstrumentLists, instruments_after, tables_of, instruments_of}
+use Rattle.product_file.specs.Inner.Instruments.{listed_of, rule_of, InstrumentLists, instruments_after, tables_of, instruments_of}
 
 pub instruments_from : (firms : List (List ℕ)) (document : Data) (tables : List Data) → Ok tables ≡ tables_of document → instruments_of firms document ≡ instruments_after firms (record { listed = []; rules = [] }) tables
 unfolding instruments_of

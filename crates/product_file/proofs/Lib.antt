@@ -11,3 +11,12 @@ pub mod Seven
 pub mod SharesAfter
 pub mod InstrumentsAfter
 pub mod RightProduct
+pub mod Judged
+pub mod FaultsInOrder
+pub mod RowValues
+pub mod RowFirms
+pub mod RowShares
+pub mod RowRules
+pub mod RowInstruments
+pub mod RowProduct
+pub mod ReadTexts

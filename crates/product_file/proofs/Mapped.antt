@@ -2,9 +2,9 @@
 use Rattle.std.proofs.Common.{◌≡◌, ℕ, zero, suc, ◌+◌, ◌<◌, Bool, ◌||◌, List, [], ◌∷◌, ◌++◌, length, map, get_or, take, drop, sym, ap, ◌∙◌, refl}
 use Rattle.std.proofs.lemmas.List.{length-map, get_or-map, take_more, drop_more}
 use Rattle.std.specs.List.{list_any}
-use Rattle.toml.specs.View.{view, items_of}
+use Rattle.toml.specs.View.{items_of}
 use Rattle.toml.specs.Data.{Data}
-use Rattle.product_file.specs.Keys.{entries_of}
+use Rattle.product_file.specs.Values.{entries_of}
 
 -- the entries of an array's items
 pub entries_of-items_of : (ds : List Data) → entries_of (items_of ds) ≡ ds

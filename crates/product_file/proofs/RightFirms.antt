@@ -1,5 +1,5 @@
 -- What the firms of a document are like.
-use Rattle.std.proofs.Common.{◌≡◌, ℕ, ◌≤◌, Bool, true, false, ◌&&◌, nat_le, List, [], ◌∷◌, length, map, Option, Some, None, Result, Ok, Err, bytes_eq, refl, subst, ap, arith}
+use Rattle.std.proofs.Common.{◌≡◌, ℕ, ◌≤◌, true, ◌&&◌, nat_le, List, [], ◌∷◌, length, map, Option, Some, None, Ok, bytes_eq, refl, subst, ap, arith}
 use Rattle.std.specs.List.{IsDistinct, list_all}
 use Rattle.std.proofs.lemmas.Bool.{and_parts}
 use Rattle.std.proofs.lemmas.Bool.Decides.{nat_tests}
@@ -7,8 +7,11 @@ use Rattle.step_config.proofs.Right.{distinct}
 use Rattle.toml.specs.Data.{Data}
 use Rattle.product_file.specs.declared.faults.ProductFault.TheVariants.{Range}
 use Rattle.product_file.specs.declared.faults.Key.TheVariants.{Firms}
-use Rattle.product_file.specs.Keys.{◌>>=◌, needed, array_of, is_text, text_in}
-use Rattle.product_file.specs.FirmNames.{is_firm_name, are_firm_names, first_name_twice, unless_twice, each_once, firm_names, firms_of}
+use Rattle.product_file.specs.Values.{text_in}
+use Rattle.product_file.specs.Rows.{is_text}
+use Rattle.product_file.specs.Ranges.{is_firm_name}
+use Rattle.product_file.specs.Inner.Keys.{◌>>=◌, needed, array_of}
+use Rattle.product_file.specs.Inner.FirmNames.{are_firm_names, first_name_twice, unless_twice, each_once, firm_names, firms_of}
 use Rattle.product_file.proofs.Given.{both_gave, test_passed}
 
 pub record AreRightFirms (firms : List (List ℕ)) : Type 0 where

@@ -1,5 +1,5 @@
 -- What the instruments of a document are like.
-use Rattle.std.proofs.Common.{◌≡◌, ℕ, ◌+◌, ◌≤◌, ◌==◌, Bool, true, false, ◌&&◌, cond, nat_le, List, [], ◌∷◌, ◌++◌, length, map, bytes_eq, Result, Ok, Err, refl, subst, arith, length-append}
+use Rattle.std.proofs.Common.{◌≡◌, ℕ, ◌+◌, ◌≤◌, Bool, true, false, ◌&&◌, cond, nat_le, List, [], ◌∷◌, ◌++◌, length, bytes_eq, Ok, Err, refl, subst, arith, length-append}
 use Rattle.std.specs.List.{IsDistinct, AllByRecursion, list_any}
 use Rattle.std.proofs.lemmas.Bool.{and_parts}
 use Rattle.std.proofs.lemmas.Bool.Decides.{nat_tests}
@@ -10,8 +10,9 @@ use Rattle.product_file.specs.declared.product.InstrumentRule.{InstrumentRule}
 use Rattle.product_file.specs.declared.faults.ProductFault.{ProductFault}
 use Rattle.product_file.specs.declared.faults.ProductFault.TheVariants.{Range, Twice}
 use Rattle.product_file.specs.declared.faults.Key.TheVariants.{Instrument, Name, Decimals}
-use Rattle.product_file.specs.Keys.{◌>>=◌, needed, needed_name, needed_number, array_of, is_table}
-use Rattle.product_file.specs.Instruments.{new_name_of, listed_of, rule_of, InstrumentLists, instruments_after, tables_of, instruments_of}
+use Rattle.product_file.specs.Rows.{is_table}
+use Rattle.product_file.specs.Inner.Keys.{needed, needed_name, needed_number, array_of}
+use Rattle.product_file.specs.Inner.Instruments.{new_name_of, listed_of, rule_of, InstrumentLists, instruments_after, tables_of, instruments_of}
 use Rattle.product_file.specs.Products.{IsRightInstrument}
 use Rattle.product_file.proofs.Given.{both_gave, test_passed}
 use Rattle.product_file.proofs.Lists.{all_push, distinct_push}

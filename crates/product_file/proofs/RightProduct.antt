@@ -1,11 +1,9 @@
 -- What is read is a right product.
-use Rattle.std.proofs.Common.{◌≡◌, ℕ, ◌≤◌, List, length, map, bytes_eq, Option, Some, None, unwrap_or, IfSome, Result, Ok}
-use Rattle.gx_base.specs.declared.names.Listed.{Listed}
+use Rattle.std.proofs.Common.{◌≡◌, ℕ, ◌≤◌, List, Option, Some, None, unwrap_or, IfSome, Ok}
 use Rattle.gx_base.specs.NameLists.{AreRight}
 use Rattle.toml.specs.Data.{Data}
-use Rattle.product_file.specs.declared.product.InstrumentRule.{InstrumentRule}
-use Rattle.product_file.specs.FirmNames.{firms_of}
-use Rattle.product_file.specs.Instruments.{InstrumentLists, instruments_of}
+use Rattle.product_file.specs.Inner.FirmNames.{firms_of}
+use Rattle.product_file.specs.Inner.Instruments.{InstrumentLists, instruments_of}
 use Rattle.product_file.specs.Products.{IsRightProduct}
 use Rattle.product_file.proofs.RightFirms.{right_firms}
 use Rattle.product_file.proofs.RightInstruments.{right_instruments}

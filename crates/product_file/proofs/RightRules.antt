@@ -1,5 +1,5 @@
 -- What the rule of an instrument is like.
-use Rattle.std.proofs.Common.{◌≡◌, ℕ, ◌≤◌, pos, Bool, true, false, List, [], ◌∷◌, map, length, codes, bytes_eq, Option, Some, None, unwrap_or, cond, Result, Ok, Err, refl, subst, arith}
+use Rattle.std.proofs.Common.{◌≡◌, ℕ, ◌≤◌, pos, Bool, true, false, List, [], ◌∷◌, map, length, codes, bytes_eq, Option, Some, None, unwrap_or, cond, Result, Ok, subst, arith}
 use Rattle.std.specs.List.{AllByRecursion}
 use Rattle.std.proofs.lemmas.Int.{ints}
 use Rattle.step_config.specs.declared.step.Step.{Step}
@@ -8,19 +8,19 @@ use Rattle.step_config.specs.declared.step.StepFault.{StepFault}
 use Rattle.step_config.specs.declared.presets.Letter.{Letter}
 use Rattle.step_config.specs.declared.presets.Letter.TheVariants.{F, C, A, T, O, Q, K}
 use Rattle.step_config.specs.declared.presets.Params.{Params}
-use Rattle.step_config.specs.Rules.{steps_of, or_fault, fault_of}
-use Rattle.step_config.specs.Presets.{preset_steps}
+use Rattle.step_config.specs.Rules.{or_fault, fault_of}
 use Rattle.toml.specs.Data.{Data}
 use Rattle.product_file.specs.declared.algorithms.Parameters.{Parameters}
 use Rattle.product_file.specs.declared.product.InstrumentRule.{InstrumentRule}
 use Rattle.product_file.specs.declared.faults.ProductFault.{ProductFault}
 use Rattle.product_file.specs.declared.faults.Key.TheVariants.{TopMin, TopMax, Least, Tick, Protection}
 use Rattle.product_file.specs.declared.faults.Key.TheVariants as key
-use Rattle.product_file.specs.Keys.{◌>>=◌, needed_number, number_if}
-use Rattle.product_file.specs.Shares.{shares_of}
-use Rattle.product_file.specs.Algorithms.{algorithm_of, usual_least, needs_split, parameters_of}
-use Rattle.product_file.specs.StepLists.{step_named, step_names_of, written_steps, or_steps_fault, letter_steps}
-use Rattle.product_file.specs.Instruments.{rule_of}
+use Rattle.product_file.specs.Letters.{usual_least}
+use Rattle.product_file.specs.Inner.Keys.{needed_number, number_if}
+use Rattle.product_file.specs.Inner.Shares.{shares_of}
+use Rattle.product_file.specs.Inner.Algorithms.{algorithm_of, needs_split, parameters_of}
+use Rattle.product_file.specs.Inner.StepLists.{step_named, step_names_of, written_steps, or_steps_fault, letter_steps}
+use Rattle.product_file.specs.Inner.Instruments.{rule_of}
 use Rattle.product_file.specs.Products.{HasListedFirms, IsRightInstrument}
 use Rattle.product_file.proofs.Given.{both_gave}
 use Rattle.product_file.proofs.RightShares.{IsListed, listed_shares, needed_within}

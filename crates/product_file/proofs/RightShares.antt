@@ -1,9 +1,8 @@
 -- What the numbers and the LMM shares of a document are like.
-use Rattle.std.proofs.Common.{◌≡◌, ℕ, ◌≤◌, ◌<◌, ℤ, pos, negsuc, unsigned_abs, int_le, Bool, true, false, ◌&&◌, cond, nat_le, List, [], ◌∷◌, ◌++◌, length, position, slice_index_or, bytes_eq, Option, Some, None, ok_or, Result, Ok, Err, refl, subst, arith}
+use Rattle.std.proofs.Common.{◌≡◌, ℕ, ◌≤◌, ◌<◌, ℤ, pos, negsuc, unsigned_abs, int_le, Bool, true, false, cond, nat_le, List, [], ◌∷◌, ◌++◌, length, position, slice_index_or, bytes_eq, ok_or, Ok, Err, subst, arith}
 use Rattle.std.specs.List.{AllByRecursion}
 use Rattle.std.proofs.lemmas.Bool.{and_parts}
 use Rattle.std.proofs.lemmas.Bool.Decides.{nat_tests}
-use Rattle.std.proofs.lemmas.Int.{ints}
 use Rattle.arrayvec.specs.ArrayVec.{ArrayVec}
 use Rattle.gx_base.specs.declared.order.LmmShare.{LmmShare}
 use Rattle.step_config.specs.Rules.{has_firm}
@@ -12,8 +11,11 @@ use Rattle.product_file.specs.declared.faults.ProductFault.{ProductFault}
 use Rattle.product_file.specs.declared.faults.ProductFault.TheVariants.{Missing, Kind, Range, Twice, UnknownFirm}
 use Rattle.product_file.specs.declared.faults.Key.{Key}
 use Rattle.product_file.specs.declared.faults.Key.TheVariants.{Lmm, LmmFirm, LmmPercent}
-use Rattle.product_file.specs.Keys.{◌>>=◌, word_of, where_passes, is_within, number_of, needed, needed_number, text_of, array_if, is_table}
-use Rattle.product_file.specs.Shares.{share_firm, share_of, shares_after, shares_of}
+use Rattle.product_file.specs.Keys.{word_of}
+use Rattle.product_file.specs.Rows.{is_table}
+use Rattle.product_file.specs.Ranges.{is_within}
+use Rattle.product_file.specs.Inner.Keys.{◌>>=◌, where_passes, number_of, needed, needed_number, text_of, array_if}
+use Rattle.product_file.specs.Inner.Shares.{share_firm, share_of, shares_after, shares_of}
 use Rattle.product_file.proofs.Given.{both_gave, test_passed, was_there}
 use Rattle.product_file.proofs.Lists.{all_push, place_within}
 

@@ -1,9 +1,11 @@
 pub mod Products
 pub mod Faults
 pub mod Keys
-pub mod FirmNames
-pub mod Shares
-pub mod Algorithms
-pub mod StepLists
-pub mod Instruments
+pub mod Values
+pub mod Rows
+pub mod Ranges
+pub mod Letters
+pub mod ProductValues
+pub mod ProductRows
 pub mod ProductTexts
+pub mod Inner

@@ -1,5 +1,5 @@
 -- A product as plain lists and numbers, and what holds of each one.
-use Rattle.std.specs.Prelude.{◌≡◌, ℕ, ◌<◌, ◌≤◌, ℤ, pos, ◌≤ℤ◌, List, length}
+use Rattle.std.specs.Prelude.{◌≡◌, ℕ, ◌<◌, ◌≤◌, pos, ◌≤ℤ◌, List, length}
 use Rattle.std.specs.List.{AllByRecursion}
 use Rattle.gx_base.specs.NameLists.{NameLists}
 use Rattle.gx_base.specs.declared.order.LmmShare.{LmmShare}

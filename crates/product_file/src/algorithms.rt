@@ -5,7 +5,8 @@ ghost use Rattle.toml.specs.View.{view};
 ghost use Rattle.toml.specs.Data.{get};
 ghost use Rattle.product_file.specs.declared.faults.Key.TheVariants.{Steps};
 ghost use Rattle.product_file.specs.Keys.{word_of};
-ghost use Rattle.product_file.specs.Algorithms.{letter_of, algorithm_of, is_own, usual_least, is_split, has_split, needs_split, parameters_of};
+ghost use Rattle.product_file.specs.Letters.{letter_of, is_own, usual_least};
+ghost use Rattle.product_file.specs.Inner.Algorithms.{algorithm_of, is_split, has_split, needs_split, parameters_of};
 
 use crate::faults::{Key, ProductFault};
 use crate::keys::{number_if, text_at, text_in};
@@ -27,7 +28,7 @@ pub(crate) struct Parameters {
 }
 
 /// The algorithm of an instrument.
-#[tactic(auto, unfolding(crate::specs::Algorithms::algorithm_of))]
+#[tactic(auto, unfolding(crate::specs::Inner::Algorithms::algorithm_of))]
 pub(crate) fn algorithm_of(table: &Value) -> Result<Letter, ProductFault>
     ensures { result ≡ algorithm_of (view table.now) }
 {
@@ -62,7 +63,7 @@ pub(crate) fn is_own(letter: Letter) -> bool
 }
 
 /// What the steps of an instrument take, with the usual values where the file gives none.
-#[tactic(auto, unfolding(crate::specs::Algorithms::parameters_of))]
+#[tactic(auto, unfolding(crate::specs::Inner::Algorithms::parameters_of))]
 pub(crate) fn parameters_of(
     firms: &[ShortId],
     letter: Letter,

@@ -3,8 +3,10 @@ ghost use Rattle.std.specs.Prelude.{◌≡◌, ◌≢◌, ◌≤◌, map, length
 ghost use Rattle.indexmap.specs.IndexSet.{IsEmpty, spare};
 ghost use Rattle.toml.specs.View.{view};
 ghost use Rattle.product_file.specs.declared.faults.ProductFault.TheVariants.{NoMemory};
-ghost use Rattle.product_file.specs.Keys.{map_ok, text_in};
-ghost use Rattle.product_file.specs.FirmNames.{is_firm_name, are_firm_names, first_name_twice, firms_of, firm_names};
+ghost use Rattle.product_file.specs.Values.{text_in};
+ghost use Rattle.product_file.specs.Ranges.{is_firm_name};
+ghost use Rattle.product_file.specs.Inner.Keys.{map_ok};
+ghost use Rattle.product_file.specs.Inner.FirmNames.{are_firm_names, first_name_twice, firms_of, firm_names};
 
 use crate::faults::{Key, ProductFault};
 use crate::keys::{text_in, texts_at};
@@ -18,7 +20,7 @@ use toml::Value;
 const MOST_FIRMS: usize = 64;
 
 /// The firms that a document lists. Only `NoMemory` depends on anything but the document. Takes memory.
-#[tactic(auto, unfolding(crate::specs::FirmNames::firms_of))]
+#[tactic(auto, unfolding(crate::specs::Inner::FirmNames::firms_of))]
 pub(crate) fn firms_of(
     alloc: Global,
     document: &Value,

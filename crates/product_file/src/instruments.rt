@@ -3,8 +3,8 @@ ghost use Rattle.std.specs.Prelude.{◌≡◌, ◌≤◌, length, map, bytes_eq,
 ghost use Rattle.std.specs.List.{list_any};
 ghost use Rattle.gx_base.specs.declared.names.Listed.{Listed as ListedData};
 ghost use Rattle.toml.specs.View.{view};
-ghost use Rattle.product_file.specs.Keys.{map_ok};
-ghost use Rattle.product_file.specs.Instruments.{new_name_of, listed_of, rule_of, instruments_of, tables_of, lists_of};
+ghost use Rattle.product_file.specs.Inner.Keys.{map_ok};
+ghost use Rattle.product_file.specs.Inner.Instruments.{new_name_of, listed_of, rule_of, instruments_of, tables_of, lists_of};
 
 use crate::algorithms::{algorithm_of, parameters_of};
 use crate::faults::{Key, ProductFault};
@@ -26,7 +26,7 @@ pub(crate) struct Instruments {
 }
 
 /// The instruments that a document lists.
-#[tactic(auto, unfolding(crate::specs::Instruments::instruments_of))]
+#[tactic(auto, unfolding(crate::specs::Inner::Instruments::instruments_of))]
 pub(crate) fn instruments_of(
     firms: &[ShortId],
     document: &Value,
@@ -47,7 +47,7 @@ pub(crate) fn instruments_of(
 }
 
 /// The tables of the instruments, of which there are 1 to 16.
-#[tactic(auto, unfolding(crate::specs::Instruments::tables_of))]
+#[tactic(auto, unfolding(crate::specs::Inner::Instruments::tables_of))]
 fn tables_of(document: &Value) -> Result<&[Value], ProductFault>
     ensures value { map_ok (λ vs. map view vs.now) result ≡ tables_of (view document.now) }
     ensures few { IfOk result (λ vs. length vs.now ≤ 16) }
@@ -60,7 +60,7 @@ fn tables_of(document: &Value) -> Result<&[Value], ProductFault>
 }
 
 /// The name of an instrument, which none of the earlier ones has, and its decimals.
-#[tactic(auto, unfolding(crate::specs::Instruments::listed_of))]
+#[tactic(auto, unfolding(crate::specs::Inner::Instruments::listed_of))]
 fn listed_of(earlier: &[Listed], table: &Value) -> Result<Listed, ProductFault>
     ensures { result ≡ listed_of earlier.now (view table.now) }
 {
@@ -73,7 +73,7 @@ fn listed_of(earlier: &[Listed], table: &Value) -> Result<Listed, ProductFault>
 }
 
 /// The name of an instrument, which none of the earlier ones has.
-#[tactic(auto, unfolding(crate::specs::Instruments::new_name_of))]
+#[tactic(auto, unfolding(crate::specs::Inner::Instruments::new_name_of))]
 fn new_name_of(earlier: &[Listed], table: &Value) -> Result<ShortId, ProductFault>
     ensures { result ≡ new_name_of earlier.now (view table.now) }
 {
@@ -94,7 +94,7 @@ fn has_name(earlier: &[Listed], name: &ShortId) -> bool
 }
 
 /// What an instrument's orders are held to: its tick, its protection, its algorithm, and last its list of steps.
-#[tactic(auto, unfolding(crate::specs::Instruments::rule_of))]
+#[tactic(auto, unfolding(crate::specs::Inner::Instruments::rule_of))]
 fn rule_of(firms: &[ShortId], table: &Value) -> Result<InstrumentRule, ProductFault>
     requires { length firms.now ≤ 64 }
     ensures { result ≡ rule_of firms.now (view table.now) }

@@ -4,7 +4,10 @@ ghost use Rattle.std.specs.List.{list_all};
 ghost use Rattle.toml.specs.View.{view};
 ghost use Rattle.toml.specs.Data.{get, as_array};
 ghost use Rattle.product_file.specs.declared.faults.ProductFault.TheVariants.{Missing, Kind};
-ghost use Rattle.product_file.specs.Keys.{map_ok, word_of, needed, needed_number, number_if, number_of, needed_name, text_of, text_in, array_of, array_if, entries_of, is_text, is_table};
+ghost use Rattle.product_file.specs.Keys.{word_of};
+ghost use Rattle.product_file.specs.Values.{text_in, entries_of};
+ghost use Rattle.product_file.specs.Rows.{is_text, is_table};
+ghost use Rattle.product_file.specs.Inner.Keys.{map_ok, needed, needed_number, number_if, number_of, needed_name, text_of, array_of, array_if};
 
 use crate::faults::{Key, ProductFault};
 use gx_base::ShortId;
@@ -73,7 +76,7 @@ pub(crate) fn number_if(
 }
 
 /// The number that a value is: an integer from `low` to `high`.
-#[tactic(auto, unfolding(crate::specs::Keys::number_of))]
+#[tactic(auto, unfolding(crate::specs::Inner::Keys::number_of))]
 fn number_of(value: &Value, key: Key, low: u32, high: u32) -> Result<u32, ProductFault>
     ensures value { result ≡ number_of key low high (view value.now) }
     ensures within { IfOk result (λ n. (low ≤ n) × (n ≤ high)) }
@@ -123,7 +126,7 @@ pub(crate) fn tables_or_none(table: &Value, key: Key) -> Result<&[Value], Produc
 }
 
 /// The entries of an array, each of them a text.
-#[tactic(auto, unfolding(crate::specs::Keys::array_of))]
+#[tactic(auto, unfolding(crate::specs::Inner::Keys::array_of))]
 fn texts_of(value: &Value, key: Key) -> Result<&[Value], ProductFault>
     ensures { map_ok (λ vs. map view vs.now) result ≡ array_of is_text key (view value.now) }
 {
@@ -136,7 +139,7 @@ fn texts_of(value: &Value, key: Key) -> Result<&[Value], ProductFault>
 }
 
 /// The entries of an array, each of them a table.
-#[tactic(auto, unfolding(crate::specs::Keys::array_of))]
+#[tactic(auto, unfolding(crate::specs::Inner::Keys::array_of))]
 fn tables_of(value: &Value, key: Key) -> Result<&[Value], ProductFault>
     ensures { map_ok (λ vs. map view vs.now) result ≡ array_of is_table key (view value.now) }
 {

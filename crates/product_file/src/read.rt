@@ -1,10 +1,14 @@
 //! Reading a product file.
-ghost use Rattle.std.specs.Prelude.{◌≡◌, ◌≢◌, Ok, Err, Some, None, option_map, ok_or, IfOk, IfErr};
+ghost use Rattle.std.specs.Prelude.{◌≡◌, ◌≢◌, ◌<◌, length, Ok, Err, Some, None, option_map, IfOk, IfErr, IsUtf8};
 ghost use Rattle.toml.specs.View.{view};
-ghost use Rattle.product_file.specs.declared.faults.ProductFault.TheVariants.{NoMemory, Text};
+ghost use Rattle.product_file.specs.declared.faults.ProductFault.TheVariants.{NoMemory, TooLong, Text};
+ghost use Rattle.product_file.specs.declared.faults.Key.TheVariants.{Exchange};
 ghost use Rattle.toml.specs.Data.{table};
 ghost use Rattle.toml.specs.Parse.{parse_document};
-ghost use Rattle.product_file.specs.ProductTexts.{document_of, product_of_document, product_of};
+ghost use Rattle.toml.specs.Errors.{IsBlank};
+ghost use Rattle.product_file.specs.ProductTexts.{document_of, product_of, TakesMemory};
+ghost use Rattle.product_file.specs.Inner.Keys.{needed_name};
+ghost use Rattle.product_file.specs.Inner.Documents.{product_of_document};
 
 use crate::faults::{Key, ProductFault};
 use crate::firms::firms_of;
@@ -19,12 +23,14 @@ use toml::Value;
 const MOST_BYTES: usize = 65_536;
 
 /// The product of a text (our own format), or its first fault in the order of the keys, and for each key of its rules:
-/// `ProductFault` says when each comes. Only `NoMemory` depends on anything but the text, and comes where the document
-/// does not fit into memory. Takes memory.
+/// `ProductFault` says when each comes. Only `NoMemory` depends on anything but the text. It is never answered for a text
+/// of more than 65,536 bytes, for one that is not UTF-8, or for one of white space and comments alone. Takes memory.
 #[tactic(auto, unfolding(crate::specs::ProductTexts::product_of))]
 pub fn read_product(alloc: Global, text: &[u8]) -> Result<Product, ProductFault>
     ensures read { IfOk result (λ product. product_of text.now ≡ Ok product) }
     ensures refused { IfErr result (λ fault. fault ≢ NoMemory → product_of text.now ≡ Err fault) }
+    ensures too_long { 65536 < length text.now → result ≡ Err TooLong }
+    ensures memory { result ≡ Err NoMemory → TakesMemory text.now }
 {
     if text.len() > MOST_BYTES {
         return Err(ProductFault::TooLong);
@@ -38,6 +44,7 @@ pub fn read_product(alloc: Global, text: &[u8]) -> Result<Product, ProductFault>
 fn document_of(alloc: Global, text: &[u8]) -> Result<Value, ProductFault>
     ensures read { IfOk result (λ document. document_of text.now ≡ Some (view document)) }
     ensures refused { IfErr result (λ fault. fault ≢ NoMemory → (fault ≡ Text) × (document_of text.now ≡ None)) }
+    ensures memory { IfErr result (λ fault. fault ≡ NoMemory → IsUtf8 text.now × ¬ IsBlank text.now) }
 {
     match std::str::from_utf8(text) {
         Ok(text) => parsed(alloc, text),
@@ -49,6 +56,7 @@ fn document_of(alloc: Global, text: &[u8]) -> Result<Value, ProductFault>
 fn parsed(alloc: Global, text: &str) -> Result<Value, ProductFault>
     ensures read { IfOk result (λ document. option_map table (parse_document text.now) ≡ Some (view document)) }
     ensures refused { IfErr result (λ fault. fault ≢ NoMemory → (fault ≡ Text) × (parse_document text.now ≡ None)) }
+    ensures memory { IfErr result (λ fault. fault ≡ NoMemory → ¬ IsBlank text.now) }
 {
     match toml::table_from_str(alloc, text) {
         Ok(table) => Ok(Value::Table(table)),
@@ -57,11 +65,12 @@ fn parsed(alloc: Global, text: &str) -> Result<Value, ProductFault>
     }
 }
 
-/// The product of a document. Takes memory for the numbers of its firms.
-#[tactic(auto, unfolding(crate::specs::ProductTexts::product_of_document))]
+/// The product of a document. Takes memory for the numbers of its firms, once its first key is right.
+#[tactic(auto, unfolding(crate::specs::Inner::Documents::product_of_document))]
 fn product_of_document(alloc: Global, document: &Value) -> Result<Product, ProductFault>
     ensures read { IfOk result (λ product. product_of_document (view document.now) ≡ Ok product) }
     ensures refused { IfErr result (λ fault. fault ≢ NoMemory → product_of_document (view document.now) ≡ Err fault) }
+    ensures before_memory { IfErr (needed_name Exchange (view document.now)) (λ fault. result ≡ Err fault) }
 {
     let exchange = name_at(document, Key::Exchange)?;
     let firms = firms_of(alloc, document)?;

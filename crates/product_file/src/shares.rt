@@ -2,7 +2,7 @@
 ghost use Rattle.std.specs.Prelude.{◌≡◌, ◌≤◌, ◌<◌, ◌++◌, map, length, position, bytes_eq};
 ghost use Rattle.toml.specs.View.{view};
 ghost use Rattle.step_config.specs.Rules.{has_firm};
-ghost use Rattle.product_file.specs.Shares.{share_firm, share_of, shares_after, shares_of};
+ghost use Rattle.product_file.specs.Inner.Shares.{share_firm, share_of, shares_after, shares_of};
 
 use crate::faults::{Key, ProductFault};
 use crate::keys::{number_at, tables_or_none, text_at};
@@ -14,7 +14,7 @@ use toml::Value;
 const MOST_SHARES: usize = 8;
 
 /// The shares of an instrument, none where it has no `lmm`.
-#[tactic(auto, unfolding(crate::specs::Shares::shares_of))]
+#[tactic(auto, unfolding(crate::specs::Inner::Shares::shares_of))]
 pub(crate) fn shares_of(
     firms: &[ShortId],
     table: &Value,
@@ -35,7 +35,7 @@ pub(crate) fn shares_of(
 }
 
 /// The share of an entry: its firm, and after that its percent.
-#[tactic(auto, unfolding(crate::specs::Shares::share_of))]
+#[tactic(auto, unfolding(crate::specs::Inner::Shares::share_of))]
 fn share_of(
     firms: &[ShortId],
     earlier: &[LmmShare],
@@ -53,7 +53,7 @@ fn share_of(
 }
 
 /// The number of the firm that an entry names, which no earlier entry names.
-#[tactic(auto, unfolding(crate::specs::Shares::share_firm))]
+#[tactic(auto, unfolding(crate::specs::Inner::Shares::share_firm))]
 fn share_firm(firms: &[ShortId], earlier: &[LmmShare], entry: &Value) -> Result<u8, ProductFault>
     requires { length firms.now ≤ 64 }
     ensures { result ≡ share_firm firms.now earlier.now (view entry.now) }

@@ -2,9 +2,11 @@
 ghost use Rattle.std.specs.Prelude.{◌≡◌, ◌≤◌, length, map, take};
 ghost use Rattle.std.specs.List.{list_all};
 ghost use Rattle.toml.specs.View.{view};
-ghost use Rattle.product_file.specs.Keys.{map_ok, text_in};
+ghost use Rattle.product_file.specs.Values.{text_in};
+ghost use Rattle.product_file.specs.Letters.{is_step_name};
+ghost use Rattle.product_file.specs.Inner.Keys.{map_ok};
+ghost use Rattle.product_file.specs.Inner.StepLists.{step_named, step_names_of, letter_steps};
 ghost use Rattle.step_config.specs.Rules.{steps_of};
-ghost use Rattle.product_file.specs.StepLists.{is_step_name, step_named, step_names_of, letter_steps};
 
 use crate::algorithms::{Parameters, is_own};
 use crate::faults::{Key, ProductFault};
@@ -15,7 +17,7 @@ use step_config::{Letter, Step, StepFault, Steps, preset};
 use toml::Value;
 
 /// The entries of the list of steps, each of them the name of a step. There are none where the file has no list.
-#[tactic(auto, unfolding(crate::specs::StepLists::step_names_of))]
+#[tactic(auto, unfolding(crate::specs::Inner::StepLists::step_names_of))]
 pub(crate) fn step_names_of(letter: Letter, table: &Value) -> Result<&[Value], ProductFault>
     ensures { map_ok (λ vs. map text_in (map view vs.now)) result ≡ step_names_of letter (view table.now) }
 {

@@ -1,7 +1,7 @@
 use Rattle.std.proofs.Common.{◌≡◌, map, Some}
 use Rattle.toml.specs.Data.{as_array}
 use Rattle.toml.specs.View.{view, array_view}
-use Rattle.product_file.specs.Algorithms.{is_split}
+use Rattle.product_file.specs.Inner.Algorithms.{is_split}
 use Rattle.product_file.proofs.Mapped.{entries_of-items_of, list_any-map}
 use Rattle.product_file.proofs.algorithms.has_split.Goals as goal
 

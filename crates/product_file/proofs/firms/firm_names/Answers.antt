@@ -1,8 +1,8 @@
-use Rattle.std.proofs.Common.{◌≡◌, ◌+◌, Bool, true, false, ◌&&◌, cond, nat_le, List, length, map, take, drop, Result, Ok, Err, sym, ap, ◌∙◌, refl}
+use Rattle.std.proofs.Common.{◌≡◌, ◌+◌, Bool, true, false, ◌&&◌, cond, nat_le, length, map, drop, sym, ap, ◌∙◌, refl}
 use Rattle.std.specs.List.{list_all}
 use Rattle.toml.specs.View.{view}
-use Rattle.product_file.specs.Keys.{text_in}
-use Rattle.product_file.specs.FirmNames.{is_firm_name}
+use Rattle.product_file.specs.Values.{text_in}
+use Rattle.product_file.specs.Ranges.{is_firm_name}
 use Rattle.product_file.proofs.Mapped.{drop-mapped_twice, take-mapped_twice}
 use Rattle.product_file.proofs.firms.firm_names.Goals as goal
 

@@ -1,8 +1,8 @@
 use Rattle.std.proofs.Common.{◌≡◌, map, take, drop}
 use Rattle.std.specs.List.{list_all}
 use Rattle.toml.specs.View.{view}
-use Rattle.product_file.specs.Keys.{text_in}
-use Rattle.product_file.specs.FirmNames.{is_firm_name}
+use Rattle.product_file.specs.Values.{text_in}
+use Rattle.product_file.specs.Ranges.{is_firm_name}
 use Rattle.product_file.proofs.firms.firm_names.Given as goal
 
 -- the names so far, and that the others decide

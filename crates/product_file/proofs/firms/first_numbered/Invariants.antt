@@ -1,7 +1,7 @@
-use Rattle.std.proofs.Common.{◌≡◌, ◌+◌, ◌≤◌, List, ℕ, length, map, take, drop, bytes_eq}
+use Rattle.std.proofs.Common.{◌≡◌, ◌+◌, ◌≤◌, length, map, take, drop, bytes_eq}
 use Rattle.step_config.specs.Rules.{first_twice_after}
 use Rattle.indexmap.specs.IndexSet.{spare}
-use Rattle.product_file.specs.FirmNames.{first_name_twice}
+use Rattle.product_file.specs.Inner.FirmNames.{first_name_twice}
 use Rattle.product_file.proofs.firms.first_numbered.Given as goal
 
 -- the names so far are numbered, and the others decide

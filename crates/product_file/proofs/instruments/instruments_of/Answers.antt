@@ -1,8 +1,6 @@
-use Rattle.std.proofs.Common.{◌≡◌, ◌+◌, List, ℕ, map, drop, ap, sym, ◌∙◌, refl, arith, rules, lit<}
+use Rattle.std.proofs.Common.{◌+◌, List, ℕ, map, drop, ap, ◌∙◌, refl, arith, rules, lit<}
 use Rattle.toml.specs.View.{view}
-use Rattle.gx_base.specs.declared.names.Listed.{Listed}
-use Rattle.product_file.specs.declared.product.InstrumentRule.{InstrumentRule}
-use Rattle.product_file.specs.Instruments.{InstrumentLists, instruments_after}
+use Rattle.product_file.specs.Inner.Instruments.{InstrumentLists, instruments_after}
 use Rattle.product_file.proofs.Mapped.{drop-mapped}
 use Rattle.product_file.proofs.InstrumentsAfter.{instruments_from, next_instrument, no_listed, no_rule}
 use Rattle.product_file.proofs.instruments.instruments_of.Goals as goal

@@ -1,6 +1,6 @@
 use Rattle.std.proofs.Common.{◌≡◌, [], length, map, drop}
 use Rattle.toml.specs.View.{view}
-use Rattle.product_file.specs.Instruments.{instruments_after}
+use Rattle.product_file.specs.Inner.Instruments.{instruments_after}
 use Rattle.product_file.proofs.instruments.instruments_of.Given as goal
 
 -- the instruments so far, and that the other tables go on from them

@@ -1,7 +1,8 @@
-use Rattle.std.proofs.Common.{◌≡◌, refl}
+use Rattle.std.proofs.Common.{refl}
 use Rattle.std.proofs.lemmas.List.Folds.{list_all-map}
 use Rattle.toml.specs.View.{view}
-use Rattle.product_file.specs.Keys.{array_of, is_text}
+use Rattle.product_file.specs.Rows.{is_text}
+use Rattle.product_file.specs.Inner.Keys.{array_of}
 use Rattle.product_file.proofs.keys.texts_of.Goals as goal
 
 pub returns-then-are_texts : goal.returns-then-are_texts

@@ -1,6 +1,6 @@
-use Rattle.std.proofs.Common.{sym, lit≤, arith}
+use Rattle.std.proofs.Common.{sym, lit≤}
 use Rattle.toml.specs.View.{view}
-use Rattle.product_file.specs.Instruments.{lists_of}
+use Rattle.product_file.specs.Inner.Instruments.{lists_of}
 use Rattle.product_file.proofs.RightProduct.{usual_within, right_names, right_product}
 use Rattle.product_file.proofs.read.product_of_document.Goals as goal
 

@@ -1,8 +1,8 @@
-use Rattle.std.proofs.Common.{◌≡◌, ◌<◌, List, [], ℕ, length, Some, None, Err, Result, position, bytes_eq, sym, refl}
+use Rattle.std.proofs.Common.{◌≡◌, List, [], ℕ, Some, None, Err, Result, position, bytes_eq, sym, refl}
 use Rattle.std.proofs.lemmas.List.{get_or_read}
 use Rattle.product_file.specs.declared.faults.ProductFault.{ProductFault}
 use Rattle.product_file.specs.declared.faults.ProductFault.TheVariants.{Twice}
-use Rattle.product_file.specs.Shares.{share_firm}
+use Rattle.product_file.specs.Inner.Shares.{share_firm}
 use Rattle.product_file.proofs.Lists.{place_within}
 use Rattle.product_file.proofs.shares.share_firm.Goals as goal
 

@@ -3,7 +3,7 @@ use Rattle.std.proofs.lemmas.Bool.Decides.{nat_tests}
 use Rattle.std.proofs.lemmas.List.{length-map}
 use Rattle.toml.specs.View.{view}
 use Rattle.gx_base.specs.declared.order.LmmShare.{LmmShare}
-use Rattle.product_file.specs.Shares.{shares_after}
+use Rattle.product_file.specs.Inner.Shares.{shares_after}
 use Rattle.product_file.proofs.Mapped.{drop-mapped}
 use Rattle.product_file.proofs.SharesAfter.{shares_from, next_share, no_share}
 use Rattle.product_file.proofs.shares.shares_of.Goals as goal

@@ -1,6 +1,6 @@
 use Rattle.std.proofs.Common.{◌≡◌, [], length, map, drop}
 use Rattle.toml.specs.View.{view}
-use Rattle.product_file.specs.Shares.{shares_after}
+use Rattle.product_file.specs.Inner.Shares.{shares_after}
 use Rattle.product_file.proofs.shares.shares_of.Given as goal
 
 -- the shares so far, and that the other entries go on from them

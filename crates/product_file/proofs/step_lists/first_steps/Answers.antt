@@ -1,8 +1,7 @@
-use Rattle.std.proofs.Common.{◌≡◌}
 use Rattle.toml.specs.View.{view}
 use Rattle.toml.specs.declared.value.Value.{Value}
-use Rattle.product_file.specs.Keys.{text_in}
-use Rattle.product_file.specs.StepLists.{step_named}
+use Rattle.product_file.specs.Values.{text_in}
+use Rattle.product_file.specs.Inner.StepLists.{step_named}
 use Rattle.product_file.proofs.Mapped.{take-mapped}
 use Rattle.product_file.proofs.step_lists.first_steps.Goals as goal
 

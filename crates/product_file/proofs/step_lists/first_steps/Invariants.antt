@@ -1,7 +1,7 @@
 use Rattle.std.proofs.Common.{◌≡◌, map, take}
 use Rattle.toml.specs.View.{view}
-use Rattle.product_file.specs.Keys.{text_in}
-use Rattle.product_file.specs.StepLists.{step_named}
+use Rattle.product_file.specs.Values.{text_in}
+use Rattle.product_file.specs.Inner.StepLists.{step_named}
 use Rattle.product_file.proofs.step_lists.first_steps.Given as goal
 
 abbrev pub invariant-loop-name : goal.invariant-loop-name

@@ -1,13 +1,10 @@
-use Rattle.std.proofs.Common.{◌≡◌, ◌<◌, List, map, take, length, ap, sym, ◌∙◌, refl, arith}
+use Rattle.std.proofs.Common.{◌≡◌, ◌<◌, List, map, length, ap, sym, ◌∙◌, arith}
 use Rattle.std.proofs.lemmas.List.{length-map}
-use Rattle.toml.specs.Data.{Data}
 use Rattle.toml.specs.View.{view}
 use Rattle.toml.specs.declared.value.Value.{Value}
-use Rattle.step_config.specs.declared.step.Step.{Step}
-use Rattle.step_config.specs.Rules.{steps_of}
 use Rattle.product_file.specs.declared.algorithms.Parameters.{Parameters}
-use Rattle.product_file.specs.Keys.{text_in}
-use Rattle.product_file.specs.StepLists.{step_named}
+use Rattle.product_file.specs.Values.{text_in}
+use Rattle.product_file.specs.Inner.StepLists.{step_named}
 use Rattle.product_file.proofs.Mapped.{map-map, map-take}
 use Rattle.product_file.proofs.Seven.{first_seven}
 use Rattle.product_file.proofs.step_lists.own_steps.Goals as goal

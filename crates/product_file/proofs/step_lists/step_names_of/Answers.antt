@@ -1,9 +1,10 @@
-use Rattle.std.proofs.Common.{◌≡◌, map, sym, refl}
+use Rattle.std.proofs.Common.{map, refl}
 use Rattle.std.proofs.lemmas.List.Folds.{list_all-map}
 use Rattle.toml.specs.Data.{Data}
 use Rattle.toml.specs.View.{view}
-use Rattle.product_file.specs.Keys.{text_in}
-use Rattle.product_file.specs.StepLists.{is_step_name, step_names_of}
+use Rattle.product_file.specs.Values.{text_in}
+use Rattle.product_file.specs.Letters.{is_step_name}
+use Rattle.product_file.specs.Inner.StepLists.{step_names_of}
 use Rattle.product_file.proofs.step_lists.step_names_of.Goals as goal
 
 pub returns-then-are_step_names : goal.returns-then-are_step_names

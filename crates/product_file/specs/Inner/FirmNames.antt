@@ -1,17 +1,15 @@
--- The firms of a product file.
-use Rattle.std.specs.Prelude.{ℕ, Bool, not, ◌&&◌, nat_le, List, [], length, map, codes, bytes_eq, Option, Some, None, Result, Ok, Err}
+-- The firms of a product file, step by step.
+use Rattle.std.specs.Prelude.{ℕ, Bool, ◌&&◌, nat_le, List, [], length, map, bytes_eq, Option, Some, None, Result, Ok, Err}
 use Rattle.std.specs.List.{list_all}
-use Rattle.gx_base.specs.Texts.{is_name}
 use Rattle.step_config.specs.Rules.{first_twice_after}
 use Rattle.toml.specs.Data.{Data}
 use Rattle.product_file.specs.declared.faults.ProductFault.{ProductFault}
 use Rattle.product_file.specs.declared.faults.ProductFault.TheVariants.{Range, Twice}
 use Rattle.product_file.specs.declared.faults.Key.TheVariants.{Firms}
-use Rattle.product_file.specs.Keys.{◌>>=◌, where_passes, needed, array_of, is_text, text_in}
-
--- a name that a firm may have: any but the one that reports give to whom they do not know
-abbrev pub is_firm_name : List ℕ → Bool
-is_firm_name text = is_name text && not (bytes_eq text (codes "UNKNOWN"))
+use Rattle.product_file.specs.Values.{text_in}
+use Rattle.product_file.specs.Rows.{is_text}
+use Rattle.product_file.specs.Ranges.{is_firm_name}
+use Rattle.product_file.specs.Inner.Keys.{◌>>=◌, where_passes, needed, array_of}
 
 -- 1 to 64 names of firms
 abbrev pub are_firm_names : List (List ℕ) → Bool

@@ -1,9 +1,7 @@
--- The instruments of a product file.
-use Rattle.std.specs.Prelude.{ℕ, pos, Bool, nat_le, ◌&&◌, if◌then◌else◌, List, [], ◌∷◌, ◌++◌, length, bytes_eq, Result, Ok, Err}
+-- The instruments of a product file, step by step.
+use Rattle.std.specs.Prelude.{ℕ, pos, nat_le, ◌&&◌, if◌then◌else◌, List, [], ◌∷◌, ◌++◌, length, bytes_eq, Result, Ok, Err}
 use Rattle.std.specs.List.{list_any}
 use Rattle.gx_base.specs.declared.names.Listed.{Listed}
-use Rattle.gx_base.specs.NameLists.{instrument_names}
-use Rattle.step_config.specs.declared.step.Step.{Step}
 use Rattle.toml.specs.Data.{Data}
 use Rattle.product_file.specs.declared.instruments.Instruments.{Instruments}
 use Rattle.product_file.specs.declared.product.InstrumentRule.{InstrumentRule}
@@ -11,9 +9,10 @@ use Rattle.product_file.specs.declared.faults.ProductFault.{ProductFault}
 use Rattle.product_file.specs.declared.faults.ProductFault.TheVariants.{Twice}
 use Rattle.product_file.specs.declared.faults.ProductFault.TheVariants as fault
 use Rattle.product_file.specs.declared.faults.Key.TheVariants.{Instrument, Name, Decimals, Tick, Protection}
-use Rattle.product_file.specs.Keys.{◌>>=◌, where_passes, needed, needed_number, needed_name, array_of, is_table}
-use Rattle.product_file.specs.Algorithms.{algorithm_of, parameters_of}
-use Rattle.product_file.specs.StepLists.{step_names_of, letter_steps}
+use Rattle.product_file.specs.Rows.{is_table}
+use Rattle.product_file.specs.Inner.Keys.{◌>>=◌, where_passes, needed, needed_number, needed_name, array_of}
+use Rattle.product_file.specs.Inner.Algorithms.{algorithm_of, parameters_of}
+use Rattle.product_file.specs.Inner.StepLists.{step_names_of, letter_steps}
 
 -- the name of an instrument: one that no earlier instrument has
 unfoldable pub new_name_of : List Listed → Data → Result (List ℕ) ProductFault

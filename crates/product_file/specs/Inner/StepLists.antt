@@ -1,5 +1,5 @@
--- The list of steps of an instrument.
-use Rattle.std.specs.Prelude.{ℕ, Bool, true, ◌||◌, if◌then◌else◌, List, map, codes, bytes_eq, Result, Ok, Err}
+-- The list of steps of an instrument, step by step.
+use Rattle.std.specs.Prelude.{ℕ, if◌then◌else◌, List, map, codes, bytes_eq, Result, Ok, Err}
 use Rattle.std.specs.List.{list_all}
 use Rattle.step_config.specs.declared.step.Step.{Step}
 use Rattle.step_config.specs.declared.step.Step.TheVariants.{Top, Lmm, Split, ProRata, Leveling, Fifo}
@@ -13,18 +13,10 @@ use Rattle.product_file.specs.declared.algorithms.Parameters.{Parameters}
 use Rattle.product_file.specs.declared.faults.ProductFault.{ProductFault}
 use Rattle.product_file.specs.declared.faults.ProductFault.TheVariants as fault
 use Rattle.product_file.specs.declared.faults.Key.TheVariants as key
-use Rattle.product_file.specs.Keys.{◌>>=◌, where_passes, array_if, is_text, text_in}
-use Rattle.product_file.specs.Algorithms.{is_own}
-
--- the names of steps
-abbrev pub is_step_name : List ℕ → Bool
-is_step_name text =
-    bytes_eq text (codes "TOP")
-    || bytes_eq text (codes "LMM")
-    || bytes_eq text (codes "SPLIT")
-    || bytes_eq text (codes "PRORATA")
-    || bytes_eq text (codes "LEVELING")
-    || bytes_eq text (codes "FIFO")
+use Rattle.product_file.specs.Values.{text_in}
+use Rattle.product_file.specs.Rows.{is_text}
+use Rattle.product_file.specs.Letters.{is_own, is_step_name}
+use Rattle.product_file.specs.Inner.Keys.{◌>>=◌, where_passes, array_if}
 
 -- the step of a name, with what it takes: FIFO where the name is none of the others
 abbrev pub step_named : Parameters → List ℕ → Step
@@ -42,7 +34,7 @@ step_names_of letter fields = do
   entries ← array_if (is_own letter) is_text key.Steps fields
   where_passes (list_all is_step_name) fault.UnknownLetter (map text_in entries)
 
--- the steps of a letter: the file's own list for K, or else the exchange's
+-- the steps of a letter: the file's own list for K, and the letter's own for every other one
 abbrev pub written_steps : Letter → Parameters → List (List ℕ) → List Step
 written_steps K parameters names = map (step_named parameters) names
 written_steps letter parameters names = preset_steps letter parameters.preset

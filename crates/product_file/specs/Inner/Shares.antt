@@ -1,5 +1,5 @@
--- The shares of an instrument's lead market makers.
-use Rattle.std.specs.Prelude.{ℕ, Bool, false, nat_le, if◌then◌else◌, List, [], ◌∷◌, ◌++◌, length, bytes_eq, position, slice_index_or, ok_or, Result, Ok, Err}
+-- The shares of an instrument's lead market makers, step by step.
+use Rattle.std.specs.Prelude.{ℕ, false, nat_le, if◌then◌else◌, List, [], ◌∷◌, ◌++◌, length, bytes_eq, position, slice_index_or, ok_or, Result, Ok, Err}
 use Rattle.arrayvec.specs.ArrayVec.{ArrayVec}
 use Rattle.gx_base.specs.declared.order.LmmShare.{LmmShare}
 use Rattle.step_config.specs.Rules.{has_firm}
@@ -7,7 +7,8 @@ use Rattle.toml.specs.Data.{Data}
 use Rattle.product_file.specs.declared.faults.ProductFault.{ProductFault}
 use Rattle.product_file.specs.declared.faults.ProductFault.TheVariants.{Range, Twice, UnknownFirm}
 use Rattle.product_file.specs.declared.faults.Key.TheVariants.{Lmm, LmmFirm, LmmPercent}
-use Rattle.product_file.specs.Keys.{◌>>=◌, where_passes, needed, needed_number, text_of, array_if, is_table}
+use Rattle.product_file.specs.Rows.{is_table}
+use Rattle.product_file.specs.Inner.Keys.{◌>>=◌, where_passes, needed, needed_number, text_of, array_if}
 
 -- the number of the firm that an entry names: one that is listed, and that no earlier entry names
 unfoldable pub share_firm : List (List ℕ) → List LmmShare → Data → Result ℕ ProductFault
