@@ -11,9 +11,11 @@ use Rattle.gx_base.specs.Numbers.{are_digits, is_point, is_quantity_text, quanti
 use Rattle.gx_base.specs.Texts.{is_name}
 use Rattle.gx_base.specs.NameLists.{NameLists, instrument_names}
 use Rattle.gx_base.specs.declared.names.Listed.{Listed}
-use Rattle.fix_request.specs.Fields.{Values}
-use Rattle.fix_request.specs.Rules.{where_passes, fault, needed, needed_where, formed, listed}
-use Rattle.fix_request.specs.Orders.{side_of, kind_of, life_of, symbol_tag, symbol_text, known_if_some, named_of, has_price, has_trigger, quantity_or_zero, price_if_read, OrderTexts, order_texts, order_forms, new_of, cancel_of, replace_of}
+use Rattle.fix_request.specs.Inner.Values.{Values}
+use Rattle.fix_request.specs.Faults.{fault}
+use Rattle.fix_request.specs.Inner.Rules.{where_passes, needed, needed_where, formed, listed}
+use Rattle.fix_request.specs.MessageTable.{known_if_some, named_of}
+use Rattle.fix_request.specs.Inner.Orders.{side_of, kind_of, life_of, symbol_tag, symbol_text, has_price, has_trigger, quantity_or_zero, price_if_read, OrderTexts, order_texts, order_forms, new_of, cancel_of, replace_of}
 use Rattle.fix_request.specs.Given.{IsGivenSender, IsListed, IsGivenNew, IsGivenReplace}
 use Rattle.fix_request.specs.declared.forms.OrderForms.{OrderForms}
 use Rattle.fix_request.specs.declared.request.Sender.{Sender}

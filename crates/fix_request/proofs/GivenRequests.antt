@@ -10,12 +10,15 @@ use Rattle.std.specs.Str.Parse.{digits_value}
 use Rattle.gx_base.specs.Numbers.{are_digits}
 use Rattle.gx_base.specs.Texts.{is_time_text}
 use Rattle.gx_base.specs.NameLists.{NameLists}
-use Rattle.product_file.specs.Products.{ProductLists}
-use Rattle.fix_request.specs.Fields.{texts_of, has_tag, Field, fields_of, Values}
-use Rattle.fix_request.specs.Rules.{◌>>=◌, where_passes, fault}
-use Rattle.fix_request.specs.Orders.{new_of, cancel_of, replace_of}
-use Rattle.fix_request.specs.Requests.{first_empty, no_value_in, well_formed_values, checked_values, firm_of, target_of, is_sequence_number, sequence_of, time_of, message_type_of, content_by, content_of, no_time, known, request_of_body}
-use Rattle.fix_request.specs.Given.{IsGivenSender, IsGivenRefusal, IsGivenRequest}
+use Rattle.fix_request.specs.Fields.{texts_of, has_tag, Field, fields_of}
+use Rattle.fix_request.specs.Inner.Values.{Values}
+use Rattle.fix_request.specs.Faults.{fault}
+use Rattle.fix_request.specs.Inner.Rules.{◌>>=◌, where_passes}
+use Rattle.fix_request.specs.Inner.Orders.{new_of, cancel_of, replace_of}
+use Rattle.fix_request.specs.SessionRules.{first_empty, is_sequence_number}
+use Rattle.fix_request.specs.Requests.{no_time}
+use Rattle.fix_request.specs.Inner.Requests.{no_value_in, well_formed_values, checked_values, firm_of, target_of, sequence_of, time_of, message_type_of, content_by, content_of, known, request_of_body}
+use Rattle.fix_request.specs.Given.{IsGivenSender, IsGivenRefusal, IsGivenBy}
 use Rattle.fix_request.specs.declared.fault.Fault.{Fault}
 use Rattle.fix_request.specs.declared.message_type.MessageType.{MessageType}
 use Rattle.fix_request.specs.declared.message_type.MessageType.TheVariants.{Session, New, Cancel, Replace}
@@ -99,20 +102,20 @@ time_holds values =
 
 -- ---- rules 7 to 10
 
-content_by_holds : (product : ProductLists) (sender : Sender) (values : Values) (type : MessageType) → IsGivenSender product.names sender → Holds (IsGivenRequest product) (content_by product.names sender values type)
+content_by_holds : (names : NameLists) (sender : Sender) (values : Values) (type : MessageType) → IsGivenSender names sender → Holds (IsGivenBy names) (content_by names sender values type)
 unfolding content_by
-content_by_holds product sender values Session given = given
-content_by_holds product sender values New given = mapped (IsGivenRequest product) request.New (new_of product.names sender values) (new_holds product.names sender values given)
-content_by_holds product sender values Cancel given = mapped (IsGivenRequest product) request.Cancel (cancel_of sender values) (cancel_holds product.names sender values given)
-content_by_holds product sender values Replace given = mapped (IsGivenRequest product) request.Replace (replace_of product.names sender values) (replace_holds product.names sender values given)
+content_by_holds names sender values Session given = given
+content_by_holds names sender values New given = mapped (IsGivenBy names) request.New (new_of names sender values) (new_holds names sender values given)
+content_by_holds names sender values Cancel given = mapped (IsGivenBy names) request.Cancel (cancel_of sender values) (cancel_holds names sender values given)
+content_by_holds names sender values Replace given = mapped (IsGivenBy names) request.Replace (replace_of names sender values) (replace_holds names sender values given)
 
-content_holds : (product : ProductLists) (sender : Sender) (values : Values) → IsGivenSender product.names sender → Holds (IsGivenRequest product) (content_of product.names sender values)
+content_holds : (names : NameLists) (sender : Sender) (values : Values) → IsGivenSender names sender → Holds (IsGivenBy names) (content_of names sender values)
 unfolding content_of
-content_holds product sender values given =
-    let P : Request → Type 0 = IsGivenRequest product in
+content_holds names sender values given =
+    let P : Request → Type 0 = IsGivenBy names in
     let type = option_and_then message_type_of values.type in
     step (λ t. type ≡ Some t) P (ok_or type (fault 7 11 35)) _ (some_or type (fault 7 11 35) (record { some = lit≤ tt; few = lit≤ tt })) (λ t _.
-    content_by_holds product sender values t given)
+    content_by_holds names sender values t given)
 
 -- ---- all rules
 
@@ -128,15 +131,14 @@ last_answer : {A : Type 0} (names : NameLists) (P : A → Type 0) (firm : Option
 last_answer names P firm seq time (Ok a) is holds = holds
 last_answer names P firm seq time (Err f) is holds = record { firm = is; some = holds.some; few = holds.few }
 
-pub body_holds : (product : ProductLists) (body : List ℕ) → MatchResult (request_of_body product.names body) (IsGivenRequest product) (IsGivenRefusal product.names)
+pub body_holds : (names : NameLists) (body : List ℕ) → MatchResult (request_of_body names body) (IsGivenBy names) (IsGivenRefusal names)
 unfolding request_of_body
-body_holds product body =
-    let names = product.names in
-    let P : Request → Type 0 = IsGivenRequest product in
+body_holds names body =
+    let P : Request → Type 0 = IsGivenBy names in
     answer names Any P None 0 no_time (checked_values body) _ tt (checked_holds body) (λ values _.
     answer names (λ firm. firm < length names.firms) P None 0 no_time (firm_of names values) _ tt (firm_holds names values) (λ firm within.
     answer names Any P (Some firm) 0 no_time (target_of names values) _ within (target_holds names values) (λ target _.
     answer names IsSequence P (Some firm) 0 no_time (sequence_of values) _ within (sequence_holds values) (λ seq is.
     answer names Any P (Some firm) seq no_time (time_of values) _ within (time_holds values) (λ time _.
     let sender : Sender = record { firm = firm; seq = seq; time = time } in
-    last_answer names P (Some firm) seq time (content_of names sender values) within (content_holds product sender values (record { firm = within; some = is.some; short = is.short })))))))
+    last_answer names P (Some firm) seq time (content_of names sender values) within (content_holds names sender values (record { firm = within; some = is.some; short = is.short })))))))

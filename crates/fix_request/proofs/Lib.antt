@@ -1,5 +1,8 @@
+pub mod Agree
+pub mod AgreeOrders
 pub mod GivenOrders
 pub mod GivenRequests
+pub mod Giving
 pub mod Holding
 pub mod Noting
 pub mod Numbers

@@ -5,10 +5,12 @@ use Rattle.std.specs.Bool.{then_some}
 use Rattle.std.specs.List.{before_first, after_first, list_all}
 use Rattle.std.specs.Option.{option_or}
 use Rattle.std.proofs.lemmas.Bool.{cond-true, cond-false}
-use Rattle.fix_request.specs.Fields.{is_soh, texts_of, has_tag, Field, field_of, fields_of, value_of, Values, values_of}
-use Rattle.fix_request.specs.Requests.{first_empty, no_value_in, well_formed_values}
-use Rattle.fix_request.specs.Rules.{fault}
-use Rattle.fix_request.specs.Views.{noted_value, noted}
+use Rattle.fix_request.specs.Fields.{is_soh, texts_of, has_tag, Field, field_of, fields_of, value_of}
+use Rattle.fix_request.specs.Inner.Values.{Values, values_of}
+use Rattle.fix_request.specs.SessionRules.{first_empty}
+use Rattle.fix_request.specs.Inner.Requests.{no_value_in, well_formed_values}
+use Rattle.fix_request.specs.Faults.{fault}
+use Rattle.fix_request.specs.Inner.Views.{noted_value, noted}
 use Rattle.fix_request.proofs.Splits.{texts-first}
 
 -- ---- the values

@@ -6,7 +6,7 @@ use Rattle.std.proofs.lemmas.Bool.{cond-true, cond-false}
 use Rattle.std.proofs.lemmas.Bool.Decides.{nat_tests}
 use Rattle.std.proofs.lemmas.List.{take_all}
 use Rattle.fix_request.specs.Fields.{is_soh, is_equals_sign, texts_of}
-use Rattle.fix_request.specs.Views.{split_at_equals_sign}
+use Rattle.fix_request.specs.Inner.Views.{split_at_equals_sign}
 
 -- whether something passes, and whether it is found
 any_by : (b a : Bool) (n m : ℕ) → a ≡ nat_lt n m → (b || a) ≡ nat_lt (cond (not b) (1 + n) 0) (1 + m)

@@ -73,9 +73,12 @@ pub record IsGivenRefusal (names : NameLists) (refusal : Refusal) : Type 0 where
   pub few : refusal.rule ≤ 10
 
 -- all of it, for each kind of request
+abbrev pub IsGivenBy : NameLists → Request → Type 0
+IsGivenBy names (New order) = IsGivenNew names order
+IsGivenBy names (Cancel order) = IsGivenSender names order.sender
+IsGivenBy names (Replace order) = IsGivenReplace names order
+IsGivenBy names (Passed sender) = IsGivenSender names sender
+IsGivenBy names (Refused refusal) = IsGivenRefusal names refusal
+
 abbrev pub IsGivenRequest : ProductLists → Request → Type 0
-IsGivenRequest product (New order) = IsGivenNew product.names order
-IsGivenRequest product (Cancel order) = IsGivenSender product.names order.sender
-IsGivenRequest product (Replace order) = IsGivenReplace product.names order
-IsGivenRequest product (Passed sender) = IsGivenSender product.names sender
-IsGivenRequest product (Refused refusal) = IsGivenRefusal product.names refusal
+IsGivenRequest product request = IsGivenBy product.names request

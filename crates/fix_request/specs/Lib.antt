@@ -1,6 +1,8 @@
 pub mod Fields
-pub mod Rules
-pub mod Orders
+pub mod Faults
+pub mod MessageTable
+pub mod SessionRules
+pub mod Asked
 pub mod Requests
 pub mod Given
-pub mod Views
+pub mod Inner

@@ -3,7 +3,7 @@ ghost use Rattle.std.specs.Prelude.{◌≡◌, ◌≤◌, IsTrue, Some, None, le
 ghost use Rattle.std.specs.Str.Parse.{digits_value};
 ghost use Rattle.gx_base.specs.Numbers.{are_digits};
 ghost use Rattle.fix_request.specs.Fields.{is_tag};
-ghost use Rattle.fix_request.specs.Requests.{is_sequence_number};
+ghost use Rattle.fix_request.specs.SessionRules.{is_sequence_number};
 
 /// The number of a tag: one to five digits, the first not 0.
 pub fn read_tag(text: &[u8]) -> Option<u32>

@@ -2,7 +2,7 @@
 ghost use Rattle.std.specs.Prelude.{◌≡◌, Some, None, option_map, position, if◌then◌else◌};
 ghost use Rattle.std.specs.List.{before_first, after_first};
 ghost use Rattle.fix_request.specs.Fields.{is_soh, is_equals_sign, has_tag, field_of};
-ghost use Rattle.fix_request.specs.Views.{field_view, split_at_equals_sign};
+ghost use Rattle.fix_request.specs.Inner.Views.{field_view, split_at_equals_sign};
 
 use crate::digits::read_tag;
 

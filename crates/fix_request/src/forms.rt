@@ -4,10 +4,11 @@ ghost use Rattle.std.specs.Option.{option_copied};
 ghost use Rattle.gx_base.specs.Line.{decimals_of};
 ghost use Rattle.gx_base.specs.Numbers.{quantity_of, is_price_text, price_of};
 ghost use Rattle.gx_base.specs.Texts.{is_name};
-ghost use Rattle.fix_request.specs.Rules.{where_passes, formed};
-ghost use Rattle.fix_request.specs.Orders.{named_of, quantity_or_zero, price_in, price_if_read, px_of, order_forms};
+ghost use Rattle.fix_request.specs.Inner.Rules.{where_passes, formed};
+ghost use Rattle.fix_request.specs.MessageTable.{named_of};
+ghost use Rattle.fix_request.specs.Inner.Orders.{quantity_or_zero, price_in, price_if_read, px_of, order_forms};
 ghost use Rattle.fix_request.specs.Given.{IsListed};
-ghost use Rattle.fix_request.specs.Views.{order_view};
+ghost use Rattle.fix_request.specs.Inner.Views.{order_view};
 
 use crate::fault::Fault;
 use crate::request::{Named, Px};
@@ -29,7 +30,7 @@ pub struct OrderForms {
 }
 
 /// What the texts of an order give. An `Err` is the first of them that does not have its form.
-#[tactic(auto, unfolding(crate::specs::Orders::order_forms))]
+#[tactic(auto, unfolding(crate::specs::Inner::Orders::order_forms))]
 pub fn order_forms(names: &Names, symbol_tag: u32, texts: &OrderTexts) -> Result<OrderForms, Fault>
     ensures { result ≡ order_forms names.now symbol_tag (order_view texts.now) }
 {

@@ -1,10 +1,11 @@
 //! The header of a message (rules 4 to 6).
 ghost use Rattle.std.specs.Prelude.{◌≡◌};
-ghost use Rattle.fix_request.specs.Requests.{firm_of, target_of, sequence_of, time_of};
+ghost use Rattle.fix_request.specs.Inner.Requests.{firm_of, target_of, sequence_of, time_of};
 ghost use Rattle.std.specs.Option.{ok_or};
 ghost use Rattle.gx_base.specs.Texts.{is_time_text};
-ghost use Rattle.fix_request.specs.Rules.{where_passes, fault};
-ghost use Rattle.fix_request.specs.Views.{values_view};
+ghost use Rattle.fix_request.specs.Faults.{fault};
+ghost use Rattle.fix_request.specs.Inner.Rules.{where_passes};
+ghost use Rattle.fix_request.specs.Inner.Views.{values_view};
 
 use crate::digits::read_sequence_number;
 use crate::fault::Fault;
@@ -13,7 +14,7 @@ use crate::values::Values;
 use gx_base::{Names, Stamp};
 
 /// The number of the firm that sends (49).
-#[tactic(auto, unfolding(crate::specs::Requests::firm_of))]
+#[tactic(auto, unfolding(crate::specs::Inner::Requests::firm_of))]
 pub fn read_firm(names: &Names, values: &Values) -> Result<u8, Fault>
     ensures { result ≡ firm_of names.now (values_view values.now) }
 {
@@ -27,7 +28,7 @@ pub fn read_firm(names: &Names, values: &Values) -> Result<u8, Fault>
 }
 
 /// Tries whether the exchange is the target (56).
-#[tactic(auto, unfolding(crate::specs::Requests::target_of))]
+#[tactic(auto, unfolding(crate::specs::Inner::Requests::target_of))]
 pub fn check_target(names: &Names, values: &Values) -> Result<(), Fault>
     ensures { result ≡ target_of names.now (values_view values.now) }
 {
@@ -41,7 +42,7 @@ pub fn check_target(names: &Names, values: &Values) -> Result<(), Fault>
 }
 
 /// The sequence number (34).
-#[tactic(auto, unfolding(crate::specs::Requests::sequence_of))]
+#[tactic(auto, unfolding(crate::specs::Inner::Requests::sequence_of))]
 pub fn read_sequence(values: &Values) -> Result<u32, Fault>
     ensures { result ≡ sequence_of (values_view values.now) }
 {
@@ -55,7 +56,7 @@ pub fn read_sequence(values: &Values) -> Result<u32, Fault>
 }
 
 /// The sending time (52).
-#[tactic(auto, unfolding(crate::specs::Requests::time_of))]
+#[tactic(auto, unfolding(crate::specs::Inner::Requests::time_of))]
 pub fn read_time(values: &Values) -> Result<Stamp, Fault>
     ensures { result ≡ time_of (values_view values.now) }
 {

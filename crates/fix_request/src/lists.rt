@@ -1,8 +1,8 @@
 //! Values in lists (rule 10).
 ghost use Rattle.std.specs.Prelude.{◌≡◌};
 ghost use Rattle.std.specs.Option.{option_copied};
-ghost use Rattle.fix_request.specs.Rules.{listed};
-ghost use Rattle.fix_request.specs.Orders.{side_of, kind_of, life_of_text, life_of};
+ghost use Rattle.fix_request.specs.Inner.Rules.{listed};
+ghost use Rattle.fix_request.specs.Inner.Orders.{side_of, kind_of, life_of_text, life_of};
 
 use crate::fault::Fault;
 use crate::request::Px;

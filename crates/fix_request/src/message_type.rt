@@ -1,7 +1,7 @@
 //! Types of messages (rule 7).
 ghost use Rattle.std.specs.Prelude.{◌≡◌};
-ghost use Rattle.fix_request.specs.Requests.{message_type_of, type_of};
-ghost use Rattle.fix_request.specs.Views.{values_view};
+ghost use Rattle.fix_request.specs.Inner.Requests.{message_type_of, type_of};
+ghost use Rattle.fix_request.specs.Inner.Views.{values_view};
 
 use crate::fault::Fault;
 use crate::values::Values;

@@ -1,7 +1,7 @@
 //! Messages that carry an order: for each type all needed tags first, then all formats, then all values.
 ghost use Rattle.std.specs.Prelude.{◌≡◌};
-ghost use Rattle.fix_request.specs.Orders.{new_of, cancel_of, replace_of};
-ghost use Rattle.fix_request.specs.Views.{values_view};
+ghost use Rattle.fix_request.specs.Inner.Orders.{new_of, cancel_of, replace_of};
+ghost use Rattle.fix_request.specs.Inner.Views.{values_view};
 
 use crate::fault::Fault;
 use crate::forms::{order_forms, read_lots_or_zero, read_name};
@@ -13,7 +13,7 @@ use crate::values::Values;
 use gx_base::Names;
 
 /// The new order of these values, or the first of their faults.
-#[tactic(auto, unfolding(crate::specs::Orders::new_of))]
+#[tactic(auto, unfolding(crate::specs::Inner::Orders::new_of))]
 pub fn read_new(names: &Names, sender: &Sender, values: &Values) -> Result<NewOrder, Fault>
     ensures { result ≡ new_of names.now sender.now (values_view values.now) }
 {
@@ -47,7 +47,7 @@ pub fn read_new(names: &Names, sender: &Sender, values: &Values) -> Result<NewOr
 }
 
 /// The cancel of these values, or the first of their faults.
-#[tactic(auto, unfolding(crate::specs::Orders::cancel_of))]
+#[tactic(auto, unfolding(crate::specs::Inner::Orders::cancel_of))]
 pub fn read_cancel(sender: &Sender, values: &Values) -> Result<CancelOrder, Fault>
     ensures { result ≡ cancel_of sender.now (values_view values.now) }
 {
@@ -64,7 +64,7 @@ pub fn read_cancel(sender: &Sender, values: &Values) -> Result<CancelOrder, Faul
 }
 
 /// The replace of these values, or the first of their faults.
-#[tactic(auto, unfolding(crate::specs::Orders::replace_of))]
+#[tactic(auto, unfolding(crate::specs::Inner::Orders::replace_of))]
 pub fn read_replace(names: &Names, sender: &Sender, values: &Values) -> Result<ReplaceOrder, Fault>
     ensures { result ≡ replace_of names.now sender.now (values_view values.now) }
 {

@@ -1,9 +1,10 @@
 //! Requests out of frames.
 ghost use Rattle.std.specs.Prelude.{◌≡◌, Some, None};
 ghost use Rattle.fix_frame.specs.Grammar.{IsFrame};
-ghost use Rattle.fix_request.specs.Requests.{request_of, request_of_body, content_by, content_of, refused, no_time};
-ghost use Rattle.fix_request.specs.Given.{IsGivenRequest};
-ghost use Rattle.fix_request.specs.Views.{values_view};
+ghost use Rattle.fix_request.specs.Requests.{request_in, request_of, no_time};
+ghost use Rattle.fix_request.specs.Inner.Requests.{request_of_body, content_by, content_of, refused};
+ghost use Rattle.fix_request.specs.Given.{IsGivenBy, IsGivenRequest};
+ghost use Rattle.fix_request.specs.Inner.Views.{values_view};
 
 use crate::fault::Fault;
 use crate::header::{check_target, read_firm, read_sequence, read_time};
@@ -15,23 +16,30 @@ use fix_frame::frame_body;
 use gx_base::{Names, Stamp};
 use product_file::Product;
 
-/// What the message in this frame asks for, or by which session rule it is refused: the first that holds. Takes no
-/// memory, and reads each field once.
+/// What the message in this frame asks for, or by which session rule it is refused: the first that holds. Takes no memory.
 #[tactic(auto, unfolding(crate::specs::Requests::request_of))]
 pub fn read_request(frame: &[u8], product: &Product) -> Request
     requires { IsFrame frame.now }
     ensures request { result ≡ request_of product.now frame.now }
     ensures given { IsGivenRequest product.now result }
 {
-    match read_body(product.names(), frame_body(frame)) {
+    read_body(product.names(), frame_body(frame))
+}
+
+/// What the message of this body asks for. A refusal is a request too, which is answered by a Reject.
+pub(crate) fn read_body(names: &Names, body: &[u8]) -> Request
+    ensures request { result ≡ request_in names.now body.now }
+    ensures given { IsGivenBy names.now result }
+{
+    match read_message(names, body) {
         Ok(request) => request,
         Err(refusal) => Request::Refused(refusal),
     }
 }
 
 /// What the message of this body asks for, or its refusal.
-#[tactic(auto, unfolding(crate::specs::Requests::request_of_body))]
-pub(crate) fn read_body(names: &Names, body: &[u8]) -> Result<Request, Refusal>
+#[tactic(auto, unfolding(crate::specs::Inner::Requests::request_of_body))]
+fn read_message(names: &Names, body: &[u8]) -> Result<Request, Refusal>
     ensures { result ≡ request_of_body names.now body.now }
 {
     let values = match read_values(body) {
@@ -61,7 +69,7 @@ pub(crate) fn read_body(names: &Names, body: &[u8]) -> Result<Request, Refusal>
 }
 
 /// What the message of this sender asks for, or its first fault.
-#[tactic(auto, unfolding(crate::specs::Requests::content_of, crate::specs::Requests::content_by))]
+#[tactic(auto, unfolding(crate::specs::Inner::Requests::content_of, crate::specs::Inner::Requests::content_by))]
 fn read_content(names: &Names, sender: &Sender, values: &Values) -> Result<Request, Fault>
     ensures { result ≡ content_of names.now sender.now (values_view values.now) }
 {

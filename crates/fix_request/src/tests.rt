@@ -317,10 +317,7 @@ fn message(alloc: Global, message_type: &[u8], content: &[u8]) -> Result<Vec<u8>
 
 /// What a message with this body asks for.
 fn request(rt: &impl Abort, body: &[u8]) -> Request {
-    match read_body(&names(rt), body) {
-        Ok(request) => request,
-        Err(refusal) => Request::Refused(refusal),
-    }
+    read_body(&names(rt), body)
 }
 
 /// What a message of this type and content asks for.

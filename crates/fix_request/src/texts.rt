@@ -1,9 +1,9 @@
 //! The texts of needed tags (rule 8).
 ghost use Rattle.std.specs.Prelude.{◌≡◌};
 ghost use Rattle.std.specs.Option.{option_copied};
-ghost use Rattle.fix_request.specs.Rules.{result_map, needed, needed_where};
-ghost use Rattle.fix_request.specs.Orders.{has_price, has_trigger, symbol_tag, symbol_text, order_texts};
-ghost use Rattle.fix_request.specs.Views.{values_view, order_view};
+ghost use Rattle.fix_request.specs.Inner.Rules.{result_map, needed, needed_where};
+ghost use Rattle.fix_request.specs.Inner.Orders.{has_price, has_trigger, symbol_tag, symbol_text, order_texts};
+ghost use Rattle.fix_request.specs.Inner.Views.{values_view, order_view};
 
 use crate::fault::Fault;
 use crate::tags;
@@ -23,7 +23,7 @@ pub struct OrderTexts<'a> {
 }
 
 /// The texts of an order. An `Err` is the first needed tag that is missing.
-#[tactic(auto, unfolding(crate::specs::Orders::order_texts))]
+#[tactic(auto, unfolding(crate::specs::Inner::Orders::order_texts))]
 pub fn order_texts<'a>(values: &Values<'a>) -> Result<OrderTexts<'a>, Fault>
     ensures { result_map order_view result ≡ order_texts (values_view values.now) }
 {

@@ -1,9 +1,9 @@
 //! The values of the tags that rules name.
 ghost use Rattle.std.specs.Prelude.{◌≡◌, []};
-ghost use Rattle.fix_request.specs.Fields.{values_of};
-ghost use Rattle.fix_request.specs.Rules.{result_map};
-ghost use Rattle.fix_request.specs.Requests.{checked_values, well_formed_values};
-ghost use Rattle.fix_request.specs.Views.{values_view, noted};
+ghost use Rattle.fix_request.specs.Inner.Values.{values_of};
+ghost use Rattle.fix_request.specs.Inner.Rules.{result_map};
+ghost use Rattle.fix_request.specs.Inner.Requests.{checked_values, well_formed_values};
+ghost use Rattle.fix_request.specs.Inner.Views.{values_view, noted};
 
 use crate::fault::Fault;
 use crate::fields::{read_field, split_at_soh};
@@ -81,7 +81,7 @@ fn read_fields(bytes: &[u8]) -> Result<Values<'_>, Fault>
 }
 
 /// No value yet.
-#[tactic(auto, unfolding(crate::specs::Fields::values_of))]
+#[tactic(auto, unfolding(crate::specs::Inner::Values::values_of))]
 fn no_values() -> Values<'static>
     ensures { values_view result ≡ values_of [] }
 {
@@ -107,7 +107,7 @@ fn no_values() -> Values<'static>
 }
 
 /// Notes the value of one more field, unless an earlier one has its tag, or no rule names it.
-#[tactic(auto, unfolding(crate::specs::Views::noted))]
+#[tactic(auto, unfolding(crate::specs::Inner::Views::noted))]
 fn note<'a>(values: &mut Values<'a>, tag: u32, value: &'a [u8])
     ensures { values_view values.exit.now ≡ noted (values_view values.entry.now) (record { tag = tag; value = value.entry.now }) }
 {

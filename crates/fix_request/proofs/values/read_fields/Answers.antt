@@ -1,7 +1,7 @@
 use Rattle.std.proofs.Common.{◌≤◌, length, sym, ap, ◌∙◌, arith}
 use Rattle.std.specs.Prelude.{option_map}
 use Rattle.std.proofs.lemmas.Bool.Decides.{nat_tests}
-use Rattle.fix_request.specs.Views.{values_view, field_view}
+use Rattle.fix_request.specs.Inner.Views.{values_view, field_view}
 use Rattle.fix_request.proofs.Noting.{none_read, one_read, stops_there}
 use Rattle.fix_request.proofs.values.read_fields.Goals as goal
 

@@ -1,5 +1,5 @@
 use Rattle.std.proofs.Common.{length}
-use Rattle.fix_request.specs.Views.{values_view}
+use Rattle.fix_request.specs.Inner.Views.{values_view}
 use Rattle.fix_request.proofs.Noting.{IsNotedTo}
 use Rattle.fix_request.proofs.values.read_fields.Given as goal
 

@@ -2,8 +2,9 @@
 use Rattle.std.specs.Prelude.{ℕ, ◌==◌, if◌then◌else◌, List, Option, Some, None}
 use Rattle.std.specs.List.{before_first, after_first, list_any}
 use Rattle.std.specs.Option.{option_or, option_copied}
-use Rattle.fix_request.specs.Fields.{is_equals_sign, Field, Values}
-use Rattle.fix_request.specs.Orders.{OrderTexts}
+use Rattle.fix_request.specs.Fields.{is_equals_sign, Field}
+use Rattle.fix_request.specs.Inner.Values.{Values}
+use Rattle.fix_request.specs.Inner.Orders.{OrderTexts}
 use Rattle.fix_request.specs.declared.fields.Field.{Field as FieldSlices}
 use Rattle.fix_request.specs.declared.values.Values.{Values as ValueSlices}
 use Rattle.fix_request.specs.declared.texts.OrderTexts.{OrderTexts as OrderSlices}

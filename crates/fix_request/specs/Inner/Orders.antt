@@ -1,10 +1,8 @@
--- The table of message types, for those that carry an order: for each type the needed tags (rule 8), the formats (rule
--- 9) and the values (rule 10), each rule for all its tags before the next, in the order of the table (our own rules; the
--- tags and their values are those of FIX 4.2).
-use Rattle.std.specs.Prelude.{ℕ, Bool, ◌||◌, if◌then◌else◌, List, bytes_eq, codes, position, Option, Some, None, is_some, Result, Ok, Err}
+-- The steps of the inner functions at a message that carries an order.
+use Rattle.std.specs.Prelude.{ℕ, Bool, ◌||◌, if◌then◌else◌, List, bytes_eq, codes, Option, Some, None, is_some, Result, Ok, Err}
 use Rattle.gx_base.specs.Numbers.{is_price_text, price_of, quantity_of}
 use Rattle.gx_base.specs.Texts.{is_name}
-use Rattle.gx_base.specs.NameLists.{NameLists, instrument_names}
+use Rattle.gx_base.specs.NameLists.{NameLists}
 use Rattle.gx_base.specs.Line.{decimals_of}
 use Rattle.gx_base.specs.declared.price.Price.{Price}
 use Rattle.gx_base.specs.declared.price.PriceFault.{PriceFault}
@@ -15,8 +13,9 @@ use Rattle.gx_base.specs.declared.order.Kind.{Kind}
 use Rattle.gx_base.specs.declared.order.Kind.TheVariants.{Limit, Market, StopLimit}
 use Rattle.gx_base.specs.declared.order.Life.{Life}
 use Rattle.gx_base.specs.declared.order.Life.TheVariants.{Day, Gtc, Fak, Fok}
-use Rattle.fix_request.specs.Fields.{Values}
-use Rattle.fix_request.specs.Rules.{◌>>=◌, where_passes, needed, needed_where, formed, listed}
+use Rattle.fix_request.specs.MessageTable.{named_of}
+use Rattle.fix_request.specs.Inner.Values.{Values}
+use Rattle.fix_request.specs.Inner.Rules.{◌>>=◌, where_passes, needed, needed_where, formed, listed}
 use Rattle.fix_request.specs.declared.fault.Fault.{Fault}
 use Rattle.fix_request.specs.declared.request.Sender.{Sender}
 use Rattle.fix_request.specs.declared.request.Px.{Px}
@@ -61,15 +60,6 @@ symbol_tag values = if is_some values.description then 107 else 55
 -- its text
 abbrev pub symbol_text : Values → Option (List ℕ)
 symbol_text values = if is_some values.description then values.description else values.symbol
-
--- the instrument of this number, where there is one
-abbrev pub known_if_some : Option ℕ → Named
-known_if_some None = Unknown
-known_if_some (Some number) = Known number
-
--- the instrument of that name
-abbrev pub named_of : NameLists → List ℕ → Named
-named_of names symbol = known_if_some (position (λ name. bytes_eq name symbol) (instrument_names names.instruments))
 
 -- ---- prices and quantities
 
