@@ -1,5 +1,5 @@
 -- The product of a text whose document was read, and texts that are refused before memory is taken.
-use Rattle.std.proofs.Common.{◌≡◌, ℕ, Bool, true, false, nat_lt, if◌then◌else◌, List, length, Option, Some, None, option_map, Err, IsUtf8, refl, sym, subst}
+use Rattle.std.proofs.Common.{◌≡◌, ◌≤◌, ℕ, Bool, true, false, nat_lt, if◌then◌else◌, List, length, Option, Some, None, option_map, Ok, Err, IsUtf8, refl, sym, subst}
 use Rattle.std.specs.Str.{is_utf8}
 use Rattle.std.proofs.lemmas.Str.{IsUtf8-from_is_utf8}
 use Rattle.toml.specs.Data.{Data, Members, no_members, table}
@@ -7,7 +7,7 @@ use Rattle.toml.specs.Parse.{parse_document, lines}
 use Rattle.toml.specs.Errors.{IsBlank}
 use Rattle.product_file.specs.declared.faults.ProductFault.TheVariants.{Missing}
 use Rattle.product_file.specs.declared.faults.Key.TheVariants.{Exchange}
-use Rattle.product_file.specs.ProductTexts.{product_of, document_of}
+use Rattle.product_file.specs.ProductTexts.{product_of, document_of, TakesMemory}
 use Rattle.product_file.specs.Inner.Keys.{needed_name}
 use Rattle.product_file.specs.Inner.Documents.{product_of_document}
 use Rattle.product_file.proofs.RowProduct.{by_rows}
@@ -39,3 +39,11 @@ unfolding document_of
 no_keys text document blank found =
     let read : (if is_utf8 text then option_map table (Some no_members) else None) ≡ Some document = rw (no_lines text blank) at found in
     subst (λ (d : Data). needed_name Exchange d ≡ Err (Missing Exchange)) (from_table (is_utf8 text) document read) refl
+
+-- where the first key was read, the text has lines
+pub takes_memory : (text : List ℕ) (document : Data) (exchange : List ℕ) → length text ≤ 65536 → document_of text ≡ Some document → Ok exchange ≡ needed_name Exchange document → TakesMemory text
+takes_memory text document exchange few found named = record {
+  few = few;
+  is_utf8 = is_utf8_read text document found;
+  some = λ blank. let none = no_keys text document blank found in cc;
+}

@@ -21,7 +21,7 @@ const MOST_LOTS: u32 = 999_999;
 /// What the steps of an instrument take.
 #[derive(Debug, Drop)]
 pub(crate) struct Parameters {
-    /// What the exchange's own lists take, too.
+    /// What the letters' own lists take, too.
     pub(crate) preset: Params,
     /// The percentage of a SPLIT step, and 0 where the file gives none.
     pub(crate) split: u8,
@@ -55,7 +55,7 @@ fn letter_of(text: &str) -> Option<Letter>
     }
 }
 
-/// Whether a letter stands for a list of the file's own.
+/// Whether a letter stands for the list of steps that the file gives, and for none of its own.
 pub(crate) fn is_own(letter: Letter) -> bool
     ensures { result ≡ is_own letter }
 {
@@ -90,7 +90,7 @@ pub(crate) fn parameters_of(
     })
 }
 
-/// The least part of a PRORATA step, in lots, where the file gives none.
+/// The least part of a PRORATA step, in lots, where the file gives none (our own).
 fn usual_least(letter: Letter) -> u32
     ensures { result ≡ usual_least letter }
 {

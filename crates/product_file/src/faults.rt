@@ -1,5 +1,5 @@
 //! What can be wrong with a product file, and the keys that a fault names.
-ghost use Rattle.std.specs.Prelude.{◌≡◌};
+ghost use Rattle.std.specs.Prelude.{◌≡◌, Some};
 ghost use Rattle.product_file.specs.Keys.{word_of};
 ghost use Rattle.product_file.specs.Faults.{rule_number};
 
@@ -95,7 +95,10 @@ impl Key {
     }
 }
 
+/// Writes the key's word.
 impl fmt::Display for Key {
+    ghost output = { λ key. Some (word_of key) };
+
     fn fmt<W: fmt::Write>(&self, f: &mut fmt::Formatter<W>) -> fmt::Result {
         write!(f, "{}", self.word())
     }

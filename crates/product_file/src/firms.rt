@@ -65,8 +65,7 @@ fn firm_name(entry: &Value) -> Option<ShortId>
     ShortId::new(text.as_bytes())
 }
 
-/// The first of these names that an earlier one has. `NoMemory` where their numbers do not fit into memory, which are
-/// taken at once.
+/// The first of these names that an earlier one has. Takes memory for their numbers at once; `NoMemory` is its only fault.
 fn first_name_twice(alloc: Global, names: &[ShortId]) -> Result<Option<ShortId>, ProductFault>
     ensures found { IfOk result (λ twice. twice ≡ first_name_twice names.now) }
     ensures refused { IfErr result (λ fault. fault ≡ NoMemory) }

@@ -1,4 +1,4 @@
-//! The product file: what an exchange's operator writes, read into the names, limits and steps that the engine serves.
+//! The product file: what the operator of an exchange writes, read into the names, limits and steps that the engine serves.
 #![tactic(auto)]
 
 mod algorithms;

@@ -14,7 +14,8 @@ pub struct InstrumentRule {
     pub tick: i64,
     /// How far from the best opposite price a market order trades, in ticks: 0 to 10,000.
     pub protection: u32,
-    /// The exchange's name of its algorithm.
+    /// The letter of its algorithm. The letters are named after the exchange's; what each stands for is our own, after
+    /// the published outline.
     pub letter: Letter,
     /// The steps of that algorithm.
     pub steps: Steps,

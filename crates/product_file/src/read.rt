@@ -2,13 +2,10 @@
 ghost use Rattle.std.specs.Prelude.{◌≡◌, ◌≢◌, ◌<◌, length, Ok, Err, Some, None, option_map, IfOk, IfErr, IsUtf8};
 ghost use Rattle.toml.specs.View.{view};
 ghost use Rattle.product_file.specs.declared.faults.ProductFault.TheVariants.{NoMemory, TooLong, Text};
-ghost use Rattle.product_file.specs.declared.faults.Key.TheVariants.{Exchange};
 ghost use Rattle.toml.specs.Data.{table};
 ghost use Rattle.toml.specs.Parse.{parse_document};
 ghost use Rattle.toml.specs.Errors.{IsBlank};
 ghost use Rattle.product_file.specs.ProductTexts.{document_of, product_of, TakesMemory};
-ghost use Rattle.product_file.specs.Inner.Keys.{needed_name};
-ghost use Rattle.product_file.specs.Inner.Documents.{product_of_document};
 
 use crate::faults::{Key, ProductFault};
 use crate::firms::firms_of;
@@ -36,7 +33,18 @@ pub fn read_product(alloc: Global, text: &[u8]) -> Result<Product, ProductFault>
         return Err(ProductFault::TooLong);
     }
     let document = document_of(alloc, text)?;
-    product_of_document(alloc, &document)
+    let exchange = name_at(&document, Key::Exchange)?;
+    let firms = firms_of(alloc, &document)?;
+    let max_orders = number_if(false, &document, Key::MaxOrders, 1, 100_000)?;
+    let journal_limit = number_if(false, &document, Key::JournalLimit, 131_072, 268_435_456)?;
+    let instruments = instruments_of(&firms, &document)?;
+    let names = Names::new(exchange, &firms, &instruments.listed);
+    Ok(Product::new(
+        names,
+        max_orders.unwrap_or(10_000),
+        journal_limit.unwrap_or(16_777_216) as u64,
+        instruments.rules,
+    ))
 }
 
 /// The TOML document of a text, which is UTF-8.
@@ -63,25 +71,4 @@ fn parsed(alloc: Global, text: &str) -> Result<Value, ProductFault>
         Err(error) if error.is_memory() => Err(ProductFault::NoMemory),
         Err(_) => Err(ProductFault::Text),
     }
-}
-
-/// The product of a document. Takes memory for the numbers of its firms, once its first key is right.
-#[tactic(auto, unfolding(crate::specs::Inner::Documents::product_of_document))]
-fn product_of_document(alloc: Global, document: &Value) -> Result<Product, ProductFault>
-    ensures read { IfOk result (λ product. product_of_document (view document.now) ≡ Ok product) }
-    ensures refused { IfErr result (λ fault. fault ≢ NoMemory → product_of_document (view document.now) ≡ Err fault) }
-    ensures before_memory { IfErr (needed_name Exchange (view document.now)) (λ fault. result ≡ Err fault) }
-{
-    let exchange = name_at(document, Key::Exchange)?;
-    let firms = firms_of(alloc, document)?;
-    let max_orders = number_if(false, document, Key::MaxOrders, 1, 100_000)?;
-    let journal_limit = number_if(false, document, Key::JournalLimit, 131_072, 268_435_456)?;
-    let instruments = instruments_of(&firms, document)?;
-    let names = Names::new(exchange, &firms, &instruments.listed);
-    Ok(Product::new(
-        names,
-        max_orders.unwrap_or(10_000),
-        journal_limit.unwrap_or(16_777_216) as u64,
-        instruments.rules,
-    ))
 }

@@ -48,7 +48,7 @@ fn is_step_name(text: &str) -> bool
         || text == "FIFO"
 }
 
-/// The steps of a letter, if they are right: those that the file names for K, or else the exchange's.
+/// The steps of a letter, if they are right: those that the file names for K, and the letter's own for every other one.
 pub(crate) fn letter_steps(
     letter: Letter,
     parameters: &Parameters,
