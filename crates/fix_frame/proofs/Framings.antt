@@ -6,7 +6,7 @@ use borrow.Rule.Slice.PartMut.{put_mid}
 use Rattle.std.specs.List.{concat, copy_within}
 use Rattle.fix_frame.specs.Grammar.{IsFrame}
 use Rattle.fix_frame.specs.Stream.{messages_of, rest_of}
-use Rattle.fix_frame.specs.Framing.{Framing, IsGiven, given_bytes, GivesFrame}
+use Rattle.fix_frame.specs.Framing.{Framing, LendsFrame, IsGiven, given_bytes, GivesFrame}
 use Rattle.fix_frame.specs.Scans.{IsScanOf}
 use Rattle.fix_frame.specs.declared.scan.Scan.{Scan}
 use Rattle.fix_frame.proofs.Scanning.{scan_of_more}
@@ -89,8 +89,8 @@ module _ (old new : Framing) (start end : ℕ) (gives : GivesFrame old new start
       let cut : drop start (concat new.given) ≡ frame = ap (λ (x : List ℕ). drop start x) all_given ∙ drop_at (concat old.given) frame start (sym gives.starts) in
       ap (λ (x : List ℕ). take (end - start) x) cut ∙ take_all (end - start) frame (omega arith)
 
-  pub can_be_lent : IsGiven new start end × IsFrame (given_bytes new start end)
-  can_be_lent = (is_given, subst (λ (x : List ℕ). IsFrame x) (sym bytes_given) gives.is_frame)
+  pub can_be_lent : LendsFrame new start end
+  can_be_lent = record { is_given = is_given; frame = gives.frame; is_frame = gives.is_frame; bytes = bytes_given }
 
   -- and it is the next message, however the stream goes on
   rest_goes_on : (more : List ℕ) → old.rest ++ more ≡ gives.frame ++ (new.rest ++ more)

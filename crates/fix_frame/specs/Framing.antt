@@ -48,9 +48,16 @@ GivesNext old new (Frame start end) = GivesFrame old new start end
 GivesNext old new More = (new ≡ old) × IsUnfinished old.rest
 GivesNext old new (Bad offset) = (new ≡ old) × (offset ≡ old.offset) × IsRefused old.rest
 
--- what was just given is among the frames given, and the bytes there are a frame
+-- `Framer::frame` may be asked for these places, and lends a frame
+pub record LendsFrame (f : Framing) (start end : ℕ) : Type 0 where
+  pub is_given : IsGiven f start end
+  pub frame : List ℕ
+  pub is_frame : IsFrame frame
+  pub bytes : given_bytes f start end ≡ frame
+
+-- what was just given can be lent, and is a frame
 abbrev pub CanBeLent : Framing → Next → Type 0
-CanBeLent f (Frame start end) = IsGiven f start end × IsFrame (given_bytes f start end)
+CanBeLent f (Frame start end) = LendsFrame f start end
 CanBeLent f More = Unit {0}
 CanBeLent f (Bad offset) = Unit {0}
 

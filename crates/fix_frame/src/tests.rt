@@ -1,5 +1,5 @@
 //! Two orders as they come over a connection, in any pieces, and bytes that no frame begins with.
-use crate::{Framer, Next};
+use crate::{Framer, Next, frame_body};
 use std::alloc::Global;
 use std::process::Abort;
 use std::test::Fail;
@@ -29,6 +29,14 @@ fn gives(framer: &mut Framer, frame: &[u8]) -> bool {
     }
 }
 
+/// How long the body of the next frame is.
+fn next_body_length(framer: &mut Framer) -> Option<usize> {
+    match framer.next() {
+        Next::Frame(start, end) => Some(frame_body(framer.frame(start, end)).len()),
+        Next::More | Next::Bad(_) => None,
+    }
+}
+
 /// What a framer that is fed these bytes alone answers.
 fn answer(rt: &impl Abort, alloc: Global, bytes: &[u8]) -> Result<Next, Fail> {
     let mut framer = Framer::new(alloc)?;
@@ -48,6 +56,17 @@ fn gives_frames_fed_at_once(rt: HostRuntime) -> Result<(), Fail> {
     assert_eq!(rt; framer.next(), Next::More);
     assert_eq!(rt; framer.rest(), 0);
     assert_eq!(rt; framer.offset(), 221);
+    Ok(())
+}
+
+#[test]
+fn lends_the_bodies_of_frames(rt: HostRuntime) -> Result<(), Fail> {
+    let mut framer = Framer::new(rt.alloc())?;
+    put(&rt, &mut framer, FIRST);
+    put(&rt, &mut framer, SECOND);
+    assert_eq!(rt; next_body_length(&mut framer), Some(89));
+    assert_eq!(rt; next_body_length(&mut framer), Some(88));
+    assert_eq!(rt; next_body_length(&mut framer), None);
     Ok(())
 }
 

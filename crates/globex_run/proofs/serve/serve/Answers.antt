@@ -1,15 +1,10 @@
-use Rattle.std.proofs.Common.{◌≤◌, ◌+◌, ◌*◌, ℕ, List, sym, ap, subst, ◌∙◌, arith}
-use Rattle.fix_frame.specs.Grammar.{IsFrame}
+use Rattle.std.proofs.Common.{◌≤◌, ◌+◌, ◌*◌, ℕ, sym, ap, subst, ◌∙◌, arith}
 use Rattle.fix_frame.specs.Framing.{Framing}
 use Rattle.fix_frame.proofs.Fronts.{unfinished_front}
 use Rattle.fix_frame.proofs.Streams.{messages_of-unfinished, messages_of-refused}
 use Rattle.globex_run.proofs.Running.{served-next, served-read, place-next}
 use Rattle.globex_run.proofs.Ends.{ran-ok, ran-read_fault, ran-truncated, ran-broken, ran-stopped}
 use Rattle.globex_run.proofs.serve.serve.Goals as goal
-
--- src/serve.rt:142:38
-pub serve_frame-requires-clause-frame : goal.serve_frame-requires-clause-frame
-serve_frame-requires-clause-frame g c = subst (λ (x : List ℕ). IsFrame x) (sym c.frame-frame.ensures) c.in-Frame.ensures.lent.1
 
 -- src/serve.rt:138:21
 pub returns-in-Err-clause-ran : goal.returns-in-Err-clause-ran
