@@ -16,6 +16,7 @@ use Rattle.product_file.specs.ProductValues.{letter_in, number_of_firm, steps_in
 
 -- ---- further rules
 
+-- no further rule
 abbrev pub nothing : Data → Option ProductFault
 nothing value = None
 
@@ -48,20 +49,24 @@ a_new_firm firms earlier value =
 
 -- ---- an entry of `lmm`, with the firms of the entries before it
 
+-- a row: key, need, kind, range, further rule
 abbrev pub share_rows : List (List ℕ) → List (List ℕ) → List Row
 share_rows firms earlier =
     row LmmFirm always a_text any (a_new_firm firms earlier)
     ∷ row LmmPercent always an_integer (from 1 100) nothing
     ∷ []
 
+-- the fault of an entry, held against those before it
 abbrev pub share_fault : List (List ℕ) → List Data → Data → Option ProductFault
 share_fault firms earlier entry = table_fault (share_rows firms (map (text_at LmmFirm) earlier)) entry
 
+-- entries of `lmm`, tried one after the other
 abbrev pub shares_of_firms : List (List ℕ) → Data → Option ProductFault
 shares_of_firms firms value = first_of_each (share_fault firms) (entries_in value)
 
 -- ---- an instrument's table, with the names of the tables before it
 
+-- whether the letter is K, whose list of steps the file gives
 abbrev pub has_own_list : Data → Bool
 has_own_list fields = is_own (letter_in fields)
 
@@ -69,6 +74,7 @@ has_own_list fields = is_own (letter_in fields)
 abbrev pub lists_split : Data → Bool
 lists_split fields = has_own_list fields && list_any (λ name. bytes_eq name (codes "SPLIT")) (texts_at Steps fields)
 
+-- a row: key, need, kind, range, further rule
 abbrev pub instrument_rows : List (List ℕ) → List (List ℕ) → List Row
 instrument_rows firms earlier =
     row Name always a_text a_name (a_new_name earlier)
@@ -88,7 +94,7 @@ instrument_rows firms earlier =
 abbrev pub steps_fault : List (List ℕ) → Data → Option ProductFault
 steps_fault firms fields = option_map fault.Steps (fault_of (steps_in firms fields))
 
--- the list of steps is tried after all keys
+-- the fault of a table, held against those before it; the list of steps is tried after all keys
 abbrev pub instrument_fault : List (List ℕ) → List Data → Data → Option ProductFault
 instrument_fault firms earlier fields =
     first_fault
@@ -96,11 +102,13 @@ instrument_fault firms earlier fields =
     ∷ steps_fault firms fields
     ∷ [])
 
+-- tables of instruments, tried one after the other
 abbrev pub instruments_of_firms : List (List ℕ) → Data → Option ProductFault
 instruments_of_firms firms value = first_of_each (instrument_fault firms) (entries_in value)
 
 -- ---- the document
 
+-- a row: key, need, kind, range, further rule
 abbrev pub document_rows : List (List ℕ) → List Row
 document_rows firms =
     row Exchange always a_text a_name nothing

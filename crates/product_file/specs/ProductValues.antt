@@ -18,6 +18,7 @@ use Rattle.product_file.specs.Products.{ProductLists}
 
 -- ---- an instrument's steps
 
+-- the letter of the algorithm
 abbrev pub letter_in : Data → Letter
 letter_in fields = unwrap_or (letter_of (text_at Algorithm fields)) F
 
@@ -25,6 +26,7 @@ letter_in fields = unwrap_or (letter_of (text_at Algorithm fields)) F
 abbrev pub number_of_firm : List (List ℕ) → List ℕ → Option ℕ
 number_of_firm firms name = position (λ firm. bytes_eq firm name) firms
 
+-- the share that an entry of `lmm` gives
 abbrev pub share_in : List (List ℕ) → Data → LmmShare
 share_in firms entry = record { firm = unwrap_or (number_of_firm firms (text_at LmmFirm entry)) 0; percent = number_at LmmPercent entry }
 
@@ -32,9 +34,11 @@ share_in firms entry = record { firm = unwrap_or (number_of_firm firms (text_at 
 abbrev pub shares_in : List (List ℕ) → Data → List LmmShare
 shares_in firms fields = map (share_in firms) (entries_at key.Lmm fields)
 
+-- the limits of TOP: 1 and 999,999 where the file gives none
 abbrev pub top_in : Data → TopRule
 top_in fields = record { min = number_or 1 TopMin fields; max = number_or 999999 TopMax fields }
 
+-- the least part of PRORATA
 abbrev pub least_in : Data → ℕ
 least_in fields = number_or (usual_least (letter_in fields)) Least fields
 
@@ -48,22 +52,27 @@ step_in firms fields name =
     else (if bytes_eq name (codes "LEVELING") then Leveling
     else Fifo))))
 
--- the steps of a letter: those that the file names for K, and the letter's own for every other one
+-- the steps of a letter: those that the file names for K, and for every other one its own list (which is this project's,
+-- after the exchange's published outline)
 abbrev pub steps_of_letter : Letter → List (List ℕ) → Data → List Step
 steps_of_letter K firms fields = map (step_in firms fields) (texts_at Steps fields)
 steps_of_letter letter firms fields = preset_steps letter (record { top = top_in fields; least = least_in fields; lmm = record { items = shares_in firms fields } })
 
+-- the steps of an instrument
 abbrev pub steps_in : List (List ℕ) → Data → List Step
 steps_in firms fields = steps_of_letter (letter_in fields) firms fields
 
 -- ---- instruments, and the product
 
+-- the name and the decimals of an instrument
 abbrev pub listed_in : Data → Listed
 listed_in fields = record { name = text_at Name fields; decimals = number_at Decimals fields }
 
+-- what an instrument's orders are held to
 abbrev pub rule_in : List (List ℕ) → Data → InstrumentRule
 rule_in firms fields = record { tick = pos (number_at Tick fields); protection = number_at Protection fields; letter = letter_in fields; steps = steps_in firms fields }
 
+-- the product that a document without fault gives: 10,000 orders and 16,777,216 bytes where it says nothing of them
 abbrev pub product_in : Data → ProductLists
 product_in document =
     let firms = texts_at Firms document in

@@ -9,6 +9,7 @@ use Rattle.product_file.specs.Values.{text_in, integer_in, entries_in, texts_in}
 abbrev pub any : Data → Bool
 any value = true
 
+-- from the one number to the other, both included
 abbrev pub is_within : ℕ → ℕ → ℤ → Bool
 is_within low high z = int_le (pos low) z && int_le z (pos high)
 
@@ -20,9 +21,11 @@ from low high value = is_within low high (integer_in value)
 abbrev pub a_name : Data → Bool
 a_name value = is_name (text_in value)
 
+-- an array with so many entries
 abbrev pub has_entries : ℕ → ℕ → Data → Bool
 has_entries low high value = nat_le low (length (entries_in value)) && nat_le (length (entries_in value)) high
 
+-- an array with at most so many entries
 abbrev pub at_most : ℕ → Data → Bool
 at_most high value = nat_le (length (entries_in value)) high
 

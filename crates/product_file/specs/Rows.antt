@@ -32,11 +32,13 @@ pub record Row : Type 0 where
   pub range : Data → Bool
   pub further : Data → Option ProductFault
 
+-- a row, in the order of a line of the table
 abbrev pub row : Key → Need → ValueKind → (Data → Bool) → (Data → Option ProductFault) → Row
 row key need kind range further = record { key = key; need = need; kind = kind; range = range; further = further }
 
 -- ---- faults
 
+-- a fault where this holds
 abbrev pub fault_if : Bool → ProductFault → Option ProductFault
 fault_if holds fault = if holds then Some fault else None
 
@@ -56,6 +58,7 @@ first_of_each {X} fault_after entries = first_fault (map (λ (e : ℕ × X). fau
 
 -- ---- what a row says of a fields
 
+-- whether the key has to be there, in this table
 abbrev pub is_needed : Need → Data → Bool
 is_needed always fields = true
 is_needed optional fields = false
@@ -71,6 +74,7 @@ is_table value = is_some (as_table value)
 abbrev pub is_array_of : (Data → Bool) → Data → Bool
 is_array_of test value = option_map_or (λ items. list_all test (entries_of items)) (as_array value) false
 
+-- whether a value is of a kind
 abbrev pub is_of : ValueKind → Data → Bool
 is_of a_text value = is_text value
 is_of an_integer value = is_some (as_integer value)

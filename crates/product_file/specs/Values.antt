@@ -11,6 +11,7 @@ use Rattle.product_file.specs.Keys.{word_of}
 abbrev pub text_in : Data → List ℕ
 text_in value = unwrap_or (as_str value) []
 
+-- an integer
 abbrev pub integer_in : Data → ℤ
 integer_in value = unwrap_or (as_integer value) (pos 0)
 
@@ -18,6 +19,7 @@ integer_in value = unwrap_or (as_integer value) (pos 0)
 abbrev pub number_in : Data → ℕ
 number_in value = unsigned_abs (integer_in value)
 
+-- the values of an array
 abbrev pub entries_of : Items → List Data
 entries_of no_items = []
 entries_of (item value rest) = value ∷ entries_of rest
@@ -32,9 +34,11 @@ texts_in value = map text_in (entries_in value)
 
 -- ---- the value at a key of a fields
 
+-- the value at a key, and none where the key is absent
 abbrev pub value_at : Key → Data → Option Data
 value_at key fields = get (word_of key) fields
 
+-- the text at a key
 abbrev pub text_at : Key → Data → List ℕ
 text_at key fields = unwrap_or (option_map text_in (value_at key fields)) []
 
@@ -42,11 +46,14 @@ text_at key fields = unwrap_or (option_map text_in (value_at key fields)) []
 abbrev pub number_or : ℕ → Key → Data → ℕ
 number_or usual key fields = unwrap_or (option_map number_in (value_at key fields)) usual
 
+-- the number at a key that is needed
 abbrev pub number_at : Key → Data → ℕ
 number_at key fields = number_or 0 key fields
 
+-- the entries of the array at a key, and none where the key is absent
 abbrev pub entries_at : Key → Data → List Data
 entries_at key fields = unwrap_or (option_map entries_in (value_at key fields)) []
 
+-- the texts of the array at a key, and none where the key is absent
 abbrev pub texts_at : Key → Data → List (List ℕ)
 texts_at key fields = unwrap_or (option_map texts_in (value_at key fields)) []

@@ -62,7 +62,7 @@ pub(crate) fn is_own(letter: Letter) -> bool
     matches!(letter, Letter::K)
 }
 
-/// What the steps of an instrument take, with the usual values where the file gives none.
+/// What the steps of an instrument take, with the usual values where the file gives none (our own).
 #[tactic(auto, unfolding(crate::specs::Inner::Algorithms::parameters_of))]
 pub(crate) fn parameters_of(
     firms: &[ShortId],
