@@ -9,7 +9,7 @@ use Rattle.product_file.specs.ProductTexts.{product_of}
 use Rattle.product_file.specs.declared.faults.ProductFault.{ProductFault}
 use Rattle.product_file.specs.declared.faults.ProductFault.TheVariants.{TooLong}
 use Rattle.globex_run.specs.Serving.{CausedBy}
-use Rattle.globex_run.specs.ProductTexts.{IsProductText, IsRefusedAt, RefusesAs, TakesProduct}
+use Rattle.globex_run.specs.ProductTexts.{TakesAtMost, IsProductText, IsRefusedAt, RefusesAs, TakesProduct}
 use Rattle.globex_run.specs.Outcomes.{outcome_of, status_number}
 use Rattle.globex_run.specs.Ran.{Ran, TellsProduct, IsServedInput, NoFault}
 use Rattle.globex_run.specs.declared.outcome.Outcome.{Outcome}
@@ -23,6 +23,17 @@ too_long : (text : List ℕ) (product : ProductLists) → product_of text ≡ Ok
 unfolding product_of
 too_long text product is long =
     let e : Err TooLong ≡ Ok product = sym (cond-true (nat_lt 65536 (length text)) _ _ (lt-ltb 65536 (length text) long)) ∙ is in cc e
+
+-- a text that gives a product is not too long
+pub few-of-product : {P : Type 0} (m : SourceMeanings P) (first last : P) (product : ProductLists) → TakesProduct m first last (Ok product) → TakesAtMost m 65536 first last
+few-of-product m first last product took = record {
+  text = took.0;
+  left = took.1.left;
+  few = elim (cases_lt 65536 (length took.0)) [
+    | inl long ↦ absurd (too_long took.0 product took.2 long)
+    | inr few ↦ few
+  ];
+}
 
 -- a text that gives a product was taken whole
 pub whole-text : {P : Type 0} (m : SourceMeanings P) (first last : P) (taken text : List ℕ) (product : ProductLists) → IsProductText m first last taken → m.left first ≡ Some text → product_of text ≡ Ok product → product_of taken ≡ Ok product

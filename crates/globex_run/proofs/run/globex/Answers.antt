@@ -1,7 +1,10 @@
-use Rattle.std.proofs.Common.{ap, ◌∙◌}
+use Rattle.std.proofs.Common.{refl, ap, ◌∙◌}
 use Rattle.globex_run.specs.Outcomes.{outcome_of}
-use Rattle.globex_run.proofs.Runs.{unserved-outcome, all-served}
+use Rattle.globex_run.proofs.Runs.{few-of-product, unserved-outcome, all-served}
 use Rattle.globex_run.proofs.run.globex.Goals as goal
+
+pub returns-in_default-clause-no_memory : goal.returns-in_default-clause-no_memory
+returns-in_default-clause-no_memory g c one = (refl, refl, few-of-product g.P.Source.meanings c.args.product.now c.take_product.new.source c.in-Ok.product c.in-Ok.ensures)
 
 pub returns-in-Err-clause-all_served : goal.returns-in-Err-clause-all_served
 returns-in-Err-clause-all_served g c words lists tells input quiet reads sends =
