@@ -1,4 +1,4 @@
--- Where all of the input is plain order frames, a run takes them all.
+-- Where all of the input is frames that are served, a run takes them all.
 use Rattle.std.proofs.Common.{◌≡◌, ◌≢◌, inl, inr, ℕ, ◌≤◌, List, [], ◌∷◌, ◌++◌, length, take, drop, Option, Some, None, IsTrue, IsFalse, refl, sym, ap, subst, ◌∙◌, length-append, take-append-drop, arith}
 use Rattle.std.specs.List.{concat, take_while, AllByRecursion}
 use Rattle.std.proofs.lemmas.Bool.{cond-true, cond-false, cases_Bool, cases_lt}
@@ -173,7 +173,7 @@ module _ (product : ProductLists) (frames : List (List ℕ)) (plain : AreServedF
   ends-ok status.BadWords AtEnd end ends read send = absurd ends
   ends-ok status.Product AtEnd end ends read send = absurd ends
 
--- where all of the input is plain order frames, at most 10,000, a run ends early only at a fault
+-- where all of the input is frames that are served, at most 10,000, a run ends early only at a fault
 pub ran-all : {I S : Type 0} (inputs : SourceMeanings I) (stations : StationMeanings S) (product : ProductLists) (old new : I) (before after : S) (how : Status) (place count : ℕ)
     → Ran inputs stations product old new before after how place count
     → (frames : List (List ℕ)) → AreServedFrames product frames → length frames ≤ 10000 → inputs.left old ≡ Some (concat frames)

@@ -1,4 +1,4 @@
--- The plain order frames at the front of a stream.
+-- The frames that are served at the front of a stream.
 use Rattle.std.proofs.Common.{◌≡◌, ℕ, ◌+◌, cond, Bool, true, false, List, [], ◌∷◌, ◌++◌, take, IsFalse, refl, ap, ◌∙◌}
 use Rattle.std.proofs.Math.Numerals.{one-add}
 use Rattle.std.specs.List.{take_while, prefix_len}

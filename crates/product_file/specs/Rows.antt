@@ -56,7 +56,7 @@ unless_fault (Some fault) a = Err fault
 abbrev pub first_of_each : {X : Type 0} → (List X → X → Option ProductFault) → List X → Option ProductFault
 first_of_each {X} fault_after entries = first_fault (map (λ (e : ℕ × X). fault_after (take e.0 entries) e.1) (enumerate_from 0 entries))
 
--- ---- what a row says of a fields
+-- ---- what a row says of a table
 
 -- whether the key has to be there, in this table
 abbrev pub is_needed : Need → Data → Bool

@@ -32,7 +32,7 @@ entries_in value = entries_of (unwrap_or (as_array value) no_items)
 abbrev pub texts_in : Data → List (List ℕ)
 texts_in value = map text_in (entries_in value)
 
--- ---- the value at a key of a fields
+-- ---- the value at a key of a table
 
 -- the value at a key, and none where the key is absent
 abbrev pub value_at : Key → Data → Option Data
