@@ -31,9 +31,11 @@ no_value_fault fields = option_map (λ (f : Field). fault 3 4 f.tag) (first_empt
 
 -- ---- rules 4 to 6: the header
 
+-- a listed firm
 abbrev pub is_firm : NameLists → List ℕ → Bool
 is_firm names text = list_any (λ firm. bytes_eq firm text) names.firms
 
+-- the exchange
 abbrev pub is_exchange : NameLists → List ℕ → Bool
 is_exchange names text = bytes_eq names.exchange text
 
@@ -42,7 +44,8 @@ abbrev pub is_sequence_number : List ℕ → Bool
 is_sequence_number text =
     nat_le 1 (length text) && nat_le (length text) 9 && are_digits text && nat_le 1 (digits_value 10 text)
 
--- rule 4: SENDER, rule 5: TARGET, rule 6: HEADER
+-- rule 4: SENDER: 49 is missing, or is no listed firm; rule 5: TARGET: 56 is missing, or is not the exchange; rule 6: HEADER: 34 is
+-- missing, or ill-formed, then 52 is
 abbrev pub header_faults : NameLists → List Field → List (Option Fault)
 header_faults names fields =
     if_missing (fault 4 1 49) (value_of 49 fields)
