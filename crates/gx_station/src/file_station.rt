@@ -1,5 +1,5 @@
 //! The adapter to a journal file and a std writer.
-ghost use Rattle.std.specs.Prelude.{◌≡◌, ◌≤◌, length, OnOk, OnErr, IfOk};
+ghost use Rattle.std.specs.Prelude.{◌≡◌, ◌+◌, ◌≤◌, ◌^◌, length, IsNone, IsErr, OnOk, OnErr, IfOk};
 ghost use Rattle.std.specs.Io.KnownBytes.{Appends, WriteAppends};
 ghost use Rattle.gx_station.specs.FileStations.{file_of, writer_of, reach_of, send_faults_of, store_faults_of, AppendsFront};
 
@@ -41,17 +41,23 @@ impl<W: Write> FileStation<W> {
 }
 
 impl<W: Write> Station for FileStation<W> {
-    ghost use Rattle.std.specs.Prelude.{◌≡◌, OnOk, OnErr};
+    ghost use Rattle.std.specs.Prelude.{◌≡◌, ◌+◌, ◌≤◌, ◌^◌, length, IsNone, IsErr, OnOk, OnErr};
     ghost use Rattle.std.specs.Io.KnownBytes.{Appends};
     ghost use Rattle.gx_station.specs.Honest.{PassesOutputs};
     ghost use Rattle.gx_station.specs.Quiet.{Sends};
-    ghost use Rattle.gx_station.specs.FileStations.{file_meanings, file_honest, file_of, writer_of, AppendsFront};
+    ghost use Rattle.gx_station.specs.StoreCalls.{Measures, Reads, Writes, Syncs};
+    ghost use Rattle.gx_station.specs.FileStations.{file_meanings, file_honest, file_of, writer_of, reach_of, AppendsFront};
 
     ghost meanings = { file_meanings };
 
     ghost honest = { file_honest };
 
-    fn length(&mut self) -> Result<u64, Failed> {
+    /// As the trait says. Where there is no file, it is `Failed`.
+    fn length(&mut self) -> Result<u64, Failed>
+        ensures measures { Measures file_meanings self.old self.new result }
+        ensures closed { IsNone (file_of self.old) → IsErr result }
+        ensures file { file_of self.new ≡ file_of self.old }
+    {
         let Ok(length) = file_length(&self.file) else {
             self.store_faults = count_up(self.store_faults);
             return Err(Failed);
@@ -60,7 +66,12 @@ impl<W: Write> Station for FileStation<W> {
         Ok(length)
     }
 
-    fn read(&mut self, at: u64, into: &mut [u8]) -> Result<(), Failed> {
+    /// As the trait says. Where there is no file, it is `Failed`.
+    fn read(&mut self, at: u64, into: &mut [u8]) -> Result<(), Failed>
+        ensures reads { Reads file_meanings self.old self.new at into.new result }
+        ensures closed { IsNone (file_of self.old) → IsErr result }
+        ensures file { file_of self.new ≡ file_of self.old }
+    {
         if read_at(&self.file, at, into).is_err() {
             self.store_faults = count_up(self.store_faults);
             return Err(Failed);
@@ -68,7 +79,14 @@ impl<W: Write> Station for FileStation<W> {
         Ok(())
     }
 
-    fn write(&mut self, at: u64, bytes: &[u8]) -> Result<(), Failed> {
+    /// As the trait says. Where there is no file, it is `Failed`.
+    fn write(&mut self, at: u64, bytes: &[u8]) -> Result<(), Failed>
+        requires within { at ≤ reach_of self.old }
+        requires small { at + length bytes.now ≤ 2 ^ 62 }
+        ensures writes { Writes file_meanings self.old self.new at bytes.now result }
+        ensures closed { IsNone (file_of self.old) → IsErr result }
+        ensures file { file_of self.new ≡ file_of self.old }
+    {
         if write_at(&self.file, at, bytes).is_err() {
             self.store_faults = count_up(self.store_faults);
             return Err(Failed);
@@ -77,7 +95,12 @@ impl<W: Write> Station for FileStation<W> {
         Ok(())
     }
 
-    fn sync(&mut self) -> Result<(), Failed> {
+    /// As the trait says. Where there is no file, it is `Failed`.
+    fn sync(&mut self) -> Result<(), Failed>
+        ensures syncs { Syncs file_meanings self.old self.new result }
+        ensures closed { IsNone (file_of self.old) → IsErr result }
+        ensures file { file_of self.new ≡ file_of self.old }
+    {
         if sync_file(&self.file).is_err() {
             self.store_faults = count_up(self.store_faults);
             return Err(Failed);
@@ -131,24 +154,36 @@ fn write_out<W: Write>(out: &mut W, bytes: &[u8]) -> io::Result<()>
 }
 
 /// The file, where there is one.
-fn opened(file: &Option<File>) -> io::Result<&File> {
+fn opened(file: &Option<File>) -> io::Result<&File>
+    ensures { IsNone file.now → IsErr result }
+{
     file.as_ref().ok_or(io::Error::from(ErrorKind::NotFound))
 }
 
-fn file_length(file: &Option<File>) -> io::Result<u64> {
+/// The length of the file, in bytes.
+fn file_length(file: &Option<File>) -> io::Result<u64>
+    ensures { IsNone file.now → IsErr result }
+{
     Ok(opened(file)?.metadata()?.len())
 }
 
-fn read_at(file: &Option<File>, at: u64, into: &mut [u8]) -> io::Result<()> {
+/// Fills all of `into` with the bytes from a place in the file on.
+fn read_at(file: &Option<File>, at: u64, into: &mut [u8]) -> io::Result<()>
+    ensures { IsNone file.now → IsErr result }
+{
     opened(file)?.read_exact_at(into, at)
 }
 
 /// Writes all of the bytes at their place in the file.
-fn write_at(file: &Option<File>, at: u64, bytes: &[u8]) -> io::Result<()> {
+fn write_at(file: &Option<File>, at: u64, bytes: &[u8]) -> io::Result<()>
+    ensures { IsNone file.now → IsErr result }
+{
     opened(file)?.write_all_at(bytes, at)
 }
 
 /// The full sync of the file's data and length.
-fn sync_file(file: &Option<File>) -> io::Result<()> {
+fn sync_file(file: &Option<File>) -> io::Result<()>
+    ensures { IsNone file.now → IsErr result }
+{
     opened(file)?.sync_all()
 }
