@@ -5,6 +5,7 @@ ghost use Rattle.plain_book.specs.Match.{CanTrade};
 
 mod books;
 mod leveling;
+mod lmm;
 mod prorata;
 mod sweeps;
 mod top;
