@@ -6,8 +6,6 @@ mod edits;
 mod entry;
 mod plain;
 mod scan;
-#[cfg(test)]
-mod tests;
 mod trade;
 
 pub use book::Book;

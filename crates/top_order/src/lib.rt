@@ -2,7 +2,5 @@
 #![tactic(auto)]
 
 mod pass;
-#[cfg(test)]
-mod tests;
 
 pub use pass::top_pass;

@@ -1,5 +1,5 @@
 use Rattle.std.proofs.Common.{sym, ap, ◌∙◌}
-use Rattle.std.specs.Option.{option_map}
+use Rattle.std.specs.Prelude.{option_map}
 use Rattle.plain_book.specs.Book.{live_orders, slot_number}
 use Rattle.plain_book.proofs.Live.{unnamed-none}
 use Rattle.level_sweep.proofs.tests.rest.Goals as goal
