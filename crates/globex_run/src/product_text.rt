@@ -1,7 +1,7 @@
 //! The product, which is read before anything else is touched.
 ghost use Rattle.std.specs.Prelude.{◌≡◌, ◌≤◌, length, vec_len};
 ghost use Rattle.globex_run.specs.Outside.{source_at};
-ghost use Rattle.globex_run.specs.Inner.ProductReading.{TakesText, TakesProduct};
+ghost use Rattle.globex_run.specs.Inner.ProductReading.{TakesText, TakesProduct, Judges};
 
 use gx_station::{Failed, Source};
 use product_file::{Product, ProductFault, read_product};
@@ -50,7 +50,14 @@ pub fn take_product<P: Source>(alloc: Global, source: &mut P) -> Result<Product,
     let Ok(len) = read_text(&mut room, source) else {
         return Err(NoProduct::Unread);
     };
-    match read_product(alloc, &room.as_slice()[..len]) {
+    or_reason(read_product(alloc, &room.as_slice()[..len]))
+}
+
+/// The product that was read, or why its text gives none.
+fn or_reason(read: Result<Product, ProductFault>) -> Result<Product, NoProduct>
+    ensures { Judges read result }
+{
+    match read {
         Ok(product) => Ok(product),
         Err(ProductFault::NoMemory) => Err(NoProduct::NoMemory),
         Err(fault) => Err(NoProduct::Refused(fault.number())),

@@ -94,10 +94,10 @@ pub fn globex<P: Source, I: Source, S: Station>(
 
     // What it took from the product's source and from the input, what it sent, and why it ended there, for all statuses
     // but 1 and 2.
-    ensures ran { result.status ≢ 1 → result.status ≢ 2 → RunResult (outside_at P.meanings I.meanings S.meanings product.old input.old station.old) (outside_at P.meanings I.meanings S.meanings product.new input.new station.new) result }
+    ensures ran { let before = outside_at P.meanings I.meanings S.meanings product.old input.old station.old in let after = outside_at P.meanings I.meanings S.meanings product.new input.new station.new in result.status ≢ 1 → result.status ≢ 2 → RunResult before after result }
 
     // An input of at most 10,000 frames that are served is served to its end where memory is given and no fault comes.
-    ensures all_served { let before = outside_at P.meanings I.meanings S.meanings product.old input.old station.old in IsTrue (is_run words.now) → CanBeServed before → IsQuiet before (outside_at P.meanings I.meanings S.meanings product.new input.new station.new) → (result.status ≡ 0) ⊎ (result.status ≡ 1) }
+    ensures all_served { let before = outside_at P.meanings I.meanings S.meanings product.old input.old station.old in let after = outside_at P.meanings I.meanings S.meanings product.new input.new station.new in IsTrue (is_run words.now) → CanBeServed before → IsQuiet before after → (result.status ≡ 0) ⊎ (result.status ≡ 1) }
 
     // Want of memory, words that are no command, or a product that is refused, leave the input and the station untouched.
     // At want of memory no more was taken of the product than its text may have.

@@ -1,8 +1,10 @@
 -- How the product's text is read, and why there may be no product.
-use Rattle.std.specs.Prelude.{◌≡◌, ℕ, ◌≤◌, List, length, take, Result, Ok, Err, IfOk, OnErr}
+use Rattle.std.specs.Prelude.{◌≡◌, ◌≢◌, ℕ, ◌≤◌, List, length, take, Result, Ok, Err, IfOk, OnErr}
 use Rattle.gx_station.specs.Counts.{Rose}
 use Rattle.product_file.specs.Products.{ProductLists}
 use Rattle.product_file.specs.ProductTexts.{product_of}
+use Rattle.product_file.specs.declared.faults.ProductFault.{ProductFault}
+use Rattle.product_file.specs.declared.faults.ProductFault.TheVariants as fault
 use Rattle.globex_run.specs.Outside.{SourceAt}
 use Rattle.globex_run.specs.ProductTexts.{longest_text, TakesAtMost, IsProductText, IsRefusedAt}
 use Rattle.globex_run.specs.declared.product_text.NoProduct.{NoProduct}
@@ -14,6 +16,17 @@ pub record TakesText {P F : Type 0} (before after : SourceAt P) (room : List ℕ
   pub taken : IfOk result (λ n. IsProductText before after (take n room))
   pub unread : OnErr result (TakesAtMost longest_text before after)
   pub rose : OnErr result (Rose before.faults after.faults)
+
+-- why a text that was read gives no product
+abbrev pub JudgesAs : Result ProductLists ProductFault → NoProduct → Type 0
+JudgesAs read NoMemory = read ≡ Err fault.NoMemory
+JudgesAs read (Refused rule) = (read ≢ Err fault.NoMemory) × IsRefusedAt rule read
+JudgesAs read Unread = ⊥
+
+-- what a text that was read gives
+abbrev pub Judges : Result ProductLists ProductFault → Result ProductLists NoProduct → Type 0
+Judges read (Ok product) = read ≡ Ok product
+Judges read (Err reason) = JudgesAs read reason
 
 -- why no product was taken
 abbrev pub TakesNone : {P : Type 0} → SourceAt P → SourceAt P → NoProduct → Type 0
