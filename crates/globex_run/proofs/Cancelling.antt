@@ -17,7 +17,7 @@ use Rattle.plain_book.proofs.Right.{live-without}
 use Rattle.level_sweep.proofs.Renamed.{live-numbered, named-live, removed-same}
 use Rattle.globex_run.specs.State.{State}
 use Rattle.globex_run.specs.Cancels.{cancel_step, cancel_by, cancel_refused, order_cancelled}
-use Rattle.globex_run.specs.Fit.{AreNumbered, state_of}
+use Rattle.globex_run.specs.Inner.EngineInvariant.{AreNumbered, state_of}
 use Rattle.globex_run.proofs.Numbers.{named-numbered, order-numbered, named-has}
 
 module _ (request : CancelOrder) (b : Book) (desk : Desk) (differ : AllDiffer (live_orders b)) where

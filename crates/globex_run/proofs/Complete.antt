@@ -4,18 +4,17 @@ use Rattle.std.specs.List.{concat, take_while, AllByRecursion}
 use Rattle.std.proofs.lemmas.Bool.{cond-true, cond-false, cases_Bool, cases_lt}
 use Rattle.std.proofs.lemmas.List.{append-nil, drop_at, take_at, take_all, take-append-le, nil_from_length}
 use Rattle.std.proofs.lemmas.Option.{none-some, same_Some}
-use Rattle.gx_station.specs.Sources.{SourceMeanings, and_left, IsAtEnd}
-use Rattle.gx_station.specs.Stations.{StationMeanings}
+use Rattle.gx_station.specs.Sources.{and_left, IsAtEnd}
 use Rattle.gx_base.specs.Frames.{frame_of}
 use Rattle.fix_frame.specs.Grammar.{is_frame, IsFrame, IsFrameFront, BeginsWithNone}
 use Rattle.fix_frame.specs.Stream.{messages_from, rest_from, messages_of, rest_of}
 use Rattle.fix_frame.proofs.Streams.{messages_from-append, rest_from-append, concat-messages_from, concat-messages_of, messages_of-frame-append, rest_of-frame-append, none_from_messages_of}
 use Rattle.product_file.specs.Products.{ProductLists}
-use Rattle.globex_run.specs.ServedRequests.{is_served_frame}
-use Rattle.globex_run.specs.Served.{AreServed, AreServedFrames}
-use Rattle.globex_run.specs.Ran.{Ran, EndsAs, BeginsWith, first_messages, served_front, bytes_at}
-use Rattle.globex_run.specs.declared.outcome.Status.{Status}
-use Rattle.globex_run.specs.declared.outcome.Status.TheVariants as status
+use Rattle.globex_run.specs.Outside.{Streams}
+use Rattle.globex_run.specs.ServedRequests.{is_served_frame, AreServed, AreServedFrames}
+use Rattle.globex_run.specs.RunResult.{ServingResult, EndsAs, BeginsWith, first_messages, served_front, bytes_at}
+use Rattle.globex_run.specs.declared.serve.Ending.{Ending}
+use Rattle.globex_run.specs.declared.serve.Ending.TheVariants.{Done, ReadFault, SendFault, BadFrame, Truncated, Full}
 use Rattle.globex_run.proofs.Fronts.{front-none}
 
 -- ---- what is left of some input
@@ -144,40 +143,37 @@ all_served product taken plain =
 
 -- ---- the endings
 
-module _ (product : ProductLists) (frames : List (List ℕ)) (plain : AreServedFrames product frames) (few : length frames ≤ 10000) (taken rest : List ℕ) (all : concat frames ≡ taken ++ rest) (place count : ℕ) (some : count ≤ length (messages_of taken)) where
+-- where all of the input is frames that are served, at most 10,000, serving ends early only at a fault
+module _ (product : ProductLists) (frames : List (List ℕ)) (are_served : AreServedFrames product frames) (few : length frames ≤ 10000) (taken rest : List ℕ) (all : concat frames ≡ taken ++ rest) (left : Option (List ℕ)) (is : left ≡ Some rest) (count : ℕ) (some : count ≤ length (messages_of taken)) where
   are : AreFrames frames
-  are = are_frames product frames plain
+  are = are_frames product frames are_served
 
   whole_front : served_front product taken ≡ messages_of taken
-  whole_front = all_served product taken (served-front product (messages_of taken) (behind taken rest frames are all) (subst (λ (l : List (List ℕ)). AreServedFrames product l) (in_two taken rest frames are all) plain))
+  whole_front = all_served product taken (served-front product (messages_of taken) (behind taken rest frames are all) (subst (λ (l : List (List ℕ)). AreServedFrames product l) (in_two taken rest frames are all) are_served))
 
   counts : count ≡ length (served_front product taken) → count ≡ length (messages_of taken)
   counts h = h ∙ ap (λ (l : List (List ℕ)). length l) whole_front
 
-  ends-ok : (how : Status) (AtEnd : Type 0) → (AtEnd → rest ≡ []) → EndsAs product how place count taken AtEnd → how ≢ status.ReadFault → how ≢ status.SendFault → how ≡ status.Ok
-  ends-ok status.Ok AtEnd end ends read send = refl
-  ends-ok status.ReadFault AtEnd end ends read send = absurd (read refl)
-  ends-ok status.SendFault AtEnd end ends read send = absurd (send refl)
-  ends-ok status.BadFrame AtEnd end ends read send =
+  ends-done : (ending : Ending) → EndsAs product ending count taken left → ((place : ℕ) → ending ≢ ReadFault place) → ending ≢ SendFault → ending ≡ Done
+  ends-done Done ends read send = refl
+  ends-done (ReadFault place) ends read send = absurd (read place refl)
+  ends-done SendFault ends read send = absurd (send refl)
+  ends-done (BadFrame place) ends read send =
       let counted = counts ends.1 in
       elim ends.2 [
         | inl begins ↦ absurd (begins-none taken count place counted ends.0 (λ frame. IsFalse (is_served_frame product frame)) begins)
         | inr broken ↦ absurd (broken.1 (rest_is_front taken rest frames are all))
       ]
-  ends-ok status.Truncated AtEnd end ends read send = absurd (ends.3.0 (rest_is_none taken rest frames are all (end ends.0)))
-  ends-ok status.JournalFull AtEnd end ends read send =
+  ends-done (Truncated place) ends read send = absurd (ends.3.0 (rest_is_none taken rest frames are all (nil_from_end left rest is ends.0)))
+  ends-done (Full place) ends read send =
       let total = ap (λ (l : List (List ℕ)). length l) (in_two taken rest frames are all) in
       let counted : count ≡ length (messages_of taken) = omega (arith, some, few, ends.0, total, length-append (messages_of taken) (behind taken rest frames are all)) in
       absurd (begins-none taken count place counted ends.1 (λ frame. IsTrue (is_served_frame product frame)) ends.2)
-  ends-ok status.NoMemory AtEnd end ends read send = absurd ends
-  ends-ok status.BadWords AtEnd end ends read send = absurd ends
-  ends-ok status.Product AtEnd end ends read send = absurd ends
 
--- where all of the input is frames that are served, at most 10,000, a run ends early only at a fault
-pub ran-all : {I S : Type 0} (inputs : SourceMeanings I) (stations : StationMeanings S) (product : ProductLists) (old new : I) (before after : S) (how : Status) (place count : ℕ)
-    → Ran inputs stations product old new before after how place count
-    → (frames : List (List ℕ)) → AreServedFrames product frames → length frames ≤ 10000 → inputs.left old ≡ Some (concat frames)
-    → how ≢ status.ReadFault → how ≢ status.SendFault → how ≡ status.Ok
-ran-all inputs stations product old new before after how place count ran frames plain few input read send =
-    let parts = left_parts (inputs.left new) (concat frames) ran.taken (sym input ∙ ran.took) in
-    ends-ok product frames plain few ran.taken parts.0 parts.2 place count ran.some how (IsAtEnd (inputs.left new)) (nil_from_end (inputs.left new) parts.0 parts.1) ran.ends read send
+pub serves-all : {I S : Type 0} (product : ProductLists) (before after : Streams I S) (ending : Ending) (count : ℕ)
+    → ServingResult product before after ending count
+    → (frames : List (List ℕ)) → AreServedFrames product frames → length frames ≤ 10000 → before.input.left ≡ Some (concat frames)
+    → ((place : ℕ) → ending ≢ ReadFault place) → ending ≢ SendFault → ending ≡ Done
+serves-all product before after ending count result frames are_served few told read send =
+    let parts = left_parts after.input.left (concat frames) result.taken (sym told ∙ result.took) in
+    ends-done product frames are_served few result.taken parts.0 parts.2 after.input.left parts.1 count result.some ending result.ends read send

@@ -15,8 +15,8 @@ use Rattle.plain_book.proofs.Steps.{with_events}
 use Rattle.level_sweep.specs.Sweep.{sweep}
 use Rattle.level_sweep.proofs.Blind.{sweep-blind}
 use Rattle.globex_run.specs.NewOrders.{order_asked, taker_of, with_rest, new_of, state_in}
-use Rattle.globex_run.specs.Fit.{IsState, IsOrder, HasRoom, state_of, filled_as, counter_limit}
-use Rattle.globex_run.proofs.Rooms.{room-reported, counted_line}
+use Rattle.globex_run.specs.Inner.EngineInvariant.{IsState, IsOrder, HasRoom, state_of, filled_as, counter_limit}
+use Rattle.globex_run.proofs.Counters.{room-reported, counted_line}
 
 abbrev counted : Desk → Desk
 counted desk = record desk { orders = desk.orders + 1 }

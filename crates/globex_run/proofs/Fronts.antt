@@ -1,10 +1,9 @@
--- The frames that are served at the front of a stream.
+-- The frames at the front of a stream that are served.
 use Rattle.std.proofs.Common.{◌≡◌, ℕ, ◌+◌, cond, Bool, true, false, List, [], ◌∷◌, ◌++◌, take, IsFalse, refl, ap, ◌∙◌}
 use Rattle.std.proofs.Math.Numerals.{one-add}
 use Rattle.std.specs.List.{take_while, prefix_len}
 use Rattle.product_file.specs.Products.{ProductLists}
-use Rattle.globex_run.specs.ServedRequests.{is_served_frame}
-use Rattle.globex_run.specs.Served.{AreServed}
+use Rattle.globex_run.specs.ServedRequests.{is_served_frame, AreServed}
 
 -- those that pass are in front
 take_while-passes : (p : List ℕ → Bool) (x : List ℕ) (xs : List (List ℕ)) → p x ≡ true → take_while p (x ∷ xs) ≡ x ∷ take_while p xs
@@ -19,7 +18,7 @@ take_while-served product [] xs all = refl
 take_while-served product (f ∷ served) xs all =
     take_while-passes (is_served_frame product) f (served ++ xs) all.0 ∙ ap (λ (l : List (List ℕ)). f ∷ l) (take_while-served product served xs all.1)
 
--- nothing plain follows
+-- none that is served follows
 pub front-none : (product : ProductLists) (served xs : List (List ℕ)) → AreServed product served → xs ≡ [] → take_while (is_served_frame product) (served ++ xs) ≡ served ++ []
 front-none product served xs all none = take_while-served product served xs all ∙ ap (λ (l : List (List ℕ)). served ++ take_while (is_served_frame product) l) none
 

@@ -1,12 +1,11 @@
-pub mod Rooms
+pub mod Counters
 pub mod Numbers
 pub mod Sweeping
 pub mod Resting
 pub mod Entered
 pub mod Cancelling
-pub mod Serving
+pub mod Invariant
 pub mod ServedFrames
-pub mod Statuses
 pub mod Running
 pub mod Fronts
 pub mod Ends

@@ -16,7 +16,7 @@ use Rattle.level_sweep.proofs.Renamed.{live-numbered}
 use Rattle.product_file.specs.Products.{ProductLists}
 use Rattle.fix_request.specs.declared.request.NewOrder.{NewOrder}
 use Rattle.globex_run.specs.NewOrders.{new_fault, new_by, new_step, steps_for}
-use Rattle.globex_run.specs.Fit.{state_of}
+use Rattle.globex_run.specs.Inner.EngineInvariant.{state_of}
 
 any-numbered : (firm : ℕ) (id : List ℕ) (es : List Entry) → is_live firm id (numbered es) ≡ is_live firm id es
 any-numbered firm id [] = refl

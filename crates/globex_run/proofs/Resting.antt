@@ -15,7 +15,7 @@ use Rattle.plain_book.proofs.Sorted.{IsInserted, inserted-differ, inserted-all}
 use Rattle.plain_book.proofs.Right.{live-placed, ordered-marked, slots-marked}
 use Rattle.level_sweep.proofs.Renamed.{live-numbered, placed-same}
 use Rattle.globex_run.specs.NewOrders.{top_min_of, with_rest}
-use Rattle.globex_run.specs.Fit.{AreNumbered}
+use Rattle.globex_run.specs.Inner.EngineInvariant.{AreNumbered}
 
 -- ---- numbers stay apart
 

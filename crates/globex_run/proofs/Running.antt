@@ -5,17 +5,17 @@ use Rattle.std.proofs.lemmas.List.{append-nil}
 use Rattle.std.proofs.lemmas.Grind.{flat_map-append}
 use Rattle.gx_base.specs.Line.{line_of}
 use Rattle.gx_base.specs.declared.event.Event.{Event}
-use Rattle.gx_station.specs.Sources.{SourceMeanings, and_left}
-use Rattle.gx_station.specs.Stations.{StationMeanings, sent_and}
+use Rattle.gx_station.specs.Sources.{and_left}
+use Rattle.gx_station.specs.Stations.{sent_and}
 use Rattle.fix_frame.specs.Framing.{Framing, GivesFrame, given_bytes}
 use Rattle.fix_frame.specs.Stream.{messages_of, rest_of}
 use Rattle.fix_frame.proofs.Framings.{message_given, rest_given, bytes_given}
 use Rattle.product_file.specs.Products.{ProductLists}
 use Rattle.globex_run.specs.State.{State, empty_state}
 use Rattle.globex_run.specs.Step.{step_of, state_after, events_from, reports_of, lines_of}
-use Rattle.globex_run.specs.Serving.{TakesMore, ServesFrame, IsEmptyFramer}
-use Rattle.globex_run.specs.ServedRequests.{is_served_frame}
-use Rattle.globex_run.specs.Served.{AreServed, IsServed}
+use Rattle.globex_run.specs.Outside.{SourceAt, StationAt, Streams}
+use Rattle.globex_run.specs.Inner.Serving.{TakesMore, ServesFrame, IsEmptyFramer, IsServed}
+use Rattle.globex_run.specs.ServedRequests.{is_served_frame, AreServed}
 use Rattle.exec_report.proofs.Sent.{sent_and-append, sent_and_none}
 
 -- ---- lists of frames
@@ -52,28 +52,29 @@ pub and_left-none : (left : Option (List ℕ)) → left ≡ and_left [] left
 and_left-none None = refl
 and_left-none (Some rest) = refl
 
-module _ {I S : Type 0} (inputs : SourceMeanings I) (stations : StationMeanings S) (product : ProductLists) (old : I) (before : S) where
-  abbrev Run : I → S → Framing → State → Type 0
-  Run now after framing state = IsServed inputs stations product old now before after framing state
+module _ {I S : Type 0} (product : ProductLists) (before : Streams I S) where
+  -- what is served when the input and the station are these
+  abbrev Run : SourceAt I → StationAt S → Framing → State → Type 0
+  Run input station framing state = IsServed product before (record { input = input; station = station }) framing state
 
-  pub served-first : (framing : Framing) (state : State) → IsEmptyFramer framing → state ≡ empty_state product → Run old before framing state
+  pub served-first : (framing : Framing) (state : State) → IsEmptyFramer framing → state ≡ empty_state product → Run before.input before.station framing state
   served-first framing state empty start = record {
     served = [];
     are_served = tt;
-    left = subst (λ (l : List ℕ). inputs.left old ≡ and_left l (inputs.left old)) (sym empty.rest) (and_left-none (inputs.left old));
+    left = subst (λ (l : List ℕ). before.input.left ≡ and_left l before.input.left) (sym empty.rest) (and_left-none before.input.left);
     messages = λ more. refl;
     behind = λ more. refl;
     offset = empty.offset;
     is_state = start;
     count = ap (λ (s : State). s.desk.messages) start;
-    sent = sym (sent_and_none (stations.sent before));
+    sent = sym (sent_and_none before.station.sent);
     reads = refl;
     sends = refl;
   }
 
   -- a frame was given and served
-  pub served-more : (now : I) (after then : S) (framing next : Framing) (state state' : State) (start end : ℕ) → Run now after framing state
-      → (given : GivesFrame framing next start end) → ServesFrame stations product state state' after then given.frame (Ok tt) → Run now then next state'
+  pub served-more : (now : SourceAt I) (after then : StationAt S) (framing next : Framing) (state state' : State) (start end : ℕ) → Run now after framing state
+      → (given : GivesFrame framing next start end) → ServesFrame product state state' after then given.frame (Ok tt) → Run now then next state'
   served-more now after then framing next state state' start end run given did =
       let frame = given.frame in
       let all = run.served ++ frame ∷ [] in
@@ -83,7 +84,7 @@ module _ {I S : Type 0} (inputs : SourceMeanings I) (stations : StationMeanings 
       record {
         served = all;
         are_served = served-push product run.served frame run.are_served did.3;
-        left = run.left ∙ ap (λ (l : List ℕ). and_left l (inputs.left now)) (sym bytes);
+        left = run.left ∙ ap (λ (l : List ℕ). and_left l now.left) (sym bytes);
         messages = λ more.
             ap (λ (l : List ℕ). messages_of (l ++ more)) bytes ∙ run.messages more ∙ ap (λ (l : List (List ℕ)). run.served ++ l) (message_given framing next start end given more) ∙ sym (append_assoc run.served (frame ∷ []) (messages_of (next.rest ++ more)));
         behind = λ more. ap (λ (l : List ℕ). rest_of (l ++ more)) bytes ∙ run.behind more ∙ rest_given framing next start end given more;
@@ -93,24 +94,24 @@ module _ {I S : Type 0} (inputs : SourceMeanings I) (stations : StationMeanings 
         sent =
             did.4
             ∙ ap (λ (s : Option (List ℕ)). sent_and s (lines_of product (step_of product state frame).1)) run.sent
-            ∙ sym (sent_and-append (stations.sent before) (reports_of product run.served) (lines_of product (step_of product state frame).1))
-            ∙ ap (λ (l : List ℕ). sent_and (stations.sent before) l) (ap (λ (s : State × List Event). reports_of product run.served ++ lines_of product s.1) stepped ∙ sym (reports-push product run.served frame));
+            ∙ sym (sent_and-append before.station.sent (reports_of product run.served) (lines_of product (step_of product state frame).1))
+            ∙ ap (λ (l : List ℕ). sent_and before.station.sent l) (ap (λ (s : State × List Event). reports_of product run.served ++ lines_of product s.1) stepped ∙ sym (reports-push product run.served frame));
         reads = run.reads;
         sends = did.5 ∙ run.sends;
       }
 
-  pub served-next : (now : I) (after then : S) (framing next : Framing) (state state' : State) (start end : ℕ) (frame : List ℕ) (t : Unit {0}) → Run now after framing state
-      → (given : GivesFrame framing next start end) → frame ≡ given_bytes next start end → ServesFrame stations product state state' after then frame (Ok t) → Run now then next state'
+  pub served-next : (now : SourceAt I) (after then : StationAt S) (framing next : Framing) (state state' : State) (start end : ℕ) (frame : List ℕ) (t : Unit {0}) → Run now after framing state
+      → (given : GivesFrame framing next start end) → frame ≡ given_bytes next start end → ServesFrame product state state' after then frame (Ok t) → Run now then next state'
   served-next now after then framing next state state' start end frame t run given lent did =
-      served-more now after then framing next state state' start end run given (subst (λ (f : List ℕ). ServesFrame stations product state state' after then f (Ok tt)) (lent ∙ bytes_given framing next start end given) did)
+      served-more now after then framing next state state' start end run given (subst (λ (f : List ℕ). ServesFrame product state state' after then f (Ok tt)) (lent ∙ bytes_given framing next start end given) did)
 
   pub place-next : (framing next : Framing) (start end count : ℕ) → GivesFrame framing next start end → length framing.rest ≤ 8192 → framing.offset ≤ count * 8192 → next.offset ≤ (count + 1) * 8192
   place-next framing next start end count given fits below =
       omega (arith, given.offset, ap (λ (l : List ℕ). length l) given.front, length-append given.frame next.rest, fits, below)
 
   -- more was read
-  pub served-taken : {F : Type 0} (now then : I) (after : S) (framing next : Framing) (state : State) (result : Result ℕ F) → Run now after framing state
-      → TakesMore inputs now then framing next result → inputs.faults then ≡ inputs.faults now → Run then after next state
+  pub served-taken : {F : Type 0} (now then : SourceAt I) (after : StationAt S) (framing next : Framing) (state : State) (result : Result ℕ F) → Run now after framing state
+      → TakesMore now then framing next result → then.faults ≡ now.faults → Run then after next state
   served-taken now then after framing next state result run takes same =
       let bytes : concat run.served ++ next.rest ≡ (concat run.served ++ framing.rest) ++ takes.taken =
       ap (λ (l : List ℕ). concat run.served ++ l) takes.rest ∙ sym (append_assoc (concat run.served) framing.rest takes.taken) in
@@ -121,7 +122,7 @@ module _ {I S : Type 0} (inputs : SourceMeanings I) (stations : StationMeanings 
       record {
         served = run.served;
         are_served = run.are_served;
-        left = run.left ∙ ap (λ (l : Option (List ℕ)). and_left (concat run.served ++ framing.rest) l) takes.left ∙ and_left-then (concat run.served ++ framing.rest) takes.taken (inputs.left then) ∙ ap (λ (l : List ℕ). and_left l (inputs.left then)) (sym bytes);
+        left = run.left ∙ ap (λ (l : Option (List ℕ)). and_left (concat run.served ++ framing.rest) l) takes.left ∙ and_left-then (concat run.served ++ framing.rest) takes.taken then.left ∙ ap (λ (l : List ℕ). and_left l then.left) (sym bytes);
         messages = λ more. ap messages_of (further more) ∙ run.messages (takes.taken ++ more) ∙ ap (λ (l : List ℕ). run.served ++ messages_of l) (held more);
         behind = λ more. ap rest_of (further more) ∙ run.behind (takes.taken ++ more) ∙ ap rest_of (held more);
         offset = takes.offset ∙ run.offset;
@@ -133,7 +134,7 @@ module _ {I S : Type 0} (inputs : SourceMeanings I) (stations : StationMeanings 
       }
 
   -- the same, behind an answer that left the framer as it was
-  pub served-read : {F : Type 0} (now then : I) (after : S) (framing same next : Framing) (state : State) (result : Result ℕ F) → same ≡ framing → Run now after framing state
-      → TakesMore inputs now then same next result → inputs.faults then ≡ inputs.faults now → Run then after next state
+  pub served-read : {F : Type 0} (now then : SourceAt I) (after : StationAt S) (framing same next : Framing) (state : State) (result : Result ℕ F) → same ≡ framing → Run now after framing state
+      → TakesMore now then same next result → then.faults ≡ now.faults → Run then after next state
   served-read now then after framing same next state result is run takes quiet =
       served-taken now then after same next state result (subst (λ (f : Framing). Run now after f state) (sym is) run) takes quiet

@@ -1,21 +1,24 @@
 -- What a call did, from the way that it ended.
-use Rattle.std.proofs.Common.{◌≡◌, ◌⊎◌, inl, inr, ℕ, nat_lt, ◌<◌, List, [], ◌++◌, length, Some, Result, Ok, Err, refl, sym, ap, subst, ◌∙◌, length-append, arith}
+use Rattle.std.proofs.Common.{◌≡◌, ◌≢◌, ◌⊎◌, inl, inr, ℕ, nat_lt, ◌<◌, List, [], ◌++◌, length, Some, Result, Ok, Err, refl, sym, ap, subst, ◌∙◌, length-append, arith}
 use Rattle.std.proofs.lemmas.Bool.{cases_lt, cond-true, lt-ltb}
 use Rattle.std.proofs.lemmas.List.{append-nil}
-use Rattle.gx_station.specs.Sources.{SourceMeanings}
-use Rattle.gx_station.specs.Stations.{StationMeanings}
 use Rattle.product_file.specs.Products.{ProductLists}
 use Rattle.product_file.specs.ProductTexts.{product_of}
 use Rattle.product_file.specs.declared.faults.ProductFault.{ProductFault}
 use Rattle.product_file.specs.declared.faults.ProductFault.TheVariants.{TooLong}
-use Rattle.globex_run.specs.Serving.{CausedBy}
-use Rattle.globex_run.specs.ProductTexts.{TakesAtMost, IsProductText, IsRefusedAt, RefusesAs, TakesProduct}
-use Rattle.globex_run.specs.Outcomes.{outcome_of, status_number}
-use Rattle.globex_run.specs.Ran.{Ran, TellsProduct, IsServedInput, NoFault}
+use Rattle.globex_run.specs.Outside.{SourceAt, Streams, Outside, IsQuiet}
+use Rattle.globex_run.specs.Outcomes.{outcome_of}
+use Rattle.globex_run.specs.ProductTexts.{TakesAtMost, IsProductText, IsRefusedAt}
+use Rattle.globex_run.specs.RunResult.{ServingResult, RunResult, CanBeServed}
+use Rattle.globex_run.specs.Inner.Statuses.{outcome_without}
+use Rattle.globex_run.specs.Inner.ProductReading.{TakesNone, TakesProduct}
+use Rattle.globex_run.specs.Inner.Serving.{CausedBy}
 use Rattle.globex_run.specs.declared.outcome.Outcome.{Outcome}
-use Rattle.globex_run.specs.declared.outcome.Status.{Status}
-use Rattle.globex_run.specs.declared.outcome.Status.TheVariants as status
-use Rattle.globex_run.proofs.Complete.{ran-all, left_parts, nil_from_end}
+use Rattle.globex_run.specs.declared.product_text.NoProduct.{NoProduct}
+use Rattle.globex_run.specs.declared.product_text.NoProduct.TheVariants.{NoMemory, Unread, Refused}
+use Rattle.globex_run.specs.declared.serve.Ending.{Ending}
+use Rattle.globex_run.specs.declared.serve.Ending.TheVariants.{Done, ReadFault, SendFault, BadFrame, Truncated, Full}
+use Rattle.globex_run.proofs.Complete.{serves-all, left_parts, nil_from_end}
 
 -- ---- the product's text
 
@@ -25,8 +28,8 @@ too_long text product is long =
     let e : Err TooLong ≡ Ok product = sym (cond-true (nat_lt 65536 (length text)) _ _ (lt-ltb 65536 (length text) long)) ∙ is in cc e
 
 -- a text that gives a product is not too long
-pub few-of-product : {P : Type 0} (m : SourceMeanings P) (first last : P) (product : ProductLists) → TakesProduct m first last (Ok product) → TakesAtMost m 65536 first last
-few-of-product m first last product took = record {
+pub few-of-product : {P : Type 0} (before after : SourceAt P) (product : ProductLists) → TakesProduct before after (Ok product) → TakesAtMost 65536 before after
+few-of-product before after product took = record {
   text = took.0;
   left = took.1.left;
   few = elim (cases_lt 65536 (length took.0)) [
@@ -36,56 +39,83 @@ few-of-product m first last product took = record {
 }
 
 -- a text that gives a product was taken whole
-pub whole-text : {P : Type 0} (m : SourceMeanings P) (first last : P) (taken text : List ℕ) (product : ProductLists) → IsProductText m first last taken → m.left first ≡ Some text → product_of text ≡ Ok product → product_of taken ≡ Ok product
-whole-text m first last taken text product was told is =
-    let parts = left_parts (m.left last) text taken (sym told ∙ was.left) in
+whole-text : {P : Type 0} (before after : SourceAt P) (taken text : List ℕ) (product : ProductLists) → IsProductText before after taken → before.left ≡ Some text → product_of text ≡ Ok product → product_of taken ≡ Ok product
+whole-text before after taken text product was told is =
+    let parts = left_parts after.left text taken (sym told ∙ was.left) in
     elim (cases_lt 65536 (length taken)) [
       | inl long ↦ absurd (too_long text product is (omega (arith, long, ap (λ (l : List ℕ). length l) parts.2, length-append taken parts.0)))
       | inr few ↦
-          let none : parts.0 ≡ [] = nil_from_end (m.left last) parts.0 parts.1 (was.whole few) in
+          let none : parts.0 ≡ [] = nil_from_end after.left parts.0 parts.1 (was.whole few) in
           let same : taken ≡ text = sym (append-nil taken) ∙ ap (λ (l : List ℕ). taken ++ l) (sym none) ∙ sym parts.2 in
           ap product_of same ∙ is
     ]
 
--- ---- no product was taken
-
-module _ {P : Type 0} (products : SourceMeanings P) (first last : P) (lists : ProductLists) (tells : TellsProduct products first lists) (quiet : NoFault (products.faults first) (products.faults last)) where
-  right_text : (place : ℕ) (text : List ℕ) → IsProductText products first last text → IsRefusedAt place (product_of text) → ⊥
-  right_text place text taken refused =
-      subst (λ (r : Result ProductLists ProductFault). IsRefusedAt place r) (whole-text products first last text tells.text lists taken tells.told tells.is) refused
-
-  -- where the product is told and served, and no read of it failed, it is want of memory alone
-  pub unserved-memory : (how : Status) (place : ℕ) → RefusesAs products first last how place → how ≡ status.NoMemory
-  unserved-memory status.NoMemory place did = refl
-  unserved-memory status.ReadFault place did = absurd (quiet did.2)
-  unserved-memory status.Product place did = absurd (right_text place did.0 did.1 did.2)
-  unserved-memory status.Ok place did = absurd did
-  unserved-memory status.BadWords place did = absurd did
-  unserved-memory status.SendFault place did = absurd did
-  unserved-memory status.BadFrame place did = absurd did
-  unserved-memory status.Truncated place did = absurd did
-  unserved-memory status.JournalFull place did = absurd did
-
-  pub unserved-outcome : (how : Status) (place count : ℕ) (o : Outcome) → RefusesAs products first last how place → o ≡ outcome_of how place count → (o.status ≡ 0) ⊎ (o.status ≡ 1)
-  unserved-outcome how place count o did made = inr (ap (λ (x : Outcome). x.status) made ∙ ap status_number (unserved-memory how place did))
-
--- ---- a good input is served to its end
-
 one_product : (r : Result ProductLists ProductFault) (p q : ProductLists) → r ≡ Ok p → r ≡ Ok q → p ≡ q
 one_product r p q a b = cc
 
-module _ {P I S : Type 0} (products : SourceMeanings P) (first last : P) (inputs : SourceMeanings I) (stations : StationMeanings S) (lists : ProductLists) (old new : I) (before after : S) where
-  abbrev Cause : Status → Type 0
-  Cause how = CausedBy how (inputs.faults old) (inputs.faults new) (stations.send_faults before) (stations.send_faults after)
+module _ {P I S : Type 0} (before after : Outside P I S) where
+  -- ---- no product was taken
 
-  pub all-served : (served : ProductLists) (how : Status) (place count : ℕ) (outcome : Outcome) → TakesProduct products first last (Ok served) → Ran inputs stations served old new before after how place count → Cause how → outcome ≡ outcome_of how place count
-      → TellsProduct products first lists → IsServedInput inputs lists old → NoFault (inputs.faults old) (inputs.faults new) → NoFault (stations.send_faults before) (stations.send_faults after) → (outcome.status ≡ 0) ⊎ (outcome.status ≡ 1)
-  all-served served how place count outcome took ran cause made tells input quiet_reads quiet_sends =
-      let right : product_of took.0 ≡ Ok lists = whole-text products first last took.0 tells.text lists took.1 tells.told tells.is in
-      let same : served ≡ lists = one_product (product_of took.0) served lists took.2 right in
-      let ok : how ≡ status.Ok =
-      ran-all inputs stations lists old new before after how place count (subst (λ (p : ProductLists). Ran inputs stations p old new before after how place count) same ran)
-      input.frames input.are_served input.few input.told
-      (λ is. quiet_reads (subst Cause is cause).0)
-      (λ is. quiet_sends (subst Cause is cause).1) in
-      inl (ap (λ (o : Outcome). o.status) made ∙ ap status_number ok)
+  -- what a run did that took none, and left the streams as they were
+  pub result-without : (reason : NoProduct) (o : Outcome) → TakesNone before.product after.product reason → o ≡ outcome_without reason → after.streams ≡ before.streams → o.status ≢ 1 → RunResult before after o
+  result-without NoMemory o took made same other = absurd (other (ap (λ (x : Outcome). x.status) made))
+  result-without Unread o took made same other = inl (record {
+    status = ap (λ (x : Outcome). x.status) made;
+    nowhere = ap (λ (x : Outcome). x.at) made;
+    none = ap (λ (x : Outcome). x.messages) made;
+    taken = took.0;
+    rose = took.1;
+    untouched = same;
+  })
+  result-without (Refused rule) o took made same other = inr (inl (record {
+    status = ap (λ (x : Outcome). x.status) made;
+    none = ap (λ (x : Outcome). x.messages) made;
+    text = took.0;
+    taken = took.1;
+    refused = subst (λ (n : ℕ). IsRefusedAt n (product_of took.0)) (sym (ap (λ (x : Outcome). x.at) made)) took.2;
+    untouched = same;
+  }))
+
+  -- where a run could be served, and no read of the product failed, it is want of memory alone
+  pub memory-without : (reason : NoProduct) (o : Outcome) → TakesNone before.product after.product reason → o ≡ outcome_without reason → CanBeServed before → IsQuiet before after → (o.status ≡ 0) ⊎ (o.status ≡ 1)
+  memory-without NoMemory o took made can quiet = inr (ap (λ (x : Outcome). x.status) made)
+  memory-without Unread o took made can quiet = absurd (quiet.product took.1)
+  memory-without (Refused rule) o took made can quiet =
+      absurd (subst (λ (r : Result ProductLists ProductFault). IsRefusedAt rule r) (whole-text before.product after.product took.0 can.text can.product took.1 can.product_told can.gives) took.2)
+
+  -- ---- a product was taken, and served
+
+  messages-of : (ending : Ending) (count : ℕ) → (outcome_of ending count).messages ≡ count
+  messages-of Done count = refl
+  messages-of (ReadFault place) count = refl
+  messages-of SendFault count = refl
+  messages-of (BadFrame place) count = refl
+  messages-of (Truncated place) count = refl
+  messages-of (Full place) count = refl
+
+  module _ (product : ProductLists) (took : TakesProduct before.product after.product (Ok product)) (ending : Ending) (count : ℕ) (serving : ServingResult product before.streams after.streams ending count) (o : Outcome) (made : o ≡ outcome_of ending count) where
+    counts : count ≡ o.messages
+    counts = sym (ap (λ (x : Outcome). x.messages) made ∙ messages-of ending count)
+
+    pub result-served : RunResult before after o
+    result-served = inr (inr (record {
+      text = took.0;
+      taken = took.1;
+      product = product;
+      gives = took.2;
+      ending = ending;
+      is = made ∙ ap (outcome_of ending) counts;
+      serving = subst (λ (n : ℕ). ServingResult product before.streams after.streams ending n) counts serving;
+    }))
+
+    -- a good input is served to its end
+    pub all-served : CausedBy ending before.streams after.streams → CanBeServed before → IsQuiet before after → (o.status ≡ 0) ⊎ (o.status ≡ 1)
+    all-served cause can quiet =
+        let right : product_of took.0 ≡ Ok can.product = whole-text before.product after.product took.0 can.text can.product took.1 can.product_told can.gives in
+        let same : product ≡ can.product = one_product (product_of took.0) product can.product took.2 right in
+        let done : ending ≡ Done =
+        serves-all can.product before.streams after.streams ending count (subst (λ (p : ProductLists). ServingResult p before.streams after.streams ending count) same serving)
+        can.frames can.are_served can.few can.input_told
+        (λ place is. quiet.input (subst (λ (e : Ending). CausedBy e before.streams after.streams) is cause).0)
+        (λ is. quiet.station (subst (λ (e : Ending). CausedBy e before.streams after.streams) is cause).1) in
+        inl (ap (λ (x : Outcome). x.status) (made ∙ ap (λ (e : Ending). outcome_of e count) done))

@@ -2,13 +2,14 @@
 use Rattle.std.proofs.Common.{◌≡◌, ℕ, ◌+◌, ◌<◌, true, false, List, IsTrue, Result, Ok, Err, OnOk, OnErr, is_err, ap, subst, ◌∙◌}
 use Rattle.gx_base.specs.Told.{TellsPrefix}
 use Rattle.gx_station.specs.Stations.{StationMeanings, sent_and}
+use Rattle.globex_run.specs.Outside.{station_at}
 use Rattle.gx_station.specs.Quiet.{Sends}
 use Rattle.product_file.specs.Products.{ProductLists}
 use Rattle.globex_run.specs.State.{State}
 use Rattle.globex_run.specs.ServedRequests.{is_served, is_served_frame}
 use Rattle.globex_run.specs.Step.{with_message, request_step, step_of, lines_of}
-use Rattle.globex_run.specs.Serving.{ServesFrame}
-use Rattle.globex_run.specs.declared.outcome.Status.TheVariants.{SendFault}
+use Rattle.globex_run.specs.Inner.Serving.{ServesFrame}
+use Rattle.globex_run.specs.declared.serve.Unserved.TheVariants.{SendFailed}
 use Rattle.fix_request.specs.Requests.{request_of}
 use Rattle.fix_request.specs.declared.request.Request.{Request}
 
@@ -27,7 +28,7 @@ module _ {S T E : Type 0} (m : StationMeanings S) (product : ProductLists) (old 
   is_lines : lines_of product (request_step product request (with_message old)).1 ≡ lines_of product (step_of product old frame).1
   is_lines = ap (λ (r : Request). lines_of product (request_step product r (with_message old)).1) is
 
-  pub served-frame : new ≡ (request_step product request (with_message old)).0 → new.desk.messages ≡ old.desk.messages + 1 → is_err sent ≡ false → ServesFrame m product old new before after frame (Ok tt)
+  pub served-frame : new ≡ (request_step product request (with_message old)).0 → new.desk.messages ≡ old.desk.messages + 1 → is_err sent ≡ false → ServesFrame product old new (station_at m before) (station_at m after) frame (Ok tt)
   served-frame state count ok = (
     state ∙ ap (λ (r : Request). (request_step product r (with_message old)).0) is,
     few,
@@ -37,7 +38,7 @@ module _ {S T E : Type 0} (m : StationMeanings S) (product : ProductLists) (old 
     on_ok sent _ ok sends.cause.ok,
   )
 
-  pub failed-frame : new.desk.messages ≡ old.desk.messages + 1 → is_err sent ≡ true → ServesFrame m product old new before after frame (Err SendFault)
+  pub failed-frame : new.desk.messages ≡ old.desk.messages + 1 → is_err sent ≡ true → ServesFrame product old new (station_at m before) (station_at m after) frame (Err SendFailed)
   failed-frame count err = (
     few,
     count,

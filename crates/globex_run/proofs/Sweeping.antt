@@ -14,7 +14,7 @@ use Rattle.level_sweep.specs.Sweep.{sweep, with_resting}
 use Rattle.level_sweep.proofs.Names.{keeps-sweep}
 use Rattle.level_sweep.proofs.Renamed.{sweep-numbered, sweep-numbers}
 use Rattle.level_sweep.proofs.Swept.{sweep-fewer, sweep-order}
-use Rattle.globex_run.specs.Fit.{AreNumbered, IsSameSize, filled_as}
+use Rattle.globex_run.specs.Inner.EngineInvariant.{AreNumbered, IsSameSize, filled_as}
 
 module _ (steps : List Step) (limit : Price) (b b' : Book) (d d' : Desk) (t t' : Taker)
     (now : IsNow (sweep steps limit (moment b d t)) b' d' t') (stays : b' ≡ with_resting b'.resting b)

@@ -5,11 +5,8 @@ pub mod ServedRequests
 pub mod NewOrders
 pub mod Cancels
 pub mod Step
-pub mod Fit
-pub mod Outcomes
 pub mod Words
-pub mod Serving
-pub mod Served
-pub mod Ran
-pub mod Endings
-pub mod Rooms
+pub mod Outside
+pub mod Outcomes
+pub mod RunResult
+pub mod Inner

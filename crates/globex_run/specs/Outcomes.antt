@@ -1,43 +1,25 @@
 -- How a call ends.
 use Rattle.std.specs.Prelude.{ℕ, Bool, ◌&&◌, ◌||◌, ◌==◌}
 use Rattle.globex_run.specs.declared.outcome.Outcome.{Outcome}
-use Rattle.globex_run.specs.declared.outcome.Status.{Status}
-use Rattle.globex_run.specs.declared.outcome.Status.TheVariants as status
+use Rattle.globex_run.specs.declared.serve.Ending.{Ending}
+use Rattle.globex_run.specs.declared.serve.Ending.TheVariants.{Done, ReadFault, SendFault, BadFrame, Truncated, Full}
 
-abbrev pub status_number : Status → ℕ
-status_number status.Ok = 0
-status_number status.NoMemory = 1
-status_number status.BadWords = 2
-status_number status.Product = 3
-status_number status.ReadFault = 4
-status_number status.SendFault = 6
-status_number status.BadFrame = 7
-status_number status.Truncated = 8
-status_number status.JournalFull = 12
+-- the outcome where serving ended so, after so many messages
+abbrev pub outcome_of : Ending → ℕ → Outcome
+outcome_of Done count = record { status = 0; at = 0; messages = count }
+outcome_of (ReadFault place) count = record { status = 4; at = place; messages = count }
+outcome_of SendFault count = record { status = 6; at = 0; messages = count }
+outcome_of (BadFrame place) count = record { status = 7; at = place; messages = count }
+outcome_of (Truncated place) count = record { status = 8; at = place; messages = count }
+outcome_of (Full place) count = record { status = 12; at = place; messages = count }
 
-abbrev pub outcome_of : Status → ℕ → ℕ → Outcome
-outcome_of s place count = record { status = status_number s; at = place; messages = count }
+-- the statuses that speak of no place, and those that speak of one
+abbrev pub is_placeless : ℕ → Bool
+is_placeless n = (n == 0) || (n == 1) || (n == 2) || (n == 6)
 
--- the place is 0 where the status speaks of none
-abbrev pub place_of : Status → ℕ → ℕ
-place_of status.Ok at = 0
-place_of status.SendFault at = 0
-place_of status.NoMemory at = 0
-place_of status.BadWords at = 0
-place_of status.Product at = at
-place_of status.ReadFault at = at
-place_of status.BadFrame at = at
-place_of status.Truncated at = at
-place_of status.JournalFull at = at
-
--- one of the statuses
-abbrev pub is_status : ℕ → Bool
-is_status n = (n == 0) || (n == 1) || (n == 2) || (n == 3) || (n == 4) || (n == 6) || (n == 7) || (n == 8) || (n == 12)
-
--- a status that speaks of a place
 abbrev pub has_place : ℕ → Bool
 has_place n = (n == 3) || (n == 4) || (n == 7) || (n == 8) || (n == 12)
 
 -- one of the statuses, and a place only where it speaks of one
 abbrev pub is_outcome : Outcome → Bool
-is_outcome o = is_status o.status && (has_place o.status || (o.at == 0))
+is_outcome o = (is_placeless o.status && (o.at == 0)) || has_place o.status

@@ -1,5 +1,7 @@
 -- Which requests are served yet. This goes away once every request is.
-use Rattle.std.specs.Prelude.{Bool, true, false, ◌&&◌, ◌==◌, List, ℕ}
+use Rattle.std.specs.Prelude.{Bool, true, false, ◌&&◌, ◌==◌, List, ℕ, IsTrue}
+use Rattle.std.specs.List.{AllByRecursion}
+use Rattle.fix_frame.specs.Grammar.{IsFrame}
 use Rattle.gx_base.specs.declared.order.Kind.{Kind}
 use Rattle.gx_base.specs.declared.order.Kind.TheVariants.{Limit, Market, StopLimit}
 use Rattle.gx_base.specs.declared.order.Life.{Life}
@@ -36,3 +38,11 @@ is_served (Refused refusal) = true
 -- a frame whose request is served
 abbrev pub is_served_frame : ProductLists → List ℕ → Bool
 is_served_frame product frame = is_served (request_of product frame)
+
+-- each of these is served
+abbrev pub AreServed : ProductLists → List (List ℕ) → Type 0
+AreServed product frames = AllByRecursion (λ (frame : List ℕ). IsTrue (is_served_frame product frame)) frames
+
+-- frames, each of them served
+abbrev pub AreServedFrames : ProductLists → List (List ℕ) → Type 0
+AreServedFrames product frames = AllByRecursion (λ (frame : List ℕ). IsFrame frame × IsTrue (is_served_frame product frame)) frames

@@ -5,7 +5,7 @@ ghost use Rattle.plain_book.specs.Orders.{HasSlot, order_of};
 ghost use Rattle.plain_book.specs.Book.{live_orders, book_without};
 ghost use Rattle.plain_book.specs.Match.{reported};
 ghost use Rattle.globex_run.specs.Cancels.{line_head, line_told, closed, unknown_order, order_cancelled, cancel_step, rejected};
-ghost use Rattle.globex_run.specs.Fit.{HasRoom, IsState, IsCounting, IsServing, IsSameSize, state_of, counter_limit};
+ghost use Rattle.globex_run.specs.Inner.EngineInvariant.{HasRoom, IsState, IsCounting, IsServing, IsSameSize, state_of, counter_limit};
 
 use fix_request::{CancelOrder, Refusal};
 use gx_base::{Cause, ChangeFault, Desk, Emit, Event, Head, Order, Slot, Stamp};

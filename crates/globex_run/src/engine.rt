@@ -5,7 +5,7 @@ ghost use Rattle.fix_request.specs.Given.{IsGivenRequest};
 ghost use Rattle.globex_run.specs.State.{empty_state};
 ghost use Rattle.globex_run.specs.ServedRequests.{is_served};
 ghost use Rattle.globex_run.specs.Step.{with_message, is_passed, request_step};
-ghost use Rattle.globex_run.specs.Fit.{IsState, IsCounting, IsServing, IsSameSize, FitsProduct, state_of};
+ghost use Rattle.globex_run.specs.Inner.EngineInvariant.{IsState, IsCounting, IsServing, IsSameSize, FitsProduct, state_of};
 
 use crate::cancel::{apply_cancel, refuse_message};
 use crate::entry::apply_new;
@@ -31,7 +31,7 @@ impl Model for Engine {
 
     ghost Value = { State };
 
-    ghost use Rattle.globex_run.specs.Fit.{IsServing, state_of};
+    ghost use Rattle.globex_run.specs.Inner.EngineInvariant.{IsServing, state_of};
 
     ghost view = { λ e. state_of e.book e.desk };
 

@@ -6,7 +6,7 @@ ghost use Rattle.plain_book.specs.Orders.{is_live};
 ghost use Rattle.plain_book.specs.Book.{live_orders};
 ghost use Rattle.plain_book.specs.Match.{reported};
 ghost use Rattle.globex_run.specs.NewOrders.{instrument_number, price_in, is_quantity, new_fault, order_asked, steps_for, new_of, new_step, refused_of, refusal, state_in};
-ghost use Rattle.globex_run.specs.Fit.{AreNumbered, HasRoom, IsState, IsCounting, IsServing, IsSameSize, FitsProduct, state_of, IsPlain, IsOrder, counter_limit};
+ghost use Rattle.globex_run.specs.Inner.EngineInvariant.{AreNumbered, HasRoom, IsState, IsCounting, IsServing, IsSameSize, FitsProduct, state_of, IsPlain, IsOrder, counter_limit};
 
 use crate::matching::{match_order, rest_order};
 use crate::ticks::{is_off_tick, tick_of};

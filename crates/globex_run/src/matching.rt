@@ -8,7 +8,7 @@ ghost use Rattle.plain_book.specs.Keeping.{KeepsRoom};
 ghost use Rattle.plain_book.specs.Numbers.{book_numbered};
 ghost use Rattle.level_sweep.specs.Sweep.{sweep};
 ghost use Rattle.globex_run.specs.NewOrders.{top_min_of, with_rest};
-ghost use Rattle.globex_run.specs.Fit.{AreNumbered, IsSameSize, filled_as};
+ghost use Rattle.globex_run.specs.Inner.EngineInvariant.{AreNumbered, IsSameSize, filled_as};
 
 use gx_base::{Desk, Emit, Order, Taker};
 use level_sweep::sweep;

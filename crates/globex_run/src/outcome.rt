@@ -1,6 +1,6 @@
 //! How a call ends.
 ghost use Rattle.std.specs.Prelude.{◌≡◌};
-ghost use Rattle.globex_run.specs.Outcomes.{outcome_of};
+ghost use Rattle.globex_run.specs.Inner.Statuses.{outcome_with};
 
 /// How a call ended: its status, the place that the status speaks of, and how many messages were applied.
 ///
@@ -22,7 +22,7 @@ pub struct Outcome {
     pub messages: u64,
 }
 
-/// Why serving ended.
+/// The statuses by their names.
 #[derive(Clone, Copy, Debug, PartialEq, Eq)]
 pub enum Status {
     Ok = 0,
@@ -39,7 +39,7 @@ pub enum Status {
 impl Status {
     /// The outcome with this status, at a place, after so many messages.
     pub fn outcome(self, at: u64, messages: u64) -> Outcome
-        ensures { result ≡ outcome_of self at messages }
+        ensures { result ≡ outcome_with self at messages }
     {
         Outcome {
             status: self as u8,

@@ -1,16 +1,17 @@
 //! The top call.
 ghost use Rattle.std.specs.Prelude.{◌≡◌, ◌≢◌, ◌↔◌, ◌⊎◌, IsTrue, IsFalse, IfOk};
 ghost use Rattle.gx_station.specs.Counts.{Rose};
-ghost use Rattle.product_file.specs.Products.{ProductLists};
 ghost use Rattle.globex_run.specs.Words.{is_run};
-ghost use Rattle.globex_run.specs.Outcomes.{is_outcome};
+ghost use Rattle.globex_run.specs.Outside.{source_at, outside_at, IsQuiet};
+ghost use Rattle.globex_run.specs.Outcomes.{outcome_of, is_outcome};
 ghost use Rattle.globex_run.specs.ProductTexts.{longest_text, TakesAtMost};
-ghost use Rattle.globex_run.specs.Ran.{RanTo, TellsProduct, IsServedInput, NoFault};
+ghost use Rattle.globex_run.specs.RunResult.{RunResult, CanBeServed};
+ghost use Rattle.globex_run.specs.Inner.Statuses.{outcome_without};
 
 use crate::engine::Engine;
 use crate::outcome::{Outcome, Status};
-use crate::product_text::take_product;
-use crate::serve::serve;
+use crate::product_text::{NoProduct, take_product};
+use crate::serve::{Ending, serve};
 use crate::words::is_run;
 use exec_report::ReportBuffer;
 use fix_frame::Framer;
@@ -23,26 +24,51 @@ const CHUNK: usize = 4096;
 
 /// All the memory of a run.
 #[derive(Drop)]
-struct Rooms {
+struct Buffers {
     engine: Engine,
     framer: Framer,
     chunk: Vec<u8>,
-    buffer: ReportBuffer,
+    reports: ReportBuffer,
 }
 
-impl Rooms {
-    ghost use Rattle.globex_run.specs.Rooms.{AreNew};
+impl Buffers {
+    ghost use Rattle.globex_run.specs.Inner.Buffers.{AreNew};
 
     /// Takes all the memory of a run over a product. An `Err` is want of memory.
-    fn new(alloc: Global, product: &Product) -> Result<Rooms, AllocError>
+    fn new(alloc: Global, product: &Product) -> Result<Buffers, AllocError>
         ensures { IfOk result (AreNew product.now) }
     {
-        Ok(Rooms {
+        Ok(Buffers {
             engine: Engine::new(alloc, product)?,
             framer: Framer::new(alloc)?,
             chunk: vec![in alloc; 0; CHUNK]?,
-            buffer: ReportBuffer::new(alloc)?,
+            reports: ReportBuffer::new(alloc)?,
         })
+    }
+}
+
+/// The outcome where no product was taken: no message was applied.
+fn outcome_without(reason: NoProduct) -> Outcome
+    ensures { result ≡ outcome_without reason }
+{
+    match reason {
+        NoProduct::NoMemory => Status::NoMemory.outcome(0, 0),
+        NoProduct::Unread => Status::ReadFault.outcome(0, 0),
+        NoProduct::Refused(rule) => Status::Product.outcome(u64::from(rule), 0),
+    }
+}
+
+/// The outcome where serving ended so, after so many messages.
+fn outcome_of(ending: Ending, messages: u64) -> Outcome
+    ensures { result ≡ outcome_of ending messages }
+{
+    match ending {
+        Ending::Done => Status::Ok.outcome(0, messages),
+        Ending::ReadFault(at) => Status::ReadFault.outcome(at, messages),
+        Ending::SendFault => Status::SendFault.outcome(0, messages),
+        Ending::BadFrame(at) => Status::BadFrame.outcome(at, messages),
+        Ending::Truncated(at) => Status::Truncated.outcome(at, messages),
+        Ending::Full(at) => Status::JournalFull.outcome(at, messages),
     }
 }
 
@@ -68,15 +94,15 @@ pub fn globex<P: Source, I: Source, S: Station>(
 
     // What it took from the product's source and from the input, what it sent, and why it ended there, for all statuses
     // but 1 and 2.
-    ensures ran { result.status ≢ 1 → result.status ≢ 2 → RanTo P.meanings I.meanings S.meanings product.old product.new input.old input.new station.old station.new result }
+    ensures ran { let before = outside_at P.meanings I.meanings S.meanings product.old input.old station.old in let after = outside_at P.meanings I.meanings S.meanings product.new input.new station.new in result.status ≢ 1 → result.status ≢ 2 → RunResult before after result }
 
     // An input of at most 10,000 frames that are served is served to its end where memory is given and no fault comes.
-    ensures all_served { IsTrue (is_run words.now) → (lists : ProductLists) → TellsProduct P.meanings product.old lists → IsServedInput I.meanings lists input.old → NoFault (P.meanings.faults product.old) (P.meanings.faults product.new) → NoFault (I.meanings.faults input.old) (I.meanings.faults input.new) → NoFault (S.meanings.send_faults station.old) (S.meanings.send_faults station.new) → (result.status ≡ 0) ⊎ (result.status ≡ 1) }
+    ensures all_served { let before = outside_at P.meanings I.meanings S.meanings product.old input.old station.old in let after = outside_at P.meanings I.meanings S.meanings product.new input.new station.new in IsTrue (is_run words.now) → CanBeServed before → IsQuiet before after → (result.status ≡ 0) ⊎ (result.status ≡ 1) }
 
     // Want of memory, words that are no command, or a product that is refused, leave the input and the station untouched.
     // At want of memory no more was taken of the product than its text may have.
     ensures none { (result.status ≡ 1) ⊎ ((result.status ≡ 2) ⊎ (result.status ≡ 3)) → result.messages ≡ 0 }
-    ensures no_memory { result.status ≡ 1 → (input.new ≡ input.old) × (station.new ≡ station.old) × TakesAtMost P.meanings longest_text product.old product.new }
+    ensures no_memory { result.status ≡ 1 → (input.new ≡ input.old) × (station.new ≡ station.old) × TakesAtMost longest_text (source_at P.meanings product.old) (source_at P.meanings product.new) }
     ensures bad_words { result.status ≡ 2 → (product.new ≡ product.old) × (input.new ≡ input.old) × (station.new ≡ station.old) }
     ensures bad_product { result.status ≡ 3 → (input.new ≡ input.old) × (station.new ≡ station.old) }
 
@@ -92,19 +118,19 @@ pub fn globex<P: Source, I: Source, S: Station>(
     }
     let product = match take_product(alloc, product) {
         Ok(product) => product,
-        Err(ending) => return ending.status.outcome(ending.at, 0),
+        Err(reason) => return outcome_without(reason),
     };
-    let Ok(mut rooms) = Rooms::new(alloc, &product) else {
+    let Ok(mut buffers) = Buffers::new(alloc, &product) else {
         return Status::NoMemory.outcome(0, 0);
     };
     let ending = serve(
         &product,
-        &mut rooms.engine,
-        &mut rooms.framer,
-        &mut rooms.chunk,
-        &mut rooms.buffer,
+        &mut buffers.engine,
+        &mut buffers.framer,
+        &mut buffers.chunk,
+        &mut buffers.reports,
         input,
         station,
     );
-    ending.status.outcome(ending.at, rooms.engine.messages())
+    outcome_of(ending, buffers.engine.messages())
 }

@@ -6,13 +6,12 @@ ghost use Rattle.fix_request.specs.Given.{IsGivenRequest};
 ghost use Rattle.globex_run.specs.ServedRequests.{is_served};
 ghost use Rattle.globex_run.specs.Step.{with_message, is_passed, request_step, lines_of};
 ghost use Rattle.globex_run.specs.State.{empty_state};
-ghost use Rattle.globex_run.specs.Fit.{FitsProduct};
-ghost use Rattle.globex_run.specs.Outcomes.{place_of};
-ghost use Rattle.globex_run.specs.Ran.{Ran};
-ghost use Rattle.globex_run.specs.Serving.{TakesMore, CausedBy, ServesFrame, EndsServing, IsEmptyFramer};
+ghost use Rattle.globex_run.specs.Inner.EngineInvariant.{FitsProduct};
+ghost use Rattle.globex_run.specs.Outside.{source_at, station_at, streams_at};
+ghost use Rattle.globex_run.specs.RunResult.{ServingResult};
+ghost use Rattle.globex_run.specs.Inner.Serving.{TakesMore, CausedBy, ServesFrame, IsEmptyFramer};
 
 use crate::engine::{Engine, MESSAGE_LIMIT};
-use crate::outcome::Status;
 use crate::served::is_served;
 use exec_report::{Outgoing, ReportBuffer, SendFault};
 use fix_frame::{Framer, Next};
@@ -20,25 +19,45 @@ use fix_request::{Request, read_request};
 use gx_station::{Failed, Source, Station};
 use product_file::Product;
 
-/// Why serving ended, and the place that the status speaks of.
+/// How serving ended, at which place: behind so many bytes of the input.
 #[derive(Clone, Copy, Debug, PartialEq, Eq)]
-pub struct Ending {
-    pub status: Status,
-    pub at: u64,
+pub enum Ending {
+    /// All of the input was served.
+    Done,
+    /// A read failed behind this place.
+    ReadFault(u64),
+    /// A send failed.
+    SendFault,
+    /// What stands here is no frame, or is one that is not served.
+    BadFrame(u64),
+    /// The input ended within the frame that begins here.
+    Truncated(u64),
+    /// As many messages as there may be were applied, and a further one stands here.
+    Full(u64),
 }
 
-impl Ending {
-    ghost use Rattle.globex_run.specs.Endings.{ending_of};
+/// Why a frame was not served, or not to its end.
+#[derive(Clone, Copy, Debug, PartialEq, Eq)]
+enum Unserved {
+    /// Its request is one that is not served.
+    NotServed,
+    /// As many messages as there may be were applied before it.
+    Full,
+    /// A send of its reports failed.
+    SendFailed,
+}
 
-    /// The ending with this status. Only some statuses have a place.
-    pub fn new(status: Status, at: u64) -> Ending
-        ensures { result ≡ ending_of status at }
+impl Unserved {
+    ghost use Rattle.globex_run.specs.Inner.Serving.{ending_at};
+
+    /// How serving ends at a frame at this place.
+    fn ending(self, at: u64) -> Ending
+        ensures { result ≡ ending_at self at }
     {
-        match status {
-            Status::Ok | Status::NoMemory | Status::BadWords | Status::SendFault => {
-                Ending { status, at: 0 }
-            }
-            _ => Ending { status, at },
+        match self {
+            Unserved::NotServed => Ending::BadFrame(at),
+            Unserved::Full => Ending::Full(at),
+            Unserved::SendFailed => Ending::SendFault,
         }
     }
 }
@@ -77,7 +96,7 @@ fn take_more<I: Source>(
     requires chunk { vec_len chunk.old ≡ 4096 }
     requires room { length framer.old.rest < 4096 }
     requires offset { framer.old.offset < 2 ^ 62 }
-    ensures takes { TakesMore I.meanings input.old input.new framer.old framer.new result }
+    ensures takes { TakesMore (source_at I.meanings input.old) (source_at I.meanings input.new) framer.old framer.new result }
     ensures chunk { vec_len chunk.new ≡ 4096 }
 {
     let n = input.read(chunk.as_mut_slice())?;
@@ -85,30 +104,30 @@ fn take_more<I: Source>(
     Ok(n)
 }
 
-/// Serves one frame, or says why it is not served.
+/// Serves one frame, or says why it was not served.
 fn serve_frame<S: Station>(
     product: &Product,
     engine: &mut Engine,
     buffer: &mut ReportBuffer,
     station: &mut S,
     frame: &[u8],
-) -> Result<(), Status>
+) -> Result<(), Unserved>
     requires frame { IsFrame frame.now }
     requires fits { FitsProduct product.now engine.old.book }
     requires empty { buffer.old ≡ [] }
-    ensures served { ServesFrame S.meanings product.now engine.old engine.new station.old station.new frame.now result }
+    ensures served { ServesFrame product.now engine.old engine.new (station_at S.meanings station.old) (station_at S.meanings station.new) frame.now result }
     ensures fits { FitsProduct product.now engine.new.book }
     ensures empty { OnOk result (buffer.new ≡ []) }
 {
     let request = read_request(frame, product);
     if !is_served(&request) {
-        return Err(Status::BadFrame);
+        return Err(Unserved::NotServed);
     }
     if engine.messages() == MESSAGE_LIMIT {
-        return Err(Status::JournalFull);
+        return Err(Unserved::Full);
     }
     if serve_request(product, engine, buffer, station, &request).is_err() {
-        return Err(Status::SendFault);
+        return Err(Unserved::SendFailed);
     }
     Ok(())
 }
@@ -129,10 +148,8 @@ pub fn serve<I: Source, S: Station>(
     requires framer { IsEmptyFramer framer.old }
     requires chunk { vec_len chunk.old ≡ 4096 }
     requires buffer { buffer.old ≡ [] }
-    ensures cause { CausedBy result.status (I.meanings.faults input.old) (I.meanings.faults input.new) (S.meanings.send_faults station.old) (S.meanings.send_faults station.new) }
-    ensures ends { EndsServing result.status }
-    ensures place { result.at ≡ place_of result.status result.at }
-    ensures ran { Ran I.meanings S.meanings product.now input.old input.new station.old station.new result.status result.at engine.new.desk.messages }
+    ensures cause { CausedBy result (streams_at I.meanings S.meanings input.old station.old) (streams_at I.meanings S.meanings input.new station.new) }
+    ensures serves { ServingResult product.now (streams_at I.meanings S.meanings input.old station.old) (streams_at I.meanings S.meanings input.new station.new) result engine.new.desk.messages }
 {
     'turns: loop {
         let at = framer.offset();
@@ -140,17 +157,17 @@ pub fn serve<I: Source, S: Station>(
         match framer.next() {
             Next::Frame(start, end) => {
                 let frame = framer.frame(start, end);
-                if let Err(status) = serve_frame(product, engine, buffer, station, frame) {
-                    return Ending::new(status, at);
+                if let Err(reason) = serve_frame(product, engine, buffer, station, frame) {
+                    return reason.ending(at);
                 }
             }
             Next::More => match take_more(framer, chunk, input) {
-                Ok(0) if held == 0 => return Ending::new(Status::Ok, at),
-                Ok(0) => return Ending::new(Status::Truncated, at),
+                Ok(0) if held == 0 => return Ending::Done,
+                Ok(0) => return Ending::Truncated(at),
                 Ok(_) => {}
-                Err(Failed) => return Ending::new(Status::ReadFault, at + held as u64),
+                Err(Failed) => return Ending::ReadFault(at + held as u64),
             },
-            Next::Bad(at) => return Ending::new(Status::BadFrame, at),
+            Next::Bad(at) => return Ending::BadFrame(at),
         }
     }
 }

@@ -1,6 +1,6 @@
 //! One stream of orders under each letter, through a log of lines. `examples/` has the same orders and reports as files.
 ghost use Rattle.std.specs.Prelude.{◌≤◌};
-ghost use Rattle.globex_run.specs.Fit.{FitsProduct};
+ghost use Rattle.globex_run.specs.Inner.EngineInvariant.{FitsProduct};
 
 use super::frames_of;
 use crate::engine::{Engine, MESSAGE_LIMIT};

@@ -4,10 +4,10 @@ use Rattle.gx_base.proofs.Putting.{emits_as}
 use Rattle.plain_book.specs.Book.{live_orders, slot_number}
 use Rattle.plain_book.specs.Numbers.{book_numbered}
 use Rattle.globex_run.specs.State.{State}
-use Rattle.globex_run.specs.Fit.{AreNumbered, IsState}
+use Rattle.globex_run.specs.Inner.EngineInvariant.{AreNumbered, IsState}
 use Rattle.globex_run.proofs.Numbers.{named-has}
 use Rattle.globex_run.proofs.Cancelling.{cancel-missing, cancel-found, numbered-without}
-use Rattle.globex_run.proofs.Serving.{serving-reported}
+use Rattle.globex_run.proofs.Invariant.{serving-reported}
 use Rattle.globex_run.proofs.cancel.apply_cancel.Goals as goal
 
 pub cancel_order-requires-clause-live : goal.cancel_order-requires-clause-live

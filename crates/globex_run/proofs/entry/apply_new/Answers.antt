@@ -4,10 +4,10 @@ use Rattle.gx_base.proofs.Putting.{emits_as}
 use Rattle.step_config.specs.declared.step.Step.{Step}
 use Rattle.globex_run.specs.State.{State}
 use Rattle.globex_run.specs.NewOrders.{new_fault, new_of, state_in}
-use Rattle.globex_run.specs.Fit.{HasRoom, IsState, state_of}
+use Rattle.globex_run.specs.Inner.EngineInvariant.{HasRoom, IsState, state_of}
 use Rattle.globex_run.proofs.Faults.{few-lots}
 use Rattle.globex_run.proofs.Numbers.{step-by-fault}
-use Rattle.globex_run.proofs.Serving.{room-fewer}
+use Rattle.globex_run.proofs.Invariant.{room-fewer}
 use Rattle.globex_run.proofs.entry.apply_new.Goals as goal
 
 pub returns-in-Some-clause-now : goal.returns-in-Some-clause-now

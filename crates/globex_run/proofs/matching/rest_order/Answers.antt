@@ -1,7 +1,7 @@
 use Rattle.std.proofs.Common.{Option, ℕ, ◌-◌, sym, ap, subst, ◌∙◌, arith}
 use Rattle.plain_book.specs.Book.{book_placed}
 use Rattle.plain_book.specs.Numbers.{book_numbered}
-use Rattle.globex_run.specs.Fit.{AreNumbered}
+use Rattle.globex_run.specs.Inner.EngineInvariant.{AreNumbered}
 use Rattle.globex_run.proofs.Resting.{placed-numbered, later-numbered, rest-some}
 use Rattle.globex_run.proofs.matching.rest_order.Goals as goal
 

@@ -1,11 +1,12 @@
 use Rattle.std.proofs.Common.{◌≡◌, ◌≤◌, ◌+◌, ◌-◌, ◌*◌, [], length, vec_len}
-use Rattle.globex_run.specs.Fit.{FitsProduct}
-use Rattle.globex_run.specs.Served.{IsServed}
+use Rattle.globex_run.specs.Inner.EngineInvariant.{FitsProduct}
+use Rattle.globex_run.specs.Outside.{streams_at}
+use Rattle.globex_run.specs.Inner.Serving.{IsServed}
 use Rattle.globex_run.proofs.serve.serve.Given as goal
 
 abbrev pub invariant-turns : goal.invariant-turns
 invariant-turns g l = record {
-  run : IsServed g.I.Source.meanings g.S.Station.meanings l.product l.fn.input l.input l.fn.station l.station l.framer l.engine;
+  run : IsServed l.product (streams_at g.I.Source.meanings g.S.Station.meanings l.fn.input l.fn.station) (streams_at g.I.Source.meanings g.S.Station.meanings l.input l.station) l.framer l.engine;
   fits : FitsProduct l.product l.engine.book;
   chunk : vec_len l.chunk ≡ 4096;
   buffer : l.buffer ≡ [];

@@ -1,4 +1,4 @@
-use Rattle.globex_run.proofs.Serving.{serving-empty}
+use Rattle.globex_run.proofs.Invariant.{serving-empty}
 use Rattle.globex_run.proofs.engine.Engine.new.Goals as goal
 
 pub invariant_of-result : goal.invariant_of-result

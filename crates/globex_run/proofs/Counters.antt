@@ -3,7 +3,7 @@ use Rattle.std.proofs.Common.{ℕ, zero, suc, ◌+◌, ◌≤◌, List, [], ◌�
 use Rattle.gx_base.specs.declared.order.Desk.{Desk}
 use Rattle.plain_book.specs.Match.{reported}
 use Rattle.plain_book.specs.Keeping.{KeepsRoom}
-use Rattle.globex_run.specs.Fit.{HasRoom}
+use Rattle.globex_run.specs.Inner.EngineInvariant.{HasRoom}
 
 -- a count of one place raises no place by more than one
 pub counted_line : (lines : List ℕ) (firm i : ℕ) → slice_index (slice_set lines firm (slice_index lines firm + 1)) i ≤ slice_index lines i + 1

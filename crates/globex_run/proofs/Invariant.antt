@@ -5,8 +5,8 @@ use Rattle.plain_book.specs.Book.{Book, empty_book}
 use Rattle.plain_book.specs.Match.{reported}
 use Rattle.plain_book.proofs.Found.{all-zero}
 use Rattle.globex_run.specs.State.{empty_desk}
-use Rattle.globex_run.specs.Fit.{HasRoom, AreNumbered, IsServing, IsCounting}
-use Rattle.globex_run.proofs.Rooms.{room-reported}
+use Rattle.globex_run.specs.Inner.EngineInvariant.{HasRoom, AreNumbered, IsServing, IsCounting}
+use Rattle.globex_run.proofs.Counters.{room-reported}
 
 pub serving-empty : (capacity instruments : ℕ) (book : Book) → book ≡ empty_book capacity instruments → IsServing book empty_desk
 serving-empty capacity instruments book none = subst (λ (b : Book). IsServing b empty_desk) (sym none) (record {

@@ -1,0 +1,12 @@
+-- The memory of a run, before the first message.
+use Rattle.std.specs.Prelude.{◌≡◌, [], vec_len}
+use Rattle.product_file.specs.Products.{ProductLists}
+use Rattle.globex_run.specs.State.{empty_state}
+use Rattle.globex_run.specs.Inner.Serving.{IsEmptyFramer}
+use Rattle.globex_run.specs.declared.run.Buffers.{Buffers}
+
+pub record AreNew (product : ProductLists) (buffers : Buffers) : Type 0 where
+  pub engine : buffers.engine ≡ empty_state product
+  pub framer : IsEmptyFramer buffers.framer
+  pub chunk : vec_len buffers.chunk ≡ 4096
+  pub reports : buffers.reports ≡ []
