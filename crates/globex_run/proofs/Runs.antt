@@ -6,7 +6,7 @@ use Rattle.product_file.specs.Products.{ProductLists}
 use Rattle.product_file.specs.ProductTexts.{product_of}
 use Rattle.product_file.specs.declared.faults.ProductFault.{ProductFault}
 use Rattle.product_file.specs.declared.faults.ProductFault.TheVariants.{TooLong}
-use Rattle.globex_run.specs.Outside.{SourceAt, Streams, Outside, IsQuiet}
+use Rattle.globex_run.specs.Outside.{SourceAt, Outside, IsQuiet}
 use Rattle.globex_run.specs.Outcomes.{outcome_of}
 use Rattle.globex_run.specs.ProductTexts.{TakesAtMost, IsProductText, IsRefusedAt}
 use Rattle.globex_run.specs.RunResult.{ServingResult, RunResult, CanBeServed}

@@ -13,10 +13,11 @@ outcome_of (BadFrame place) count = record { status = 7; at = place; messages = 
 outcome_of (Truncated place) count = record { status = 8; at = place; messages = count }
 outcome_of (Full place) count = record { status = 12; at = place; messages = count }
 
--- the statuses that speak of no place, and those that speak of one
+-- the statuses that speak of no place
 abbrev pub is_placeless : ℕ → Bool
 is_placeless n = (n == 0) || (n == 1) || (n == 2) || (n == 6)
 
+-- the statuses that speak of one
 abbrev pub has_place : ℕ → Bool
 has_place n = (n == 3) || (n == 4) || (n == 7) || (n == 8) || (n == 12)
 

@@ -26,6 +26,7 @@ pub record Outside (P I S : Type 0) : Type 0 where
   pub product : SourceAt P
   pub streams : Streams I S
 
+-- what a source, a station, and all of these tell of themselves now
 abbrev pub source_at : {P : Type 0} → SourceMeanings P → P → SourceAt P
 source_at m source = record { object = source; left = m.left source; faults = m.faults source }
 
