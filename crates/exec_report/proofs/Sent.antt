@@ -1,5 +1,6 @@
 -- What was sent by an `Outgoing` from its making to its last flush.
-use Rattle.std.proofs.Common.{◌≡◌, ◌⊎◌, inl, inr, ℕ, Bool, true, false, List, [], ◌++◌, Option, Some, None, Result, Ok, Err, take, drop, refl, sym, ◌∙◌, ap, subst, append_assoc}
+use Rattle.std.proofs.Common.{◌≡◌, inl, inr, ℕ, true, false, List, [], ◌++◌, Option, Some, None, Result, Ok, Err, take, drop, refl, sym, ◌∙◌, ap, subst, append_assoc}
+use Rattle.std.proofs.lemmas.Bool.{cases_Bool}
 use Rattle.std.proofs.lemmas.List.{append-nil, take-append-drop}
 use Rattle.std.specs.List.{flat_map}
 use Rattle.std.proofs.lemmas.Grind.{flat_map-append}
@@ -15,10 +16,6 @@ use Rattle.gx_station.specs.Stations.{StationMeanings, sent_and}
 use Rattle.gx_station.specs.Quiet.{Quiet, Sends}
 use Rattle.exec_report.specs.Outgoing.{outgoing_seen, IsLaterOutgoing, IsNew, Flushes, outgoing_then, outgoing_meanings}
 use Rattle.exec_report.specs.declared.outgoing.Outgoing.{Outgoing}
-
-true_or_false : (b : Bool) → (b ≡ true) ⊎ (b ≡ false)
-true_or_false true = inl refl
-true_or_false false = inr refl
 
 pub seen_after-with_line : (names : NameLists) (sent : Option (List ℕ)) (events : List Event) → seen_after (with_line names) sent events ≡ sent_and sent (flat_map (line_of names) events)
 seen_after-with_line names None events = refl
@@ -62,7 +59,7 @@ module _ {S : Type 0} (m : StationMeanings S) where
         subst (λ l. TellsPrefix (sent_and (m.sent a.station.now) (flat_map (line_of names) (take k events))) (sent_and (m.sent a.station.now) l)) whole (tells_front (m.sent a.station.now) (flat_map (line_of names) (take k events)) (flat_map (line_of names) (drop k events)))
 
     at_most : TellsPrefix (outgoing_seen m b) (sent_and (m.sent a.station.now) (flat_map (line_of names) events))
-    at_most = elim (true_or_false b.stopped) [
+    at_most = elim (cases_Bool b.stopped) [
       | inl stopped ↦
           let p = run.part stopped in
           tells_then _ _ _ (subst (λ s. TellsPrefix (outgoing_seen m b) s) (seen_then (take p.0 events)) p.2) (seen_part p.0)

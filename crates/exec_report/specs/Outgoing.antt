@@ -1,6 +1,7 @@
 -- What an `Outgoing` stands for.
-use Rattle.std.specs.Prelude.{◌≡◌, ◌⊎◌, ℕ, ◌≤◌, Bool, true, false, List, [], Option, Result, OnOk, OnErr, refl, if◌then◌else◌}
+use Rattle.std.specs.Prelude.{◌≡◌, ℕ, ◌≤◌, true, false, List, [], Option, Result, OnOk, OnErr, refl, if◌then◌else◌}
 use Rattle.std.proofs.Common.{inl, inr, sym, ◌∙◌, ap, arith}
+use Rattle.std.proofs.lemmas.Bool.{cases_Bool, true≢false}
 use Rattle.gx_base.specs.Told.{TellsPrefix}
 use Rattle.std.specs.Borrow.{MutBor}
 use Rattle.gx_base.specs.NameLists.{NameLists}
@@ -10,13 +11,6 @@ use Rattle.gx_station.specs.Counts.{Rose}
 use Rattle.gx_station.specs.Stations.{StationMeanings, sent_and}
 use Rattle.gx_station.specs.Quiet.{Quiet, quiet_itself, quiet_then}
 use Rattle.exec_report.specs.declared.outgoing.Outgoing.{Outgoing}
-
-true_or_false : (b : Bool) → (b ≡ true) ⊎ (b ≡ false)
-true_or_false true = inl refl
-true_or_false false = inr refl
-
-true_is_not_false : true ≡ false → ⊥
-true_is_not_false e = cc e
 
 Rose-later : (a b c : ℕ) → Rose a b → b ≤ c → Rose a c
 Rose-later a b c rose le = omega (arith, rose, le)
@@ -45,7 +39,7 @@ module _ {S : Type 0} (m : StationMeanings S) where
     same_names = refl;
     quiet = quiet_itself m a.station.now;
     steady = λ no. (no, refl);
-    rose = λ no yes. absurd (true_is_not_false (sym yes ∙ no));
+    rose = λ no yes. absurd (true≢false (sym yes ∙ no));
   }
 
   pub outgoing_then : (a b c : Outgoing S) → IsLaterOutgoing a b → IsLaterOutgoing b c → IsLaterOutgoing a c
@@ -58,7 +52,7 @@ module _ {S : Type 0} (m : StationMeanings S) where
         let late = second.steady no in
         let early = first.steady late.0 in
         (early.0, late.1 ∙ early.1);
-    rose = λ no yes. elim (true_or_false b.stopped) [
+    rose = λ no yes. elim (cases_Bool b.stopped) [
       | inl was ↦ Rose-later _ _ _ (first.rose no was) second.quiet.send_faults
       | inr was_not ↦ Rose-earlier _ _ _ first.quiet.send_faults (second.rose was_not yes)
     ];

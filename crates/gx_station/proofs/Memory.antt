@@ -3,7 +3,7 @@ use Rattle.std.proofs.Common.{◌≡◌, ◌⊎◌, inl, inr, ⊎_elim, ℕ, ◌
 use Rattle.std.proofs.lemmas.List.{take_all, take_at, take-append-le, length_push, append-nil}
 use Rattle.std.proofs.lemmas.Bool.{cases_lt}
 use Rattle.std.proofs.lemmas.Grind.{fold-append}
-use Rattle.gx_base.specs.Told.{IsPrefix}
+use Rattle.gx_base.specs.Told.{IsPrefix, prefix_itself}
 use Rattle.gx_station.specs.Counts.{counted, last_count, HasCause}
 use Rattle.gx_station.specs.Disk.{Disk, Torn, written}
 use Rattle.gx_station.specs.Moments.{AddsOnly}
@@ -12,7 +12,7 @@ use Rattle.gx_station.specs.Quiet.{Quiet, Sends}
 use Rattle.gx_station.specs.StoreCalls.{OnStore, Measures, Reads, Writes, Syncs}
 use Rattle.gx_station.specs.MemoryStation.{Call, Looked, Wrote, Synced, Sent, MemoryStation, IsSound, memory_meanings, disk_step, disk_after, first_disk, output_step, output_after, read_step, LeftSince, Leaves, Answers, listed, store_refused, send_refused, store_failed, send_failed, was_measured, was_written, write_failed, was_sent}
 use Rattle.gx_station.specs.TornImages.{torn_none, length-written}
-use Rattle.gx_station.specs.MemoryLaws.{disk_more, output_more, same_prefix, itself, leaves_holds}
+use Rattle.gx_station.specs.MemoryLaws.{disk_more, output_more, same_prefix, leaves_holds}
 
 -- ---- moments: one call more
 
@@ -110,8 +110,8 @@ left_now first done t image out le leaves is = record {
   since = le;
   until = omega arith;
   leaves = subst (λ (l : List Call). Leaves (disk_after first l) image) (sym (take_all (length done) done (omega arith))) leaves;
-  low = subst (λ (l : List Call). IsPrefix (output_after l) out) (sym (take_all (length done) done (omega arith))) (subst (λ (l : List ℕ). IsPrefix (output_after done) l) (sym is) (itself (output_after done)));
-  high = subst (λ (l : List Call). IsPrefix out (output_after l)) (sym (take_all (length done + 1) done (omega arith))) (subst (λ (l : List ℕ). IsPrefix out l) is (itself out));
+  low = subst (λ (l : List Call). IsPrefix (output_after l) out) (sym (take_all (length done) done (omega arith))) (subst (λ (l : List ℕ). IsPrefix (output_after done) l) (sym is) (prefix_itself (output_after done)));
+  high = subst (λ (l : List Call). IsPrefix out (output_after l)) (sym (take_all (length done + 1) done (omega arith))) (subst (λ (l : List ℕ). IsPrefix out l) is (prefix_itself out));
 }
 
 -- ---- the station
@@ -374,7 +374,7 @@ module _ (old new : MemoryStation) (bytes : List ℕ) (first : new.first ≡ old
           behind.leaves,
           record {
             low = record { rest = bytes; is = behind.is ∙ ap (λ (l : List ℕ). l ++ bytes) (sym h.sent) };
-            high = subst (λ (l : List ℕ). IsPrefix out l) (behind.is ∙ ap (λ (l : List ℕ). l ++ bytes) (sym h.sent) ∙ sym sent) (itself out);
+            high = subst (λ (l : List ℕ). IsPrefix out l) (behind.is ∙ ap (λ (l : List ℕ). l ++ bytes) (sym h.sent) ∙ sym sent) (prefix_itself out);
           },
         ))
         here));
@@ -393,7 +393,7 @@ module _ (old new : MemoryStation) (bytes : List ℕ) (first : new.first ≡ old
 
 quiet_refused : (old : MemoryStation) → old.send_faults ≤ last_count → Quiet memory_meanings old (send_refused old)
 quiet_refused old few = record {
-  sent = itself old.sent;
+  sent = prefix_itself old.sent;
   send_faults = omega (arith, few);
   holds = refl;
   reach = refl;

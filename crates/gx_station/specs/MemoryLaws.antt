@@ -3,7 +3,7 @@ use Rattle.std.specs.Prelude.{◌≡◌, ℕ, ◌+◌, ◌≤◌, true, false, L
 use Rattle.std.proofs.Common.{sym, ◌∙◌, ap, subst, arith, length-append}
 use Rattle.std.proofs.lemmas.List.{take_all, append-nil, nil_from_length}
 use Rattle.std.proofs.lemmas.Grind.{fold-append}
-use Rattle.gx_base.specs.Told.{IsPrefix}
+use Rattle.gx_base.specs.Told.{IsPrefix, prefix_itself}
 use Rattle.gx_station.specs.Disk.{Disk}
 use Rattle.gx_station.specs.TornImages.{torn_none, torn_whole}
 use Rattle.gx_station.specs.Honest.{IsHonestNow}
@@ -37,9 +37,6 @@ same_prefix a b p q =
     let none : q.rest ≡ [] = nil_from_length q.rest (omega (arith, ap length p.is, ap length q.is, length-append a p.rest, length-append b q.rest)) in
     sym (q.is ∙ ap (λ (l : List ℕ). b ++ l) none ∙ append-nil b)
 
-pub itself : (a : List ℕ) → IsPrefix a a
-itself a = record { rest = []; is = sym (append-nil a) }
-
 pub memory_honest : (s : MemoryStation) → IsSound s → IsHonestNow memory_meanings s
 memory_honest s sound = record {
   tells_image = (s.image, refl);
@@ -53,8 +50,8 @@ memory_honest s sound = record {
         since = le;
         until = omega arith;
         leaves = subst (λ (l : List Call). Leaves (disk_after s.first l) image) (sym (take_all (length s.done) s.done (omega arith))) leaves;
-        low = subst (λ (l : List Call). IsPrefix (output_after l) out) (sym (take_all (length s.done) s.done (omega arith))) (subst (λ (l : List ℕ). IsPrefix l out) (sym same) (itself out));
-        high = subst (λ (l : List Call). IsPrefix out (output_after l)) (sym (take_all (length s.done + 1) s.done (omega arith))) (subst (λ (l : List ℕ). IsPrefix out l) (sym same) (itself out));
+        low = subst (λ (l : List Call). IsPrefix (output_after l) out) (sym (take_all (length s.done) s.done (omega arith))) (subst (λ (l : List ℕ). IsPrefix l out) (sym same) (prefix_itself out));
+        high = subst (λ (l : List Call). IsPrefix out (output_after l)) (sym (take_all (length s.done + 1) s.done (omega arith))) (subst (λ (l : List ℕ). IsPrefix out l) (sym same) (prefix_itself out));
       };
   only_now = λ image out left.
       let all : take left.count s.done ≡ s.done = take_all left.count s.done left.since in

@@ -145,22 +145,26 @@ fn market_order_after_an_order(rt: HostRuntime) -> Result<(), Fail> {
     expect_each_cut(&rt, ORDER, MARKET_ORDER, after_one(7, 111), ACCEPTED)
 }
 
-#[test]
-fn failed_read_after_an_order(rt: HostRuntime) -> Result<(), Fail> {
+/// Runs over this input and this station.
+fn run_over(
+    rt: &impl AllocGlobal,
+    input: &mut MemSource,
+    station: &mut MemStation,
+) -> Result<Outcome, Fail> {
     let alloc = rt.alloc();
     let words = vec![in alloc; String::from_str(alloc, "run")?]?;
     let text = PRODUCT.as_bytes().to_vec(alloc)?;
     let mut product = MemSource::new(alloc, text, Vec::new(alloc), Vec::new(alloc))?;
+    Ok(globex(alloc, words.as_slice(), &mut product, input, station))
+}
+
+#[test]
+fn failed_read_after_an_order(rt: HostRuntime) -> Result<(), Fail> {
+    let alloc = rt.alloc();
     let pieces = vec![in alloc; 111]?;
     let mut input = MemSource::new(alloc, bytes_of(alloc, ORDERS)?, pieces, vec![in alloc; 2]?)?;
     let mut station = MemStation::new(alloc, Vec::new(alloc), 0, 65_536, 100, Vec::new(alloc))?;
-    let got = globex(
-        alloc,
-        words.as_slice(),
-        &mut product,
-        &mut input,
-        &mut station,
-    );
+    let got = run_over(&rt, &mut input, &mut station)?;
     assert_eq!(rt; got, after_one(4, 111));
     assert_eq!(rt; station.output(), bytes_of(alloc, ACCEPTED)?.as_slice());
     Ok(())
@@ -170,20 +174,11 @@ fn failed_read_after_an_order(rt: HostRuntime) -> Result<(), Fail> {
 #[test]
 fn failed_send_of_the_second_order(rt: HostRuntime) -> Result<(), Fail> {
     let alloc = rt.alloc();
-    let words = vec![in alloc; String::from_str(alloc, "run")?]?;
-    let text = PRODUCT.as_bytes().to_vec(alloc)?;
-    let mut product = MemSource::new(alloc, text, Vec::new(alloc), Vec::new(alloc))?;
     let input = bytes_of(alloc, ORDERS)?;
     let mut input = MemSource::new(alloc, input, Vec::new(alloc), Vec::new(alloc))?;
     let fail = vec![in alloc; 2]?;
     let mut station = MemStation::new(alloc, Vec::new(alloc), 0, 65_536, 100, fail)?;
-    let got = globex(
-        alloc,
-        words.as_slice(),
-        &mut product,
-        &mut input,
-        &mut station,
-    );
+    let got = run_over(&rt, &mut input, &mut station)?;
     let outcome = Outcome {
         status: 6,
         at: 0,
@@ -199,19 +194,10 @@ fn failed_send_of_the_second_order(rt: HostRuntime) -> Result<(), Fail> {
 #[test]
 fn a_heartbeat_calls_no_station(rt: HostRuntime) -> Result<(), Fail> {
     let alloc = rt.alloc();
-    let words = vec![in alloc; String::from_str(alloc, "run")?]?;
-    let text = PRODUCT.as_bytes().to_vec(alloc)?;
-    let mut product = MemSource::new(alloc, text, Vec::new(alloc), Vec::new(alloc))?;
     let input = bytes_of(alloc, HEARTBEAT)?;
     let mut input = MemSource::new(alloc, input, Vec::new(alloc), Vec::new(alloc))?;
     let mut station = MemStation::new(alloc, Vec::new(alloc), 0, 0, 0, Vec::new(alloc))?;
-    let got = globex(
-        alloc,
-        words.as_slice(),
-        &mut product,
-        &mut input,
-        &mut station,
-    );
+    let got = run_over(&rt, &mut input, &mut station)?;
     assert_eq!(rt; got, after_one(0, 0));
     Ok(())
 }
