@@ -1,11 +1,11 @@
 -- Bytes added to what waits.
 use Rattle.std.proofs.Common.{◌≡◌, ◌++◌, List, ℕ, [], Result, Ok, Err, IsErr, true, false, refl, ap, subst, ◌∙◌}
-use Rattle.gx_base.specs.Told.{TellsPrefix, tells_then}
+use Rattle.gx_base.specs.KnownBytes.{IsKnownPrefix, known_then}
 use Rattle.gx_station.specs.Counts.{Rose}
 use Rattle.gx_station.specs.Stations.{StationMeanings, sent_and}
 use Rattle.gx_station.specs.Quiet.{quiet_itself, quiet_then}
 use Rattle.exec_report.specs.Pushes.{Pushes}
-use Rattle.exec_report.proofs.Sent.{sent_and-append, sent_and_none, tells_front}
+use Rattle.exec_report.proofs.Sent.{sent_and-append, sent_and_none, known_front}
 
 module _ {S : Type 0} (m : StationMeanings S) where
   -- there was room for them
@@ -25,7 +25,7 @@ module _ {S : Type 0} (m : StationMeanings S) where
     quiet = p.quiet;
     all = tt;
     steady = tt;
-    part = tells_then (m.sent new) (sent_and (sent_and (m.sent old) waits) []) (sent_and (sent_and (m.sent old) waits) bytes) (subst (λ (w : List ℕ). TellsPrefix (m.sent new) (sent_and (sent_and (m.sent old) w) [])) same p.part) (tells_front (sent_and (m.sent old) waits) [] bytes);
+    part = known_then (m.sent new) (sent_and (sent_and (m.sent old) waits) []) (sent_and (sent_and (m.sent old) waits) bytes) (subst (λ (w : List ℕ). IsKnownPrefix (m.sent new) (sent_and (sent_and (m.sent old) w) [])) same p.part) (known_front (sent_and (m.sent old) waits) [] bytes);
     rose = p.rose;
   }
 
@@ -42,6 +42,6 @@ module _ {S : Type 0} (m : StationMeanings S) where
     quiet = quiet_then m old mid new first.quiet second.quiet;
     all = tt;
     steady = tt;
-    part = subst (λ s. TellsPrefix (m.sent new) s) (sent_and_none (sent_and (m.sent mid) waits_mid) ∙ first.all) second.part;
+    part = subst (λ s. IsKnownPrefix (m.sent new) s) (sent_and_none (sent_and (m.sent mid) waits_mid) ∙ first.all) second.part;
     rose = subst (λ k. Rose k (m.send_faults new)) first.steady second.rose;
   }

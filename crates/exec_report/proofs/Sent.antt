@@ -4,7 +4,7 @@ use Rattle.std.proofs.lemmas.Bool.{cases_Bool}
 use Rattle.std.proofs.lemmas.List.{append-nil, take-append-drop}
 use Rattle.std.specs.List.{flat_map}
 use Rattle.std.proofs.lemmas.Grind.{flat_map-append}
-use Rattle.gx_base.specs.Told.{TellsPrefix, tells_then, tells_itself}
+use Rattle.gx_base.specs.KnownBytes.{IsKnownPrefix, known_then, known_itself}
 use Rattle.std.specs.Borrow.{MutBor}
 use Rattle.gx_base.specs.Line.{line_of}
 use Rattle.gx_base.specs.ByteLog.{with_line}
@@ -29,9 +29,9 @@ pub sent_and-append : (sent : Option (List ℕ)) (xs ys : List ℕ) → sent_and
 sent_and-append None xs ys = refl
 sent_and-append (Some bytes) xs ys = ap Some (sym (append_assoc bytes xs ys))
 
-pub tells_front : (sent : Option (List ℕ)) (xs ys : List ℕ) → TellsPrefix (sent_and sent xs) (sent_and sent (xs ++ ys))
-tells_front None xs ys = tt
-tells_front (Some bytes) xs ys = record { rest = ys; is = sym (append_assoc bytes xs ys) }
+pub known_front : (sent : Option (List ℕ)) (xs ys : List ℕ) → IsKnownPrefix (sent_and sent xs) (sent_and sent (xs ++ ys))
+known_front None xs ys = tt
+known_front (Some bytes) xs ys = record { rest = ys; is = sym (append_assoc bytes xs ys) }
 
 module _ {S : Type 0} (m : StationMeanings S) where
   abbrev Run : Outgoing S → Outgoing S → List Event → Type 0
@@ -52,18 +52,18 @@ module _ {S : Type 0} (m : StationMeanings S) where
         ap (λ s. seen_after (with_line a.names.now) s xs) seen_first ∙ ap (λ n. seen_after (with_line n) (m.sent a.station.now) xs) its_names ∙ seen_after-with_line names (m.sent a.station.now) xs
 
     -- of all events a part
-    seen_part : (k : ℕ) → TellsPrefix (sent_and (m.sent a.station.now) (flat_map (line_of names) (take k events))) (sent_and (m.sent a.station.now) (flat_map (line_of names) events))
+    seen_part : (k : ℕ) → IsKnownPrefix (sent_and (m.sent a.station.now) (flat_map (line_of names) (take k events))) (sent_and (m.sent a.station.now) (flat_map (line_of names) events))
     seen_part k =
         let whole : flat_map (line_of names) (take k events) ++ flat_map (line_of names) (drop k events) ≡ flat_map (line_of names) events =
         sym (flat_map-append (line_of names) (take k events) (drop k events)) ∙ ap (λ (l : List Event). flat_map (line_of names) l) (take-append-drop k events) in
-        subst (λ l. TellsPrefix (sent_and (m.sent a.station.now) (flat_map (line_of names) (take k events))) (sent_and (m.sent a.station.now) l)) whole (tells_front (m.sent a.station.now) (flat_map (line_of names) (take k events)) (flat_map (line_of names) (drop k events)))
+        subst (λ l. IsKnownPrefix (sent_and (m.sent a.station.now) (flat_map (line_of names) (take k events))) (sent_and (m.sent a.station.now) l)) whole (known_front (m.sent a.station.now) (flat_map (line_of names) (take k events)) (flat_map (line_of names) (drop k events)))
 
-    at_most : TellsPrefix (outgoing_seen m b) (sent_and (m.sent a.station.now) (flat_map (line_of names) events))
+    at_most : IsKnownPrefix (outgoing_seen m b) (sent_and (m.sent a.station.now) (flat_map (line_of names) events))
     at_most = elim (cases_Bool b.stopped) [
       | inl stopped ↦
           let p = run.part stopped in
-          tells_then _ _ _ (subst (λ s. TellsPrefix (outgoing_seen m b) s) (seen_then (take p.0 events)) p.2) (seen_part p.0)
-      | inr going ↦ subst (λ s. TellsPrefix (outgoing_seen m b) s) (run.all going ∙ seen_then events) (tells_itself (outgoing_seen m b))
+          known_then _ _ _ (subst (λ s. IsKnownPrefix (outgoing_seen m b) s) (seen_then (take p.0 events)) p.2) (seen_part p.0)
+      | inr going ↦ subst (λ s. IsKnownPrefix (outgoing_seen m b) s) (run.all going ∙ seen_then events) (known_itself (outgoing_seen m b))
     ]
 
     delivered_lem : {T F : Type 0} (result : Result T F) → Flushes m b c result → Sends m a.station.now c.station.now (flat_map (line_of names) events) result
@@ -83,7 +83,7 @@ module _ {S : Type 0} (m : StationMeanings S) where
           quiet = all.quiet;
           cause = record { never_falls = all.quiet.send_faults; ok = tt; failed = all.rose works flush.failed.1 };
           all = tt;
-          part = subst (λ s. TellsPrefix s (sent_and (m.sent a.station.now) (flat_map (line_of names) events))) (seen_stopped c flush.failed.1) (tells_then _ _ _ flush.failed.0 at_most);
+          part = subst (λ s. IsKnownPrefix s (sent_and (m.sent a.station.now) (flat_map (line_of names) events))) (seen_stopped c flush.failed.1) (known_then _ _ _ flush.failed.0 at_most);
         }
 
   -- from the making, at a station s, to the last flush

@@ -2,7 +2,7 @@
 use Rattle.std.specs.Prelude.{◌≡◌, ℕ, ◌≤◌, true, false, List, [], Option, Result, OnOk, OnErr, refl, if◌then◌else◌}
 use Rattle.std.proofs.Common.{inl, inr, sym, ◌∙◌, ap, arith}
 use Rattle.std.proofs.lemmas.Bool.{cases_Bool, true≢false}
-use Rattle.gx_base.specs.Told.{TellsPrefix}
+use Rattle.gx_base.specs.KnownBytes.{IsKnownPrefix}
 use Rattle.std.specs.Borrow.{MutBor}
 use Rattle.gx_base.specs.NameLists.{NameLists}
 use Rattle.gx_base.specs.ByteLog.{with_line}
@@ -82,5 +82,5 @@ module _ {S : Type 0} (m : StationMeanings S) where
   pub record Flushes {T F : Type 0} (old new : Outgoing S) (result : Result T F) : Type 0 where
     pub later : IsLaterOutgoing old new
     pub ok : OnOk result ((outgoing_seen new ≡ outgoing_seen old) × (new.buffer.now ≡ []) × (new.stopped ≡ false))
-    pub failed : OnErr result (TellsPrefix (outgoing_seen new) (outgoing_seen old) × (new.stopped ≡ true))
+    pub failed : OnErr result (IsKnownPrefix (outgoing_seen new) (outgoing_seen old) × (new.stopped ≡ true))
     pub stays : old.stopped ≡ true → new ≡ old

@@ -1,6 +1,6 @@
 -- Bytes on their way out: what a station has sent, and then a buffer.
 use Rattle.std.specs.Prelude.{◌≡◌, ℕ, ◌+◌, ◌==◌, nat_lt, if◌then◌else◌, List, [], ◌++◌, length, Result, OnOk, OnErr}
-use Rattle.gx_base.specs.Told.{TellsPrefix}
+use Rattle.gx_base.specs.KnownBytes.{IsKnownPrefix}
 use Rattle.gx_station.specs.Counts.{Rose}
 use Rattle.gx_station.specs.Stations.{StationMeanings, sent_and}
 use Rattle.gx_station.specs.Quiet.{Quiet}
@@ -27,5 +27,5 @@ module _ {S : Type 0} (m : StationMeanings S) where
     pub quiet : Quiet m old new
     pub all : OnOk result (sent_and (m.sent new) waits_new ≡ sent_and (sent_and (m.sent old) waits) bytes)
     pub steady : OnOk result (m.send_faults new ≡ m.send_faults old)
-    pub part : OnErr result (TellsPrefix (m.sent new) (sent_and (sent_and (m.sent old) waits) bytes))
+    pub part : OnErr result (IsKnownPrefix (m.sent new) (sent_and (sent_and (m.sent old) waits) bytes))
     pub rose : OnErr result (Rose (m.send_faults old) (m.send_faults new))

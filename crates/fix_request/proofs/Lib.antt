@@ -1,7 +1,7 @@
 pub mod Agree
 pub mod AgreeOrders
-pub mod GivenOrders
-pub mod GivenRequests
+pub mod ValidOrders
+pub mod ValidRequests
 pub mod Giving
 pub mod Holding
 pub mod Noting

@@ -16,7 +16,7 @@ use Rattle.gx_base.specs.declared.order.Kind.{Kind}
 use Rattle.gx_base.specs.declared.order.Kind.TheVariants.{Limit, Market, StopLimit}
 use Rattle.fix_request.specs.Inner.Rules.{formed}
 use Rattle.fix_request.specs.Inner.Orders.{px_of, price_if_read, kind_of, has_price, has_trigger}
-use Rattle.fix_request.specs.Given.{IsWithinLimit, IsPresent, HasPricesOf}
+use Rattle.fix_request.specs.ValidRequests.{IsWithinLimit, IsPresent, HasPricesOf}
 use Rattle.fix_request.specs.declared.request.Px.{Px}
 use Rattle.fix_request.specs.declared.request.Px.TheVariants.{Absent, Between}
 use Rattle.fix_request.specs.declared.request.Named.{Named}

@@ -7,7 +7,7 @@ ghost use Rattle.gx_base.specs.Texts.{is_name};
 ghost use Rattle.fix_request.specs.Inner.Rules.{where_passes, formed};
 ghost use Rattle.fix_request.specs.MessageTable.{named_of};
 ghost use Rattle.fix_request.specs.Inner.Orders.{quantity_or_zero, price_in, price_if_read, px_of, order_forms};
-ghost use Rattle.fix_request.specs.Given.{IsListed};
+ghost use Rattle.fix_request.specs.ValidRequests.{IsListed};
 ghost use Rattle.fix_request.specs.Inner.Views.{order_view};
 
 use crate::fault::Fault;

@@ -3,7 +3,7 @@ ghost use Rattle.std.specs.Prelude.{◌≡◌, Some, None};
 ghost use Rattle.fix_frame.specs.Grammar.{IsFrame};
 ghost use Rattle.fix_request.specs.Requests.{request_in, request_of, no_time};
 ghost use Rattle.fix_request.specs.Inner.Requests.{request_of_body, content_by, content_of, refused};
-ghost use Rattle.fix_request.specs.Given.{IsGivenBy, IsGivenRequest};
+ghost use Rattle.fix_request.specs.ValidRequests.{IsValidIn, IsValidRequest};
 ghost use Rattle.fix_request.specs.Inner.Views.{values_view};
 
 use crate::fault::Fault;
@@ -21,7 +21,7 @@ use product_file::Product;
 pub fn read_request(frame: &[u8], product: &Product) -> Request
     requires { IsFrame frame.now }
     ensures request { result ≡ request_of product.now frame.now }
-    ensures given { IsGivenRequest product.now result }
+    ensures given { IsValidRequest product.now result }
 {
     read_body(product.names(), frame_body(frame))
 }
@@ -29,7 +29,7 @@ pub fn read_request(frame: &[u8], product: &Product) -> Request
 /// What the message of this body asks for. A refusal is a request too, which is answered by a Reject.
 pub(crate) fn read_body(names: &Names, body: &[u8]) -> Request
     ensures request { result ≡ request_in names.now body.now }
-    ensures given { IsGivenBy names.now result }
+    ensures given { IsValidIn names.now result }
 {
     match read_message(names, body) {
         Ok(request) => request,

@@ -9,7 +9,7 @@ use Rattle.fix_request.specs.declared.request.CancelOrder.{CancelOrder}
 use Rattle.plain_book.specs.declared.entry.Entry.{Entry}
 use Rattle.plain_book.specs.Orders.{HasSlot, order_of, slot_named}
 use Rattle.plain_book.specs.Book.{Book, AllDiffer, live_orders, book_without}
-use Rattle.plain_book.specs.Match.{reported}
+use Rattle.plain_book.specs.Match.{report_counted}
 use Rattle.plain_book.specs.Numbers.{book_numbered}
 use Rattle.plain_book.proofs.Levels.{AllDiffer-filter}
 use Rattle.plain_book.proofs.Pairs.{all-filter}
@@ -34,13 +34,13 @@ module _ (request : CancelOrder) (b : Book) (desk : Desk) (differ : AllDiffer (l
 
   -- an order has it
   pub cancel-found : (s : ℕ) → AllDiffer (live_orders (book_numbered b)) → slot_named request.sender.firm request.old (live_orders b) ≡ Some s
-      → cancel_step request (state_of b desk) ≡ (state_of (book_without s b) (reported desk request.sender.firm), order_cancelled request (order_of s (live_orders b)) desk ∷ [])
+      → cancel_step request (state_of b desk) ≡ (state_of (book_without s b) (report_counted desk request.sender.firm), order_cancelled request (order_of s (live_orders b)) desk ∷ [])
   cancel-found s numbers is =
       let es = live_orders b in
       let k = (order_of s es).number in
       let has = named-has request.sender.firm request.old s es is in
       let order : order_of k (live_orders (book_numbered b)) ≡ order_of s es = ap (order_of k) (live-numbered b) ∙ order-numbered s k es (named-live s b differ numbers has) in
-      let after = reported desk request.sender.firm in
+      let after = report_counted desk request.sender.firm in
       let whole : Book → Order → State × List Event = λ x o. (record { book = x; desk = after }, order_cancelled request o desk ∷ []) in
       step-by (Some s) is
       ∙ ap (λ (o : Order). whole (book_without k (book_numbered b)) o) order

@@ -174,6 +174,6 @@ pub serves-all : {I S : Type 0} (product : ProductLists) (before after : Streams
     → ServingResult product before after ending count
     → (frames : List (List ℕ)) → AreServedFrames product frames → length frames ≤ 10000 → before.input.left ≡ Some (concat frames)
     → ((place : ℕ) → ending ≢ ReadFault place) → ending ≢ SendFault → ending ≡ Done
-serves-all product before after ending count result frames are_served few told read send =
-    let parts = left_parts after.input.left (concat frames) result.taken (sym told ∙ result.took) in
+serves-all product before after ending count result frames are_served few emits read send =
+    let parts = left_parts after.input.left (concat frames) result.taken (sym emits ∙ result.took) in
     ends-done product frames are_served few result.taken parts.0 parts.2 after.input.left parts.1 count result.some ending result.ends read send

@@ -1,7 +1,7 @@
 -- Counters and the room below their bound.
 use Rattle.std.proofs.Common.{ℕ, zero, suc, ◌+◌, ◌≤◌, List, [], ◌∷◌, slice_index, slice_set, arith}
 use Rattle.gx_base.specs.declared.order.Desk.{Desk}
-use Rattle.plain_book.specs.Match.{reported}
+use Rattle.plain_book.specs.Match.{report_counted}
 use Rattle.plain_book.specs.Keeping.{KeepsRoom}
 use Rattle.globex_run.specs.Inner.EngineInvariant.{HasRoom}
 
@@ -14,8 +14,8 @@ counted_line (x ∷ lines) (suc firm) zero = omega arith
 counted_line (x ∷ lines) (suc firm) (suc i) = counted_line lines firm i
 
 -- one report takes no more room than one lot had, under whatever order number
-pub room-reported : (desk : Desk) (number firm lots bound : ℕ) → HasRoom desk (lots + 1) bound → HasRoom (reported (record desk { orders = number }) firm) lots bound
-room-reported desk number firm lots bound room = record {
+pub room-report_counted : (desk : Desk) (number firm lots bound : ℕ) → HasRoom desk (lots + 1) bound → HasRoom (report_counted (record desk { orders = number }) firm) lots bound
+room-report_counted desk number firm lots bound room = record {
   trades = omega (arith, room.trades);
   reports = omega (arith, room.reports);
   lines = λ i. omega (arith, room.lines i, counted_line desk.lines firm i);

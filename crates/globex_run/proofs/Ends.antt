@@ -3,7 +3,7 @@ use Rattle.std.proofs.Common.{◌≡◌, ◌≢◌, inl, inr, ℕ, ◌+◌, ◌�
 use Rattle.std.specs.List.{concat, take_while}
 use Rattle.std.proofs.lemmas.List.{append-nil, drop_at, nil_from_length}
 use Rattle.std.proofs.Math.Seq.{take-append_seam}
-use Rattle.gx_base.specs.Told.{TellsPrefix}
+use Rattle.gx_base.specs.KnownBytes.{IsKnownPrefix}
 use Rattle.gx_station.specs.Sources.{and_left, IsAtEnd}
 use Rattle.gx_station.specs.Stations.{sent_and}
 use Rattle.fix_frame.specs.Grammar.{IsFrameFront}
@@ -153,8 +153,8 @@ module _ {I S : Type 0} (product : ProductLists) (before now : Streams I S) (fra
         let first : first_messages state'.desk.messages (concat run.served ++ framing.rest) ≡ all =
         ap (λ (l : List (List ℕ)). take state'.desk.messages l) messages ∙ ap (λ (n : ℕ). take n (all ++ messages_of next.rest)) count ∙ take-append_seam all (messages_of next.rest) in
         let stepped = ap (λ (s : State). lines_of product (step_of product s frame).1) run.is_state in
-        let sent : TellsPrefix then.sent (sent_and before.station.sent (reports_of product all)) =
-        subst (λ (s : Option (List ℕ)). TellsPrefix then.sent s)
+        let sent : IsKnownPrefix then.sent (sent_and before.station.sent (reports_of product all)) =
+        subst (λ (s : Option (List ℕ)). IsKnownPrefix then.sent s)
         (ap (λ (s : Option (List ℕ)). sent_and s (lines_of product (step_of product state frame).1)) run.sent
         ∙ sym (sent_and-append before.station.sent (reports_of product run.served) (lines_of product (step_of product state frame).1))
         ∙ ap (λ (l : List ℕ). sent_and before.station.sent l) (ap (λ (l : List ℕ). reports_of product run.served ++ l) stepped ∙ sym (reports-push product run.served frame)))
@@ -165,7 +165,7 @@ module _ {I S : Type 0} (product : ProductLists) (before now : Streams I S) (fra
           some = omega (arith, count, ap (λ (l : List (List ℕ)). length l) messages, length-append all (messages_of next.rest));
           few = omega (arith, did.0, did.1);
           are_served = subst (λ (l : List (List ℕ)). AreServed product l) (sym first) (served-push product run.served frame run.are_served did.2);
-          sent = subst (λ (l : List (List ℕ)). TellsPrefix then.sent (sent_and before.station.sent (reports_of product l))) (sym first) sent;
+          sent = subst (λ (l : List (List ℕ)). IsKnownPrefix then.sent (sent_and before.station.sent (reports_of product l))) (sym first) sent;
           ends = tt;
         }
 

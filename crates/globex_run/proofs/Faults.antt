@@ -5,7 +5,7 @@ use Rattle.gx_base.specs.NameLists.{NameLists}
 use Rattle.product_file.specs.Products.{ProductLists}
 use Rattle.plain_book.specs.Orders.{is_live}
 use Rattle.plain_book.specs.Book.{Book, live_orders}
-use Rattle.fix_request.specs.Given.{IsListed}
+use Rattle.fix_request.specs.ValidRequests.{IsListed}
 use Rattle.fix_request.specs.declared.request.Named.{Named}
 use Rattle.fix_request.specs.declared.request.Named.TheVariants.{Known, Unknown}
 use Rattle.fix_request.specs.declared.request.NewOrder.{NewOrder}

@@ -2,11 +2,11 @@
 use Rattle.std.proofs.Common.{◌≡◌, ℕ, ◌+◌, ◌*◌, ◌^◌, ◌<◌, ◌≤◌, sym, subst, arith}
 use Rattle.gx_base.specs.declared.order.Desk.{Desk}
 use Rattle.plain_book.specs.Book.{Book, empty_book}
-use Rattle.plain_book.specs.Match.{reported}
+use Rattle.plain_book.specs.Match.{report_counted}
 use Rattle.plain_book.proofs.Found.{all-zero}
 use Rattle.globex_run.specs.State.{empty_desk}
 use Rattle.globex_run.specs.Inner.EngineInvariant.{HasRoom, AreNumbered, IsServing, IsCounting}
-use Rattle.globex_run.proofs.Counters.{room-reported}
+use Rattle.globex_run.proofs.Counters.{room-report_counted}
 
 pub serving-empty : (capacity instruments : ℕ) (book : Book) → book ≡ empty_book capacity instruments → IsServing book empty_desk
 serving-empty capacity instruments book none = subst (λ (b : Book). IsServing b empty_desk) (sym none) (record {
@@ -60,11 +60,11 @@ counting-done book desk was = record {
 }
 
 -- an execution report is counted, and some orders may have left
-pub serving-reported : (book left : Book) (desk after : Desk) (firm : ℕ) → IsCounting book desk → AreNumbered desk.orders left → after ≡ reported desk firm → IsServing left after
-serving-reported book left desk after firm was numbered is =
+pub serving-report_counted : (book left : Book) (desk after : Desk) (firm : ℕ) → IsCounting book desk → AreNumbered desk.orders left → after ≡ report_counted desk firm → IsServing left after
+serving-report_counted book left desk after firm was numbered is =
     subst (λ (d : Desk). IsServing left d) (sym is) (record {
       numbered = numbered;
       counted = omega (arith, was.counted);
       bounded = was.bounded;
-      counters_fit = room-reported desk desk.orders firm 0 (desk.messages * 2 ^ 38) (room-fewer desk 1000000 1 _ was.counters_fit (omega arith));
+      counters_fit = room-report_counted desk desk.orders firm 0 (desk.messages * 2 ^ 38) (room-fewer desk 1000000 1 _ was.counters_fit (omega arith));
     })

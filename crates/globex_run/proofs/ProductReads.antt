@@ -10,7 +10,7 @@ use Rattle.product_file.specs.declared.faults.ProductFault.{ProductFault}
 use Rattle.product_file.specs.declared.faults.ProductFault.TheVariants.{NoMemory, TooLong}
 use Rattle.globex_run.specs.Outside.{SourceAt}
 use Rattle.globex_run.specs.ProductTexts.{TakesAtMost, IsProductText, IsRefusedAt}
-use Rattle.globex_run.specs.Inner.ProductReading.{Judges, TakesProduct}
+use Rattle.globex_run.specs.Inner.ProductReading.{IsAnswerFor, TakesProduct}
 use Rattle.globex_run.specs.declared.product_text.NoProduct.{NoProduct}
 use Rattle.globex_run.specs.declared.product_text.NoProduct.TheVariants as reason
 use Rattle.globex_run.proofs.Running.{and_left-none, and_left-then}
@@ -54,7 +54,7 @@ few-taken old new text read taken limit other = record {
 
 -- what a text that was read gives
 module _ {P : Type 0} (old new : SourceAt P) (text : List ℕ) (read : Result ProductLists ProductFault) (taken : IsProductText old new text) (limit : 65536 < length text → read ≡ Err TooLong) (gives : read ≢ Err NoMemory → read ≡ product_of text) where
-  pub taken-product : (result : Result ProductLists NoProduct) → Judges read result → TakesProduct old new result
+  pub taken-product : (result : Result ProductLists NoProduct) → IsAnswerFor read result → TakesProduct old new result
   taken-product (Ok product) judged =
       let there : read ≢ Err NoMemory = λ no. let e : Ok product ≡ Err NoMemory = sym judged ∙ no in cc e in
       (text, taken, sym (gives there) ∙ judged)

@@ -40,8 +40,8 @@ few-of-product before after product took = record {
 
 -- a text that gives a product was taken whole
 whole-text : {P : Type 0} (before after : SourceAt P) (taken text : List ℕ) (product : ProductLists) → IsProductText before after taken → before.left ≡ Some text → product_of text ≡ Ok product → product_of taken ≡ Ok product
-whole-text before after taken text product was told is =
-    let parts = left_parts after.left text taken (sym told ∙ was.left) in
+whole-text before after taken text product was emits is =
+    let parts = left_parts after.left text taken (sym emits ∙ was.left) in
     elim (cases_lt 65536 (length taken)) [
       | inl long ↦ absurd (too_long text product is (omega (arith, long, ap (λ (l : List ℕ). length l) parts.2, length-append taken parts.0)))
       | inr few ↦
@@ -81,7 +81,7 @@ module _ {P I S : Type 0} (before after : Outside P I S) where
   memory-without NoMemory o took made can quiet = inr (ap (λ (x : Outcome). x.status) made)
   memory-without Unread o took made can quiet = absurd (quiet.product took.1)
   memory-without (Refused rule) o took made can quiet =
-      absurd (subst (λ (r : Result ProductLists ProductFault). IsRefusedAt rule r) (whole-text before.product after.product took.0 can.text can.product took.1 can.product_told can.gives) took.2)
+      absurd (subst (λ (r : Result ProductLists ProductFault). IsRefusedAt rule r) (whole-text before.product after.product took.0 can.text can.product took.1 can.product_known can.gives) took.2)
 
   -- ---- a product was taken, and served
 
@@ -111,11 +111,11 @@ module _ {P I S : Type 0} (before after : Outside P I S) where
     -- a good input is served to its end
     pub all-served : CausedBy ending before.streams after.streams → CanBeServed before → IsQuiet before after → (o.status ≡ 0) ⊎ (o.status ≡ 1)
     all-served cause can quiet =
-        let right : product_of took.0 ≡ Ok can.product = whole-text before.product after.product took.0 can.text can.product took.1 can.product_told can.gives in
+        let right : product_of took.0 ≡ Ok can.product = whole-text before.product after.product took.0 can.text can.product took.1 can.product_known can.gives in
         let same : product ≡ can.product = one_product (product_of took.0) product can.product took.2 right in
         let done : ending ≡ Done =
         serves-all can.product before.streams after.streams ending count (subst (λ (p : ProductLists). ServingResult p before.streams after.streams ending count) same serving)
-        can.frames can.are_served can.few can.input_told
+        can.frames can.are_served can.few can.input_known
         (λ place is. quiet.input (subst (λ (e : Ending). CausedBy e before.streams after.streams) is cause).0)
         (λ is. quiet.station (subst (λ (e : Ending). CausedBy e before.streams after.streams) is cause).1) in
         inl (ap (λ (x : Outcome). x.status) (made ∙ ap (λ (e : Ending). outcome_of e count) done))

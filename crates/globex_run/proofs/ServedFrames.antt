@@ -1,6 +1,6 @@
 -- One frame served, or not.
 use Rattle.std.proofs.Common.{◌≡◌, ℕ, ◌+◌, ◌<◌, true, false, List, IsTrue, Result, Ok, Err, OnOk, OnErr, is_err, ap, subst, ◌∙◌}
-use Rattle.gx_base.specs.Told.{TellsPrefix}
+use Rattle.gx_base.specs.KnownBytes.{IsKnownPrefix}
 use Rattle.gx_station.specs.Stations.{StationMeanings, sent_and}
 use Rattle.globex_run.specs.Outside.{station_at}
 use Rattle.gx_station.specs.Quiet.{Sends}
@@ -43,6 +43,6 @@ module _ {S T E : Type 0} (m : StationMeanings S) (product : ProductLists) (old 
     few,
     count,
     is_asked,
-    subst (λ (l : List ℕ). TellsPrefix (m.sent after) (sent_and (m.sent before) l)) is_lines (on_err sent _ err sends.part),
+    subst (λ (l : List ℕ). IsKnownPrefix (m.sent after) (sent_and (m.sent before) l)) is_lines (on_err sent _ err sends.part),
     on_err sent _ err sends.cause.failed,
   )

@@ -11,7 +11,7 @@ use Rattle.fix_request.specs.declared.request.CancelOrder.{CancelOrder}
 use Rattle.fix_request.specs.declared.request.Refusal.{Refusal}
 use Rattle.plain_book.specs.Orders.{order_of, slot_named}
 use Rattle.plain_book.specs.Book.{live_orders, book_without}
-use Rattle.plain_book.specs.Match.{reported, next_head}
+use Rattle.plain_book.specs.Match.{report_counted, next_head}
 use Rattle.globex_run.specs.State.{State}
 
 -- ---- report lines that are no execution reports
@@ -24,8 +24,8 @@ line_place (Some firm) = firm
 abbrev pub line_head : Desk → Option ℕ → List ℕ → Head
 line_head desk firm time = record { firm = firm; line = slice_index desk.lines (line_place firm) + 1; report = 0; time = time }
 
-abbrev pub line_told : Desk → Option ℕ → Desk
-line_told desk firm = record desk { lines = slice_set desk.lines (line_place firm) (slice_index desk.lines (line_place firm) + 1) }
+abbrev pub line_counted : Desk → Option ℕ → Desk
+line_counted desk firm = record desk { lines = slice_set desk.lines (line_place firm) (slice_index desk.lines (line_place firm) + 1) }
 
 -- ---- cancels
 
@@ -35,7 +35,7 @@ unknown_order request desk =
 
 -- no live order has the id: the cancel is refused
 abbrev pub cancel_refused : CancelOrder → State → State × List Event
-cancel_refused request state = (record state { desk = line_told state.desk (Some request.sender.firm) }, unknown_order request state.desk ∷ [])
+cancel_refused request state = (record state { desk = line_counted state.desk (Some request.sender.firm) }, unknown_order request state.desk ∷ [])
 
 -- the order as its report shows it: nothing is open or shown any more
 abbrev pub closed : Order → Order
@@ -49,7 +49,7 @@ order_cancelled request o desk =
 abbrev pub cancelled : CancelOrder → ℕ → State → State × List Event
 cancelled request number state =
     let o = order_of number (live_orders state.book) in (
-      record { book = book_without number state.book; desk = reported state.desk request.sender.firm },
+      record { book = book_without number state.book; desk = report_counted state.desk request.sender.firm },
       order_cancelled request o state.desk ∷ [],
     )
 
@@ -68,4 +68,4 @@ rejected refusal desk = RefusedSession (line_head desk refusal.firm refusal.time
 
 -- a reject is reported to the sender, as far as it is known
 abbrev pub session_step : Refusal → State → State × List Event
-session_step refusal state = (record state { desk = line_told state.desk refusal.firm }, rejected refusal state.desk ∷ [])
+session_step refusal state = (record state { desk = line_counted state.desk refusal.firm }, rejected refusal state.desk ∷ [])

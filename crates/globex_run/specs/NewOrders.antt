@@ -21,7 +21,7 @@ use Rattle.step_config.specs.declared.step.Step.{Step}
 use Rattle.step_config.specs.Rules.{top_rule_of}
 use Rattle.plain_book.specs.Orders.{is_live}
 use Rattle.plain_book.specs.Book.{Book, live_orders, book_placed}
-use Rattle.plain_book.specs.Match.{Moment, moment, report, reported, next_head}
+use Rattle.plain_book.specs.Match.{MatchState, match_start, report, report_counted, next_head}
 use Rattle.level_sweep.specs.Sweep.{sweep}
 use Rattle.globex_run.specs.State.{State}
 use Rattle.globex_run.specs.Ticks.{tick_of, is_off_tick}
@@ -73,7 +73,7 @@ refusal f new desk = RefusedNew (next_head desk new.sender.firm new.sender.time)
 
 -- a refused new order is reported, gets no number, and changes nothing else
 abbrev pub refused : NewFault → NewOrder → State → State × List Event
-refused f new state = (record state { desk = reported state.desk new.sender.firm }, refusal f new state.desk ∷ [])
+refused f new state = (record state { desk = report_counted state.desk new.sender.firm }, refusal f new state.desk ∷ [])
 
 -- ---- acceptance
 
@@ -120,19 +120,19 @@ abbrev pub with_rest : List Step → Order → Book → Book
 with_rest steps o book = if o.leaves == 0 then book else book_placed o.number o (top_min_of steps) book
 
 -- an order is entered: it sweeps the other side up to its price, and rests with what is left
-abbrev pub entered : List Step → Moment → Moment
+abbrev pub entered : List Step → MatchState → MatchState
 entered steps m =
     let end = sweep steps m.taker.order.price m in record end { book = with_rest steps end.taker.order end.book }
 
 -- a new order is accepted, reported, and entered
-abbrev pub new_of : List Step → NewOrder → State → Moment
+abbrev pub new_of : List Step → NewOrder → State → MatchState
 new_of steps new state =
     let number = state.desk.orders + 1 in
     let taker = taker_of new number in
     let desk = record state.desk { orders = number } in
-    entered steps (report Accepted taker.order (moment state.book desk taker))
+    entered steps (report Accepted taker.order (match_start state.book desk taker))
 
-abbrev pub state_in : Moment → State
+abbrev pub state_in : MatchState → State
 state_in m = record { book = m.book; desk = m.desk }
 
 abbrev pub accepted : List Step → NewOrder → State → State × List Event

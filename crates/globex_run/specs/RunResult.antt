@@ -1,7 +1,7 @@
 -- What a run did: what it took, what it sent, and why it ended.
 use Rattle.std.specs.Prelude.{◌≡◌, ◌⊎◌, ℕ, ◌≤◌, IsTrue, IsFalse, List, [], ◌++◌, length, take, drop, take_while, Option, Some, Ok}
 use Rattle.std.specs.List.{concat}
-use Rattle.gx_base.specs.Told.{TellsPrefix}
+use Rattle.gx_base.specs.KnownBytes.{IsKnownPrefix}
 use Rattle.gx_station.specs.Counts.{Rose}
 use Rattle.gx_station.specs.Sources.{and_left, IsAtEnd}
 use Rattle.gx_station.specs.Stations.{sent_and}
@@ -77,7 +77,7 @@ EndsAs product (Full place) count taken left =
 
 -- what was sent before, and then the reports of these messages; where a send has failed, a part from the front of that
 abbrev pub AreReported : ProductLists → Ending → Option (List ℕ) → Option (List ℕ) → List (List ℕ) → Type 0
-AreReported product SendFault before after messages = TellsPrefix after (sent_and before (reports_of product messages))
+AreReported product SendFault before after messages = IsKnownPrefix after (sent_and before (reports_of product messages))
 AreReported product _ before after messages = after ≡ sent_and before (reports_of product messages)
 
 -- Bytes were taken from the input, in whatever pieces, and the first messages of them applied, each of which is served.
@@ -132,9 +132,9 @@ RunResult before after outcome = ProductUnread before after outcome ⊎ (Product
 pub record CanBeServed {P I S : Type 0} (before : Outside P I S) : Type 0 where
   pub text : List ℕ
   pub product : ProductLists
-  pub product_told : before.product.left ≡ Some text
+  pub product_known : before.product.left ≡ Some text
   pub gives : product_of text ≡ Ok product
   pub frames : List (List ℕ)
-  pub input_told : before.streams.input.left ≡ Some (concat frames)
+  pub input_known : before.streams.input.left ≡ Some (concat frames)
   pub are_served : AreServedFrames product frames
   pub few : length frames ≤ 10000

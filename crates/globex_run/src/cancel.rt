@@ -3,8 +3,8 @@ ghost use Rattle.std.specs.Prelude.{◌≡◌, ◌<◌, IfSome, [], ◌∷◌, S
 ghost use Rattle.gx_base.specs.Emits.{Emits};
 ghost use Rattle.plain_book.specs.Orders.{HasSlot, order_of};
 ghost use Rattle.plain_book.specs.Book.{live_orders, book_without};
-ghost use Rattle.plain_book.specs.Match.{reported};
-ghost use Rattle.globex_run.specs.Cancels.{line_head, line_told, closed, unknown_order, order_cancelled, cancel_step, rejected};
+ghost use Rattle.plain_book.specs.Match.{report_counted};
+ghost use Rattle.globex_run.specs.Cancels.{line_head, line_counted, closed, unknown_order, order_cancelled, cancel_step, rejected};
 ghost use Rattle.globex_run.specs.Inner.EngineInvariant.{HasRoom, IsState, IsCounting, IsServing, IsSameSize, state_of, counter_limit};
 
 use fix_request::{CancelOrder, Refusal};
@@ -19,7 +19,7 @@ fn count_line(desk: &mut Desk, firm: Option<u8>, time: Stamp) -> Head
     requires firm { IfSome firm (λ number. number < 64) }
     requires room { HasRoom desk.old 1 counter_limit }
     ensures head { result ≡ line_head desk.old firm time }
-    ensures desk { desk.new ≡ line_told desk.old firm }
+    ensures desk { desk.new ≡ line_counted desk.old firm }
 {
     let place = firm.map_or(UNKNOWN, usize::from);
     desk.lines[place] += 1;
@@ -53,8 +53,8 @@ fn cancel_order<B: Book, E: Emit>(
     requires firm { request.now.sender.firm < 64 }
     requires room { HasRoom desk.old 1 counter_limit }
     ensures left { B.book book.new ≡ book_without slot.0 (B.book book.old) }
-    ensures desk { desk.new ≡ reported desk.old request.now.sender.firm }
-    ensures told { Emits E.meanings out.old out.new (order_cancelled request.now (order_of slot.0 (live_orders (B.book book.old))) desk.old ∷ []) }
+    ensures desk { desk.new ≡ report_counted desk.old request.now.sender.firm }
+    ensures emits { Emits E.meanings out.old out.new (order_cancelled request.now (order_of slot.0 (live_orders (B.book book.old))) desk.old ∷ []) }
 {
     let order = book.remove(slot);
     let head = count_report(desk, request.sender.firm, request.sender.time);
@@ -71,8 +71,8 @@ fn cancel_order<B: Book, E: Emit>(
 fn refuse_cancel<E: Emit>(desk: &mut Desk, request: &CancelOrder, out: &mut E)
     requires firm { request.now.sender.firm < 64 }
     requires room { HasRoom desk.old 1 counter_limit }
-    ensures desk { desk.new ≡ line_told desk.old (Some request.now.sender.firm) }
-    ensures told { Emits E.meanings out.old out.new (unknown_order request.now desk.old ∷ []) }
+    ensures desk { desk.new ≡ line_counted desk.old (Some request.now.sender.firm) }
+    ensures emits { Emits E.meanings out.old out.new (unknown_order request.now desk.old ∷ []) }
 {
     let head = count_line(desk, Some(request.sender.firm), request.sender.time);
     out.put(&Event::RefusedChange {
@@ -97,7 +97,7 @@ pub fn apply_cancel<B: Book, E: Emit>(
     requires counting { IsCounting (B.book book.old) desk.old }
     requires firm { request.now.sender.firm < 64 }
     ensures now { IsState (cancel_step request.now (state_of (B.book book.old) desk.old)).0 (B.book book.new) desk.new }
-    ensures told { Emits E.meanings out.old out.new (cancel_step request.now (state_of (B.book book.old) desk.old)).1 }
+    ensures emits { Emits E.meanings out.old out.new (cancel_step request.now (state_of (B.book book.old) desk.old)).1 }
     ensures serving { IsServing (B.book book.new) desk.new }
     ensures size { IsSameSize (B.book book.old) (B.book book.new) }
     ensures count { desk.new.messages ≡ desk.old.messages }
@@ -113,8 +113,8 @@ pub fn apply_cancel<B: Book, E: Emit>(
 pub fn refuse_message<E: Emit>(desk: &mut Desk, refusal: &Refusal, out: &mut E)
     requires firm { IfSome refusal.now.firm (λ number. number < 64) }
     requires room { HasRoom desk.old 1 counter_limit }
-    ensures desk { desk.new ≡ line_told desk.old refusal.now.firm }
-    ensures told { Emits E.meanings out.old out.new (rejected refusal.now desk.old ∷ []) }
+    ensures desk { desk.new ≡ line_counted desk.old refusal.now.firm }
+    ensures emits { Emits E.meanings out.old out.new (rejected refusal.now desk.old ∷ []) }
 {
     let head = count_line(desk, refusal.firm, refusal.time);
     out.put(&Event::RefusedSession {

@@ -1,7 +1,7 @@
 //! The engine: the live orders and the counters, and what each message does to them.
 ghost use Rattle.std.specs.Prelude.{◌≡◌, ◌+◌, ◌<◌, ◌≤◌, IsTrue, IfOk};
 ghost use Rattle.gx_base.specs.Emits.{Emits};
-ghost use Rattle.fix_request.specs.Given.{IsGivenRequest};
+ghost use Rattle.fix_request.specs.ValidRequests.{IsValidRequest};
 ghost use Rattle.globex_run.specs.State.{empty_state};
 ghost use Rattle.globex_run.specs.ServedRequests.{is_served};
 ghost use Rattle.globex_run.specs.Step.{with_message, is_passed, request_step};
@@ -67,11 +67,11 @@ impl Engine {
     /// Applies a message that is served, and puts its events.
     pub fn apply<E: Emit>(&mut self, product: &Product, request: &Request, out: &mut E)
         requires few { self.old.desk.messages < 10000 }
-        requires given { IsGivenRequest product.now request.now }
+        requires given { IsValidRequest product.now request.now }
         requires served { IsTrue (is_served request.now) }
         requires fits { FitsProduct product.now self.old.book }
         ensures state { self.new ≡ (request_step product.now request.now (with_message self.old)).0 }
-        ensures told { Emits E.meanings out.old out.new (request_step product.now request.now (with_message self.old)).1 }
+        ensures emits { Emits E.meanings out.old out.new (request_step product.now request.now (with_message self.old)).1 }
         ensures silent { IsTrue (is_passed request.now) → out.new ≡ out.old }
         ensures count { self.new.desk.messages ≡ self.old.desk.messages + 1 }
         ensures fits { FitsProduct product.now self.new.book }
@@ -90,11 +90,11 @@ fn apply_counted<B: Book, E: Emit>(
     out: &mut E,
 )
     requires counting { IsCounting (B.book book.old) desk.old }
-    requires given { IsGivenRequest product.now request.now }
+    requires given { IsValidRequest product.now request.now }
     requires served { IsTrue (is_served request.now) }
     requires fits { FitsProduct product.now (B.book book.old) }
     ensures now { IsState (request_step product.now request.now (state_of (B.book book.old) desk.old)).0 (B.book book.new) desk.new }
-    ensures told { Emits E.meanings out.old out.new (request_step product.now request.now (state_of (B.book book.old) desk.old)).1 }
+    ensures emits { Emits E.meanings out.old out.new (request_step product.now request.now (state_of (B.book book.old) desk.old)).1 }
     ensures silent { IsTrue (is_passed request.now) → out.new ≡ out.old }
     ensures serving { IsServing (B.book book.new) desk.new }
     ensures size { IsSameSize (B.book book.old) (B.book book.new) }

@@ -1,10 +1,10 @@
 //! New orders: refused, or accepted, reported and entered.
 ghost use Rattle.std.specs.Prelude.{◌≡◌, ◌+◌, ◌<◌, ℕ, false, [], ◌∷◌, length};
 ghost use Rattle.gx_base.specs.Emits.{Emits};
-ghost use Rattle.fix_request.specs.Given.{IsListed};
+ghost use Rattle.fix_request.specs.ValidRequests.{IsListed};
 ghost use Rattle.plain_book.specs.Orders.{is_live};
 ghost use Rattle.plain_book.specs.Book.{live_orders};
-ghost use Rattle.plain_book.specs.Match.{reported};
+ghost use Rattle.plain_book.specs.Match.{report_counted};
 ghost use Rattle.globex_run.specs.NewOrders.{instrument_number, price_in, is_quantity, new_fault, order_asked, steps_for, new_of, new_step, refused_of, refusal, state_in};
 ghost use Rattle.globex_run.specs.Inner.EngineInvariant.{AreNumbered, HasRoom, IsState, IsCounting, IsServing, IsSameSize, FitsProduct, state_of, IsPlain, IsOrder, counter_limit};
 
@@ -126,7 +126,7 @@ pub fn enter_new<B: Book, E: Emit>(
     requires messages { desk.old.messages < counter_limit }
     requires room { HasRoom desk.old (new.now.quantity + 1) counter_limit }
     ensures now { IsState (state_in (new_of steps.now new.now (state_of (B.book book.old) desk.old))) (B.book book.new) desk.new }
-    ensures told { Emits E.meanings out.old out.new (new_of steps.now new.now (state_of (B.book book.old) desk.old)).events }
+    ensures emits { Emits E.meanings out.old out.new (new_of steps.now new.now (state_of (B.book book.old) desk.old)).events }
     ensures numbered { AreNumbered desk.new.orders (B.book book.new) }
     ensures size { IsSameSize (B.book book.old) (B.book book.new) }
     ensures room { (bound : ℕ) → HasRoom desk.old (new.now.quantity + 1) bound → HasRoom desk.new 0 bound }
@@ -166,8 +166,8 @@ fn new_refused(new: &NewOrder) -> NewRefused
 pub fn refuse_new<E: Emit>(desk: &mut Desk, new: &NewOrder, fault: NewFault, out: &mut E)
     requires firm { new.now.sender.firm < 64 }
     requires room { HasRoom desk.old 1 counter_limit }
-    ensures desk { desk.new ≡ reported desk.old new.now.sender.firm }
-    ensures told { Emits E.meanings out.old out.new (refusal fault new.now desk.old ∷ []) }
+    ensures desk { desk.new ≡ report_counted desk.old new.now.sender.firm }
+    ensures emits { Emits E.meanings out.old out.new (refusal fault new.now desk.old ∷ []) }
 {
     let head = count_report(desk, new.sender.firm, new.sender.time);
     out.put(&Event::RefusedNew {
@@ -190,7 +190,7 @@ pub fn apply_new<B: Book, E: Emit>(
     requires plain { IsPlain new.now }
     requires named { IsListed product.now.names new.now.named }
     ensures now { IsState (new_step product.now new.now (state_of (B.book book.old) desk.old)).0 (B.book book.new) desk.new }
-    ensures told { Emits E.meanings out.old out.new (new_step product.now new.now (state_of (B.book book.old) desk.old)).1 }
+    ensures emits { Emits E.meanings out.old out.new (new_step product.now new.now (state_of (B.book book.old) desk.old)).1 }
     ensures serving { IsServing (B.book book.new) desk.new }
     ensures size { IsSameSize (B.book book.old) (B.book book.new) }
     ensures count { desk.new.messages ≡ desk.old.messages }

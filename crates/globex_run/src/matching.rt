@@ -3,7 +3,7 @@ ghost use Rattle.std.specs.Prelude.{◌≡◌, ◌-◌, ◌<◌, ◌≤◌, ℕ,
 ghost use Rattle.gx_base.specs.Emits.{Emits};
 ghost use Rattle.plain_book.specs.Orders.{is_live};
 ghost use Rattle.plain_book.specs.Book.{AllDiffer, IsFitToRest, live_orders};
-ghost use Rattle.plain_book.specs.Match.{moment, IsNow, CanTrade};
+ghost use Rattle.plain_book.specs.Match.{match_start, IsNow, CanTrade};
 ghost use Rattle.plain_book.specs.Keeping.{KeepsRoom};
 ghost use Rattle.plain_book.specs.Numbers.{book_numbered};
 ghost use Rattle.level_sweep.specs.Sweep.{sweep};
@@ -25,8 +25,8 @@ pub fn match_order<B: Book, E: Emit>(
 )
     requires can { CanTrade (B.book book.old) desk.old taker.old }
     requires differ { AllDiffer (live_orders (book_numbered (B.book book.old))) }
-    ensures now { IsNow (sweep steps.now taker.old.order.price (moment (book_numbered (B.book book.old)) desk.old taker.old)) (book_numbered (B.book book.new)) desk.new taker.new }
-    ensures told { Emits E.meanings out.old out.new (sweep steps.now taker.old.order.price (moment (book_numbered (B.book book.old)) desk.old taker.old)).events }
+    ensures now { IsNow (sweep steps.now taker.old.order.price (match_start (book_numbered (B.book book.old)) desk.old taker.old)) (book_numbered (B.book book.new)) desk.new taker.new }
+    ensures emits { Emits E.meanings out.old out.new (sweep steps.now taker.old.order.price (match_start (book_numbered (B.book book.old)) desk.old taker.old)).events }
     ensures can { CanTrade (B.book book.new) desk.new taker.new }
     ensures room { KeepsRoom desk.old taker.old.order.leaves desk.new taker.new.order.leaves }
     ensures numbered { (last : ℕ) → AreNumbered last (B.book book.old) → AreNumbered last (B.book book.new) }

@@ -1,7 +1,7 @@
 //! The product, which is read before anything else is touched.
 ghost use Rattle.std.specs.Prelude.{◌≡◌, ◌≤◌, length, vec_len};
 ghost use Rattle.globex_run.specs.Outside.{source_at};
-ghost use Rattle.globex_run.specs.Inner.ProductReading.{TakesText, TakesProduct, Judges};
+ghost use Rattle.globex_run.specs.Inner.ProductReading.{TakesText, TakesProduct, IsAnswerFor};
 
 use gx_station::{Failed, Source};
 use product_file::{Product, ProductFault, read_product};
@@ -55,7 +55,7 @@ pub fn take_product<P: Source>(alloc: Global, source: &mut P) -> Result<Product,
 
 /// The product that was read, or why its text gives none.
 fn or_reason(read: Result<Product, ProductFault>) -> Result<Product, NoProduct>
-    ensures { Judges read result }
+    ensures { IsAnswerFor read result }
 {
     match read {
         Ok(product) => Ok(product),

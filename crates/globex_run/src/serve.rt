@@ -2,7 +2,7 @@
 ghost use Rattle.std.specs.Prelude.{◌≡◌, ◌≢◌, ◌+◌, ◌*◌, ◌^◌, ◌<◌, ◌≤◌, [], IsOk, OnOk, IsTrue, vec_len, length};
 ghost use Rattle.gx_station.specs.Quiet.{Sends};
 ghost use Rattle.fix_frame.specs.Grammar.{IsFrame};
-ghost use Rattle.fix_request.specs.Given.{IsGivenRequest};
+ghost use Rattle.fix_request.specs.ValidRequests.{IsValidRequest};
 ghost use Rattle.globex_run.specs.ServedRequests.{is_served};
 ghost use Rattle.globex_run.specs.Step.{with_message, is_passed, request_step, lines_of};
 ghost use Rattle.globex_run.specs.State.{empty_state};
@@ -71,7 +71,7 @@ fn serve_request<S: Station>(
     request: &Request,
 ) -> Result<(), SendFault>
     requires few { engine.old.desk.messages < 10000 }
-    requires given { IsGivenRequest product.now request.now }
+    requires given { IsValidRequest product.now request.now }
     requires served { IsTrue (is_served request.now) }
     requires fits { FitsProduct product.now engine.old.book }
     requires empty { buffer.old ≡ [] }

@@ -2,7 +2,7 @@
 use Rattle.std.proofs.Common.{◌≡◌, ◌+◌, ◌<◌, true, false, length, refl, sym, ◌∙◌, subst}
 use Rattle.std.proofs.lemmas.Bool.{true≢false}
 use Rattle.gx_base.specs.Line.{line_of}
-use Rattle.gx_base.specs.Told.{prefix_itself}
+use Rattle.gx_base.specs.KnownBytes.{prefix_itself}
 use Rattle.gx_base.specs.Emits.{Puts}
 use Rattle.gx_base.specs.ByteLog.{ByteLog, byte_meanings}
 use Rattle.gx_base.specs.declared.event.Event.{Event}

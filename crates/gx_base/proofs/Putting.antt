@@ -5,7 +5,7 @@ use Rattle.std.proofs.lemmas.List.{take-append-le, take_more}
 use Rattle.std.proofs.lemmas.List.Sums.{fold-append}
 use Rattle.std.proofs.Math.Seq.{take-append-add}
 use Rattle.std.specs.Option.{option_map}
-use Rattle.gx_base.specs.Told.{TellsPrefix, tells_itself}
+use Rattle.gx_base.specs.KnownBytes.{IsKnownPrefix, known_itself}
 use Rattle.gx_base.specs.Emits.{EmitMeanings, Puts, Emits, seen_after}
 use Rattle.gx_base.specs.declared.event.Event.{Event}
 
@@ -32,7 +32,7 @@ module _ {E : Type 0} (m : EmitMeanings E) where
   emits_none a = record {
     later = m.later_itself a;
     all = λ _. sym (seen_after_none (m.after a) (m.seen a));
-    part = λ _. (0, omega arith, subst (λ s. TellsPrefix (m.seen a) s) (sym (seen_after_none (m.after a) (m.seen a))) (tells_itself (m.seen a)));
+    part = λ _. (0, omega arith, subst (λ s. IsKnownPrefix (m.seen a) s) (sym (seen_after_none (m.after a) (m.seen a))) (known_itself (m.seen a)));
     stays = λ failed. refl;
   }
 
@@ -41,8 +41,8 @@ module _ {E : Type 0} (m : EmitMeanings E) where
     later = put.later;
     all = λ ok. put.done ok ∙ seen_after_one (m.after a) (m.seen a) x;
     part = λ failed. elim (true_or_false (m.has_failed a)) [
-      | inl was ↦ (0, omega arith, subst (λ s. TellsPrefix (m.seen b) s) (ap m.seen (put.stays was) ∙ sym (seen_after_none (m.after a) (m.seen a))) (tells_itself (m.seen b)))
-      | inr was_not ↦ (1, omega arith, subst (λ s. TellsPrefix (m.seen b) s) (seen_after_one (m.after a) (m.seen a) x) (put.cut was_not failed))
+      | inl was ↦ (0, omega arith, subst (λ s. IsKnownPrefix (m.seen b) s) (ap m.seen (put.stays was) ∙ sym (seen_after_none (m.after a) (m.seen a))) (known_itself (m.seen b)))
+      | inr was_not ↦ (1, omega arith, subst (λ s. IsKnownPrefix (m.seen b) s) (seen_after_one (m.after a) (m.seen a) x) (put.cut was_not failed))
     ];
     stays = put.stays;
   }
@@ -60,13 +60,13 @@ module _ {E : Type 0} (m : EmitMeanings E) where
           let p = first.part was in
           let lt : p.0 ≤ length (xs ++ ys) = omega (arith, p.1, length-append xs ys) in
           let front : take p.0 (xs ++ ys) ≡ take p.0 xs = take-append-le p.0 xs ys p.1 in
-          (p.0, lt, subst (λ s. TellsPrefix s (seen_after (m.after a) (m.seen a) (take p.0 (xs ++ ys)))) (ap m.seen (sym (second.stays was))) (subst (λ (l : List Event). TellsPrefix (m.seen b) (seen_after (m.after a) (m.seen a) l)) (sym front) p.2))
+          (p.0, lt, subst (λ s. IsKnownPrefix s (seen_after (m.after a) (m.seen a) (take p.0 (xs ++ ys)))) (ap m.seen (sym (second.stays was))) (subst (λ (l : List Event). IsKnownPrefix (m.seen b) (seen_after (m.after a) (m.seen a) l)) (sym front) p.2))
       | inr was_not ↦
           let p = second.part failed in
           let lt : length xs + p.0 ≤ length (xs ++ ys) = omega (arith, p.1, length-append xs ys) in
           let whole : seen_after (m.after b) (m.seen b) (take p.0 ys) ≡ seen_after (m.after a) (m.seen a) (take (length xs + p.0) (xs ++ ys)) =
           ap (λ f. seen_after f (m.seen b) (take p.0 ys)) same_rule ∙ ap (λ s. seen_after (m.after a) s (take p.0 ys)) (first.all was_not) ∙ sym (seen_after-append (m.after a) (m.seen a) xs (take p.0 ys)) ∙ ap (λ (l : List Event). seen_after (m.after a) (m.seen a) l) (sym (take-append-add xs ys p.0)) in
-          (length xs + p.0, lt, subst (λ s. TellsPrefix (m.seen c) s) whole p.2)
+          (length xs + p.0, lt, subst (λ s. IsKnownPrefix (m.seen c) s) whole p.2)
     ];
     stays = λ was.
         let p = first.stays was in
@@ -94,6 +94,6 @@ module _ {E : Type 0} (m : EmitMeanings E) where
         let p = run.part failed in
         let lt : p.0 ≤ length (xs ++ ys) = omega (arith, p.1, length-append xs ys) in
         let front : take p.0 (xs ++ ys) ≡ take p.0 xs = take-append-le p.0 xs ys p.1 in
-        (p.0, lt, subst (λ (l : List Event). TellsPrefix (m.seen b) (seen_after (m.after a) (m.seen a) l)) (sym front) p.2);
+        (p.0, lt, subst (λ (l : List Event). IsKnownPrefix (m.seen b) (seen_after (m.after a) (m.seen a) l)) (sym front) p.2);
     stays = run.stays;
   }

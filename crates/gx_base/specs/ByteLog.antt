@@ -4,7 +4,7 @@ use Rattle.std.proofs.Common.{inl, inr, sym, ◌∙◌, ap, subst}
 use Rattle.std.proofs.lemmas.Bool.{true≢false}
 use Rattle.gx_base.specs.NameLists.{NameLists}
 use Rattle.gx_base.specs.Line.{line_of}
-use Rattle.gx_base.specs.Told.{IsPrefix, prefix_itself, prefix_then}
+use Rattle.gx_base.specs.KnownBytes.{IsPrefix, prefix_itself, prefix_then}
 use Rattle.gx_base.specs.Emits.{EmitMeanings}
 use Rattle.gx_base.specs.declared.event.Event.{Event}
 use Rattle.gx_base.specs.declared.emit.NullEmit.{NullEmit}

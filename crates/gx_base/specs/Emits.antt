@@ -1,6 +1,6 @@
 -- What takes events, and what a call that puts events does to it.
 use Rattle.std.specs.Prelude.{◌≡◌, ℕ, ◌≤◌, Bool, true, false, List, length, take, fold, Option, option_map}
-use Rattle.gx_base.specs.Told.{TellsPrefix}
+use Rattle.gx_base.specs.KnownBytes.{IsKnownPrefix}
 use Rattle.gx_base.specs.declared.event.Event.{Event}
 
 -- what an emitter stands for
@@ -25,12 +25,12 @@ module _ {E : Type 0} (m : EmitMeanings E) where
   pub record Puts (old new : E) (event : Event) : Type 0 where
     pub later : m.Later old new
     pub done : m.has_failed new ≡ false → m.seen new ≡ option_map (λ s. m.after old s event) (m.seen old)
-    pub cut : m.has_failed old ≡ false → m.has_failed new ≡ true → TellsPrefix (m.seen new) (option_map (λ s. m.after old s event) (m.seen old))
+    pub cut : m.has_failed old ≡ false → m.has_failed new ≡ true → IsKnownPrefix (m.seen new) (option_map (λ s. m.after old s event) (m.seen old))
     pub stays : m.has_failed old ≡ true → new ≡ old
 
   -- these events were put; after a failure a part of them, and from a failure on nothing changes
   pub record Emits (old new : E) (events : List Event) : Type 0 where
     pub later : m.Later old new
     pub all : m.has_failed new ≡ false → m.seen new ≡ seen_after (m.after old) (m.seen old) events
-    pub part : m.has_failed new ≡ true → (k : ℕ) × (k ≤ length events) × TellsPrefix (m.seen new) (seen_after (m.after old) (m.seen old) (take k events))
+    pub part : m.has_failed new ≡ true → (k : ℕ) × (k ≤ length events) × IsKnownPrefix (m.seen new) (seen_after (m.after old) (m.seen old) (take k events))
     pub stays : m.has_failed old ≡ true → new ≡ old

@@ -3,6 +3,6 @@ pub mod Texts
 pub mod NameLists
 pub mod Frames
 pub mod Line
-pub mod Told
+pub mod KnownBytes
 pub mod Emits
 pub mod ByteLog

@@ -3,7 +3,7 @@ use Rattle.std.proofs.Common.{◌≡◌, ◌⊎◌, inl, inr, ⊎_elim, ℕ, ◌
 use Rattle.std.proofs.lemmas.List.{take_all, take_at, take-append-le, length_push, append-nil}
 use Rattle.std.proofs.lemmas.Bool.{cases_lt}
 use Rattle.std.proofs.lemmas.Grind.{fold-append}
-use Rattle.gx_base.specs.Told.{IsPrefix, prefix_itself}
+use Rattle.gx_base.specs.KnownBytes.{IsPrefix, prefix_itself}
 use Rattle.gx_station.specs.Counts.{counted, last_count, HasCause}
 use Rattle.gx_station.specs.Disk.{Disk, Torn, written}
 use Rattle.gx_station.specs.Moments.{AddsOnly}

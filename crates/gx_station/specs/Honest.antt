@@ -20,8 +20,8 @@ use Rattle.gx_station.specs.Moments.{AddsOnly}
 module _ {S : Type 0} (m : StationMeanings S) where
   -- rule 1, and that the image is no shorter than the station's reach
   pub record IsHonestNow (s : S) : Type 0 where
-    pub tells_image : (image : List ℕ) × (m.holds s ≡ Some image)
-    pub tells_sent : (out : List ℕ) × (m.sent s ≡ Some out)
+    pub known_image : (image : List ℕ) × (m.holds s ≡ Some image)
+    pub known_output : (out : List ℕ) × (m.sent s ≡ Some out)
     pub reaches : (image : List ℕ) → m.holds s ≡ Some image → m.reach s ≤ length image
     pub as_read : (image : List ℕ) → m.holds s ≡ Some image → m.may_leave s image
     pub counts_now : (t : ℕ) (image out : List ℕ) → t ≤ m.time s → m.may_leave s image → m.sent s ≡ Some out → m.left_since s t image out

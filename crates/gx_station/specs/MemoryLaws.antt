@@ -3,7 +3,7 @@ use Rattle.std.specs.Prelude.{◌≡◌, ℕ, ◌+◌, ◌≤◌, true, false, L
 use Rattle.std.proofs.Common.{sym, ◌∙◌, ap, subst, arith, length-append}
 use Rattle.std.proofs.lemmas.List.{take_all, append-nil, nil_from_length}
 use Rattle.std.proofs.lemmas.Grind.{fold-append}
-use Rattle.gx_base.specs.Told.{IsPrefix, prefix_itself}
+use Rattle.gx_base.specs.KnownBytes.{IsPrefix, prefix_itself}
 use Rattle.gx_station.specs.Disk.{Disk}
 use Rattle.gx_station.specs.TornImages.{torn_none, torn_whole}
 use Rattle.gx_station.specs.Honest.{IsHonestNow}
@@ -39,8 +39,8 @@ same_prefix a b p q =
 
 pub memory_honest : (s : MemoryStation) → IsSound s → IsHonestNow memory_meanings s
 memory_honest s sound = record {
-  tells_image = (s.image, refl);
-  tells_sent = (s.sent, refl);
+  known_image = (s.image, refl);
+  known_output = (s.sent, refl);
   reaches = λ image is. subst (λ (l : List ℕ). s.reach ≤ length l) (cc is) sound.reach;
   as_read = λ image is. subst (λ (l : List ℕ). Leaves (disk_after s.first s.done) l) (sym sound.image ∙ cc is) (leaves_holds s.done (first_disk s.first) refl);
   counts_now = λ t image out le leaves is.

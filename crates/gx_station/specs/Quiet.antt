@@ -1,7 +1,7 @@
 -- Nothing but sends happened to a station.
 use Rattle.std.specs.Prelude.{◌≡◌, ℕ, ◌≤◌, List, Some, Result, OnOk, OnErr, refl}
 use Rattle.std.proofs.Common.{inl, inr, ⊎_elim, ◌∙◌, arith}
-use Rattle.gx_base.specs.Told.{TellsPrefix, tells_itself, tells_then}
+use Rattle.gx_base.specs.KnownBytes.{IsKnownPrefix, known_itself, known_then}
 use Rattle.gx_station.specs.Counts.{HasCause}
 use Rattle.gx_station.specs.Stations.{StationMeanings, IsBetween, sent_and}
 use Rattle.gx_station.specs.Moments.{AddsOnly, adds_none}
@@ -10,7 +10,7 @@ module _ {S : Type 0} (m : StationMeanings S) where
   -- The image, what is known of it, and the count of its faults are as they were; the output only grew. Of an honest station
   -- the images that a crash could leave are the same, and the pairs added are such an image with an output on the way.
   pub record Quiet (old new : S) : Type 0 where
-    pub sent : TellsPrefix (m.sent old) (m.sent new)
+    pub sent : IsKnownPrefix (m.sent old) (m.sent new)
     pub send_faults : m.send_faults old ≤ m.send_faults new
     pub holds : m.holds new ≡ m.holds old
     pub reach : m.reach new ≡ m.reach old
@@ -22,7 +22,7 @@ module _ {S : Type 0} (m : StationMeanings S) where
 
   pub quiet_itself : (a : S) → Quiet a a
   quiet_itself a = record {
-    sent = tells_itself (m.sent a);
+    sent = known_itself (m.sent a);
     send_faults = omega arith;
     holds = refl;
     reach = refl;
@@ -35,7 +35,7 @@ module _ {S : Type 0} (m : StationMeanings S) where
 
   pub quiet_then : (a b c : S) → Quiet a b → Quiet b c → Quiet a c
   quiet_then a b c p q = record {
-    sent = tells_then (m.sent a) (m.sent b) (m.sent c) p.sent q.sent;
+    sent = known_then (m.sent a) (m.sent b) (m.sent c) p.sent q.sent;
     send_faults = omega (arith, p.send_faults, q.send_faults);
     holds = q.holds ∙ p.holds;
     reach = q.reach ∙ p.reach;
@@ -49,8 +49,8 @@ module _ {S : Type 0} (m : StationMeanings S) where
       keeps = λ h t image out le left. q.moments.keeps (p.moments.honest h) t image out (omega (arith, le, p.moments.later)) (p.moments.keeps h t image out le left);
       adds = λ h t image out le left.
           ⊎_elim
-          (λ early. ⊎_elim (λ at. inl at) (λ here. inr (here.0, record { low = here.1.low; high = tells_then (Some out) (m.sent b) (m.sent c) here.1.high q.sent })) (p.moments.adds h t image out le early))
-          (λ here. inr (p.no_image_more h image here.0, record { low = tells_then (m.sent a) (m.sent b) (Some out) p.sent here.1.low; high = here.1.high }))
+          (λ early. ⊎_elim (λ at. inl at) (λ here. inr (here.0, record { low = here.1.low; high = known_then (Some out) (m.sent b) (m.sent c) here.1.high q.sent })) (p.moments.adds h t image out le early))
+          (λ here. inr (p.no_image_more h image here.0, record { low = known_then (m.sent a) (m.sent b) (Some out) p.sent here.1.low; high = here.1.high }))
           (q.moments.adds (p.moments.honest h) t image out (omega (arith, le, p.moments.later)) left);
     };
   }
@@ -60,4 +60,4 @@ module _ {S : Type 0} (m : StationMeanings S) where
     pub quiet : Quiet old new
     pub cause : HasCause (m.send_faults old) (m.send_faults new) result
     pub all : OnOk result (m.sent new ≡ sent_and (m.sent old) bytes)
-    pub part : OnErr result (TellsPrefix (m.sent new) (sent_and (m.sent old) bytes))
+    pub part : OnErr result (IsKnownPrefix (m.sent new) (sent_and (m.sent old) bytes))

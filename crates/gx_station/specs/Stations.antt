@@ -1,6 +1,6 @@
 -- A store of one image, and an output: what a station stands for.
 use Rattle.std.specs.Prelude.{ℕ, List, ◌++◌, Option, Some, option_map}
-use Rattle.gx_base.specs.Told.{TellsPrefix}
+use Rattle.gx_base.specs.KnownBytes.{IsKnownPrefix}
 
 pub record StationMeanings (S : Type 0) : Type 1 where
   -- all that was sent, where that is told
@@ -29,5 +29,5 @@ sent_and sent bytes = option_map (λ s. s ++ bytes) sent
 
 -- an output on the way from the one before to the one after
 pub record IsBetween (before : Option (List ℕ)) (out : List ℕ) (after : Option (List ℕ)) : Type 0 where
-  pub low : TellsPrefix before (Some out)
-  pub high : TellsPrefix (Some out) after
+  pub low : IsKnownPrefix before (Some out)
+  pub high : IsKnownPrefix (Some out) after

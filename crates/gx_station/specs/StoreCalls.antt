@@ -6,11 +6,11 @@ use Rattle.gx_station.specs.Stations.{StationMeanings}
 use Rattle.gx_station.specs.Honest.{KeepsImage, TearsImage, IsSettled}
 
 -- the same, where both are told; or neither is
-abbrev pub WhereTold : (List ℕ → List ℕ → Type 0) → Option (List ℕ) → Option (List ℕ) → Type 0
-WhereTold P None None = Unit {0}
-WhereTold P None (Some b) = ⊥
-WhereTold P (Some a) None = ⊥
-WhereTold P (Some a) (Some b) = P a b
+abbrev pub WhereKnown : (List ℕ → List ℕ → Type 0) → Option (List ℕ) → Option (List ℕ) → Type 0
+WhereKnown P None None = Unit {0}
+WhereKnown P None (Some b) = ⊥
+WhereKnown P (Some a) None = ⊥
+WhereKnown P (Some a) (Some b) = P a b
 
 module _ {S : Type 0} (m : StationMeanings S) where
   -- a call on the image sends nothing, and fails only where the count of store faults rose
@@ -44,7 +44,7 @@ module _ {S : Type 0} (m : StationMeanings S) where
     pub reach : OnOk result (m.reach new ≡ max (m.reach old) (at + length bytes))
     pub reach_err : OnErr result (m.reach new ≡ m.reach old)
     pub holds : OnOk result (m.holds new ≡ option_map (written at bytes) (m.holds old))
-    pub holds_err : OnErr result (WhereTold (Torn at (length bytes)) (m.holds old) (m.holds new))
+    pub holds_err : OnErr result (WhereKnown (Torn at (length bytes)) (m.holds old) (m.holds new))
     pub tears : TearsImage m old new at (length bytes)
 
   -- what a read gives is on the disk, where the sync is Ok

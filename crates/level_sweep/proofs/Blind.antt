@@ -10,25 +10,25 @@ use Rattle.step_config.specs.declared.step.Step.{Step}
 use Rattle.step_config.specs.declared.step.Step.TheVariants.{Top, Lmm, Split, ProRata, Leveling, Fifo}
 use Rattle.plain_book.specs.declared.entry.Entry.{Entry}
 use Rattle.plain_book.specs.Orders.{opposite, is_within, top_of}
-use Rattle.plain_book.specs.Match.{Moment, moment, Share, give, gives}
+use Rattle.plain_book.specs.Match.{MatchState, match_start, Share, give, gives}
 use Rattle.plain_book.specs.Steps.{give_marked, gives_marked, level_now, head_gives, fifo_rounds, prorata, prorata_shares, top_shares, lmm_shares, split_shares, leveling_shares}
 use Rattle.plain_book.proofs.Steps.{with_events, give-events}
 use Rattle.level_sweep.specs.Sweep.{step_of, level_match, match_within, facing_best, wanted_step, match_best, sweep_rounds, sweep}
 
-abbrev pub IsBlind : (Moment → Moment) → Type 0
-IsBlind f = (es : List Event) (m : Moment) → f (with_events es m) ≡ with_events es (f m)
+abbrev pub IsBlind : (MatchState → MatchState) → Type 0
+IsBlind f = (es : List Event) (m : MatchState) → f (with_events es m) ≡ with_events es (f m)
 
 -- a choice that does not look at the events
-choice : (b : Bool) (f g : Moment → Moment) (es : List Event) (m : Moment) → IsBlind f → IsBlind g → cond b (f (with_events es m)) (g (with_events es m)) ≡ with_events es (cond b (f m) (g m))
+choice : (b : Bool) (f g : MatchState → MatchState) (es : List Event) (m : MatchState) → IsBlind f → IsBlind g → cond b (f (with_events es m)) (g (with_events es m)) ≡ with_events es (cond b (f m) (g m))
 choice true f g es m p q = p es m
 choice false f g es m p q = q es m
 
-same : IsBlind (λ (m : Moment). m)
+same : IsBlind (λ (m : MatchState). m)
 same es m = refl
 
 give-blind : (step : StepName) (s n : ℕ) → IsBlind (give step s n)
 give-blind step s n es m =
-    let given = give step s n (moment m.book m.desk m.taker) in
+    let given = give step s n (match_start m.book m.desk m.taker) in
     give-events step s n m.book m.desk m.taker (es ++ m.events)
     ∙ ap (λ (q : List Event). record given { events = q }) (append_assoc es m.events given.events)
     ∙ ap (with_events es) (sym (give-events step s n m.book m.desk m.taker m.events))

@@ -9,26 +9,26 @@ use Rattle.step_config.specs.declared.step.Step.{Step}
 use Rattle.step_config.specs.declared.step.Step.TheVariants.{Top, Lmm, Split, ProRata, Leveling, Fifo}
 use Rattle.plain_book.specs.declared.entry.Entry.{Entry}
 use Rattle.plain_book.specs.Orders.{is_within, opposite, top_of}
-use Rattle.plain_book.specs.Match.{Moment, Share, trade, give, gives}
+use Rattle.plain_book.specs.Match.{MatchState, Share, trade, give, gives}
 use Rattle.plain_book.specs.Steps.{give_marked, gives_marked, level_now, head_gives, fifo_rounds, prorata_shares, top_shares, lmm_shares, split_shares, leveling_shares}
 use Rattle.plain_book.proofs.Steps.{marked}
 use Rattle.level_sweep.specs.Sweep.{step_of, wanted_step, level_match, match_within, match_best, facing_best, sweep_rounds, sweep}
 
 -- how a moment stands to one before it
 abbrev pub Relation : Type 1
-Relation = Moment → Moment → Type 0
+Relation = MatchState → MatchState → Type 0
 
 pub record IsKept (R : Relation) : Type 0 where
-  pub same : (m : Moment) → R m m
-  pub both : (a b c : Moment) → R a b → R b c → R a c
-  pub trades : (step : StepName) (s n : ℕ) (m : Moment) → R m (trade step s n m)
-  pub marks : (s n : ℕ) (m : Moment) → R m (record m { book = marked s n m.book })
+  pub same : (m : MatchState) → R m m
+  pub both : (a b c : MatchState) → R a b → R b c → R a c
+  pub trades : (step : StepName) (s n : ℕ) (m : MatchState) → R m (trade step s n m)
+  pub marks : (s n : ℕ) (m : MatchState) → R m (record m { book = marked s n m.book })
 
 module _ (R : Relation) (kept : IsKept R) where
-  abbrev Keeps : (Moment → Moment) → Type 0
-  Keeps f = (m : Moment) → R m (f m)
+  abbrev Keeps : (MatchState → MatchState) → Type 0
+  Keeps f = (m : MatchState) → R m (f m)
 
-  choice : (b : Bool) (f g : Moment → Moment) (m : Moment) → Keeps f → Keeps g → R m (cond b (f m) (g m))
+  choice : (b : Bool) (f g : MatchState → MatchState) (m : MatchState) → Keeps f → Keeps g → R m (cond b (f m) (g m))
   choice true f g m p q = p m
   choice false f g m p q = q m
 

@@ -13,9 +13,9 @@ use Rattle.step_config.specs.Rules.{is_fifo, is_some_fifo, is_fifo_last}
 use Rattle.plain_book.specs.declared.entry.Entry.{Entry}
 use Rattle.plain_book.specs.Orders.{level, is_at, is_on, is_side, is_within, opposite, orders_at, side_of, price_of, best_of}
 use Rattle.plain_book.specs.Book.{Book, AllDiffer}
-use Rattle.plain_book.specs.Match.{Moment, moment, IsNow}
-use Rattle.plain_book.specs.Steps.{IsOver, level_now, facing}
-use Rattle.level_sweep.specs.Sweep.{IsMet, IsWorkedOff, IsThrough, level_match, match_within, match_best, facing_best, sweep_rounds}
+use Rattle.plain_book.specs.Match.{MatchState, match_start, IsNow}
+use Rattle.plain_book.specs.Steps.{IsLevelDone, level_now, facing}
+use Rattle.level_sweep.specs.Sweep.{IsMet, IsWorkedOff, IsSweepDone, level_match, match_within, match_best, facing_best, sweep_rounds}
 use Rattle.level_sweep.proofs.Moves.{match-moves}
 
 -- the last of the steps is FIFO, or none is left and P holds
@@ -74,10 +74,10 @@ abbrev best_at : Book → Taker → Option Price
 best_at b t = best_of t.order.instrument (opposite t.order.side) b.resting
 
 -- where nothing changed
-met-before : (limit : Price) (b b' : Book) (d d' : Desk) (t t' : Taker) → IsNow (moment b d t) b' d' t' → IsMet limit t' (best_at b' t') → IsMet limit t (best_at b t)
+met-before : (limit : Price) (b b' : Book) (d d' : Desk) (t t' : Taker) → IsNow (match_start b d t) b' d' t' → IsMet limit t' (best_at b' t') → IsMet limit t (best_at b t)
 met-before limit b b' d d' t t' n k = subst (λ (x : Book). IsMet limit t (best_at x t)) n.book (subst (λ (x : Taker). IsMet limit x (best_at b' x)) n.taker k)
 
-unmet : (steps : List Step) (limit : Price) (m : Moment) (best : Option Price) → (IsMet limit m.taker best → ⊥) → match_within steps limit best m ≡ m
+unmet : (steps : List Step) (limit : Price) (m : MatchState) (best : Option Price) → (IsMet limit m.taker best → ⊥) → match_within steps limit best m ≡ m
 unmet steps limit m None h = refl
 unmet steps limit m (Some p) h =
     let within = is_within (opposite m.taker.order.side) limit.0 p.0 in
@@ -85,17 +85,17 @@ unmet steps limit m (Some p) h =
     go within refl
 
 pub goes_from : (steps : List Step) (limit : Price) (b b' : Book) (d d' : Desk) (t t' : Taker) (best : Option Price)
-    → AllDiffer b.resting → 0 < t.order.leaves → best ≡ facing_best (moment b d t)
-    → IsNow (match_within steps limit best (moment b d t)) b' d' t' → IsWorkedOff limit t best b' t'
-    → (t'.order.leaves < t.order.leaves) ⊎ IsThrough limit b' t'
+    → AllDiffer b.resting → 0 < t.order.leaves → best ≡ facing_best (match_start b d t)
+    → IsNow (match_within steps limit best (match_start b d t)) b' d' t' → IsWorkedOff limit t best b' t'
+    → (t'.order.leaves < t.order.leaves) ⊎ IsSweepDone limit b' t'
 goes_from steps limit b b' d d' t t' None differ w h n over = inr (inr (λ k. subst (IsMet limit t) (sym h) (met-before limit b b' d d' t t' n k)))
 goes_from steps limit b b' d d' t t' (Some p) differ w h n over =
-    let m = moment b d t in
+    let m = match_start b d t in
     let within = is_within (opposite t.order.side) limit.0 p.0 in
     let e = level_match steps p m in
-    let go : (c : Bool) → within ≡ c → IsNow (cond c e m) b' d' t' → (t'.order.leaves < t.order.leaves) ⊎ IsThrough limit b' t' = elim [
+    let go : (c : Bool) → within ≡ c → IsNow (cond c e m) b' d' t' → (t'.order.leaves < t.order.leaves) ⊎ IsSweepDone limit b' t' = elim [
       | true ↦ λ q k.
-          let worked : IsOver p b' t' = over (is_true within q) in
+          let worked : IsLevelDone p b' t' = over (is_true within q) in
           elim (match-moves steps p m differ) [
             | inl lt ↦ inl (omega (arith, lt, ap (λ (x : Taker). x.order.leaves) k.taker))
             | inr s ↦
@@ -112,21 +112,21 @@ goes_from steps limit b b' d d' t t' (Some p) differ w h n over =
     ] in go within refl n
 
 -- where the sweep is through, a match at the best price does nothing
-best-none : (steps : List Step) (limit : Price) (m : Moment) → IsThrough limit m.book m.taker → match_best steps limit m ≡ m
+best-none : (steps : List Step) (limit : Price) (m : MatchState) → IsSweepDone limit m.book m.taker → match_best steps limit m ≡ m
 best-none steps limit m h = elim (eqb_tells m.taker.order.leaves 0) [
   | inl z ↦ ap (λ (c : Bool). cond c m (match_within steps limit (facing_best m) m)) z.0
   | inr z ↦ ap (λ (c : Bool). cond c m (match_within steps limit (facing_best m) m)) z.0 ∙ unmet steps limit m (facing_best m) (elim h [ inl k ↦ absurd (z.1 k) | inr k ↦ k ])
 ]
 
 -- and nor do more of them
-pub rounds-none : (n : ℕ) (steps : List Step) (limit : Price) (m : Moment) → IsThrough limit m.book m.taker → sweep_rounds n steps limit m ≡ m
+pub rounds-none : (n : ℕ) (steps : List Step) (limit : Price) (m : MatchState) → IsSweepDone limit m.book m.taker → sweep_rounds n steps limit m ≡ m
 rounds-none zero steps limit m h = refl
 rounds-none (suc n) steps limit m h = ap (sweep_rounds n steps limit) (best-none steps limit m h) ∙ rounds-none n steps limit m h
 
 -- where the sweep is through, it stays so
-pub through_stays : (steps : List Step) (limit : Price) (b b' : Book) (d d' : Desk) (t t' : Taker) → IsThrough limit b t → IsNow (match_best steps limit (moment b d t)) b' d' t' → IsThrough limit b' t'
+pub through_stays : (steps : List Step) (limit : Price) (b b' : Book) (d d' : Desk) (t t' : Taker) → IsSweepDone limit b t → IsNow (match_best steps limit (match_start b d t)) b' d' t' → IsSweepDone limit b' t'
 through_stays steps limit b b' d d' t t' h n =
-    let k : IsNow (moment b d t) b' d' t' = subst (λ (x : Moment). IsNow x b' d' t') (best-none steps limit (moment b d t) h) n in
+    let k : IsNow (match_start b d t) b' d' t' = subst (λ (x : MatchState). IsNow x b' d' t') (best-none steps limit (match_start b d t) h) n in
     elim h [
       | inl z ↦ inl (ap (λ (x : Taker). x.order.leaves) k.taker ∙ z)
       | inr f ↦ inr (λ g. f (met-before limit b b' d d' t t' k g))

@@ -14,7 +14,7 @@ use Rattle.step_config.specs.RightSteps.{IsRightStep}
 use Rattle.plain_book.specs.declared.entry.Entry.{Entry}
 use Rattle.plain_book.specs.Orders.{HasSlot, is_slot, is_at, opposite, top_of}
 use Rattle.plain_book.specs.Book.{IsRight, IsResting, AllDiffer}
-use Rattle.plain_book.specs.Match.{Moment, Share}
+use Rattle.plain_book.specs.Match.{MatchState, Share}
 use Rattle.plain_book.specs.Steps.{facing, level_now, spent, top_shares, lmm_shares, prorata_share, prorata_shares, ones}
 use Rattle.plain_book.proofs.Filters.{filter-under}
 use Rattle.plain_book.proofs.Levels.{AllDiffer-filter, AllDiffer-front, lacks}
@@ -220,16 +220,16 @@ of-shown Leveling top q es h a =
 of-shown Fifo top q [] h a = omega arith
 of-shown Fifo top q (e ∷ es) h a = omega (arith, lots-cons (e.slot, min q e.order.shown) [], shown-cons e es)
 
-abbrev top_now : Moment → Option ℕ
+abbrev top_now : MatchState → Option ℕ
 top_now m = top_of m.taker.order.instrument (opposite m.taker.order.side) m.book.resting
 
 -- the shares are no more than what is wanted
-pub shares-wanted : (step : Step) (price : Price) (m : Moment) → IsRightStep step → IsRight m.book → lots_of (shares_now step price m) ≤ m.taker.order.leaves
+pub shares-wanted : (step : Step) (price : Price) (m : MatchState) → IsRightStep step → IsRight m.book → lots_of (shares_now step price m) ≤ m.taker.order.leaves
 shares-wanted step price m h r =
     of-wanted step (top_now m) m.taker.order.leaves (level_now price m) h (AllDiffer-filter (is_at (facing price m.taker)) m.book.resting (AllDiffer-front m.book.resting m.book.waiting r.differ))
 
 -- and no more than the level shows
-pub shares-shown : (step : Step) (price : Price) (m : Moment) → IsRightStep step → IsRight m.book → lots_of (shares_now step price m) ≤ shown_by (level_now price m)
+pub shares-shown : (step : Step) (price : Price) (m : MatchState) → IsRightStep step → IsRight m.book → lots_of (shares_now step price m) ≤ shown_by (level_now price m)
 shares-shown step price m h r =
     let all : AllShow m.book.resting = all-with (λ (e : Entry). IsResting m.book.instruments e.order) (λ (e : Entry). 1 ≤ e.order.shown) (λ e k. k.showing) m.book.resting r.rest in
     of-shown step (top_now m) m.taker.order.leaves (level_now price m) h (all-filter (λ (e : Entry). 1 ≤ e.order.shown) (is_at (facing price m.taker)) m.book.resting all)

@@ -9,9 +9,9 @@ use Rattle.gx_base.specs.declared.order.Order.{Order}
 use Rattle.gx_base.specs.declared.order.Side.{Side}
 use Rattle.step_config.specs.declared.step.Step.{Step}
 use Rattle.plain_book.specs.declared.entry.Entry.{Entry}
-use Rattle.plain_book.specs.Orders.{HasSlot, order_of, no_order, is_on, is_side, side_of, price_of, best_of, slot_of, top_of, without, with_order, placed, settled, traded, refreshed, filled_by, is_behind}
-use Rattle.plain_book.specs.Book.{Book, AllDiffer, EachPair, IsTopBehind, IsRight}
-use Rattle.plain_book.specs.Match.{Moment}
+use Rattle.plain_book.specs.Orders.{HasSlot, order_of, no_order, is_on, is_side, side_of, price_of, best_of, slot_of, top_of, without, with_order, placed, settled, traded, refreshed, filled_by, is_at_earlier_level}
+use Rattle.plain_book.specs.Book.{Book, AllDiffer, EachPair, AllowsTop, IsRight}
+use Rattle.plain_book.specs.Match.{MatchState}
 use Rattle.plain_book.proofs.Levels.{same, is_side-same, is_side-refl, and-left, and-right, renewed, with_order-none, AllDiffer-front}
 use Rattle.plain_book.proofs.Pairs.{all-filter, all-append, all-with, all-both, differ-pairs}
 use Rattle.level_sweep.specs.Sweep.{sweep}
@@ -78,7 +78,7 @@ module _ (i : ℕ) (d : Side) where
       ] in go (is_on i d e) refl h
 
   -- each order of the side that is marked is its TOP
-  pub marked-top : (es : List Entry) → EachPair IsTopBehind es → AllByRecursion (Marked (λ s. top_of i d es ≡ Some s)) es
+  pub marked-top : (es : List Entry) → EachPair AllowsTop es → AllByRecursion (Marked (λ s. top_of i d es ≡ Some s)) es
   marked-top [] t = tt
   marked-top (e ∷ es) t =
       let S = side_of i d es in
@@ -88,7 +88,7 @@ module _ (i : ℕ) (d : Side) where
       let first : is_on i d e ≡ true → (c : Bool) → e.is_top ≡ c → All (slot_of (cond c (e ∷ F) F)) = λ on. elim [
         | true ↦ λ top. (
           (λ _ _. refl),
-          all-with (IsTopBehind e) (Marked (λ s. Some e.slot ≡ Some s)) (λ x r m o. not-both e.is_top top (r m (on-both i d x e o on)).0) es t.0,
+          all-with (AllowsTop e) (Marked (λ s. Some e.slot ≡ Some s)) (λ x r m o. not-both e.is_top top (r m (on-both i d x e o on)).0) es t.0,
         )
         | false ↦ λ top. ((λ m _. not-both e.is_top m top), rest)
       ] in
@@ -101,7 +101,7 @@ module _ (i : ℕ) (d : Side) where
   abbrev AtBest : Option Price → Entry → Type 0
   AtBest best e = e.is_top ≡ true → is_on i d e ≡ true → best ≡ Some e.order.price
 
-  marked-best : (es : List Entry) → EachPair IsTopBehind es → AllByRecursion (AtBest (best_of i d es)) es
+  marked-best : (es : List Entry) → EachPair AllowsTop es → AllByRecursion (AtBest (best_of i d es)) es
   marked-best [] t = tt
   marked-best (e ∷ es) t =
       let S = side_of i d es in
@@ -109,12 +109,12 @@ module _ (i : ℕ) (d : Side) where
       let go : (c : Bool) → is_on i d e ≡ c → All (price_of (cond c (e ∷ S) S)) = elim [
         | true ↦ λ on. (
           (λ _ _. refl),
-          all-with (IsTopBehind e) (AtBest (Some e.order.price)) (λ x r m o. ap (λ (p : Price). Some p) (r m (on-both i d x e o on)).1) es t.0,
+          all-with (AllowsTop e) (AtBest (Some e.order.price)) (λ x r m o. ap (λ (p : Price). Some p) (r m (on-both i d x e o on)).1) es t.0,
         )
         | false ↦ λ off. ((λ _ on. not-both (is_on i d e) on off), marked-best es t.1)
       ] in go (is_on i d e) refl
 
-  top-best : (s : ℕ) (es : List Entry) → AllDiffer es → EachPair IsTopBehind es → top_of i d es ≡ Some s → best_of i d es ≡ Some (order_of s es).price
+  top-best : (s : ℕ) (es : List Entry) → AllDiffer es → EachPair AllowsTop es → top_of i d es ≡ Some s → best_of i d es ≡ Some (order_of s es).price
   top-best s es differ t h =
       let A = AtBest (best_of i d es) in
       let B = λ (e : Entry). order_of e.slot es ≡ e.order in
@@ -173,7 +173,7 @@ module _ (i : ℕ) (d : Side) (on : ℕ → Bool) (P : ℕ → Type 0) where
       let left = without s es in
       let gone : AllByRecursion Told left = all-filter Told (λ e. not (e.slot == s)) es a in
       let unmarked : false ≡ true → P s = λ h. not-both false h refl in
-      let back : AllByRecursion Told (placed n left) = all-append Told (filter (λ e. not (is_behind n e)) left) (n ∷ filter (is_behind n) left) (all-filter Told (λ e. not (is_behind n e)) left gone) ((p, unmarked), all-filter Told (is_behind n) left gone) in
+      let back : AllByRecursion Told (placed n left) = all-append Told (filter (λ e. not (is_at_earlier_level n e)) left) (n ∷ filter (is_at_earlier_level n) left) (all-filter Told (λ e. not (is_at_earlier_level n e)) left gone) ((p, unmarked), all-filter Told (is_at_earlier_level n) left gone) in
       let go : (x y : Bool) → AllByRecursion Told (cond x left (cond y (placed n left) (with_order s o es))) = elim [
         | true ↦ λ y. gone
         | false ↦ elim [ true ↦ back | false ↦ told-with_order s o es p a ]
@@ -202,11 +202,11 @@ module _ (i : ℕ) (d : Side) (on : ℕ → Bool) (P : ℕ → Type 0) where
     marks = λ s n m a. told-marked s n m.book.resting a;
   }
 
-  told-sweep : (steps : List Step) (limit : Price) (m : Moment) → AllByRecursion Told m.book.resting → AllByRecursion Told (sweep steps limit m).book.resting
+  told-sweep : (steps : List Step) (limit : Price) (m : MatchState) → AllByRecursion Told m.book.resting → AllByRecursion Told (sweep steps limit m).book.resting
   told-sweep steps limit m a = each-sweep ToldStays told steps limit m a
 
 -- who is TOP after a sweep was TOP before it
-pub top-swept : (steps : List Step) (limit : Price) (m : Moment) (i : ℕ) (d : Side) (s : ℕ) → IsRight m.book → top_of i d (sweep steps limit m).book.resting ≡ Some s → top_of i d m.book.resting ≡ Some s
+pub top-swept : (steps : List Step) (limit : Price) (m : MatchState) (i : ℕ) (d : Side) (s : ℕ) → IsRight m.book → top_of i d (sweep steps limit m).book.resting ≡ Some s → top_of i d m.book.resting ≡ Some s
 top-swept steps limit m i d s r h =
     let es = m.book.resting in
     let es' = (sweep steps limit m).book.resting in

@@ -8,9 +8,9 @@ use Rattle.gx_base.specs.declared.order.Order.{Order}
 use Rattle.gx_base.specs.declared.event.StepName.{StepName}
 use Rattle.step_config.specs.declared.step.Step.{Step}
 use Rattle.plain_book.specs.declared.entry.Entry.{Entry}
-use Rattle.plain_book.specs.Orders.{HasSlot, order_of, no_order, without, with_order, placed, settled, traded, refreshed, filled_by, is_behind}
+use Rattle.plain_book.specs.Orders.{HasSlot, order_of, no_order, without, with_order, placed, settled, traded, refreshed, filled_by, is_at_earlier_level}
 use Rattle.plain_book.specs.Book.{AllDiffer}
-use Rattle.plain_book.specs.Match.{Moment, give}
+use Rattle.plain_book.specs.Match.{MatchState, give}
 use Rattle.plain_book.specs.Steps.{give_marked, head_gives}
 use Rattle.plain_book.proofs.Levels.{same, renewed, with_order-none}
 use Rattle.plain_book.proofs.Pairs.{all-filter, all-append, all-with, all-both}
@@ -75,7 +75,7 @@ module _ (P : ℕ → ℕ → Type 0) where
       let n : Entry = record { slot = s; order = refreshed o; is_top = false } in
       let left = without s es in
       let gone : Names P left = all-filter Q (λ e. not (e.slot == s)) es a in
-      let back : Names P (placed n left) = all-append Q (filter (λ e. not (is_behind n e)) left) (n ∷ filter (is_behind n) left) (all-filter Q (λ e. not (is_behind n e)) left gone) (p, all-filter Q (is_behind n) left gone) in
+      let back : Names P (placed n left) = all-append Q (filter (λ e. not (is_at_earlier_level n e)) left) (n ∷ filter (is_at_earlier_level n) left) (all-filter Q (λ e. not (is_at_earlier_level n e)) left gone) (p, all-filter Q (is_at_earlier_level n) left gone) in
       let go : (x y : Bool) → Names P (cond x left (cond y (placed n left) (with_order s o es))) = elim [
         | true ↦ λ y. gone
         | false ↦ elim [ true ↦ back | false ↦ names-with_order s o es p a ]
@@ -96,8 +96,8 @@ module _ (P : ℕ → ℕ → Type 0) where
 -- ---- what the steps keep
 
 -- what holds of the names of all orders holds of them afterwards
-abbrev pub KeepsNames : (Moment → Moment) → Type 1
-KeepsNames f = (P : ℕ → ℕ → Type 0) (m : Moment) → Names P m.book.resting → Names P (f m).book.resting
+abbrev pub KeepsNames : (MatchState → MatchState) → Type 1
+KeepsNames f = (P : ℕ → ℕ → Type 0) (m : MatchState) → Names P m.book.resting → Names P (f m).book.resting
 
 abbrev NamesStay : (ℕ → ℕ → Type 0) → Relation
 NamesStay P a b = Names P a.book.resting → Names P b.book.resting
@@ -133,7 +133,7 @@ keeps-sweep steps limit P m a = each-sweep (NamesStay P) (names P) steps limit m
 
 -- ---- slots and numbers that go together
 
-pub matched-kept : (f : Moment → Moment) → KeepsNames f → (m : Moment) → Matched m.book.resting → Matched (f m).book.resting
+pub matched-kept : (f : MatchState → MatchState) → KeepsNames f → (m : MatchState) → Matched m.book.resting → Matched (f m).book.resting
 matched-kept f k m h =
     let es = m.book.resting in
     let es' = (f m).book.resting in

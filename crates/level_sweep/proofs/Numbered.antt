@@ -10,14 +10,14 @@ use Rattle.gx_base.specs.declared.order.Side.{Side}
 use Rattle.gx_base.specs.declared.event.StepName.{StepName}
 use Rattle.gx_base.specs.declared.event.StepName.TheVariants as name
 use Rattle.plain_book.specs.declared.entry.Entry.{Entry}
-use Rattle.plain_book.specs.Orders.{HasSlot, is_at, is_on, is_behind, order_of, without, with_order, reordered, placed, settled, traded, refreshed, filled_by, side_of, price_of, best_of}
+use Rattle.plain_book.specs.Orders.{HasSlot, is_at, is_on, is_at_earlier_level, order_of, without, with_order, reordered, placed, settled, traded, refreshed, filled_by, side_of, price_of, best_of}
 use Rattle.plain_book.specs.Book.{Book}
-use Rattle.plain_book.specs.Match.{Moment, Share, trade, report, fill, taken_by, lengthened, give, gives}
+use Rattle.plain_book.specs.Match.{MatchState, Share, trade, report, fill, taken_by, lengthened, give, gives}
 use Rattle.plain_book.specs.Steps.{facing, level_now, give_marked, gives_marked}
 use Rattle.plain_book.proofs.Levels.{same, renewed}
 use Rattle.plain_book.proofs.Pairs.{all-from, all-with}
 use Rattle.plain_book.proofs.Steps.{marked}
-use Rattle.plain_book.specs.Numbers.{by_number, numbered, book_numbered, moment_numbered}
+use Rattle.plain_book.specs.Numbers.{by_number, numbered, book_numbered, match_numbered}
 use Rattle.level_sweep.proofs.Names.{GoesWith, Agree, KeepsNames, found, none-traded, keeps-give, keeps-mark, keeps-give_marked}
 
 -- ---- lists
@@ -35,7 +35,7 @@ filter-numbered p q (e ∷ es) h =
 pub filter-order : (p : Entry → Bool) → ((e : Entry) → p (by_number e) ≡ p e) → (es : List Entry) → filter p (numbered es) ≡ numbered (filter p es)
 filter-order p h es = filter-numbered p p es (all-from (λ e. p (by_number e) ≡ p e) h es)
 
-pub level-numbered : (price : Price) (m : Moment) → level_now price (moment_numbered m) ≡ numbered (level_now price m)
+pub level-numbered : (price : Price) (m : MatchState) → level_now price (match_numbered m) ≡ numbered (level_now price m)
 level-numbered price m = filter-order (is_at (facing price m.taker)) (λ e. refl) m.book.resting
 
 pub side-numbered : (i : ℕ) (d : Side) (es : List Entry) → side_of i d (numbered es) ≡ numbered (side_of i d es)
@@ -50,9 +50,9 @@ best-numbered i d es = ap price_of (side-numbered i d es) ∙ price-numbered (si
 
 pub placed-numbered : (n : Entry) (es : List Entry) → placed (by_number n) (numbered es) ≡ numbered (placed n es)
 placed-numbered n es =
-    ap (λ (q : List Entry). q ++ by_number n ∷ filter (is_behind n) (numbered es)) (filter-order (λ e. not (is_behind n e)) (λ e. refl) es)
-    ∙ ap (λ (q : List Entry). numbered (filter (λ e. not (is_behind n e)) es) ++ by_number n ∷ q) (filter-order (is_behind n) (λ e. refl) es)
-    ∙ sym (map-append by_number (filter (λ e. not (is_behind n e)) es) (n ∷ filter (is_behind n) es))
+    ap (λ (q : List Entry). q ++ by_number n ∷ filter (is_at_earlier_level n) (numbered es)) (filter-order (λ e. not (is_at_earlier_level n e)) (λ e. refl) es)
+    ∙ ap (λ (q : List Entry). numbered (filter (λ e. not (is_at_earlier_level n e)) es) ++ by_number n ∷ q) (filter-order (is_at_earlier_level n) (λ e. refl) es)
+    ∙ sym (map-append by_number (filter (λ e. not (is_at_earlier_level n e)) es) (n ∷ filter (is_at_earlier_level n) es))
 
 -- ---- one order
 
@@ -129,7 +129,7 @@ module _ (s k : ℕ) where
 
   -- ---- one gift
 
-  abbrev traded_as : StepName → ℕ → Order → Book → Moment → Moment
+  abbrev traded_as : StepName → ℕ → Order → Book → MatchState → MatchState
   traded_as step lots resting b m =
       let number = m.desk.trades + 1 in
       let taken = taken_by lots m.taker.order in
@@ -139,19 +139,19 @@ module _ (s k : ℕ) where
         taker = record m.taker { order = taken; range = lengthened resting.price m.taker.range };
       }))
 
-  trade-numbered : (step : StepName) (n : ℕ) (m : Moment) → Agree s k m.book.resting → trade step k n (moment_numbered m) ≡ moment_numbered (trade step s n m)
+  trade-numbered : (step : StepName) (n : ℕ) (m : MatchState) → Agree s k m.book.resting → trade step k n (match_numbered m) ≡ match_numbered (trade step s n m)
   trade-numbered step n m a =
       let es = m.book.resting in
       let b : List Entry → Book = λ x. record (book_numbered m.book) { resting = x } in
       ap (λ (o : Order). traded_as step n o (b (traded k n (numbered es))) m) (order-numbered es a)
       ∙ ap (λ (x : List Entry). traded_as step n (order_of s es) (b x) m) (traded-numbered n es a)
 
-  pub give-numbered : (step : StepName) (n : ℕ) (m : Moment) → Agree s k m.book.resting → give step k n (moment_numbered m) ≡ moment_numbered (give step s n m)
+  pub give-numbered : (step : StepName) (n : ℕ) (m : MatchState) → Agree s k m.book.resting → give step k n (match_numbered m) ≡ match_numbered (give step s n m)
   give-numbered step n m a =
-      let go : (c : Bool) → cond c (moment_numbered m) (trade step k n (moment_numbered m)) ≡ moment_numbered (cond c m (trade step s n m)) = elim [ true ↦ refl | false ↦ trade-numbered step n m a ] in
+      let go : (c : Bool) → cond c (match_numbered m) (trade step k n (match_numbered m)) ≡ match_numbered (cond c m (trade step s n m)) = elim [ true ↦ refl | false ↦ trade-numbered step n m a ] in
       go (n == 0)
 
-  pub give_marked-numbered : (n : ℕ) (m : Moment) → Agree s k m.book.resting → give_marked k n (moment_numbered m) ≡ moment_numbered (give_marked s n m)
+  pub give_marked-numbered : (n : ℕ) (m : MatchState) → Agree s k m.book.resting → give_marked k n (match_numbered m) ≡ match_numbered (give_marked s n m)
   give_marked-numbered n m a =
       let b : List Entry → Book = λ x. record (book_numbered m.book) { resting = x } in
       ap (λ (x : List Entry). give name.ProRata k n (record m { book = b x })) (marked-numbered n m.book.resting a)
@@ -166,26 +166,26 @@ SameShares es [] (y ∷ ys) = ⊥
 SameShares es (x ∷ xs) [] = ⊥
 SameShares es (x ∷ xs) (y ∷ ys) = (x.1 ≡ y.1) × Agree x.0 y.0 es × SameShares es xs ys
 
-shares-kept : (f : Moment → Moment) → KeepsNames f → (m : Moment) (xs ys : List Share) → SameShares m.book.resting xs ys → SameShares (f m).book.resting xs ys
+shares-kept : (f : MatchState → MatchState) → KeepsNames f → (m : MatchState) (xs ys : List Share) → SameShares m.book.resting xs ys → SameShares (f m).book.resting xs ys
 shares-kept f k m [] [] h = h
 shares-kept f k m [] (y ∷ ys) h = absurd h
 shares-kept f k m (x ∷ xs) [] h = absurd h
 shares-kept f k m (x ∷ xs) (y ∷ ys) h = (h.0, k (GoesWith x.0 y.0) m h.1, shares-kept f k m xs ys h.2)
 
-pub gives-numbered : (step : StepName) (xs ys : List Share) (m : Moment) → SameShares m.book.resting xs ys → gives step ys (moment_numbered m) ≡ moment_numbered (gives step xs m)
+pub gives-numbered : (step : StepName) (xs ys : List Share) (m : MatchState) → SameShares m.book.resting xs ys → gives step ys (match_numbered m) ≡ match_numbered (gives step xs m)
 gives-numbered step [] [] m h = refl
 gives-numbered step [] (y ∷ ys) m h = absurd h
 gives-numbered step (x ∷ xs) [] m h = absurd h
 gives-numbered step (x ∷ xs) (y ∷ ys) m h =
-    ap (λ (n : ℕ). gives step ys (give step y.0 n (moment_numbered m))) (sym h.0)
+    ap (λ (n : ℕ). gives step ys (give step y.0 n (match_numbered m))) (sym h.0)
     ∙ ap (gives step ys) (give-numbered x.0 y.0 step x.1 m h.1)
     ∙ gives-numbered step xs ys (give step x.0 x.1 m) (shares-kept (give step x.0 x.1) (keeps-give step x.0 x.1) m xs ys h.2)
 
-pub gives_marked-numbered : (xs ys : List Share) (m : Moment) → SameShares m.book.resting xs ys → gives_marked ys (moment_numbered m) ≡ moment_numbered (gives_marked xs m)
+pub gives_marked-numbered : (xs ys : List Share) (m : MatchState) → SameShares m.book.resting xs ys → gives_marked ys (match_numbered m) ≡ match_numbered (gives_marked xs m)
 gives_marked-numbered [] [] m h = refl
 gives_marked-numbered [] (y ∷ ys) m h = absurd h
 gives_marked-numbered (x ∷ xs) [] m h = absurd h
 gives_marked-numbered (x ∷ xs) (y ∷ ys) m h =
-    ap (λ (n : ℕ). gives_marked ys (give_marked y.0 n (moment_numbered m))) (sym h.0)
+    ap (λ (n : ℕ). gives_marked ys (give_marked y.0 n (match_numbered m))) (sym h.0)
     ∙ ap (gives_marked ys) (give_marked-numbered x.0 y.0 x.1 m h.1)
     ∙ gives_marked-numbered xs ys (give_marked x.0 x.1 m) (shares-kept (give_marked x.0 x.1) (keeps-give_marked x.0 x.1) m xs ys h.2)

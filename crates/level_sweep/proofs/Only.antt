@@ -3,7 +3,7 @@ use Rattle.std.proofs.Common.{◌≡◌, List, refl, sym, ap, ◌∙◌}
 use Rattle.gx_base.specs.declared.price.Price.{Price}
 use Rattle.step_config.specs.declared.step.Step.{Step}
 use Rattle.plain_book.specs.Book.{Book}
-use Rattle.plain_book.specs.Match.{Moment}
+use Rattle.plain_book.specs.Match.{MatchState}
 use Rattle.level_sweep.specs.Sweep.{wanted_step, match_best, sweep, with_resting}
 use Rattle.level_sweep.proofs.Each.{Relation, IsKept, each-wanted, each-best, each-sweep}
 
@@ -23,15 +23,15 @@ rest = record {
   marks = λ s n m. refl;
 }
 
-pub rest-wanted : (s : Step) (price : Price) (m : Moment) → RestStays m (wanted_step s price m)
+pub rest-wanted : (s : Step) (price : Price) (m : MatchState) → RestStays m (wanted_step s price m)
 rest-wanted s price m = each-wanted RestStays rest s price m
 
-pub rest-best : (steps : List Step) (limit : Price) (m : Moment) → RestStays m (match_best steps limit m)
+pub rest-best : (steps : List Step) (limit : Price) (m : MatchState) → RestStays m (match_best steps limit m)
 rest-best steps limit m = each-best RestStays rest steps limit m
 
-pub rest-sweep : (steps : List Step) (limit : Price) (m : Moment) → RestStays m (sweep steps limit m)
+pub rest-sweep : (steps : List Step) (limit : Price) (m : MatchState) → RestStays m (sweep steps limit m)
 rest-sweep steps limit m = each-sweep RestStays rest steps limit m
 
 -- and so does a call that does the same
-pub rest-now : (m : Moment) (end : Moment) (b : Book) → end.book ≡ with_resting end.book.resting m.book → b ≡ end.book → b ≡ with_resting b.resting m.book
+pub rest-now : (m : MatchState) (end : MatchState) (b : Book) → end.book ≡ with_resting end.book.resting m.book → b ≡ end.book → b ≡ with_resting b.resting m.book
 rest-now m end b h k = k ∙ h ∙ ap (λ (x : Book). with_resting x.resting m.book) (sym k)

@@ -13,14 +13,14 @@ use Rattle.gx_base.specs.declared.event.StepName.TheVariants as name
 use Rattle.step_config.specs.declared.step.Step.{Step}
 use Rattle.step_config.specs.declared.step.Step.TheVariants.{Top, Lmm, Split, ProRata, Leveling, Fifo}
 use Rattle.plain_book.specs.declared.entry.Entry.{Entry}
-use Rattle.plain_book.specs.Orders.{HasSlot, order_of, without, is_at, is_on, is_slot, is_within, opposite, side_of, slot_of, top_of, topped, with_top, is_best_price, is_new_best, placed, waits_behind}
+use Rattle.plain_book.specs.Orders.{HasSlot, order_of, without, is_at, is_on, is_slot, is_within, opposite, side_of, slot_of, top_of, topped, with_top, is_best_price, is_new_best, placed, is_of_earlier_instrument}
 use Rattle.plain_book.specs.Book.{Book, AllDiffer, live_orders, first_shown, is_enough, book_placed, book_waited, book_without}
-use Rattle.plain_book.specs.Match.{Moment, Share, gives}
+use Rattle.plain_book.specs.Match.{MatchState, Share, gives}
 use Rattle.plain_book.specs.Steps.{facing, level_now, gives_marked, head_gives, fifo_rounds, spent, ones, top_shares, lmm_shares, split_shares, leveling_shares, prorata_shares, prorata_share}
 use Rattle.plain_book.proofs.Levels.{same, AllDiffer-front}
 use Rattle.plain_book.proofs.Pairs.{all-filter, all-with, all-append, all-front, all-back}
 use Rattle.level_sweep.specs.Sweep.{step_of, wanted_step, level_match, match_within, match_best, facing_best, sweep_rounds, sweep}
-use Rattle.plain_book.specs.Numbers.{by_number, numbered, book_numbered, moment_numbered}
+use Rattle.plain_book.specs.Numbers.{by_number, numbered, book_numbered, match_numbered}
 use Rattle.level_sweep.proofs.Names.{Names, found, GoesWith, Agree, Matched, matched-from, matched-kept, keeps-head, keeps-wanted, keeps-best, keeps-sweep}
 use Rattle.level_sweep.proofs.Only.{rest-sweep}
 use Rattle.level_sweep.proofs.Numbered.{SameShares, test-is, filter-numbered, filter-order, level-numbered, side-numbered, best-numbered, placed-numbered, without-numbered, give-numbered, gives-numbered, gives_marked-numbered}
@@ -31,7 +31,7 @@ use Rattle.level_sweep.proofs.Numbered.{SameShares, test-is, filter-numbered, fi
 abbrev AllIn : List Entry → List Entry → Type 0
 AllIn es xs = AllByRecursion (λ (e : Entry). Agree e.slot e.order.number es) xs
 
-in-level : (price : Price) (m : Moment) → Matched m.book.resting → AllIn m.book.resting (level_now price m)
+in-level : (price : Price) (m : MatchState) → Matched m.book.resting → AllIn m.book.resting (level_now price m)
 in-level price m h = all-filter (λ (e : Entry). Agree e.slot e.order.number m.book.resting) (is_at (facing price m.taker)) m.book.resting h
 
 module _ (es : List Entry) where
@@ -97,22 +97,22 @@ module _ (es : List Entry) where
 -- ---- the steps
 
 -- what is done is the same
-abbrev pub IsSame : (Moment → Moment) → Type 0
-IsSame f = (m : Moment) → Matched m.book.resting → f (moment_numbered m) ≡ moment_numbered (f m)
+abbrev pub IsSame : (MatchState → MatchState) → Type 0
+IsSame f = (m : MatchState) → Matched m.book.resting → f (match_numbered m) ≡ match_numbered (f m)
 
-choice : (b : Bool) (f g : Moment → Moment) (m : Moment) → Matched m.book.resting → IsSame f → IsSame g → cond b (f (moment_numbered m)) (g (moment_numbered m)) ≡ moment_numbered (cond b (f m) (g m))
+choice : (b : Bool) (f g : MatchState → MatchState) (m : MatchState) → Matched m.book.resting → IsSame f → IsSame g → cond b (f (match_numbered m)) (g (match_numbered m)) ≡ match_numbered (cond b (f m) (g m))
 choice true f g m h p q = p m h
 choice false f g m h p q = q m h
 
-by-level : (step : StepName) (price : Price) (F : List Entry → List Share) (m : Moment) → SameShares m.book.resting (F (level_now price m)) (F (numbered (level_now price m)))
-    → gives step (F (level_now price (moment_numbered m))) (moment_numbered m) ≡ moment_numbered (gives step (F (level_now price m)) m)
+by-level : (step : StepName) (price : Price) (F : List Entry → List Share) (m : MatchState) → SameShares m.book.resting (F (level_now price m)) (F (numbered (level_now price m)))
+    → gives step (F (level_now price (match_numbered m))) (match_numbered m) ≡ match_numbered (gives step (F (level_now price m)) m)
 by-level step price F m h =
-    ap (λ (l : List Entry). gives step (F l) (moment_numbered m)) (level-numbered price m)
+    ap (λ (l : List Entry). gives step (F l) (match_numbered m)) (level-numbered price m)
     ∙ gives-numbered step (F (level_now price m)) (F (numbered (level_now price m))) m h
 
-top-step : (most : ℕ) (price : Price) (m : Moment) → Matched m.book.resting
-    → gives name.Top (top_shares most (top_of m.taker.order.instrument (opposite m.taker.order.side) (numbered m.book.resting)) m.taker.order.leaves (level_now price (moment_numbered m))) (moment_numbered m)
-    ≡ moment_numbered (gives name.Top (top_shares most (top_of m.taker.order.instrument (opposite m.taker.order.side) m.book.resting) m.taker.order.leaves (level_now price m)) m)
+top-step : (most : ℕ) (price : Price) (m : MatchState) → Matched m.book.resting
+    → gives name.Top (top_shares most (top_of m.taker.order.instrument (opposite m.taker.order.side) (numbered m.book.resting)) m.taker.order.leaves (level_now price (match_numbered m))) (match_numbered m)
+    ≡ match_numbered (gives name.Top (top_shares most (top_of m.taker.order.instrument (opposite m.taker.order.side) m.book.resting) m.taker.order.leaves (level_now price m)) m)
 top-step most price m h =
     let i = m.taker.order.instrument in
     let d = opposite m.taker.order.side in
@@ -121,13 +121,13 @@ top-step most price m h =
     let p : Entry → Bool = λ e. e.is_top in
     let tops = filter p (side_of i d es) in
     let same : top_of i d (numbered es) ≡ slot_of (numbered tops) = ap (λ (l : List Entry). slot_of (filter p l)) (side-numbered i d es) ∙ ap slot_of (filter-order p (λ e. refl) (side_of i d es)) in
-    ap (λ (t : Option ℕ). gives name.Top (top_shares most t q (level_now price (moment_numbered m))) (moment_numbered m)) same
-    ∙ ap (λ (l : List Entry). gives name.Top (top_shares most (slot_of (numbered tops)) q l) (moment_numbered m)) (level-numbered price m)
+    ap (λ (t : Option ℕ). gives name.Top (top_shares most t q (level_now price (match_numbered m))) (match_numbered m)) same
+    ∙ ap (λ (l : List Entry). gives name.Top (top_shares most (slot_of (numbered tops)) q l) (match_numbered m)) (level-numbered price m)
     ∙ gives-numbered name.Top (top_shares most (slot_of tops) q (level_now price m)) (top_shares most (slot_of (numbered tops)) q (numbered (level_now price m))) m
     (top-same es most q tops (level_now price m) (only-in es p (side_of i d es) (only-in es (is_on i d) es h)) (in-level price m h)
     (λ s k a. all-filter (λ (e : Entry). GoesWith s k e.slot e.order.number) (is_at (facing price m.taker)) es a))
 
-head-same : (xs : List Entry) (m : Moment) → AllIn m.book.resting xs → head_gives (numbered xs) (moment_numbered m) ≡ moment_numbered (head_gives xs m)
+head-same : (xs : List Entry) (m : MatchState) → AllIn m.book.resting xs → head_gives (numbered xs) (match_numbered m) ≡ match_numbered (head_gives xs m)
 head-same [] m h = refl
 head-same (x ∷ xs) m h = give-numbered x.slot x.order.number name.Fifo (min m.taker.order.leaves x.order.shown) m h.0
 
@@ -135,16 +135,16 @@ fifo-same : (price : Price) (n : ℕ) → IsSame (fifo_rounds n price)
 fifo-same price zero m h = refl
 fifo-same price (suc n) m h =
     let level = level_now price m in
-    ap (λ (l : List Entry). fifo_rounds n price (head_gives l (moment_numbered m))) (level-numbered price m)
+    ap (λ (l : List Entry). fifo_rounds n price (head_gives l (match_numbered m))) (level-numbered price m)
     ∙ ap (fifo_rounds n price) (head-same level m (in-level price m h))
     ∙ fifo-same price n (head_gives level m) (matched-kept (head_gives level) (keeps-head level) m h)
 
-prorata-step : (least : ℕ) (price : Price) (m : Moment) → Matched m.book.resting
-    → gives_marked (prorata_shares least m.taker.order.leaves (level_now price (moment_numbered m))) (moment_numbered m) ≡ moment_numbered (gives_marked (prorata_shares least m.taker.order.leaves (level_now price m)) m)
+prorata-step : (least : ℕ) (price : Price) (m : MatchState) → Matched m.book.resting
+    → gives_marked (prorata_shares least m.taker.order.leaves (level_now price (match_numbered m))) (match_numbered m) ≡ match_numbered (gives_marked (prorata_shares least m.taker.order.leaves (level_now price m)) m)
 prorata-step least price m h =
     let q = m.taker.order.leaves in
     let level = level_now price m in
-    ap (λ (l : List Entry). gives_marked (prorata_shares least q l) (moment_numbered m)) (level-numbered price m)
+    ap (λ (l : List Entry). gives_marked (prorata_shares least q l) (match_numbered m)) (level-numbered price m)
     ∙ gives_marked-numbered (prorata_shares least q level) (prorata_shares least q (numbered level)) m (prorata-same m.book.resting least q level (in-level price m h))
 
 step-same : (s : Step) (price : Price) → IsSame (step_of s price)
@@ -152,7 +152,7 @@ step-same (Top rule) price m h = top-step rule.max price m h
 step-same (Lmm shares) price m h = by-level name.Lmm price (lmm_shares shares.items m.taker.order.leaves) m (lmm-same m.book.resting shares.items m.taker.order.leaves (level_now price m) (in-level price m h))
 step-same (Split percent) price m h = by-level name.Split price (split_shares percent m.taker.order.leaves) m (spent-same m.book.resting (m.taker.order.leaves * percent / 100) (level_now price m) (in-level price m h))
 step-same (ProRata least) price m h =
-    let go : (b : Bool) → cond b (moment_numbered m) (gives_marked (prorata_shares least m.taker.order.leaves (level_now price (moment_numbered m))) (moment_numbered m)) ≡ moment_numbered (cond b m (gives_marked (prorata_shares least m.taker.order.leaves (level_now price m)) m)) = elim [
+    let go : (b : Bool) → cond b (match_numbered m) (gives_marked (prorata_shares least m.taker.order.leaves (level_now price (match_numbered m))) (match_numbered m)) ≡ match_numbered (cond b m (gives_marked (prorata_shares least m.taker.order.leaves (level_now price m)) m)) = elim [
       | true ↦ refl
       | false ↦ prorata-step least price m h
     ] in go (m.taker.order.leaves == 0)
@@ -176,7 +176,7 @@ within-same steps limit (Some price) m h = choice (is_within (opposite m.taker.o
 
 best-same : (steps : List Step) (limit : Price) → IsSame (match_best steps limit)
 best-same steps limit m h =
-    ap (λ (p : Option Price). cond (m.taker.order.leaves == 0) (moment_numbered m) (match_within steps limit p (moment_numbered m))) (best-numbered m.taker.order.instrument (opposite m.taker.order.side) m.book.resting)
+    ap (λ (p : Option Price). cond (m.taker.order.leaves == 0) (match_numbered m) (match_within steps limit p (match_numbered m))) (best-numbered m.taker.order.instrument (opposite m.taker.order.side) m.book.resting)
     ∙ choice (m.taker.order.leaves == 0) (λ x. x) (match_within steps limit (facing_best m)) m h (λ n k. refl) (within-same steps limit (facing_best m))
 
 rounds-same : (n : ℕ) (steps : List Step) (limit : Price) → IsSame (sweep_rounds n steps limit)
@@ -200,10 +200,10 @@ matched-resting : (b : Book) → AllDiffer (live_orders b) → AllDiffer (live_o
 matched-resting b d n = matched-from b.resting (AllDiffer-front b.resting b.waiting d) (AllDiffer-front (numbered b.resting) (numbered b.waiting) n)
 
 -- a level match and a sweep do the same by number as by slot
-pub match-numbered : (steps : List Step) (price : Price) (m : Moment) → AllDiffer (live_orders m.book) → AllDiffer (live_orders (book_numbered m.book)) → level_match steps price (moment_numbered m) ≡ moment_numbered (level_match steps price m)
+pub match-numbered : (steps : List Step) (price : Price) (m : MatchState) → AllDiffer (live_orders m.book) → AllDiffer (live_orders (book_numbered m.book)) → level_match steps price (match_numbered m) ≡ match_numbered (level_match steps price m)
 match-numbered steps price m d n = match-same steps price m (matched-resting m.book d n)
 
-pub sweep-numbered : (steps : List Step) (limit : Price) (m : Moment) → AllDiffer (live_orders m.book) → AllDiffer (live_orders (book_numbered m.book)) → sweep steps limit (moment_numbered m) ≡ moment_numbered (sweep steps limit m)
+pub sweep-numbered : (steps : List Step) (limit : Price) (m : MatchState) → AllDiffer (live_orders m.book) → AllDiffer (live_orders (book_numbered m.book)) → sweep steps limit (match_numbered m) ≡ match_numbered (sweep steps limit m)
 sweep-numbered steps limit m d n = sweep-same steps limit m (matched-resting m.book d n)
 
 -- ---- numbers still differ
@@ -223,7 +223,7 @@ numbers-differ (e ∷ es) d h = (
 )
 
 -- where slots differ after a sweep, and numbers did before it, numbers do
-pub sweep-numbers : (steps : List Step) (limit : Price) (m : Moment) → AllDiffer (live_orders m.book) → AllDiffer (live_orders (book_numbered m.book)) → AllDiffer (live_orders (sweep steps limit m).book)
+pub sweep-numbers : (steps : List Step) (limit : Price) (m : MatchState) → AllDiffer (live_orders m.book) → AllDiffer (live_orders (book_numbered m.book)) → AllDiffer (live_orders (sweep steps limit m).book)
     → AllDiffer (live_orders (book_numbered (sweep steps limit m).book))
 sweep-numbers steps limit m d n d' =
     let b = m.book in
@@ -264,9 +264,9 @@ waited-same slot o b =
     let n : Entry = record { slot = slot; order = record o { shown = 0 }; is_top = false } in
     let es = b.waiting in
     let into : List Entry → Book = λ l. record (book_numbered b) { waiting = l } in
-    ap (λ (l : List Entry). into (l ++ by_number n ∷ filter (waits_behind n) (numbered es))) (filter-order (λ e. not (waits_behind n e)) (λ e. refl) es)
-    ∙ ap (λ (l : List Entry). into (numbered (filter (λ e. not (waits_behind n e)) es) ++ by_number n ∷ l)) (filter-order (waits_behind n) (λ e. refl) es)
-    ∙ ap into (sym (map-append by_number (filter (λ e. not (waits_behind n e)) es) (n ∷ filter (waits_behind n) es)))
+    ap (λ (l : List Entry). into (l ++ by_number n ∷ filter (is_of_earlier_instrument n) (numbered es))) (filter-order (λ e. not (is_of_earlier_instrument n e)) (λ e. refl) es)
+    ∙ ap (λ (l : List Entry). into (numbered (filter (λ e. not (is_of_earlier_instrument n e)) es) ++ by_number n ∷ l)) (filter-order (is_of_earlier_instrument n) (λ e. refl) es)
+    ∙ ap into (sym (map-append by_number (filter (λ e. not (is_of_earlier_instrument n e)) es) (n ∷ filter (is_of_earlier_instrument n) es)))
 
 -- the slot and the number of a live order go together
 pub named-live : (s : ℕ) (b : Book) → AllDiffer (live_orders b) → AllDiffer (live_orders (book_numbered b)) → HasSlot s (live_orders b) → Agree s (order_of s (live_orders b)).number (live_orders b)

@@ -6,9 +6,9 @@ use Rattle.gx_base.specs.declared.order.Order.{Order}
 use Rattle.gx_base.specs.declared.price.Price.{Price}
 use Rattle.step_config.specs.declared.step.Step.{Step}
 use Rattle.plain_book.specs.declared.entry.Entry.{Entry}
-use Rattle.plain_book.specs.Orders.{HasSlot, order_of, no_order, without, with_order, placed, settled, traded, refreshed, filled_by, is_behind}
+use Rattle.plain_book.specs.Orders.{HasSlot, order_of, no_order, without, with_order, placed, settled, traded, refreshed, filled_by, is_at_earlier_level}
 use Rattle.plain_book.specs.Book.{Book, IsRight, IsResting, AllDiffer}
-use Rattle.plain_book.specs.Match.{Moment}
+use Rattle.plain_book.specs.Match.{MatchState}
 use Rattle.plain_book.specs.Steps.{head_gives}
 use Rattle.plain_book.proofs.Pairs.{all-filter, all-with}
 use Rattle.plain_book.proofs.Levels.{HasSlot-filter, HasSlot-either, AllDiffer-filter, AllDiffer-front, with_order-none}
@@ -62,7 +62,7 @@ halves-differ p (e ∷ es) d =
 
 differ-placed : (n : Entry) (es : List Entry) → AllDiffer es → (HasSlot n.slot es → ⊥) → AllDiffer (placed n es)
 differ-placed n es d h =
-    let p = is_behind n in
+    let p = is_at_earlier_level n in
     let f = filter (λ e. not (p e)) es in
     let g = filter p es in
     let ins : IsInserted n (f ++ g) (f ++ n ∷ g) = record { front = f; back = g; whole = refl; is = refl } in
@@ -123,13 +123,13 @@ showing = record {
   marks = λ s n m a. showing-marked s n m.book.resting a;
 }
 
-pub showing-wanted : (s : Step) (price : Price) (m : Moment) → AreShowing m.book.resting → AreShowing (wanted_step s price m).book.resting
+pub showing-wanted : (s : Step) (price : Price) (m : MatchState) → AreShowing m.book.resting → AreShowing (wanted_step s price m).book.resting
 showing-wanted s price m a = each-wanted ShowingStays showing s price m a
 
-pub showing-best : (steps : List Step) (limit : Price) (m : Moment) → AreShowing m.book.resting → AreShowing (match_best steps limit m).book.resting
+pub showing-best : (steps : List Step) (limit : Price) (m : MatchState) → AreShowing m.book.resting → AreShowing (match_best steps limit m).book.resting
 showing-best steps limit m a = each-best ShowingStays showing steps limit m a
 
-pub showing-head : (es : List Entry) (m : Moment) → AreShowing m.book.resting → AreShowing (head_gives es m).book.resting
+pub showing-head : (es : List Entry) (m : MatchState) → AreShowing m.book.resting → AreShowing (head_gives es m).book.resting
 showing-head es m a = each-head ShowingStays showing es m a
 
 -- a right book

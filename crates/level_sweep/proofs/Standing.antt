@@ -7,9 +7,9 @@ use Rattle.gx_base.specs.declared.price.Price.{Price}
 use Rattle.gx_base.specs.declared.order.Order.{Order}
 use Rattle.step_config.specs.declared.step.Step.{Step}
 use Rattle.plain_book.specs.declared.entry.Entry.{Entry}
-use Rattle.plain_book.specs.Orders.{Level, level_of, is_before, is_behind, HasSlot, order_of, no_order, without, with_order, reordered, placed, settled, traded, refreshed, filled_by}
+use Rattle.plain_book.specs.Orders.{Level, level_of, is_before, is_at_earlier_level, HasSlot, order_of, no_order, without, with_order, reordered, placed, settled, traded, refreshed, filled_by}
 use Rattle.plain_book.specs.Book.{AllDiffer, EachPair, AreInBookOrder}
-use Rattle.plain_book.specs.Match.{Moment}
+use Rattle.plain_book.specs.Match.{MatchState}
 use Rattle.plain_book.proofs.Levels.{renewed, AllDiffer-filter}
 use Rattle.plain_book.proofs.Walks.{AllDiffer-with_order}
 use Rattle.plain_book.proofs.Pairs.{all-filter, pairs-filter, pairs-map}
@@ -63,7 +63,7 @@ module _ (P : Level → Type 0) where
   }
 
   -- what holds of the levels of all orders holds of them after a sweep
-  pub sweep-levels : (steps : List Step) (limit : Price) (m : Moment) → Levels P m.book.resting → Levels P (sweep steps limit m).book.resting
+  pub sweep-levels : (steps : List Step) (limit : Price) (m : MatchState) → Levels P m.book.resting → Levels P (sweep steps limit m).book.resting
   sweep-levels steps limit m a = each-sweep LevelsStay levels steps limit m a
 
 -- ---- the book's order
@@ -98,11 +98,11 @@ in-order-without s es r = record {
 
 in-order-placed : (n : Entry) (es : List Entry) → (HasSlot n.slot es → ⊥) → IsInOrder es → IsInOrder (placed n es)
 in-order-placed n es gone r =
-    let p = put-in is_behind book-order n es r.ordered in
+    let p = put-in is_at_earlier_level book-order n es r.ordered in
     let ins : IsInserted n es (placed n es) = record { front = p.front; back = p.back; whole = p.whole; is = p.place } in
     record {
       differ = inserted-differ ins r.differ gone;
-      ordered = ordered-put is_behind book-order n es r.ordered;
+      ordered = ordered-put is_at_earlier_level book-order n es r.ordered;
     }
 
 in-order-with : (s : ℕ) (o : Order) (es : List Entry) → level_of o ≡ level_of (order_of s es) → IsInOrder es → IsInOrder (with_order s o es)
@@ -134,5 +134,5 @@ order = record {
   marks = λ s n m r. in-order-with s (record (order_of s m.book.resting) { prorated = n }) m.book.resting refl r;
 }
 
-pub sweep-in-order : (steps : List Step) (limit : Price) (m : Moment) → IsInOrder m.book.resting → IsInOrder (sweep steps limit m).book.resting
+pub sweep-in-order : (steps : List Step) (limit : Price) (m : MatchState) → IsInOrder m.book.resting → IsInOrder (sweep steps limit m).book.resting
 sweep-in-order steps limit m r = each-sweep OrderStays order steps limit m r

@@ -7,8 +7,8 @@ use Rattle.gx_base.specs.declared.price.Price.{Price}
 use Rattle.gx_base.specs.declared.order.Order.{Order}
 use Rattle.step_config.specs.declared.step.Step.{Step}
 use Rattle.plain_book.specs.declared.entry.Entry.{Entry}
-use Rattle.plain_book.specs.Orders.{HasSlot, order_of, no_order, without, with_order, placed, settled, traded, refreshed, filled_by, is_behind}
-use Rattle.plain_book.specs.Match.{Moment}
+use Rattle.plain_book.specs.Orders.{HasSlot, order_of, no_order, without, with_order, placed, settled, traded, refreshed, filled_by, is_at_earlier_level}
+use Rattle.plain_book.specs.Match.{MatchState}
 use Rattle.level_sweep.specs.Sweep.{sweep}
 use Rattle.level_sweep.proofs.Each.{Relation, IsKept, each-sweep}
 use Rattle.level_sweep.proofs.Names.{none-traded}
@@ -29,7 +29,7 @@ halves p (e ∷ es) =
 
 placed-longer : (n : Entry) (es : List Entry) → length (placed n es) ≡ suc (length es)
 placed-longer n es =
-    omega (arith, length-append (filter (λ e. not (is_behind n e)) es) (n ∷ filter (is_behind n) es), halves (is_behind n) es)
+    omega (arith, length-append (filter (λ e. not (is_at_earlier_level n e)) es) (n ∷ filter (is_at_earlier_level n) es), halves (is_at_earlier_level n) es)
 
 with_order-long : (s : ℕ) (o : Order) (es : List Entry) → length (with_order s o es) ≡ length es
 with_order-long s o [] = refl
@@ -85,7 +85,7 @@ fewer = record {
 }
 
 -- no more orders rest than before
-pub sweep-fewer : (steps : List Step) (limit : Price) (m : Moment) → length (sweep steps limit m).book.resting ≤ length m.book.resting
+pub sweep-fewer : (steps : List Step) (limit : Price) (m : MatchState) → length (sweep steps limit m).book.resting ≤ length m.book.resting
 sweep-fewer steps limit m = each-sweep AreFewer fewer steps limit m
 
 -- ---- the incoming order
@@ -106,5 +106,5 @@ order = record {
 }
 
 -- the incoming order stays what it was, but for what is filled and open
-pub sweep-order : (steps : List Step) (limit : Price) (m : Moment) → (sweep steps limit m).taker.order ≡ filled_as (sweep steps limit m).taker.order m.taker.order
+pub sweep-order : (steps : List Step) (limit : Price) (m : MatchState) → (sweep steps limit m).taker.order ≡ filled_as (sweep steps limit m).taker.order m.taker.order
 sweep-order steps limit m = each-sweep OrderStays order steps limit m

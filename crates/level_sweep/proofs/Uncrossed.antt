@@ -9,14 +9,14 @@ use Rattle.gx_base.specs.declared.order.Side.TheVariants.{Buy, Sell}
 use Rattle.gx_base.specs.declared.order.Taker.{Taker}
 use Rattle.step_config.specs.declared.step.Step.{Step}
 use Rattle.plain_book.specs.declared.entry.Entry.{Entry}
-use Rattle.plain_book.specs.Orders.{Level, level_of, opposite, is_side, is_on, is_better, is_best_price, is_new_best, is_behind, best_of, placed, with_top, topped}
+use Rattle.plain_book.specs.Orders.{Level, level_of, opposite, is_side, is_on, is_better, is_best_price, is_new_best, is_at_earlier_level, best_of, placed, with_top, topped}
 use Rattle.plain_book.specs.Book.{Book, IsRight, EachPair, AreInBookOrder, first_shown, is_enough, resting_placed, book_placed}
-use Rattle.plain_book.specs.Match.{Moment}
+use Rattle.plain_book.specs.Match.{MatchState}
 use Rattle.plain_book.proofs.Levels.{same, is_side-refl, AllDiffer-front}
 use Rattle.plain_book.proofs.Pairs.{all-with, all-both, all-map}
 use Rattle.plain_book.proofs.Live.{orders-placed}
 use Rattle.plain_book.proofs.Tops.{behind-on, new-best-all}
-use Rattle.level_sweep.specs.Sweep.{sweep, IsMet, IsThrough}
+use Rattle.level_sweep.specs.Sweep.{sweep, IsMet, IsSweepDone}
 use Rattle.level_sweep.specs.Laws.{AreApart, IsUncrossed}
 use Rattle.level_sweep.proofs.Standing.{Levels, IsInOrder, sweep-levels, sweep-in-order}
 use Rattle.level_sweep.proofs.Swept.{sweep-order}
@@ -27,7 +27,7 @@ uncrossed-moved es fs keep h =
     let half : Levels (λ k. Levels (AreApart k) es) fs = keep (λ k. Levels (AreApart k) es) h in
     all-with (λ (e : Entry). Levels (AreApart (level_of e.order)) es) (λ (e : Entry). Levels (AreApart (level_of e.order)) fs) (λ e a. keep (AreApart (level_of e.order)) a) fs half
 
-pub sweep-uncrossed : (steps : List Step) (limit : Price) (m : Moment) → IsUncrossed m.book.resting → IsUncrossed (sweep steps limit m).book.resting
+pub sweep-uncrossed : (steps : List Step) (limit : Price) (m : MatchState) → IsUncrossed m.book.resting → IsUncrossed (sweep steps limit m).book.resting
 sweep-uncrossed steps limit m h = uncrossed-moved m.book.resting (sweep steps limit m).book.resting (λ P a. sweep-levels P steps limit m a) h
 
 levels-topped : (i : ℕ) (s : Side) (top : Option ℕ) (P : Level → Type 0) (es : List Entry) → Levels P es → Levels P (with_top i s top es)
@@ -82,7 +82,7 @@ IsBeyond o x = is_on o.instrument (opposite o.side) x ≡ true → is_better (op
 beyond-all : (o : Order) (es : List Entry) → EachPair AreInBookOrder es → is_best_price (opposite o.side) o.price.0 (best_of o.instrument (opposite o.side) es) ≡ true → AllByRecursion (IsBeyond o) es
 beyond-all o es r h =
     let n = as_facing o in
-    all-with (λ (x : Entry). is_on o.instrument (opposite o.side) x ≡ true → is_behind n x ≡ true) (IsBeyond o) (λ x b on. sym (behind-on n x on) ∙ b on) es (new-best-all n es r h)
+    all-with (λ (x : Entry). is_on o.instrument (opposite o.side) x ≡ true → is_at_earlier_level n x ≡ true) (IsBeyond o) (λ x b on. sym (behind-on n x on) ∙ b on) es (new-best-all n es r h)
 
 beyond-clear : (o : Order) (x : Entry) → IsBeyond o x → AreClear (level_of o) (level_of x.order)
 beyond-clear o x h = (
@@ -105,7 +105,7 @@ resting-uncrossed slot o top_min es clear h =
     ] in go (is_new_best o es)
 
 -- where a limit is through, an order of that limit crosses nothing
-through-uncrossed : (slot : ℕ) (limit : Price) (t : Taker) (top_min : Option ℕ) (b : Book) → t.order.price ≡ limit → EachPair AreInBookOrder b.resting → IsUncrossed b.resting → IsThrough limit b t → 1 ≤ t.order.leaves
+through-uncrossed : (slot : ℕ) (limit : Price) (t : Taker) (top_min : Option ℕ) (b : Book) → t.order.price ≡ limit → EachPair AreInBookOrder b.resting → IsUncrossed b.resting → IsSweepDone limit b t → 1 ≤ t.order.leaves
     → IsUncrossed (book_placed slot t.order top_min b).resting
 through-uncrossed slot limit t top_min b is r h through some = elim through [
   | inl none ↦ absurd (omega (arith, none, some))
@@ -115,8 +115,8 @@ through-uncrossed slot limit t top_min b is r h through some = elim through [
       resting-uncrossed slot t.order top_min b.resting (all-with (IsBeyond t.order) (λ (e : Entry). AreClear (level_of t.order) (level_of e.order)) (λ e k. beyond-clear t.order e k) b.resting beyond) h
 ]
 
-pub rested-uncrossed : (steps : List Step) (m : Moment) (slot : ℕ) (top_min : Option ℕ) → IsRight m.book → IsUncrossed m.book.resting
-    → IsThrough m.taker.order.price (sweep steps m.taker.order.price m).book (sweep steps m.taker.order.price m).taker
+pub rested-uncrossed : (steps : List Step) (m : MatchState) (slot : ℕ) (top_min : Option ℕ) → IsRight m.book → IsUncrossed m.book.resting
+    → IsSweepDone m.taker.order.price (sweep steps m.taker.order.price m).book (sweep steps m.taker.order.price m).taker
     → 1 ≤ (sweep steps m.taker.order.price m).taker.order.leaves
     → IsUncrossed (book_placed slot (sweep steps m.taker.order.price m).taker.order top_min (sweep steps m.taker.order.price m).book).resting
 rested-uncrossed steps m slot top_min right h through some =

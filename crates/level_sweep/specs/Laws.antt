@@ -7,7 +7,7 @@ use Rattle.step_config.specs.declared.step.Step.{Step}
 use Rattle.step_config.specs.declared.step.Step.TheVariants.{Top, Lmm, Split, ProRata, Leveling, Fifo}
 use Rattle.plain_book.specs.declared.entry.Entry.{Entry}
 use Rattle.plain_book.specs.Orders.{Level, level_of, opposite, top_of}
-use Rattle.plain_book.specs.Match.{Moment, Share}
+use Rattle.plain_book.specs.Match.{MatchState, Share}
 use Rattle.plain_book.specs.Steps.{level_now, top_shares, lmm_shares, split_shares, prorata_shares, leveling_shares}
 
 -- ---- how much a step gives
@@ -32,7 +32,7 @@ shares_of Fifo top q [] = []
 shares_of Fifo top q (e ∷ es) = (e.slot, min q e.order.shown) ∷ []
 
 -- those of a step that starts now, at a price
-abbrev pub shares_now : Step → Price → Moment → List Share
+abbrev pub shares_now : Step → Price → MatchState → List Share
 shares_now step price m = shares_of step (top_of m.taker.order.instrument (opposite m.taker.order.side) m.book.resting) m.taker.order.leaves (level_now price m)
 
 -- ---- crossed books

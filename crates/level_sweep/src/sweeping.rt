@@ -2,9 +2,9 @@
 ghost use Rattle.std.specs.Prelude.{◌≡◌, ◌<◌, ◌⊎◌};
 ghost use Rattle.gx_base.specs.Emits.{Emits};
 ghost use Rattle.plain_book.specs.Orders.{is_within, opposite, best_of};
-ghost use Rattle.plain_book.specs.Match.{moment, IsNow, CanTrade};
+ghost use Rattle.plain_book.specs.Match.{match_start, IsNow, CanTrade};
 ghost use Rattle.plain_book.specs.Keeping.{KeepsRoom};
-ghost use Rattle.level_sweep.specs.Sweep.{match_within, match_best, sweep, with_resting, IsWorkedOff, IsThrough};
+ghost use Rattle.level_sweep.specs.Sweep.{match_within, match_best, sweep, with_resting, IsWorkedOff, IsSweepDone};
 
 use crate::levels::match_level;
 use gx_base::{Desk, Emit, Price, Side, Taker};
@@ -40,8 +40,8 @@ fn match_within<B: Book, E: Emit>(
     out: &mut E,
 )
     requires can { CanTrade (B.book book.old) desk.old taker.old }
-    ensures now { IsNow (match_within steps.now limit best (moment (B.book book.old) desk.old taker.old)) (B.book book.new) desk.new taker.new }
-    ensures told { Emits E.meanings out.old out.new (match_within steps.now limit best (moment (B.book book.old) desk.old taker.old)).events }
+    ensures now { IsNow (match_within steps.now limit best (match_start (B.book book.old) desk.old taker.old)) (B.book book.new) desk.new taker.new }
+    ensures emits { Emits E.meanings out.old out.new (match_within steps.now limit best (match_start (B.book book.old) desk.old taker.old)).events }
     ensures can { CanTrade (B.book book.new) desk.new taker.new }
     ensures room { KeepsRoom desk.old taker.old.order.leaves desk.new taker.new.order.leaves }
     ensures over { IsWorkedOff limit taker.old best (B.book book.new) taker.new }
@@ -67,11 +67,11 @@ fn match_best<B: Book, E: Emit>(
     out: &mut E,
 )
     requires can { CanTrade (B.book book.old) desk.old taker.old }
-    ensures now { IsNow (match_best steps.now limit (moment (B.book book.old) desk.old taker.old)) (B.book book.new) desk.new taker.new }
-    ensures told { Emits E.meanings out.old out.new (match_best steps.now limit (moment (B.book book.old) desk.old taker.old)).events }
+    ensures now { IsNow (match_best steps.now limit (match_start (B.book book.old) desk.old taker.old)) (B.book book.new) desk.new taker.new }
+    ensures emits { Emits E.meanings out.old out.new (match_best steps.now limit (match_start (B.book book.old) desk.old taker.old)).events }
     ensures can { CanTrade (B.book book.new) desk.new taker.new }
     ensures room { KeepsRoom desk.old taker.old.order.leaves desk.new taker.new.order.leaves }
-    ensures goes { (taker.new.order.leaves < taker.old.order.leaves) ⊎ IsThrough limit (B.book book.new) taker.new }
+    ensures goes { (taker.new.order.leaves < taker.old.order.leaves) ⊎ IsSweepDone limit (B.book book.new) taker.new }
 {
     if taker.order.leaves > 0 {
         book.rules();
@@ -92,11 +92,11 @@ pub fn sweep<B: Book, E: Emit>(
     out: &mut E,
 )
     requires can { CanTrade (B.book book.old) desk.old taker.old }
-    ensures now { IsNow (sweep steps.now limit (moment (B.book book.old) desk.old taker.old)) (B.book book.new) desk.new taker.new }
-    ensures told { Emits E.meanings out.old out.new (sweep steps.now limit (moment (B.book book.old) desk.old taker.old)).events }
+    ensures now { IsNow (sweep steps.now limit (match_start (B.book book.old) desk.old taker.old)) (B.book book.new) desk.new taker.new }
+    ensures emits { Emits E.meanings out.old out.new (sweep steps.now limit (match_start (B.book book.old) desk.old taker.old)).events }
     ensures can { CanTrade (B.book book.new) desk.new taker.new }
     ensures room { KeepsRoom desk.old taker.old.order.leaves desk.new taker.new.order.leaves }
-    ensures through { IsThrough limit (B.book book.new) taker.new }
+    ensures through { IsSweepDone limit (B.book book.new) taker.new }
     ensures stays { B.book book.new ≡ with_resting (B.book book.new).resting (B.book book.old) }
 {
     for _k in 0..taker.order.leaves {

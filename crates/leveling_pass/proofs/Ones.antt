@@ -9,7 +9,7 @@ use Rattle.gx_base.specs.Emits.{EmitMeanings}
 use Rattle.plain_book.specs.declared.entry.Entry.{Entry}
 use Rattle.plain_book.specs.Orders.{Level}
 use Rattle.plain_book.specs.Book.{Book}
-use Rattle.plain_book.specs.Match.{Moment, Share}
+use Rattle.plain_book.specs.Match.{MatchState, Share}
 use Rattle.plain_book.specs.Steps.{ones, leveling_shares}
 use Rattle.plain_book.proofs.Going.{IsWalk}
 
@@ -33,7 +33,7 @@ one-shown false q shown some = omega arith
 pub one-read : (n q : ℕ) (o p : Order) → n ≡ one_of (o.prorated == 0) q → o ≡ p → n ≡ one_of (p.prorated == 0) q
 one-read n q o p is same = is ∙ ap (λ (x : Order). one_of (x.prorated == 0) q) same
 
-module _ {E : Type 0} (m : EmitMeanings E) (start now : E) (k : Level) (step : StepName) (end : Moment) (e : Entry) (rest : List Entry) (q : ℕ) (b : Book) (d : Desk) (t : Taker) where
+module _ {E : Type 0} (m : EmitMeanings E) (start now : E) (k : Level) (step : StepName) (end : MatchState) (e : Entry) (rest : List Entry) (q : ℕ) (b : Book) (d : Desk) (t : Taker) where
   abbrev Walk : List Share → Type 0
   Walk shares = IsWalk m start now k step end (e ∷ rest) shares b d t
 
@@ -45,6 +45,6 @@ module _ {E : Type 0} (m : EmitMeanings E) (start now : E) (k : Level) (step : S
         | true ↦ λ g. let less : q - 1 ≡ q - min q 1 = omega arith in subst (λ (n : ℕ). Walk ((e.slot, min q 1) ∷ ones n F)) less g
         | false ↦ λ g.
             let all : q ≡ q - 0 = omega arith in
-            let none : Walk ((e.slot, 0) ∷ ones q F) = record { events = g.events; told = g.told; leads = g.leads; remains = g.remains } in
+            let none : Walk ((e.slot, 0) ∷ ones q F) = record { events = g.events; emits = g.emits; leads = g.leads; remains = g.remains } in
             subst (λ (n : ℕ). Walk ((e.slot, 0) ∷ ones n F)) all none
       ] in go (is_left_out e) w

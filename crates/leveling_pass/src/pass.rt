@@ -3,7 +3,7 @@ ghost use Rattle.std.specs.Prelude.{◌≡◌, ◌==◌, if◌then◌else◌, mi
 ghost use Rattle.gx_base.specs.Emits.{Emits};
 ghost use Rattle.plain_book.specs.Orders.{HasSlot, order_of};
 ghost use Rattle.plain_book.specs.Book.{live_orders};
-ghost use Rattle.plain_book.specs.Match.{moment, IsNow, CanTrade};
+ghost use Rattle.plain_book.specs.Match.{match_start, IsNow, CanTrade};
 ghost use Rattle.plain_book.specs.Steps.{leveling};
 ghost use Rattle.plain_book.specs.Keeping.{KeepsRoom};
 
@@ -35,8 +35,8 @@ pub fn leveling_pass<B: Book, E: Emit>(
     out: &mut E,
 )
     requires can { CanTrade (B.book book.old) desk.old taker.old }
-    ensures now { IsNow (leveling price (moment (B.book book.old) desk.old taker.old)) (B.book book.new) desk.new taker.new }
-    ensures told { Emits E.meanings out.old out.new (leveling price (moment (B.book book.old) desk.old taker.old)).events }
+    ensures now { IsNow (leveling price (match_start (B.book book.old) desk.old taker.old)) (B.book book.new) desk.new taker.new }
+    ensures emits { Emits E.meanings out.old out.new (leveling price (match_start (B.book book.old) desk.old taker.old)).events }
     ensures can { CanTrade (B.book book.new) desk.new taker.new }
     ensures room { KeepsRoom desk.old taker.old.order.leaves desk.new taker.new.order.leaves }
 {

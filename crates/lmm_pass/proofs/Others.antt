@@ -8,7 +8,7 @@ use Rattle.gx_base.specs.declared.order.Order.{Order}
 use Rattle.gx_base.specs.declared.event.StepName.{StepName}
 use Rattle.plain_book.specs.declared.entry.Entry.{Entry}
 use Rattle.plain_book.specs.Orders.{Level, level_of, is_at, orders_at, order_of, without, with_order, placed, settled, refreshed, filled_by}
-use Rattle.plain_book.specs.Match.{Moment, trade, give}
+use Rattle.plain_book.specs.Match.{MatchState, trade, give}
 use Rattle.plain_book.proofs.Filters.{filter-comm}
 use Rattle.plain_book.proofs.Levels.{without-middle, placed-level, renewed}
 use Rattle.plain_book.proofs.Walks.{Stands, stands-differ, stands-order, stands-level, stands-with_order}
@@ -48,7 +48,7 @@ module _ (k : Level) (es xs : List Entry) (e : Entry) (ys : List Entry) (s : Sta
       ] in go (o.leaves == 0) (o.shown == 0) ∙ sym others
 
 -- an order of another firm gives
-give-others : (step : StepName) (k : Level) (m : Moment) (xs : List Entry) (e : Entry) (ys : List Entry) (n firm : ℕ) → Stands k m.book.resting xs e ys → (e.order.firm == firm) ≡ false
+give-others : (step : StepName) (k : Level) (m : MatchState) (xs : List Entry) (e : Entry) (ys : List Entry) (n firm : ℕ) → Stands k m.book.resting xs e ys → (e.order.firm == firm) ≡ false
     → orders_of firm (orders_at k (give step e.slot n m).book.resting) ≡ orders_of firm (orders_at k m.book.resting)
 give-others step k m xs e ys n firm s other =
     let o : Order = filled_by n (order_of e.slot m.book.resting) in
@@ -59,7 +59,7 @@ give-others step k m xs e ys n firm s other =
     ] in go (n == 0)
 
 -- an order gives of what is left for a firm, and the other firms' orders stay
-pub gift-others : (step : StepName) (k : Level) (m : Moment) (xs : List Entry) (e : Entry) (ys : List Entry) (firm left other : ℕ) → Stands k m.book.resting xs e ys → (firm == other) ≡ false
+pub gift-others : (step : StepName) (k : Level) (m : MatchState) (xs : List Entry) (e : Entry) (ys : List Entry) (firm left other : ℕ) → Stands k m.book.resting xs e ys → (firm == other) ≡ false
     → orders_of other (orders_at k (give step e.slot (gift_of firm left e.order) m).book.resting) ≡ orders_of other (orders_at k m.book.resting)
 gift-others step k m xs e ys firm left other s apart = elim (eqb_tells e.order.firm firm) [
   | inl t ↦ give-others step k m xs e ys (gift_of firm left e.order) other s (ap (λ (f : ℕ). f == other) t.1 ∙ apart)

@@ -4,7 +4,7 @@ use Rattle.gx_base.specs.declared.price.Price.{Price}
 use Rattle.gx_base.specs.declared.order.Order.{Order}
 use Rattle.plain_book.specs.declared.entry.Entry.{Entry}
 use Rattle.plain_book.specs.Orders.{Level, orders_at}
-use Rattle.plain_book.specs.Match.{Moment}
+use Rattle.plain_book.specs.Match.{MatchState}
 use Rattle.plain_book.specs.Steps.{level_now}
 
 abbrev pub is_of_firm : ℕ → Entry → Bool
@@ -15,7 +15,7 @@ abbrev pub orders_of : ℕ → List Entry → List Entry
 orders_of firm es = filter (is_of_firm firm) es
 
 -- those at a price that the incoming order meets
-abbrev pub queue_of : ℕ → Price → Moment → List Entry
+abbrev pub queue_of : ℕ → Price → MatchState → List Entry
 queue_of firm price m = orders_of firm (level_now price m)
 
 -- what an order gives of the lots that are left for a firm: what it shows, and nothing where it is another firm's

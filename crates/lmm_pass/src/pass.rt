@@ -6,7 +6,7 @@ ghost use Rattle.gx_base.specs.declared.event.StepName.TheVariants.{Lmm};
 ghost use Rattle.gx_base.specs.declared.order.LmmShare.{LmmShare};
 ghost use Rattle.plain_book.specs.Orders.{HasSlot, order_of};
 ghost use Rattle.plain_book.specs.Book.{live_orders};
-ghost use Rattle.plain_book.specs.Match.{moment, gives, IsNow, CanTrade};
+ghost use Rattle.plain_book.specs.Match.{match_start, gives, IsNow, CanTrade};
 ghost use Rattle.plain_book.specs.Steps.{facing, lmm, spent};
 ghost use Rattle.plain_book.specs.Keeping.{KeepsRoom};
 ghost use Rattle.lmm_pass.specs.Firms.{queue_of, gift_of, KeepsOthers};
@@ -48,8 +48,8 @@ fn spend_on_firm<B: Book, E: Emit>(
 )
     requires lots { lots ≤ taker.old.order.leaves }
     requires can { CanTrade (B.book book.old) desk.old taker.old }
-    ensures now { let m = moment (B.book book.old) desk.old taker.old in IsNow (gives Lmm (spent lots (queue_of firm price m)) m) (B.book book.new) desk.new taker.new }
-    ensures told { let m = moment (B.book book.old) desk.old taker.old in Emits E.meanings out.old out.new (gives Lmm (spent lots (queue_of firm price m)) m).events }
+    ensures now { let m = match_start (B.book book.old) desk.old taker.old in IsNow (gives Lmm (spent lots (queue_of firm price m)) m) (B.book book.new) desk.new taker.new }
+    ensures emits { let m = match_start (B.book book.old) desk.old taker.old in Emits E.meanings out.old out.new (gives Lmm (spent lots (queue_of firm price m)) m).events }
     ensures can { CanTrade (B.book book.new) desk.new taker.new }
     ensures room { KeepsRoom desk.old taker.old.order.leaves desk.new taker.new.order.leaves }
     ensures left { taker.old.order.leaves ≤ taker.new.order.leaves + lots }
@@ -89,8 +89,8 @@ pub fn lmm_pass<B: Book, E: Emit>(
     requires percents { AllByRecursion (λ (s : LmmShare). (1 ≤ s.percent) × (s.percent ≤ 100)) shares.now }
     requires sum { sum_by (λ (s : LmmShare). s.percent) shares.now ≤ 100 }
     requires can { CanTrade (B.book book.old) desk.old taker.old }
-    ensures now { IsNow (lmm shares.now price (moment (B.book book.old) desk.old taker.old)) (B.book book.new) desk.new taker.new }
-    ensures told { Emits E.meanings out.old out.new (lmm shares.now price (moment (B.book book.old) desk.old taker.old)).events }
+    ensures now { IsNow (lmm shares.now price (match_start (B.book book.old) desk.old taker.old)) (B.book book.new) desk.new taker.new }
+    ensures emits { Emits E.meanings out.old out.new (lmm shares.now price (match_start (B.book book.old) desk.old taker.old)).events }
     ensures can { CanTrade (B.book book.new) desk.new taker.new }
     ensures room { KeepsRoom desk.old taker.old.order.leaves desk.new taker.new.order.leaves }
 {

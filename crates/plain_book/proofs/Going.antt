@@ -9,44 +9,44 @@ use Rattle.gx_base.proofs.Putting.{emits_none, emits_joined}
 use Rattle.plain_book.specs.declared.entry.Entry.{Entry}
 use Rattle.plain_book.specs.Orders.{Level}
 use Rattle.plain_book.specs.Book.{Book, AllDiffer}
-use Rattle.plain_book.specs.Match.{Moment, moment, Share, give, gives, IsNow}
+use Rattle.plain_book.specs.Match.{MatchState, match_start, Share, give, gives, IsNow}
 use Rattle.plain_book.proofs.Walks.{Stands, Remains}
-use Rattle.plain_book.proofs.Steps.{moment_with, give-events, give-remains}
+use Rattle.plain_book.proofs.Steps.{match_with, give-events, give-remains}
 
 -- at the moment b, d, t, the shares that are left lead to the end, and the orders that are left stand in the level
-pub record IsWalk {E : Type 0} (m : EmitMeanings E) (start now : E) (k : Level) (step : StepName) (end : Moment) (rest : List Entry) (shares : List Share) (b : Book) (d : Desk) (t : Taker) : Type 0 where
+pub record IsWalk {E : Type 0} (m : EmitMeanings E) (start now : E) (k : Level) (step : StepName) (end : MatchState) (rest : List Entry) (shares : List Share) (b : Book) (d : Desk) (t : Taker) : Type 0 where
   pub events : List Event
-  pub told : Emits m start now events
-  pub leads : gives step shares (moment_with b d t events) ≡ end
+  pub emits : Emits m start now events
+  pub leads : gives step shares (match_with b d t events) ≡ end
   pub remains : Remains k b.resting rest
 
-module _ {E : Type 0} (m : EmitMeanings E) (start : E) (k : Level) (step : StepName) (end : Moment) where
-  pub walk-start : (es : List Entry) (shares : List Share) (b : Book) (d : Desk) (t : Taker) → Remains k b.resting es → gives step shares (moment b d t) ≡ end → IsWalk m start start k step end es shares b d t
-  walk-start es shares b d t r e = record { events = []; told = emits_none m start; leads = e; remains = r }
+module _ {E : Type 0} (m : EmitMeanings E) (start : E) (k : Level) (step : StepName) (end : MatchState) where
+  pub walk-start : (es : List Entry) (shares : List Share) (b : Book) (d : Desk) (t : Taker) → Remains k b.resting es → gives step shares (match_start b d t) ≡ end → IsWalk m start start k step end es shares b d t
+  walk-start es shares b d t r e = record { events = []; emits = emits_none m start; leads = e; remains = r }
 
   pub walk-more : (now next : E) (e : Entry) (n : ℕ) (rest : List Entry) (shares : List Share) (b b' : Book) (d d' : Desk) (t t' : Taker)
       → AllDiffer b.resting
       → IsWalk m start now k step end (e ∷ rest) ((e.slot, n) ∷ shares) b d t
-      → IsNow (give step e.slot n (moment b d t)) b' d' t'
-      → Emits m now next (give step e.slot n (moment b d t)).events
+      → IsNow (give step e.slot n (match_start b d t)) b' d' t'
+      → Emits m now next (give step e.slot n (match_start b d t)).events
       → IsWalk m start next k step end rest shares b' d' t'
-  walk-more now next e n rest shares b b' d d' t t' differ g is told =
+  walk-more now next e n rest shares b b' d d' t t' differ g is emits =
       let r = g.remains in
       let s : Stands k b.resting r.before e (rest ++ r.behind) = record { differ = differ; is = r.is } in
-      let m' = give step e.slot n (moment b d t) in
+      let m' = give step e.slot n (match_start b d t) in
       let evs = g.events ++ m'.events in
-      let same : moment_with b' d' t' evs ≡ give step e.slot n (moment_with b d t g.events) =
-      ap (λ (x : Book). moment_with x d' t' evs) is.book ∙ ap (λ (x : Desk). moment_with m'.book x t' evs) is.desk ∙ ap (λ (x : Taker). moment_with m'.book m'.desk x evs) is.taker
+      let same : match_with b' d' t' evs ≡ give step e.slot n (match_with b d t g.events) =
+      ap (λ (x : Book). match_with x d' t' evs) is.book ∙ ap (λ (x : Desk). match_with m'.book x t' evs) is.desk ∙ ap (λ (x : Taker). match_with m'.book m'.desk x evs) is.taker
       ∙ sym (give-events step e.slot n b d t g.events) in
       record {
         events = evs;
-        told = emits_joined m start now next g.events m'.events g.told told;
+        emits = emits_joined m start now next g.events m'.events g.emits emits;
         leads = ap (gives step shares) same ∙ g.leads;
-        remains = subst (λ (x : Book). Remains k x.resting rest) (sym is.book) (give-remains step k (moment b d t) r.before e rest r.behind n s);
+        remains = subst (λ (x : Book). Remains k x.resting rest) (sym is.book) (give-remains step k (match_start b d t) r.before e rest r.behind n s);
       }
 
-  pub walk-end : (now : E) (rest : List Entry) (b : Book) (d : Desk) (t : Taker) (shares : List Share) (w : IsWalk m start now k step end rest shares b d t) → gives step shares (moment_with b d t w.events) ≡ moment_with b d t w.events
+  pub walk-end : (now : E) (rest : List Entry) (b : Book) (d : Desk) (t : Taker) (shares : List Share) (w : IsWalk m start now k step end rest shares b d t) → gives step shares (match_with b d t w.events) ≡ match_with b d t w.events
       → IsNow end b d t × Emits m start now end.events
   walk-end now rest b d t shares w e =
-      let is : moment_with b d t w.events ≡ end = sym e ∙ w.leads in
-      (record { book = ap (λ (x : Moment). x.book) is; desk = ap (λ (x : Moment). x.desk) is; taker = ap (λ (x : Moment). x.taker) is }, subst (λ (x : Moment). Emits m start now x.events) is w.told)
+      let is : match_with b d t w.events ≡ end = sym e ∙ w.leads in
+      (record { book = ap (λ (x : MatchState). x.book) is; desk = ap (λ (x : MatchState). x.desk) is; taker = ap (λ (x : MatchState). x.taker) is }, subst (λ (x : MatchState). Emits m start now x.events) is w.emits)

@@ -8,7 +8,7 @@ use Rattle.std.specs.List.{AllByRecursion}
 use Rattle.gx_base.specs.declared.order.Order.{Order}
 use Rattle.gx_base.specs.declared.order.Side.{Side}
 use Rattle.plain_book.specs.declared.entry.Entry.{Entry}
-use Rattle.plain_book.specs.Orders.{level_of, HasSlot, order_of, is_live, is_named, is_on, is_behind, is_new_best, without, with_order, reordered, placed, lined_up, settled, refreshed, filled_by, with_top, topped}
+use Rattle.plain_book.specs.Orders.{level_of, HasSlot, order_of, is_live, is_named, is_on, is_at_earlier_level, is_new_best, without, with_order, reordered, placed, lined_up, settled, refreshed, filled_by, with_top, topped}
 use Rattle.plain_book.specs.Book.{Book, live_orders, IsRight, IsResting, IsWaiting, IsFitToRest, IsFitToWait, CanBeTop, first_shown, is_enough, book_placed, book_waited, book_traded, book_with_order, book_without, book_changed, book_with_top, book_cleared, changed_to}
 use Rattle.plain_book.specs.Keeping.{IsAmong, AreFree, IsKept, IsFreeList, freed}
 use Rattle.plain_book.proofs.Levels.{HasSlot-filter, HasSlot-left, slots-apart, order_of-left, order_of-right, without-none}
@@ -254,7 +254,7 @@ module _ (b : Book) (rr wr : ℕ) (ss : List ℕ) (fr rr' wr' fr' : ℕ) (k : Is
       all-filter (NoTopBehind n) (other_slot s) b.resting (not-best-none n b.resting k.right.tops (standing-not-best n s b.resting k.right.ordered has (sym l))) in
       let ins = live-placed one n right.ordered in
       kept-of b (resting_as b (placed n (without s b.resting))) rr wr fr rr' wr' fr' ss ss k lr lw lf refl
-      (right-placed one n right (omega (arith, shorter, k.right.few)) gone unnamed fit (all-from (λ (x : Entry). false ≡ true → is_on o.instrument o.side x ≡ true → is_behind n x ≡ true) (λ x t. absurd (true≢false (sym t))) (without s b.resting)) none)
+      (right-placed one n right (omega (arith, shorter, k.right.few)) gone unnamed fit (all-from (λ (x : Entry). false ≡ true → is_on o.instrument o.side x ≡ true → is_at_earlier_level n x ≡ true) (λ x t. absurd (true≢false (sym t))) (without s b.resting)) none)
       (omega (arith, k.all, shorter, inserted-length ins))
       (free-other s ss (live_orders b) (live_orders (resting_as b (placed n (without s b.resting)))) (taken s ss (live_orders b) k.free h)
       (λ t q. elim (inserted-slots ins t q) [ inl a ↦ inl a | inr a ↦ inr (HasSlot-filter (other_slot s) t (live_orders b) (subst (HasSlot t) live a)) ]) k.free)
@@ -323,7 +323,7 @@ module _ (b : Book) (rr wr : ℕ) (ss : List ℕ) (fr rr' wr' fr' s : ℕ) (k : 
 
   kept-put : (es : List Entry) (o : Order) (top : Bool) → IsRight (resting_as b es) → length (live_orders (resting_as b es)) ≡ length (live_orders b) → ((t : ℕ) → HasSlot t (live_orders (resting_as b es)) → HasSlot t (live_orders b))
       → AllOrders (Unnamed o) (live_orders (resting_as b es)) → IsResting b.instruments o
-      → AllByRecursion (λ (x : Entry). top ≡ true → is_on o.instrument o.side x ≡ true → is_behind (record { slot = s; order = o; is_top = top }) x ≡ true) es
+      → AllByRecursion (λ (x : Entry). top ≡ true → is_on o.instrument o.side x ≡ true → is_at_earlier_level (record { slot = s; order = o; is_top = top }) x ≡ true) es
       → AllByRecursion (NoTopBehind (record { slot = s; order = o; is_top = top })) es
       → IsKept (resting_as b (placed (record { slot = s; order = o; is_top = top }) es)) rr' wr' ss fr'
   kept-put es o top right long slots unnamed fit first none =
@@ -349,8 +349,8 @@ module _ (b : Book) (rr wr : ℕ) (ss : List ℕ) (fr rr' wr' fr' s : ℕ) (k : 
       let go : (c : Bool) → is_new_best o b.resting ≡ c → IsKept (resting_as b (placed (newcomer (c && enough)) (cond c (with_top i d None b.resting) b.resting))) rr' wr' ss fr' = elim [
         | true ↦ λ best.
             let n = newcomer enough in
-            let F = λ (x : Entry). is_on i d x ≡ true → is_behind n x ≡ true in
-            let G = λ (x : Entry). enough ≡ true → is_on i d x ≡ true → is_behind n x ≡ true in
+            let F = λ (x : Entry). is_on i d x ≡ true → is_at_earlier_level n x ≡ true in
+            let G = λ (x : Entry). enough ≡ true → is_on i d x ≡ true → is_at_earlier_level n x ≡ true in
             kept-put (with_top i d None b.resting) rests enough (right-marked b i d None k.right tt) (length-marked i d None b.resting b.waiting)
             (λ t h. slots-marked i d None t b.resting b.waiting h)
             (orders-marked (Unnamed rests) i d None b.resting b.waiting unnamed) fit
@@ -359,7 +359,7 @@ module _ (b : Book) (rr wr : ℕ) (ss : List ℕ) (fr rr' wr' fr' s : ℕ) (k : 
         | false ↦ λ worse.
             let n = newcomer false in
             kept-put b.resting rests false k.right refl (λ t h. h) unnamed fit
-            (all-from (λ (x : Entry). false ≡ true → is_on i d x ≡ true → is_behind n x ≡ true) (λ x t. absurd (true≢false (sym t))) b.resting)
+            (all-from (λ (x : Entry). false ≡ true → is_on i d x ≡ true → is_at_earlier_level n x ≡ true) (λ x t. absurd (true≢false (sym t))) b.resting)
             (not-best-none n b.resting k.right.tops worse)
       ] in go (is_new_best o b.resting) refl
 

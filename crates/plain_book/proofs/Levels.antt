@@ -9,7 +9,7 @@ use Rattle.gx_base.specs.declared.order.Order.{Order}
 use Rattle.gx_base.specs.declared.order.Side.{Side}
 use Rattle.gx_base.specs.declared.order.Side.TheVariants.{Buy, Sell}
 use Rattle.plain_book.specs.declared.entry.Entry.{Entry}
-use Rattle.plain_book.specs.Orders.{Level, level_of, is_level, is_at, is_before, is_side, side_before, is_better, is_behind, HasSlot, order_of, slot_of, slot_after, without, with_order, reordered, placed}
+use Rattle.plain_book.specs.Orders.{Level, level_of, is_level, is_at, is_before, is_side, side_before, is_better, is_at_earlier_level, HasSlot, order_of, slot_of, slot_after, without, with_order, reordered, placed}
 use Rattle.plain_book.specs.Book.{AllDiffer}
 use Rattle.plain_book.proofs.Filters.{filter-under, filter-apart}
 
@@ -158,11 +158,11 @@ is_before-irrefl a = before_from _ (a.instrument == a.instrument) _ (is_side a.s
 pub placed-level : (n : Entry) (es : List Entry) → filter (is_at (level_of n.order)) (placed n es) ≡ filter (is_at (level_of n.order)) es ++ n ∷ []
 placed-level n es =
     let k = level_of n.order in
-    let here : (x : Entry) → is_at k x ≡ true → is_behind n x ≡ false = λ x h. subst (λ (q : Level). is_before k q ≡ false) (sym (is_level-same _ _ h)) (is_before-irrefl k) in
-    filter-append (is_at k) (filter (λ e. not (is_behind n e)) es) (n ∷ filter (is_behind n) es)
-    ∙ ap (λ (q : List Entry). q ++ filter (is_at k) (n ∷ filter (is_behind n) es)) (filter-under (is_at k) (λ e. not (is_behind n e)) (λ x h. ap not (here x h)) es)
-    ∙ ap (λ (b : Bool). filter (is_at k) es ++ cond b (n ∷ filter (is_at k) (filter (is_behind n) es)) (filter (is_at k) (filter (is_behind n) es))) (is_level-refl k)
-    ∙ ap (λ (q : List Entry). filter (is_at k) es ++ n ∷ q) (filter-apart (is_at k) (is_behind n) here es)
+    let here : (x : Entry) → is_at k x ≡ true → is_at_earlier_level n x ≡ false = λ x h. subst (λ (q : Level). is_before k q ≡ false) (sym (is_level-same _ _ h)) (is_before-irrefl k) in
+    filter-append (is_at k) (filter (λ e. not (is_at_earlier_level n e)) es) (n ∷ filter (is_at_earlier_level n) es)
+    ∙ ap (λ (q : List Entry). q ++ filter (is_at k) (n ∷ filter (is_at_earlier_level n) es)) (filter-under (is_at k) (λ e. not (is_at_earlier_level n e)) (λ x h. ap not (here x h)) es)
+    ∙ ap (λ (b : Bool). filter (is_at k) es ++ cond b (n ∷ filter (is_at k) (filter (is_at_earlier_level n) es)) (filter (is_at k) (filter (is_at_earlier_level n) es))) (is_level-refl k)
+    ∙ ap (λ (q : List Entry). filter (is_at k) es ++ n ∷ q) (filter-apart (is_at k) (is_at_earlier_level n) here es)
 
 with_order-first : (b : Bool) (s : ℕ) (o : Order) (e x : Entry) (es ys : List Entry) → reordered s o e ≡ x → with_order s o es ≡ ys → with_order s o (cond b (e ∷ es) es) ≡ cond b (x ∷ ys) ys
 with_order-first true s o e x es ys h t = ap (λ (q : Entry). q ∷ with_order s o es) h ∙ ap (λ (q : List Entry). x ∷ q) t

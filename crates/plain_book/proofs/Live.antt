@@ -5,7 +5,7 @@ use Rattle.std.specs.Prelude.{◌==◌, bytes_eq}
 use Rattle.std.specs.List.{AllByRecursion}
 use Rattle.gx_base.specs.declared.order.Order.{Order}
 use Rattle.plain_book.specs.declared.entry.Entry.{Entry}
-use Rattle.plain_book.specs.Orders.{HasSlot, order_of, slot_of, slot_after, slot_named, is_named, is_live, is_behind, without, with_order, placed, settled, refreshed, filled_by}
+use Rattle.plain_book.specs.Orders.{HasSlot, order_of, slot_of, slot_after, slot_named, is_named, is_live, is_at_earlier_level, without, with_order, placed, settled, refreshed, filled_by}
 use Rattle.plain_book.specs.Book.{Book, live_orders, book_traded, book_with_order, AllRest, IsResting}
 use Rattle.plain_book.proofs.Pairs.{all-filter, all-append, all-front, all-back, none-any, any-none}
 use Rattle.plain_book.proofs.Levels.{renewed}
@@ -35,7 +35,7 @@ module _ (P : Order → Type 0) where
   pub orders-placed : (n : Entry) (es : List Entry) → P n.order → AllOrders es → AllOrders (placed n es)
   orders-placed n es h a =
       let Q = λ (e : Entry). P e.order in
-      all-append Q (filter (λ e. not (is_behind n e)) es) (n ∷ filter (is_behind n) es) (all-filter Q (λ e. not (is_behind n e)) es a) (h, all-filter Q (is_behind n) es a)
+      all-append Q (filter (λ e. not (is_at_earlier_level n e)) es) (n ∷ filter (is_at_earlier_level n) es) (all-filter Q (λ e. not (is_at_earlier_level n e)) es a) (h, all-filter Q (is_at_earlier_level n) es a)
 
   pub orders-settled : (s : ℕ) (o : Order) (es : List Entry) → P o → P (refreshed o) → AllOrders es → AllOrders (settled s o es)
   orders-settled s o es h k a =

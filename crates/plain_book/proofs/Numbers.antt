@@ -11,9 +11,9 @@ use Rattle.gx_base.specs.declared.order.Order.{Order}
 use Rattle.gx_base.specs.declared.event.StepName.{StepName}
 use Rattle.gx_base.specs.declared.event.StepName.TheVariants.{Split, Fifo}
 use Rattle.plain_book.specs.declared.entry.Entry.{Entry}
-use Rattle.plain_book.specs.Orders.{HasSlot, order_of, no_order, is_at, is_behind, without, with_order, reordered, placed, settled, traded, refreshed, filled_by}
+use Rattle.plain_book.specs.Orders.{HasSlot, order_of, no_order, is_at, is_at_earlier_level, without, with_order, reordered, placed, settled, traded, refreshed, filled_by}
 use Rattle.plain_book.specs.Book.{AllDiffer}
-use Rattle.plain_book.specs.Match.{Moment, Share, report, fill, taken_by, lengthened, trade, give, gives}
+use Rattle.plain_book.specs.Match.{MatchState, Share, report, fill, taken_by, lengthened, trade, give, gives}
 use Rattle.plain_book.specs.Steps.{facing, level_now, spent, split_shares, head_gives, fifo_rounds, fifo, split}
 use Rattle.plain_book.specs.Numbers.{by_number, numbered}
 use Rattle.plain_book.proofs.Pairs.{all-filter, all-append, all-with}
@@ -63,8 +63,8 @@ module _ (f : ℕ → ℕ) (P : ℕ → Type 0) (law : IsRenaming f P) where
   abbrev pub all_renamed : List Entry → List Entry
   all_renamed es = map renamed es
 
-  abbrev pub moment_renamed : Moment → Moment
-  moment_renamed m = record m { book = record m.book { resting = all_renamed m.book.resting; waiting = all_renamed m.book.waiting } }
+  abbrev pub match_renamed : MatchState → MatchState
+  match_renamed m = record m { book = record m.book { resting = all_renamed m.book.resting; waiting = all_renamed m.book.waiting } }
 
   -- an order whose slot is one of those, and whose number is its new slot
   abbrev pub IsRenamed : Entry → Type 0
@@ -96,10 +96,10 @@ module _ (f : ℕ → ℕ) (P : ℕ → Type 0) (law : IsRenaming f P) where
 
   placed-renamed : (n : Entry) (es : List Entry) → placed (renamed n) (all_renamed es) ≡ all_renamed (placed n es)
   placed-renamed n es =
-      let stay = λ (e : Entry). not (is_behind n e) in
-      ap (λ (l : List Entry). l ++ renamed n ∷ filter (is_behind n) (all_renamed es)) (filter-mapped renamed stay stay es (always (λ (e : Entry). stay e ≡ stay e) (λ e. refl) es))
-      ∙ ap (λ (l : List Entry). all_renamed (filter stay es) ++ renamed n ∷ l) (filter-mapped renamed (is_behind n) (is_behind n) es (always (λ (e : Entry). is_behind n e ≡ is_behind n e) (λ e. refl) es))
-      ∙ sym (map-append renamed (filter stay es) (n ∷ filter (is_behind n) es))
+      let stay = λ (e : Entry). not (is_at_earlier_level n e) in
+      ap (λ (l : List Entry). l ++ renamed n ∷ filter (is_at_earlier_level n) (all_renamed es)) (filter-mapped renamed stay stay es (always (λ (e : Entry). stay e ≡ stay e) (λ e. refl) es))
+      ∙ ap (λ (l : List Entry). all_renamed (filter stay es) ++ renamed n ∷ l) (filter-mapped renamed (is_at_earlier_level n) (is_at_earlier_level n) es (always (λ (e : Entry). is_at_earlier_level n e ≡ is_at_earlier_level n e) (λ e. refl) es))
+      ∙ sym (map-append renamed (filter stay es) (n ∷ filter (is_at_earlier_level n) es))
 
   settled-renamed : (s : ℕ) (o : Order) (es : List Entry) → P s → AllRenamed es → settled (f s) o (all_renamed es) ≡ all_renamed (settled s o es)
   settled-renamed s o es p a =
@@ -135,8 +135,8 @@ module _ (f : ℕ → ℕ) (P : ℕ → Type 0) (law : IsRenaming f P) where
   kept-settled s o es p n a =
       let e : Entry = record { slot = s; order = refreshed o; is_top = false } in
       let gone : AllRenamed (without s es) = all-filter IsRenamed (λ x. not (x.slot == s)) es a in
-      let back : AllRenamed (placed e (without s es)) = all-append IsRenamed (filter (λ x. not (is_behind e x)) (without s es)) (e ∷ filter (is_behind e) (without s es))
-      (all-filter IsRenamed (λ x. not (is_behind e x)) (without s es) gone) ((p, n), all-filter IsRenamed (is_behind e) (without s es) gone) in
+      let back : AllRenamed (placed e (without s es)) = all-append IsRenamed (filter (λ x. not (is_at_earlier_level e x)) (without s es)) (e ∷ filter (is_at_earlier_level e) (without s es))
+      (all-filter IsRenamed (λ x. not (is_at_earlier_level e x)) (without s es) gone) ((p, n), all-filter IsRenamed (is_at_earlier_level e) (without s es) gone) in
       let go : (x y : Bool) → AllRenamed (cond x (without s es) (cond y (placed e (without s es)) (with_order s o es))) = elim [
         | true ↦ λ y. gone
         | false ↦ elim [ true ↦ back | false ↦ kept-with_order s o es n a ]
@@ -154,7 +154,7 @@ module _ (f : ℕ → ℕ) (P : ℕ → Type 0) (law : IsRenaming f P) where
   -- ---- one trade, and more
 
   -- a trade, with the order that gives and the list that it leaves
-  abbrev trade_as : StepName → ℕ → Order → List Entry → Moment → Moment
+  abbrev trade_as : StepName → ℕ → Order → List Entry → MatchState → MatchState
   trade_as step lots o es m =
       let taken = taken_by lots m.taker.order in
       let number = m.desk.trades + 1 in
@@ -165,21 +165,21 @@ module _ (f : ℕ → ℕ) (P : ℕ → Type 0) (law : IsRenaming f P) where
       } in
       report (fill lots o.price step number) taken (report (fill lots o.price step number) (filled_by lots o) done)
 
-  pub trade-renamed : (step : StepName) (s n : ℕ) (m : Moment) → P s → AllRenamed m.book.resting → trade step (f s) n (moment_renamed m) ≡ moment_renamed (trade step s n m)
+  pub trade-renamed : (step : StepName) (s n : ℕ) (m : MatchState) → P s → AllRenamed m.book.resting → trade step (f s) n (match_renamed m) ≡ match_renamed (trade step s n m)
   trade-renamed step s n m p a =
       let es = m.book.resting in
       let old = order_of s es in
-      ap (λ (o : Order). trade_as step n o (settled (f s) (filled_by n o) (all_renamed es)) (moment_renamed m)) (order-renamed s es p a)
-      ∙ ap (λ (l : List Entry). trade_as step n old l (moment_renamed m)) (settled-renamed s (filled_by n old) es p a)
+      ap (λ (o : Order). trade_as step n o (settled (f s) (filled_by n o) (all_renamed es)) (match_renamed m)) (order-renamed s es p a)
+      ∙ ap (λ (l : List Entry). trade_as step n old l (match_renamed m)) (settled-renamed s (filled_by n old) es p a)
 
-  pub give-renamed : (step : StepName) (s n : ℕ) (m : Moment) → P s → AllRenamed m.book.resting → give step (f s) n (moment_renamed m) ≡ moment_renamed (give step s n m)
+  pub give-renamed : (step : StepName) (s n : ℕ) (m : MatchState) → P s → AllRenamed m.book.resting → give step (f s) n (match_renamed m) ≡ match_renamed (give step s n m)
   give-renamed step s n m p a =
-      let go : (b : Bool) → cond b (moment_renamed m) (trade step (f s) n (moment_renamed m)) ≡ moment_renamed (cond b m (trade step s n m)) = elim [
+      let go : (b : Bool) → cond b (match_renamed m) (trade step (f s) n (match_renamed m)) ≡ match_renamed (cond b m (trade step s n m)) = elim [
         | true ↦ refl
         | false ↦ trade-renamed step s n m p a
       ] in go (n == 0)
 
-  pub kept-given : (step : StepName) (s n : ℕ) (m : Moment) → P s → AllRenamed m.book.resting → AllRenamed (give step s n m).book.resting
+  pub kept-given : (step : StepName) (s n : ℕ) (m : MatchState) → P s → AllRenamed m.book.resting → AllRenamed (give step s n m).book.resting
   kept-given step s n m p a = elim (n == 0) as (λ b. AllRenamed (cond b m (trade step s n m)).book.resting) [ true ↦ a | false ↦ kept-traded s n m.book.resting p a ]
 
   abbrev pub share_renamed : Share → Share
@@ -188,24 +188,24 @@ module _ (f : ℕ → ℕ) (P : ℕ → Type 0) (law : IsRenaming f P) where
   abbrev pub AllShares : List Share → Type 0
   AllShares shares = AllByRecursion (λ (share : Share). P share.0) shares
 
-  pub gives-renamed : (step : StepName) (shares : List Share) (m : Moment) → AllShares shares → AllRenamed m.book.resting → gives step (map share_renamed shares) (moment_renamed m) ≡ moment_renamed (gives step shares m)
+  pub gives-renamed : (step : StepName) (shares : List Share) (m : MatchState) → AllShares shares → AllRenamed m.book.resting → gives step (map share_renamed shares) (match_renamed m) ≡ match_renamed (gives step shares m)
   gives-renamed step [] m p a = refl
   gives-renamed step (share ∷ shares) m p a =
       ap (gives step (map share_renamed shares)) (give-renamed step share.0 share.1 m p.0 a)
       ∙ gives-renamed step shares (give step share.0 share.1 m) p.1 (kept-given step share.0 share.1 m p.0 a)
 
-  pub kept-gives : (step : StepName) (shares : List Share) (m : Moment) → AllShares shares → AllRenamed m.book.resting → AllRenamed (gives step shares m).book.resting
+  pub kept-gives : (step : StepName) (shares : List Share) (m : MatchState) → AllShares shares → AllRenamed m.book.resting → AllRenamed (gives step shares m).book.resting
   kept-gives step [] m p a = a
   kept-gives step (share ∷ shares) m p a = kept-gives step shares (give step share.0 share.1 m) p.1 (kept-given step share.0 share.1 m p.0 a)
 
   -- ---- levels and shares
 
-  pub level-renamed : (price : Price) (m : Moment) → level_now price (moment_renamed m) ≡ all_renamed (level_now price m)
+  pub level-renamed : (price : Price) (m : MatchState) → level_now price (match_renamed m) ≡ all_renamed (level_now price m)
   level-renamed price m =
       let p = is_at (facing price m.taker) in
       filter-mapped renamed p p m.book.resting (always (λ (e : Entry). p e ≡ p e) (λ e. refl) m.book.resting)
 
-  pub kept-level : (price : Price) (m : Moment) → AllRenamed m.book.resting → AllRenamed (level_now price m)
+  pub kept-level : (price : Price) (m : MatchState) → AllRenamed m.book.resting → AllRenamed (level_now price m)
   kept-level price m a = all-filter IsRenamed (is_at (facing price m.taker)) m.book.resting a
 
   pub spent-renamed : (lots : ℕ) (es : List Entry) → spent lots (all_renamed es) ≡ map share_renamed (spent lots es)
@@ -216,37 +216,37 @@ module _ (f : ℕ → ℕ) (P : ℕ → Type 0) (law : IsRenaming f P) where
   spent-slots lots [] a = tt
   spent-slots lots (e ∷ es) a = (a.0.0, spent-slots (lots - min lots e.order.shown) es a.1)
 
-  pub split-renamed : (percent : ℕ) (price : Price) (m : Moment) → AllRenamed m.book.resting → split percent price (moment_renamed m) ≡ moment_renamed (split percent price m)
+  pub split-renamed : (percent : ℕ) (price : Price) (m : MatchState) → AllRenamed m.book.resting → split percent price (match_renamed m) ≡ match_renamed (split percent price m)
   split-renamed percent price m a =
       let q = m.taker.order.leaves in
       let level = level_now price m in
-      ap (λ (l : List Entry). gives Split (split_shares percent q l) (moment_renamed m)) (level-renamed price m)
-      ∙ ap (λ (l : List Share). gives Split l (moment_renamed m)) (spent-renamed (q * percent / 100) level)
+      ap (λ (l : List Entry). gives Split (split_shares percent q l) (match_renamed m)) (level-renamed price m)
+      ∙ ap (λ (l : List Share). gives Split l (match_renamed m)) (spent-renamed (q * percent / 100) level)
       ∙ gives-renamed Split (split_shares percent q level) m (spent-slots (q * percent / 100) level (kept-level price m a)) a
 
   -- ---- FIFO
 
-  head-renamed : (es : List Entry) (m : Moment) → AllRenamed es → AllRenamed m.book.resting → head_gives (all_renamed es) (moment_renamed m) ≡ moment_renamed (head_gives es m)
+  head-renamed : (es : List Entry) (m : MatchState) → AllRenamed es → AllRenamed m.book.resting → head_gives (all_renamed es) (match_renamed m) ≡ match_renamed (head_gives es m)
   head-renamed [] m p a = refl
   head-renamed (e ∷ es) m p a = give-renamed Fifo e.slot (min m.taker.order.leaves e.order.shown) m p.0.0 a
 
-  kept-head : (es : List Entry) (m : Moment) → AllRenamed es → AllRenamed m.book.resting → AllRenamed (head_gives es m).book.resting
+  kept-head : (es : List Entry) (m : MatchState) → AllRenamed es → AllRenamed m.book.resting → AllRenamed (head_gives es m).book.resting
   kept-head [] m p a = a
   kept-head (e ∷ es) m p a = kept-given Fifo e.slot (min m.taker.order.leaves e.order.shown) m p.0.0 a
 
-  pub rounds-renamed : (n : ℕ) (price : Price) (m : Moment) → AllRenamed m.book.resting → fifo_rounds n price (moment_renamed m) ≡ moment_renamed (fifo_rounds n price m)
+  pub rounds-renamed : (n : ℕ) (price : Price) (m : MatchState) → AllRenamed m.book.resting → fifo_rounds n price (match_renamed m) ≡ match_renamed (fifo_rounds n price m)
   rounds-renamed zero price m a = refl
   rounds-renamed (suc n) price m a =
       let level = level_now price m in
-      ap (λ (l : List Entry). fifo_rounds n price (head_gives l (moment_renamed m))) (level-renamed price m)
+      ap (λ (l : List Entry). fifo_rounds n price (head_gives l (match_renamed m))) (level-renamed price m)
       ∙ ap (fifo_rounds n price) (head-renamed level m (kept-level price m a) a)
       ∙ rounds-renamed n price (head_gives level m) (kept-head level m (kept-level price m a) a)
 
-  pub kept-rounds : (n : ℕ) (price : Price) (m : Moment) → AllRenamed m.book.resting → AllRenamed (fifo_rounds n price m).book.resting
+  pub kept-rounds : (n : ℕ) (price : Price) (m : MatchState) → AllRenamed m.book.resting → AllRenamed (fifo_rounds n price m).book.resting
   kept-rounds zero price m a = a
   kept-rounds (suc n) price m a = kept-rounds n price (head_gives (level_now price m) m) (kept-head (level_now price m) m (kept-level price m a) a)
 
-  pub fifo-renamed : (price : Price) (m : Moment) → AllRenamed m.book.resting → fifo price (moment_renamed m) ≡ moment_renamed (fifo price m)
+  pub fifo-renamed : (price : Price) (m : MatchState) → AllRenamed m.book.resting → fifo price (match_renamed m) ≡ match_renamed (fifo price m)
   fifo-renamed price m a = rounds-renamed m.taker.order.leaves price m a
 
   -- ---- the new slots are the orders' numbers

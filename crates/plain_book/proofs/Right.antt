@@ -9,8 +9,8 @@ use Rattle.std.specs.List.{AllByRecursion}
 use Rattle.gx_base.specs.declared.order.Order.{Order}
 use Rattle.gx_base.specs.declared.order.Side.{Side}
 use Rattle.plain_book.specs.declared.entry.Entry.{Entry}
-use Rattle.plain_book.specs.Orders.{Level, level_of, HasSlot, order_of, is_on, is_before, is_behind, waits_behind, without, with_order, reordered, placed, lined_up, with_top, topped}
-use Rattle.plain_book.specs.Book.{Book, live_orders, IsRight, IsResting, IsWaiting, AllDiffer, EachPair, AreNamedApart, AreInBookOrder, AreInLine, IsTopBehind, CanBeTop, book_without, book_with_order, book_with_top, book_cleared}
+use Rattle.plain_book.specs.Orders.{Level, level_of, HasSlot, order_of, is_on, is_before, is_at_earlier_level, is_of_earlier_instrument, without, with_order, reordered, placed, lined_up, with_top, topped}
+use Rattle.plain_book.specs.Book.{Book, live_orders, IsRight, IsResting, IsWaiting, AllDiffer, EachPair, AreNamedApart, AreInBookOrder, AreInLine, AllowsTop, CanBeTop, book_without, book_with_order, book_with_top, book_cleared}
 use Rattle.plain_book.proofs.Levels.{AllDiffer-filter, AllDiffer-front, slots-apart, order_of-left, without-none, with_order-none, renewed}
 use Rattle.plain_book.proofs.Walks.{AllDiffer-with_order}
 use Rattle.plain_book.proofs.Pairs.{all-with, all-filter, all-map, all-from, all-front, all-back, pairs-filter, pairs-map}
@@ -60,7 +60,7 @@ right-without b s r h =
       named = subst (EachPair AreNamedApart) (sym live) (pairs-filter AreNamedApart p (live_orders b) r.named);
       ordered = pairs-filter AreInBookOrder p b.resting r.ordered;
       lined = pairs-filter AreInLine p b.waiting r.lined;
-      tops = pairs-filter IsTopBehind p b.resting r.tops;
+      tops = pairs-filter AllowsTop p b.resting r.tops;
       few = omega (arith, ap (λ (q : List Entry). length q) live, length-without s (live_orders b) r.differ h, r.few);
       small = r.small;
     }
@@ -76,7 +76,7 @@ waiting_as b es = record b { waiting = es }
 
 pub live-placed : (b : Book) (n : Entry) → EachPair AreInBookOrder b.resting → IsInserted n (live_orders b) (live_orders (resting_as b (placed n b.resting)))
 live-placed b n o =
-    let p = put-in is_behind book-order n b.resting o in
+    let p = put-in is_at_earlier_level book-order n b.resting o in
     record {
       front = p.front;
       back = p.back ++ b.waiting;
@@ -86,7 +86,7 @@ live-placed b n o =
 
 pub live-lined : (b : Book) (n : Entry) → EachPair AreInLine b.waiting → IsInserted n (live_orders b) (live_orders (waiting_as b (lined_up n b.waiting)))
 live-lined b n o =
-    let p = put-in waits_behind line-order n b.waiting o in
+    let p = put-in is_of_earlier_instrument line-order n b.waiting o in
     record {
       front = b.resting ++ p.front;
       back = p.back;
@@ -96,11 +96,11 @@ live-lined b n o =
 
 module _ (b : Book) (n : Entry) (r : IsRight b) (room : length (live_orders b) < b.capacity) (fresh : HasSlot n.slot (live_orders b) → ⊥) (unnamed : AllOrders (Unnamed n.order) (live_orders b)) where
   pub right-placed : IsResting b.instruments n.order
-      → AllByRecursion (λ (x : Entry). n.is_top ≡ true → is_on n.order.instrument n.order.side x ≡ true → is_behind n x ≡ true) b.resting
+      → AllByRecursion (λ (x : Entry). n.is_top ≡ true → is_on n.order.instrument n.order.side x ≡ true → is_at_earlier_level n x ≡ true) b.resting
       → AllByRecursion (NoTopBehind n) b.resting
       → IsRight (resting_as b (placed n b.resting))
   right-placed fit first none =
-      let p = put-in is_behind book-order n b.resting r.ordered in
+      let p = put-in is_at_earlier_level book-order n b.resting r.ordered in
       let ins : IsInserted n b.resting (placed n b.resting) = record { front = p.front; back = p.back; whole = p.whole; is = p.place } in
       let live = live-placed b n r.ordered in
       record {
@@ -108,7 +108,7 @@ module _ (b : Book) (n : Entry) (r : IsRight b) (room : length (live_orders b) <
         wait = r.wait;
         differ = inserted-differ live r.differ fresh;
         named = named-inserted n (live_orders b) (live_orders (resting_as b (placed n b.resting))) live r.named unnamed;
-        ordered = ordered-put is_behind book-order n b.resting r.ordered;
+        ordered = ordered-put is_at_earlier_level book-order n b.resting r.ordered;
         lined = r.lined;
         tops = tops-put n b.resting r.ordered r.tops first none;
         few = omega (arith, inserted-length live, room);
@@ -117,7 +117,7 @@ module _ (b : Book) (n : Entry) (r : IsRight b) (room : length (live_orders b) <
 
   pub right-lined : IsWaiting b.instruments n.order → IsRight (waiting_as b (lined_up n b.waiting))
   right-lined fit =
-      let p = put-in waits_behind line-order n b.waiting r.lined in
+      let p = put-in is_of_earlier_instrument line-order n b.waiting r.lined in
       let ins : IsInserted n b.waiting (lined_up n b.waiting) = record { front = p.front; back = p.back; whole = p.whole; is = p.place } in
       let live = live-lined b n r.lined in
       record {
@@ -126,7 +126,7 @@ module _ (b : Book) (n : Entry) (r : IsRight b) (room : length (live_orders b) <
         differ = inserted-differ live r.differ fresh;
         named = named-inserted n (live_orders b) (live_orders (waiting_as b (lined_up n b.waiting))) live r.named unnamed;
         ordered = r.ordered;
-        lined = ordered-put waits_behind line-order n b.waiting r.lined;
+        lined = ordered-put is_of_earlier_instrument line-order n b.waiting r.lined;
         tops = r.tops;
         few = omega (arith, inserted-length live, room);
         small = r.small;

@@ -3,7 +3,7 @@ use Rattle.std.proofs.Common.{◌≡◌, ℕ, ◌<◌, ◌≤◌, Bool, true, fa
 use Prim.Native.Nat.{zero, suc}
 use Rattle.std.specs.List.{AllByRecursion}
 use Rattle.plain_book.specs.declared.entry.Entry.{Entry}
-use Rattle.plain_book.specs.Orders.{level_of, is_behind, waits_behind, entry_at, HasSlot}
+use Rattle.plain_book.specs.Orders.{level_of, is_at_earlier_level, is_of_earlier_instrument, entry_at, HasSlot}
 use Rattle.plain_book.specs.Book.{EachPair, AllDiffer}
 use Rattle.plain_book.proofs.Pairs.{pairs-insert, all-insert}
 use Rattle.plain_book.proofs.Before.{before-past, before-apart, nat-past, nat-apart}
@@ -14,13 +14,13 @@ pub record Orders (before : Entry → Entry → Bool) : Type 0 where
   pub past : (a b c : Entry) → before a b ≡ true → before c b ≡ false → before a c ≡ true
   pub apart : (a b : Entry) → before a b ≡ true → before b a ≡ false
 
-pub book-order : Orders is_behind
+pub book-order : Orders is_at_earlier_level
 book-order = record {
   past = λ a b c h g. before-past (level_of a.order) (level_of b.order) (level_of c.order) h g;
   apart = λ a b h. before-apart (level_of a.order) (level_of b.order) h;
 }
 
-pub line-order : Orders waits_behind
+pub line-order : Orders is_of_earlier_instrument
 line-order = record {
   past = λ a b c h g. nat-past a.order.instrument b.order.instrument c.order.instrument h g;
   apart = λ a b h. nat-apart a.order.instrument b.order.instrument h;

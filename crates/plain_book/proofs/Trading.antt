@@ -12,7 +12,7 @@ use Rattle.gx_base.specs.Emits.{EmitMeanings, Puts, Emits}
 use Rattle.gx_base.proofs.Putting.{emits_joined, emits_one}
 use Rattle.plain_book.specs.Orders.{HasSlot, order_of, filled_by}
 use Rattle.plain_book.specs.Book.{Book, book_traded, book_with_order}
-use Rattle.plain_book.specs.Match.{next_head, reported, fill, taken_by, CanTrade}
+use Rattle.plain_book.specs.Match.{next_head, report_counted, fill, taken_by, CanTrade}
 use Rattle.plain_book.specs.Keeping.{KeepsRoom}
 use Rattle.plain_book.proofs.Live.{unnamed-traded, unnamed-with_order}
 
@@ -26,7 +26,7 @@ counted_line (x ∷ lines) (suc firm) (suc i) = counted_line lines firm i
 
 -- the counters after a trade whose two reports go to these firms
 abbrev pub counted : Desk → ℕ → ℕ → Desk
-counted desk a b = reported (reported (record desk { trades = desk.trades + 1 }) a) b
+counted desk a b = report_counted (report_counted (record desk { trades = desk.trades + 1 }) a) b
 
 pub keeps-traded : (desk : Desk) (a b wanted lots : ℕ) → 1 ≤ lots → lots ≤ wanted → KeepsRoom desk wanted (counted desk a b) (wanted - lots)
 keeps-traded desk a b wanted lots some le =
@@ -56,18 +56,18 @@ keeps-then a b c i j k f g = record {
 -- the two reports of a trade
 pub two_fills : (step : StepName) (lots number n1 n2 : ℕ) (desk desk' : Desk) (time : List ℕ) (resting given taken : Order) (h1 h2 : Head) (e1 e2 : Event)
     → given ≡ filled_by lots resting
-    → h1 ≡ next_head desk given.firm time → desk' ≡ reported desk given.firm → h2 ≡ next_head desk' taken.firm time
+    → h1 ≡ next_head desk given.firm time → desk' ≡ report_counted desk given.firm → h2 ≡ next_head desk' taken.firm time
     → n1 ≡ number → n2 ≡ number
     → e1 ≡ Fill h1 given lots given.price step n1 → e2 ≡ Fill h2 taken lots given.price step n2
-    → e1 ∷ (e2 ∷ []) ≡ fill lots resting.price step number (next_head desk resting.firm time) (filled_by lots resting) ∷ (fill lots resting.price step number (next_head (reported desk resting.firm) taken.firm time) taken ∷ [])
+    → e1 ∷ (e2 ∷ []) ≡ fill lots resting.price step number (next_head desk resting.firm time) (filled_by lots resting) ∷ (fill lots resting.price step number (next_head (report_counted desk resting.firm) taken.firm time) taken ∷ [])
 two_fills step lots number n1 n2 desk desk' time resting given taken h1 h2 e1 e2 g a d b m1 m2 x y =
     let firm : given.firm ≡ resting.firm = ap (λ (o : Order). o.firm) g in
     let price : given.price ≡ resting.price = ap (λ (o : Order). o.price) g in
     let first : e1 ≡ Fill (next_head desk resting.firm time) (filled_by lots resting) lots resting.price step number =
     x ∙ ap (λ n. Fill h1 given lots given.price step n) m1 ∙ ap (λ (o : Order). Fill h1 o lots o.price step number) g ∙ ap (λ (h : Head). Fill h (filled_by lots resting) lots resting.price step number) (a ∙ ap (λ f. next_head desk f time) firm) in
-    let second : e2 ≡ Fill (next_head (reported desk resting.firm) taken.firm time) taken lots resting.price step number =
+    let second : e2 ≡ Fill (next_head (report_counted desk resting.firm) taken.firm time) taken lots resting.price step number =
     y ∙ ap (λ n. Fill h2 taken lots given.price step n) m2 ∙ ap (λ (p : Price). Fill h2 taken lots p step number) price
-    ∙ ap (λ (h : Head). Fill h taken lots resting.price step number) (b ∙ ap (λ (k : Desk). next_head k taken.firm time) (d ∙ ap (λ f. reported desk f) firm)) in
+    ∙ ap (λ (h : Head). Fill h taken lots resting.price step number) (b ∙ ap (λ (k : Desk). next_head k taken.firm time) (d ∙ ap (λ f. report_counted desk f) firm)) in
     ap (λ (e : Event). e ∷ (e2 ∷ [])) first ∙ ap (λ (e : Event). Fill (next_head desk resting.firm time) (filled_by lots resting) lots resting.price step number ∷ (e ∷ [])) second
 
 pub emits_two : {E : Type 0} (m : EmitMeanings E) (a b c : E) (x y : Event) → Puts m a b x → Puts m b c y → Emits m a c (x ∷ (y ∷ []))

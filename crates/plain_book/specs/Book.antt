@@ -7,7 +7,7 @@ use Rattle.gx_base.specs.declared.order.Life.TheVariants.{Day, Gtc}
 use Rattle.gx_base.specs.declared.order.Order.{Order}
 use Rattle.gx_base.specs.declared.order.Slot.{Slot}
 use Rattle.plain_book.specs.declared.entry.Entry.{Entry}
-use Rattle.plain_book.specs.Orders.{HasSlot, order_of, side_of, best_of, is_named, is_behind, waits_behind, is_on, placed, lined_up, traded, with_order, without, is_new_best, with_top}
+use Rattle.plain_book.specs.Orders.{HasSlot, order_of, side_of, best_of, is_named, is_at_earlier_level, is_of_earlier_instrument, is_on, placed, lined_up, traded, with_order, without, is_new_best, with_top}
 
 -- what a book has
 pub record Book : Type 0 where
@@ -155,15 +155,15 @@ AreNamedApart a b = is_named a.order.firm a.order.id b ≡ false
 
 -- a stands before b, and nothing says that it should stand behind it
 abbrev pub AreInBookOrder : Entry → Entry → Type 0
-AreInBookOrder a b = is_behind b a ≡ false
+AreInBookOrder a b = is_at_earlier_level b a ≡ false
 
 abbrev pub AreInLine : Entry → Entry → Type 0
-AreInLine a b = waits_behind b a ≡ false
+AreInLine a b = is_of_earlier_instrument b a ≡ false
 
 -- b, which stands behind a on the same side, is TOP only where a has the same price and is not TOP. So TOP is at the best
 -- price of its side, and the only one there.
-abbrev pub IsTopBehind : Entry → Entry → Type 0
-IsTopBehind a b = b.is_top ≡ true → is_on b.order.instrument b.order.side a ≡ true → (a.is_top ≡ false) × (a.order.price ≡ b.order.price)
+abbrev pub AllowsTop : Entry → Entry → Type 0
+AllowsTop a b = b.is_top ≡ true → is_on b.order.instrument b.order.side a ≡ true → (a.is_top ≡ false) × (a.order.price ≡ b.order.price)
 
 pub record IsRight (b : Book) : Type 0 where
   pub rest : AllRest b.instruments b.resting
@@ -172,6 +172,6 @@ pub record IsRight (b : Book) : Type 0 where
   pub named : EachPair AreNamedApart (live_orders b)
   pub ordered : EachPair AreInBookOrder b.resting
   pub lined : EachPair AreInLine b.waiting
-  pub tops : EachPair IsTopBehind b.resting
+  pub tops : EachPair AllowsTop b.resting
   pub few : length (live_orders b) ≤ b.capacity
   pub small : b.capacity < 2 ^ 32

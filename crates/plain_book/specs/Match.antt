@@ -12,14 +12,14 @@ use Rattle.plain_book.specs.Orders.{order_of, filled_by, is_live}
 use Rattle.plain_book.specs.Book.{Book, live_orders, book_traded}
 
 -- a moment of a match, with the events from its start on
-pub record Moment : Type 0 where
+pub record MatchState : Type 0 where
   pub book : Book
   pub desk : Desk
   pub taker : Taker
   pub events : List Event
 
-abbrev pub moment : Book → Desk → Taker → Moment
-moment book desk taker = record { book = book; desk = desk; taker = taker; events = [] }
+abbrev pub match_start : Book → Desk → Taker → MatchState
+match_start book desk taker = record { book = book; desk = desk; taker = taker; events = [] }
 
 -- ---- reports
 
@@ -28,13 +28,13 @@ abbrev pub next_head : Desk → ℕ → List ℕ → Head
 next_head desk firm time = record { firm = Some firm; line = slice_index desk.lines firm + 1; report = desk.reports + 1; time = time }
 
 -- the counters after it
-abbrev pub reported : Desk → ℕ → Desk
-reported desk firm = record desk { reports = desk.reports + 1; lines = slice_set desk.lines firm (slice_index desk.lines firm + 1) }
+abbrev pub report_counted : Desk → ℕ → Desk
+report_counted desk firm = record desk { reports = desk.reports + 1; lines = slice_set desk.lines firm (slice_index desk.lines firm + 1) }
 
 -- an execution report on an order goes to the order's firm
-abbrev pub report : (Head → Order → Event) → Order → Moment → Moment
+abbrev pub report : (Head → Order → Event) → Order → MatchState → MatchState
 report event o m = record m {
-  desk = reported m.desk o.firm;
+  desk = report_counted m.desk o.firm;
   events = m.events ++ event (next_head m.desk o.firm m.taker.time) o ∷ [];
 }
 
@@ -60,7 +60,7 @@ fill lots price step trade head o = Fill head o lots price step trade
 
 -- The order of a slot gives lots to the incoming one, at its own price. Its report comes first, and shows it before it is
 -- refreshed.
-abbrev pub trade : StepName → ℕ → ℕ → Moment → Moment
+abbrev pub trade : StepName → ℕ → ℕ → MatchState → MatchState
 trade step slot lots m =
     let resting = order_of slot m.book.resting in
     let given = filled_by lots resting in
@@ -74,7 +74,7 @@ trade step slot lots m =
     report (fill lots resting.price step number) taken (report (fill lots resting.price step number) given traded)
 
 -- a share of 0 gives no trade
-abbrev pub give : StepName → ℕ → ℕ → Moment → Moment
+abbrev pub give : StepName → ℕ → ℕ → MatchState → MatchState
 give step slot lots m = if lots == 0 then m else trade step slot lots m
 
 -- a slot, and the lots that its order gives
@@ -82,14 +82,14 @@ abbrev pub Share : Type 0
 Share = ℕ × ℕ
 
 -- one share after the other
-abbrev pub gives : StepName → List Share → Moment → Moment
+abbrev pub gives : StepName → List Share → MatchState → MatchState
 gives step [] m = m
 gives step (share ∷ shares) m = gives step shares (give step share.0 share.1 m)
 
 -- ---- what a function that takes part in a match says of its arguments
 
 -- the book, the counters and the incoming order are those of a moment
-pub record IsNow (m : Moment) (b : Book) (d : Desk) (t : Taker) : Type 0 where
+pub record IsNow (m : MatchState) (b : Book) (d : Desk) (t : Taker) : Type 0 where
   pub book : b ≡ m.book
   pub desk : d ≡ m.desk
   pub taker : t ≡ m.taker

@@ -2,7 +2,7 @@
 use Rattle.std.specs.Prelude.{List, map}
 use Rattle.plain_book.specs.declared.entry.Entry.{Entry}
 use Rattle.plain_book.specs.Book.{Book}
-use Rattle.plain_book.specs.Match.{Moment}
+use Rattle.plain_book.specs.Match.{MatchState}
 
 abbrev pub by_number : Entry → Entry
 by_number e = record e { slot = e.order.number }
@@ -13,5 +13,5 @@ numbered es = map by_number es
 abbrev pub book_numbered : Book → Book
 book_numbered b = record b { resting = numbered b.resting; waiting = numbered b.waiting }
 
-abbrev pub moment_numbered : Moment → Moment
-moment_numbered m = record m { book = book_numbered m.book }
+abbrev pub match_numbered : MatchState → MatchState
+match_numbered m = record m { book = book_numbered m.book }

@@ -175,20 +175,20 @@ is_before a b =
     || ((a.instrument == b.instrument) && (side_before a.side b.side || (is_side a.side b.side && is_better a.side a.price b.price)))
 
 -- e comes behind n
-abbrev pub is_behind : Entry → Entry → Bool
-is_behind n e = is_before (level_of n.order) (level_of e.order)
+abbrev pub is_at_earlier_level : Entry → Entry → Bool
+is_at_earlier_level n e = is_before (level_of n.order) (level_of e.order)
 
 -- n is put behind every order whose instrument, side and price come before or equal its own
 abbrev pub placed : Entry → List Entry → List Entry
-placed n es = filter (λ e. not (is_behind n e)) es ++ n ∷ filter (is_behind n) es
+placed n es = filter (λ e. not (is_at_earlier_level n e)) es ++ n ∷ filter (is_at_earlier_level n) es
 
 -- a stop of a later instrument
-abbrev pub waits_behind : Entry → Entry → Bool
-waits_behind n e = nat_lt n.order.instrument e.order.instrument
+abbrev pub is_of_earlier_instrument : Entry → Entry → Bool
+is_of_earlier_instrument n e = nat_lt n.order.instrument e.order.instrument
 
 -- n is put behind the stops of its instrument, and of those before it
 abbrev pub lined_up : Entry → List Entry → List Entry
-lined_up n es = filter (λ e. not (waits_behind n e)) es ++ n ∷ filter (waits_behind n) es
+lined_up n es = filter (λ e. not (is_of_earlier_instrument n e)) es ++ n ∷ filter (is_of_earlier_instrument n) es
 
 -- ---- TOP: the order that bettered the market, which a mark names
 

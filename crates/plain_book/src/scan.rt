@@ -1,7 +1,7 @@
 //! What is read from lists of live orders.
 ghost use Rattle.std.specs.Prelude.{◌≡◌, ◌<◌, ◌≤◌, ◌^◌, ◌++◌, ℕ, true, false, length, nat_lt, option_map};
 ghost use Rattle.std.specs.Ordering.{int_eq};
-ghost use Rattle.plain_book.specs.Orders.{is_side, side_before, is_better, is_within, is_on, is_at, is_of, is_slot, is_named, is_before, level, level_of, best_of, worse_of, orders_at, stops_of, slot_of, slot_after, slot_named, order_of, HasSlot, shown_at, open_within, top_of, is_behind, waits_behind, entry_at};
+ghost use Rattle.plain_book.specs.Orders.{is_side, side_before, is_better, is_within, is_on, is_at, is_of, is_slot, is_named, is_before, level, level_of, best_of, worse_of, orders_at, stops_of, slot_of, slot_after, slot_named, order_of, HasSlot, shown_at, open_within, top_of, is_at_earlier_level, is_of_earlier_instrument, entry_at};
 ghost use Rattle.plain_book.specs.Book.{slot_number};
 
 use crate::entry::Entry;
@@ -273,8 +273,8 @@ fn comes_before(a: &Order, b: &Order) -> bool
 /// Where an order is put in: before the first one that it comes before.
 pub(crate) fn place_of(entries: &[Entry], entry: &Entry) -> usize
     ensures within { result ≤ length entries.now }
-    ensures before { (k : ℕ) → k < result → is_behind entry.now (entry_at entries.now k) ≡ false }
-    ensures here { result < length entries.now → is_behind entry.now (entry_at entries.now result) ≡ true }
+    ensures before { (k : ℕ) → k < result → is_at_earlier_level entry.now (entry_at entries.now k) ≡ false }
+    ensures here { result < length entries.now → is_at_earlier_level entry.now (entry_at entries.now result) ≡ true }
 {
     for (i, other) in entries.iter().enumerate() {
         if comes_before(&entry.order, &other.order) {
@@ -287,8 +287,8 @@ pub(crate) fn place_of(entries: &[Entry], entry: &Entry) -> usize
 /// Where a stop is put in: before the first one of a later instrument.
 pub(crate) fn stop_place_of(entries: &[Entry], entry: &Entry) -> usize
     ensures within { result ≤ length entries.now }
-    ensures before { (k : ℕ) → k < result → waits_behind entry.now (entry_at entries.now k) ≡ false }
-    ensures here { result < length entries.now → waits_behind entry.now (entry_at entries.now result) ≡ true }
+    ensures before { (k : ℕ) → k < result → is_of_earlier_instrument entry.now (entry_at entries.now k) ≡ false }
+    ensures here { result < length entries.now → is_of_earlier_instrument entry.now (entry_at entries.now result) ≡ true }
 {
     for (i, other) in entries.iter().enumerate() {
         if entry.order.instrument < other.order.instrument {

@@ -3,7 +3,7 @@ ghost use Rattle.std.specs.Prelude.{◌≡◌, ◌≤◌, ◌<◌, ◌+◌, ◌^
 ghost use Rattle.gx_base.specs.Emits.{Emits};
 ghost use Rattle.plain_book.specs.Orders.{HasSlot, order_of, orders_at, slot_of, opposite};
 ghost use Rattle.plain_book.specs.Book.{slot_number};
-ghost use Rattle.plain_book.specs.Match.{moment, trade, give, lower, higher, lengthened, next_head, reported, taken_by, IsNow, CanTrade};
+ghost use Rattle.plain_book.specs.Match.{match_start, trade, give, lower, higher, lengthened, next_head, report_counted, taken_by, IsNow, CanTrade};
 ghost use Rattle.plain_book.specs.Steps.{facing, give_marked};
 ghost use Rattle.plain_book.specs.Keeping.{KeepsRoom};
 
@@ -37,7 +37,7 @@ pub fn count_report(desk: &mut Desk, firm: u8, time: Stamp) -> Head
     requires reports { desk.old.reports < 2 ^ 63 }
     requires lines { slice_index desk.old.lines firm < 2 ^ 63 }
     ensures head { result ≡ next_head desk.old firm time }
-    ensures desk { desk.new ≡ reported desk.old firm }
+    ensures desk { desk.new ≡ report_counted desk.old firm }
 {
     desk.reports += 1;
     desk.lines[firm as usize] += 1;
@@ -109,8 +109,8 @@ pub fn trade_lots<B: Book, E: Emit>(
     requires shown { lots ≤ (order_of slot.0 (B.book book.old).resting).shown }
     requires wanted { lots ≤ taker.old.order.leaves }
     requires can { CanTrade (B.book book.old) desk.old taker.old }
-    ensures now { IsNow (trade step slot.0 lots (moment (B.book book.old) desk.old taker.old)) (B.book book.new) desk.new taker.new }
-    ensures told { Emits E.meanings out.old out.new (trade step slot.0 lots (moment (B.book book.old) desk.old taker.old)).events }
+    ensures now { IsNow (trade step slot.0 lots (match_start (B.book book.old) desk.old taker.old)) (B.book book.new) desk.new taker.new }
+    ensures emits { Emits E.meanings out.old out.new (trade step slot.0 lots (match_start (B.book book.old) desk.old taker.old)).events }
     ensures can { CanTrade (B.book book.new) desk.new taker.new }
     ensures keeps { KeepsRoom desk.old taker.old.order.leaves desk.new taker.new.order.leaves }
 {
@@ -142,8 +142,8 @@ pub fn give_lots<B: Book, E: Emit>(
     requires shown { lots ≤ (order_of slot.0 (B.book book.old).resting).shown }
     requires wanted { lots ≤ taker.old.order.leaves }
     requires can { CanTrade (B.book book.old) desk.old taker.old }
-    ensures now { IsNow (give step slot.0 lots (moment (B.book book.old) desk.old taker.old)) (B.book book.new) desk.new taker.new }
-    ensures told { Emits E.meanings out.old out.new (give step slot.0 lots (moment (B.book book.old) desk.old taker.old)).events }
+    ensures now { IsNow (give step slot.0 lots (match_start (B.book book.old) desk.old taker.old)) (B.book book.new) desk.new taker.new }
+    ensures emits { Emits E.meanings out.old out.new (give step slot.0 lots (match_start (B.book book.old) desk.old taker.old)).events }
     ensures can { CanTrade (B.book book.new) desk.new taker.new }
     ensures keeps { KeepsRoom desk.old taker.old.order.leaves desk.new taker.new.order.leaves }
 {
@@ -165,8 +165,8 @@ pub fn give_marked<B: Book, E: Emit>(
     requires shown { lots ≤ (order_of slot.0 (B.book book.old).resting).shown }
     requires wanted { lots ≤ taker.old.order.leaves }
     requires can { CanTrade (B.book book.old) desk.old taker.old }
-    ensures now { IsNow (give_marked slot.0 lots (moment (B.book book.old) desk.old taker.old)) (B.book book.new) desk.new taker.new }
-    ensures told { Emits E.meanings out.old out.new (give_marked slot.0 lots (moment (B.book book.old) desk.old taker.old)).events }
+    ensures now { IsNow (give_marked slot.0 lots (match_start (B.book book.old) desk.old taker.old)) (B.book book.new) desk.new taker.new }
+    ensures emits { Emits E.meanings out.old out.new (give_marked slot.0 lots (match_start (B.book book.old) desk.old taker.old)).events }
     ensures can { CanTrade (B.book book.new) desk.new taker.new }
     ensures keeps { KeepsRoom desk.old taker.old.order.leaves desk.new taker.new.order.leaves }
 {

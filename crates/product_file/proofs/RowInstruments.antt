@@ -13,7 +13,7 @@ use Rattle.product_file.specs.Keys.{word_of}
 use Rattle.product_file.specs.Values.{text_in, entries_in, text_at, entries_at}
 use Rattle.product_file.specs.Rows.{always, optional, only_where, a_text, an_integer, texts, tables, Row, row, fault_if, first_fault, unless_fault, is_table, row_fault}
 use Rattle.product_file.specs.Ranges.{any, from, a_name, has_entries, at_most}
-use Rattle.product_file.specs.ProductRows.{nothing, unless_new, a_new_name, a_letter, step_names, shares_of_firms, has_own_list, lists_split, steps_fault, instrument_fault, instruments_of_firms}
+use Rattle.product_file.specs.ProductRows.{nothing, unless_new, a_new_name, a_letter, step_names, shares_of_firms, has_configured_list, lists_split, steps_fault, instrument_fault, instruments_of_firms}
 use Rattle.product_file.specs.ProductValues.{listed_in, rule_in}
 use Rattle.product_file.specs.Inner.Keys.{◌>>=◌, where_passes, text_of, needed, needed_number, array_of}
 use Rattle.product_file.specs.Inner.Instruments.{new_name_of, listed_of, rule_of, InstrumentLists, instruments_after, tables_of, instruments_of}
@@ -85,7 +85,7 @@ module _ (firms : List (List ℕ)) where
       (fault (row Least optional an_integer (from 1 999999) nothing))
       (fault (row Split (only_where lists_split) an_integer (from 1 100) nothing))
       (fault (row Lmm optional tables (at_most 8) (shares_of_firms firms)))
-      (fault (row Steps (only_where has_own_list) texts any step_names))
+      (fault (row Steps (only_where has_configured_list) texts any step_names))
       (steps_fault firms fields)
 
   abbrev pub lists_in : List Data → InstrumentLists

@@ -16,8 +16,8 @@ use Rattle.product_file.specs.Keys.{word_of}
 use Rattle.product_file.specs.Values.{text_in, texts_in, number_in, entries_in, texts_at, number_at}
 use Rattle.product_file.specs.Rows.{always, optional, only_where, a_text, an_integer, texts, tables, row, fault_if, first_fault, unless_fault, is_text, row_fault}
 use Rattle.product_file.specs.Ranges.{any, from, at_most}
-use Rattle.product_file.specs.Letters.{letter_of, is_own, is_step_name}
-use Rattle.product_file.specs.ProductRows.{nothing, a_letter, step_names, shares_of_firms, has_own_list, lists_split, steps_fault}
+use Rattle.product_file.specs.Letters.{letter_of, is_configurable, is_step_name}
+use Rattle.product_file.specs.ProductRows.{nothing, a_letter, step_names, shares_of_firms, has_configured_list, lists_split, steps_fault}
 use Rattle.product_file.specs.ProductValues.{letter_in, top_in, least_in, shares_in, steps_of_letter, steps_in, rule_in}
 use Rattle.product_file.specs.Inner.Keys.{where_passes, text_of, needed_number, number_if, array_of}
 use Rattle.product_file.specs.Inner.Shares.{shares_of}
@@ -48,7 +48,7 @@ split_named None = refl
 split_named (Some v) = sym (list_any-map (λ name. bytes_eq name (codes "SPLIT")) text_in (entries_in v))
 
 same_need : (fields : Data) → needs_split (letter_in fields) fields ≡ lists_split fields
-same_need fields = ap (λ (test : Bool). has_own_list fields && test) (split_named (get (word_of Steps) fields))
+same_need fields = ap (λ (test : Bool). has_configured_list fields && test) (split_named (get (word_of Steps) fields))
 
 split_row : (fields : Data) → number_if (needs_split (letter_in fields) fields) Split 1 100 fields ≡ unless_fault (row_fault fields (row Split (only_where lists_split) an_integer (from 1 100) nothing)) (option_map number_in (get (word_of Split) fields))
 split_row fields = ap (λ (is_needed : Bool). number_if is_needed Split 1 100 fields) (same_need fields) ∙ number_where lists_split Split 1 100 fields
@@ -86,12 +86,12 @@ all_named : (test : Bool) (names : List (List ℕ)) → ◌≡◌ {A = Result (L
 all_named true names = refl
 all_named false names = refl
 
-names_row : (fields : Data) → step_names_of (letter_in fields) fields ≡ unless_fault (row_fault fields (row Steps (only_where has_own_list) texts any step_names)) (texts_at Steps fields)
+names_row : (fields : Data) → step_names_of (letter_in fields) fields ≡ unless_fault (row_fault fields (row Steps (only_where has_configured_list) texts any step_names)) (texts_at Steps fields)
 unfolding step_names_of
 names_row fields =
-    at_optional_checked Steps (only_where has_own_list) texts any step_names (array_of is_text) entries_in (texts_kind Steps)
+    at_optional_checked Steps (only_where has_configured_list) texts any step_names (array_of is_text) entries_in (texts_kind Steps)
     (λ entries. where_passes (list_all is_step_name) UnknownLetter (map text_in entries)) (λ o. unwrap_or (option_map texts_in o) [])
-    (λ v. all_named (list_all is_step_name (texts_in v)) (texts_in v)) refl (is_own (letter_in fields)) (get (word_of Steps) fields)
+    (λ v. all_named (list_all is_step_name (texts_in v)) (texts_in v)) refl (is_configurable (letter_in fields)) (get (word_of Steps) fields)
 
 right_or_fault : (steps : List Step) (o : Option StepFault) → or_steps_fault (or_fault steps o) ≡ unless_fault (option_map fault.Steps o) steps
 right_or_fault steps None = refl
@@ -121,7 +121,7 @@ rule_fault firms fields =
     ∷ row_fault fields (row Protection always an_integer (from 0 10000) nothing)
     ∷ row_fault fields (row Algorithm always a_text any a_letter)
     ∷ parameters_fault firms fields
-    ∷ row_fault fields (row Steps (only_where has_own_list) texts any step_names)
+    ∷ row_fault fields (row Steps (only_where has_configured_list) texts any step_names)
     ∷ steps_fault firms fields
     ∷ [])
 

@@ -17,9 +17,9 @@ letter_of text =
     else None))))))
 
 -- whether a letter stands for the list of steps that the file gives, and for none of its own
-abbrev pub is_own : Letter → Bool
-is_own K = true
-is_own letter = false
+abbrev pub is_configurable : Letter → Bool
+is_configurable K = true
+is_configurable letter = false
 
 -- the least part of a PRORATA step, in lots, where the file gives none
 abbrev pub usual_least : Letter → ℕ

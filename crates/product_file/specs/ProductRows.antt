@@ -11,7 +11,7 @@ use Rattle.product_file.specs.declared.faults.Key.TheVariants.{Exchange, Firms, 
 use Rattle.product_file.specs.Values.{text_in, texts_in, entries_in, text_at, texts_at}
 use Rattle.product_file.specs.Rows.{always, optional, only_where, a_text, an_integer, texts, tables, Row, row, fault_if, first_fault, first_of_each, table_fault}
 use Rattle.product_file.specs.Ranges.{any, from, a_name, has_entries, at_most, firm_names}
-use Rattle.product_file.specs.Letters.{letter_of, is_own, is_step_name}
+use Rattle.product_file.specs.Letters.{letter_of, is_configurable, is_step_name}
 use Rattle.product_file.specs.ProductValues.{letter_in, number_of_firm, steps_in}
 
 -- ---- further rules
@@ -67,12 +67,12 @@ shares_of_firms firms value = first_of_each (share_fault firms) (entries_in valu
 -- ---- an instrument's table, with the names of the tables before it
 
 -- whether the letter is K, whose list of steps the file gives
-abbrev pub has_own_list : Data → Bool
-has_own_list fields = is_own (letter_in fields)
+abbrev pub has_configured_list : Data → Bool
+has_configured_list fields = is_configurable (letter_in fields)
 
 -- whether the letter is K, and `steps` is an array that has the text SPLIT
 abbrev pub lists_split : Data → Bool
-lists_split fields = has_own_list fields && list_any (λ name. bytes_eq name (codes "SPLIT")) (texts_at Steps fields)
+lists_split fields = has_configured_list fields && list_any (λ name. bytes_eq name (codes "SPLIT")) (texts_at Steps fields)
 
 -- a row: key, need, kind, range, further rule
 abbrev pub instrument_rows : List (List ℕ) → List (List ℕ) → List Row
@@ -87,7 +87,7 @@ instrument_rows firms earlier =
     ∷ row Least optional an_integer (from 1 999999) nothing
     ∷ row Split (only_where lists_split) an_integer (from 1 100) nothing
     ∷ row Lmm optional tables (at_most 8) (shares_of_firms firms)
-    ∷ row Steps (only_where has_own_list) texts any step_names
+    ∷ row Steps (only_where has_configured_list) texts any step_names
     ∷ []
 
 -- the fault of the list of steps that an instrument's orders go through

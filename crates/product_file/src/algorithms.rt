@@ -5,7 +5,7 @@ ghost use Rattle.toml.specs.View.{view};
 ghost use Rattle.toml.specs.Data.{get};
 ghost use Rattle.product_file.specs.declared.faults.Key.TheVariants.{Steps};
 ghost use Rattle.product_file.specs.Keys.{word_of};
-ghost use Rattle.product_file.specs.Letters.{letter_of, is_own, usual_least};
+ghost use Rattle.product_file.specs.Letters.{letter_of, is_configurable, usual_least};
 ghost use Rattle.product_file.specs.Inner.Algorithms.{algorithm_of, is_split, has_split, needs_split, parameters_of};
 
 use crate::faults::{Key, ProductFault};
@@ -56,8 +56,8 @@ fn letter_of(text: &str) -> Option<Letter>
 }
 
 /// Whether a letter stands for the list of steps that the file gives, and for none of its own.
-pub(crate) fn is_own(letter: Letter) -> bool
-    ensures { result ≡ is_own letter }
+pub(crate) fn is_configurable(letter: Letter) -> bool
+    ensures { result ≡ is_configurable letter }
 {
     matches!(letter, Letter::K)
 }
@@ -104,7 +104,7 @@ fn usual_least(letter: Letter) -> u32
 fn needs_split(letter: Letter, table: &Value) -> bool
     ensures { result ≡ needs_split letter (view table.now) }
 {
-    is_own(letter) && has_split(table)
+    is_configurable(letter) && has_split(table)
 }
 
 /// Whether the list of steps is an array that has the text SPLIT.

@@ -8,7 +8,7 @@ ghost use Rattle.product_file.specs.Inner.Keys.{map_ok};
 ghost use Rattle.product_file.specs.Inner.StepLists.{step_named, step_names_of, letter_steps};
 ghost use Rattle.step_config.specs.Rules.{steps_of};
 
-use crate::algorithms::{Parameters, is_own};
+use crate::algorithms::{Parameters, is_configurable};
 use crate::faults::{Key, ProductFault};
 use crate::keys::{text_in, texts_if};
 use arrayvec::ArrayVec;
@@ -21,7 +21,7 @@ use toml::Value;
 pub(crate) fn step_names_of(letter: Letter, table: &Value) -> Result<&[Value], ProductFault>
     ensures { map_ok (λ vs. map text_in (map view vs.now)) result ≡ step_names_of letter (view table.now) }
 {
-    let entries = texts_if(is_own(letter), table, Key::Steps)?;
+    let entries = texts_if(is_configurable(letter), table, Key::Steps)?;
     if are_step_names(entries) {
         Ok(entries)
     } else {

@@ -10,45 +10,45 @@ use Rattle.gx_base.proofs.Putting.{emits_joined}
 use Rattle.plain_book.specs.declared.entry.Entry.{Entry}
 use Rattle.plain_book.specs.Orders.{Level}
 use Rattle.plain_book.specs.Book.{Book, AllDiffer}
-use Rattle.plain_book.specs.Match.{Moment, moment, Share, IsNow}
+use Rattle.plain_book.specs.Match.{MatchState, match_start, Share, IsNow}
 use Rattle.plain_book.specs.Steps.{prorata_share, give_marked, gives_marked}
 use Rattle.plain_book.proofs.Walks.{Stands, Remains}
-use Rattle.plain_book.proofs.Steps.{moment_with, give_marked-events, give_marked-remains, give-leaves, marked}
+use Rattle.plain_book.proofs.Steps.{match_with, give_marked-events, give_marked-remains, give-leaves, marked}
 use Rattle.prorata_pass.proofs.Floors.{shown_of, share_in}
 
 abbrev pub shares_by : (Entry → ℕ) → List Entry → List Share
 shares_by share es = map (λ (e : Entry). (e.slot, share e)) es
 
 -- at the moment b, d, t, what is left of the walk leads to the end, and what is left to give is still wanted
-pub record IsGoing {E : Type 0} (m : EmitMeanings E) (start now : E) (k : Level) (share : Entry → ℕ) (total : ℕ) (end : Moment) (rest : List Entry) (b : Book) (d : Desk) (t : Taker) : Type 0 where
+pub record IsGoing {E : Type 0} (m : EmitMeanings E) (start now : E) (k : Level) (share : Entry → ℕ) (total : ℕ) (end : MatchState) (rest : List Entry) (b : Book) (d : Desk) (t : Taker) : Type 0 where
   pub events : List Event
-  pub told : Emits m start now events
-  pub leads : gives_marked (shares_by share rest) (moment_with b d t events) ≡ end
+  pub emits : Emits m start now events
+  pub leads : gives_marked (shares_by share rest) (match_with b d t events) ≡ end
   pub remains : Remains k b.resting rest
   pub enough : sum_by share rest ≤ t.order.leaves
   pub shows : sum_by shown_of rest ≤ total
 
-module _ {E : Type 0} (m : EmitMeanings E) (start : E) (k : Level) (share : Entry → ℕ) (total : ℕ) (end : Moment) where
+module _ {E : Type 0} (m : EmitMeanings E) (start : E) (k : Level) (share : Entry → ℕ) (total : ℕ) (end : MatchState) where
   pub going-more : (now next : E) (e : Entry) (rest : List Entry) (b b' : Book) (d d' : Desk) (t t' : Taker)
       → AllDiffer b.resting
       → IsGoing m start now k share total end (e ∷ rest) b d t
-      → IsNow (give_marked e.slot (share e) (moment b d t)) b' d' t'
-      → Emits m now next (give_marked e.slot (share e) (moment b d t)).events
+      → IsNow (give_marked e.slot (share e) (match_start b d t)) b' d' t'
+      → Emits m now next (give_marked e.slot (share e) (match_start b d t)).events
       → IsGoing m start next k share total end rest b' d' t'
-  going-more now next e rest b b' d d' t t' differ g is told =
+  going-more now next e rest b b' d d' t t' differ g is emits =
       let r = g.remains in
       let s : Stands k b.resting r.before e (rest ++ r.behind) = record { differ = differ; is = r.is } in
-      let m' = give_marked e.slot (share e) (moment b d t) in
+      let m' = give_marked e.slot (share e) (match_start b d t) in
       let evs = g.events ++ m'.events in
-      let same : moment_with b' d' t' evs ≡ give_marked e.slot (share e) (moment_with b d t g.events) =
-      ap (λ (x : Book). moment_with x d' t' evs) is.book ∙ ap (λ (x : Desk). moment_with m'.book x t' evs) is.desk ∙ ap (λ (x : Taker). moment_with m'.book m'.desk x evs) is.taker
+      let same : match_with b' d' t' evs ≡ give_marked e.slot (share e) (match_with b d t g.events) =
+      ap (λ (x : Book). match_with x d' t' evs) is.book ∙ ap (λ (x : Desk). match_with m'.book x t' evs) is.desk ∙ ap (λ (x : Taker). match_with m'.book m'.desk x evs) is.taker
       ∙ sym (give_marked-events e.slot (share e) b d t g.events) in
-      let left : t'.order.leaves ≡ t.order.leaves - share e = ap (λ (x : Taker). x.order.leaves) is.taker ∙ give-leaves ProRata e.slot (share e) (record (moment b d t) { book = marked e.slot (share e) b }) in
+      let left : t'.order.leaves ≡ t.order.leaves - share e = ap (λ (x : Taker). x.order.leaves) is.taker ∙ give-leaves ProRata e.slot (share e) (record (match_start b d t) { book = marked e.slot (share e) b }) in
       record {
         events = evs;
-        told = emits_joined m start now next g.events m'.events g.told told;
+        emits = emits_joined m start now next g.events m'.events g.emits emits;
         leads = ap (gives_marked (shares_by share rest)) same ∙ g.leads;
-        remains = subst (λ (x : Book). Remains k x.resting rest) (sym is.book) (give_marked-remains k (moment b d t) r.before e rest r.behind (share e) s);
+        remains = subst (λ (x : Book). Remains k x.resting rest) (sym is.book) (give_marked-remains k (match_start b d t) r.before e rest r.behind (share e) s);
         enough = omega (arith, g.enough, sum_by-cons share e rest, left);
         shows = omega (arith, g.shows, sum_by-cons shown_of e rest);
       }
@@ -65,5 +65,5 @@ share_is least least' pool total q shown es e l t p s =
     ∙ ap (λ (n : ℕ). prorata_share least (min q all) n shown) t
     ∙ ap (λ (n : ℕ). prorata_share least (min q all) all n) s
 
-pub marked_as : (a b x y : ℕ) (m : Moment) → a ≡ b → x ≡ y → give_marked a x m ≡ give_marked b y m
+pub marked_as : (a b x y : ℕ) (m : MatchState) → a ≡ b → x ≡ y → give_marked a x m ≡ give_marked b y m
 marked_as a b x y m p q = ap (λ (s : ℕ). give_marked s x m) p ∙ ap (λ (n : ℕ). give_marked b n m) q

@@ -2,7 +2,7 @@
 ghost use Rattle.std.specs.Prelude.{◌≡◌, ◌≤◌, ◌<◌, ◌+◌, min};
 ghost use Rattle.gx_base.specs.Emits.{Emits};
 ghost use Rattle.plain_book.specs.Orders.{HasSlot, order_of, shown_at};
-ghost use Rattle.plain_book.specs.Match.{moment, IsNow, CanTrade};
+ghost use Rattle.plain_book.specs.Match.{match_start, IsNow, CanTrade};
 ghost use Rattle.plain_book.specs.Steps.{facing, prorata, prorata_share, give_marked};
 ghost use Rattle.plain_book.specs.Keeping.{KeepsRoom};
 
@@ -66,8 +66,8 @@ fn give_share<B: Book, E: Emit>(
     requires shown { shown ≡ (order_of slot.0 (B.book book.old).resting).shown }
     requires wanted { prorata_share ratio.now.least ratio.now.pool ratio.now.total shown ≤ taker.old.order.leaves }
     requires can { CanTrade (B.book book.old) desk.old taker.old }
-    ensures now { IsNow (give_marked slot.0 (prorata_share ratio.now.least ratio.now.pool ratio.now.total shown) (moment (B.book book.old) desk.old taker.old)) (B.book book.new) desk.new taker.new }
-    ensures told { Emits E.meanings out.old out.new (give_marked slot.0 (prorata_share ratio.now.least ratio.now.pool ratio.now.total shown) (moment (B.book book.old) desk.old taker.old)).events }
+    ensures now { IsNow (give_marked slot.0 (prorata_share ratio.now.least ratio.now.pool ratio.now.total shown) (match_start (B.book book.old) desk.old taker.old)) (B.book book.new) desk.new taker.new }
+    ensures emits { Emits E.meanings out.old out.new (give_marked slot.0 (prorata_share ratio.now.least ratio.now.pool ratio.now.total shown) (match_start (B.book book.old) desk.old taker.old)).events }
     ensures can { CanTrade (B.book book.new) desk.new taker.new }
     ensures room { KeepsRoom desk.old taker.old.order.leaves desk.new taker.new.order.leaves }
 {
@@ -88,8 +88,8 @@ pub fn prorata_pass<B: Book, E: Emit>(
 )
     requires least { 1 ≤ least }
     requires can { CanTrade (B.book book.old) desk.old taker.old }
-    ensures now { IsNow (prorata least price (moment (B.book book.old) desk.old taker.old)) (B.book book.new) desk.new taker.new }
-    ensures told { Emits E.meanings out.old out.new (prorata least price (moment (B.book book.old) desk.old taker.old)).events }
+    ensures now { IsNow (prorata least price (match_start (B.book book.old) desk.old taker.old)) (B.book book.new) desk.new taker.new }
+    ensures emits { Emits E.meanings out.old out.new (prorata least price (match_start (B.book book.old) desk.old taker.old)).events }
     ensures can { CanTrade (B.book book.new) desk.new taker.new }
     ensures room { KeepsRoom desk.old taker.old.order.leaves desk.new taker.new.order.leaves }
 {

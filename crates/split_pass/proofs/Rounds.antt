@@ -16,22 +16,22 @@ use Rattle.gx_base.proofs.Putting.{emits_joined}
 use Rattle.plain_book.specs.declared.entry.Entry.{Entry}
 use Rattle.plain_book.specs.Orders.{Level, level, orders_at, opposite, HasSlot, order_of, slot_of}
 use Rattle.plain_book.specs.Book.{Book, IsRight, IsResting, live_orders, slot_number}
-use Rattle.plain_book.specs.Match.{Moment, moment, trade, give, IsNow}
+use Rattle.plain_book.specs.Match.{MatchState, match_start, trade, give, IsNow}
 use Rattle.plain_book.specs.Steps.{facing, level_now, head_gives, fifo_rounds}
 use Rattle.plain_book.proofs.Live.{fit_of}
 use Rattle.plain_book.proofs.Levels.{AllDiffer-front, HasSlot-left, order_of-left}
 use Rattle.plain_book.proofs.Walks.{Stands, stands-has, stands-order}
-use Rattle.plain_book.proofs.Steps.{give-leaves, give-events, moment_with, with_events}
+use Rattle.plain_book.proofs.Steps.{give-leaves, give-events, match_with, with_events}
 
-abbrev pub next_round : Price → Moment → Moment
+abbrev pub next_round : Price → MatchState → MatchState
 next_round price m = head_gives (level_now price m) m
 
-fixed : (price : Price) (n : ℕ) (m : Moment) → next_round price m ≡ m → fifo_rounds n price m ≡ m
+fixed : (price : Price) (n : ℕ) (m : MatchState) → next_round price m ≡ m → fifo_rounds n price m ≡ m
 fixed price zero m h = refl
 fixed price (suc n) m h = ap (fifo_rounds n price) h ∙ fixed price n m h
 
 -- a round changes nothing, or takes from what is wanted
-moves-at : (es : List Entry) (m : Moment) → (head_gives es m ≡ m) ⊎ ((head_gives es m).taker.order.leaves < m.taker.order.leaves)
+moves-at : (es : List Entry) (m : MatchState) → (head_gives es m ≡ m) ⊎ ((head_gives es m).taker.order.leaves < m.taker.order.leaves)
 moves-at [] m = inl refl
 moves-at (e ∷ es) m =
     let n = min m.taker.order.leaves e.order.shown in
@@ -40,14 +40,14 @@ moves-at (e ∷ es) m =
       | inr t ↦ inr (let some : n ≢ 0 = t.1 in omega (arith, give-leaves Fifo e.slot n m, some))
     ]
 
-pub none-left : (price : Price) (n : ℕ) (m : Moment) → m.taker.order.leaves ≡ 0 → fifo_rounds n price m ≡ m
+pub none-left : (price : Price) (n : ℕ) (m : MatchState) → m.taker.order.leaves ≡ 0 → fifo_rounds n price m ≡ m
 none-left price n m h = elim (moves-at (level_now price m) m) [ inl f ↦ fixed price n m f | inr lt ↦ absurd (omega (arith, h, lt)) ]
 
-pub none-there : (price : Price) (n : ℕ) (m : Moment) → level_now price m ≡ [] → fifo_rounds n price m ≡ m
+pub none-there : (price : Price) (n : ℕ) (m : MatchState) → level_now price m ≡ [] → fifo_rounds n price m ≡ m
 none-there price n m h = fixed price n m (ap (λ (es : List Entry). head_gives es m) h)
 
 -- as many rounds as lots are enough
-pub enough : (price : Price) (n k : ℕ) (m : Moment) → m.taker.order.leaves ≤ n → m.taker.order.leaves ≤ k → fifo_rounds n price m ≡ fifo_rounds k price m
+pub enough : (price : Price) (n k : ℕ) (m : MatchState) → m.taker.order.leaves ≤ n → m.taker.order.leaves ≤ k → fifo_rounds n price m ≡ fifo_rounds k price m
 enough price zero k m a b = sym (none-left price k m (omega arith))
 enough price (suc n) zero m a b = none-left price (suc n) m (omega arith)
 enough price (suc n) (suc k) m a b = elim (moves-at (level_now price m) m) [
@@ -55,7 +55,7 @@ enough price (suc n) (suc k) m a b = elim (moves-at (level_now price m) m) [
   | inr lt ↦ enough price n k (next_round price m) (omega (arith, lt)) (omega (arith, lt))
 ]
 
-round_step : (price : Price) (n : ℕ) (m : Moment) → 0 < n → fifo_rounds n price m ≡ fifo_rounds (n - 1) price (next_round price m)
+round_step : (price : Price) (n : ℕ) (m : MatchState) → 0 < n → fifo_rounds n price m ≡ fifo_rounds (n - 1) price (next_round price m)
 round_step price zero m lt = absurd (omega arith)
 round_step price (suc n) m lt = let e : n ≡ suc n - 1 = omega arith in ap (λ (k : ℕ). fifo_rounds k price (next_round price m)) e
 
@@ -120,50 +120,50 @@ some-test : (n : ℕ) → n ≢ 0 → (n == 0) ≡ false
 some-test n h = elim (eqb_tells n 0) [ inl t ↦ absurd (h t.1) | inr t ↦ t.0 ]
 
 -- from the moment b, d, t on, the rounds lead to the end
-pub record IsGoing {E : Type 0} (m : EmitMeanings E) (start now : E) (price : Price) (t0 : Taker) (end : Moment) (b : Book) (d : Desk) (t : Taker) : Type 0 where
+pub record IsGoing {E : Type 0} (m : EmitMeanings E) (start now : E) (price : Price) (t0 : Taker) (end : MatchState) (b : Book) (d : Desk) (t : Taker) : Type 0 where
   pub events : List Event
-  pub told : Emits m start now events
-  pub leads : fifo_rounds t.order.leaves price (moment_with b d t events) ≡ end
+  pub emits : Emits m start now events
+  pub leads : fifo_rounds t.order.leaves price (match_with b d t events) ≡ end
   pub faces : facing price t ≡ facing price t0
 
-module _ {E : Type 0} (m : EmitMeanings E) (start : E) (price : Price) (t0 : Taker) (end : Moment) where
+module _ {E : Type 0} (m : EmitMeanings E) (start : E) (price : Price) (t0 : Taker) (end : MatchState) where
   pub going-more : (now next : E) (slot lots : ℕ) (b b' : Book) (d d' : Desk) (t t' : Taker)
       → IsGoing m start now price t0 end b d t
       → (h : IsHead (facing price t0) b slot)
       → lots ≡ min t.order.leaves h.entry.order.shown
       → 1 ≤ lots
-      → IsNow (trade Fifo slot lots (moment b d t)) b' d' t'
-      → Emits m now next (trade Fifo slot lots (moment b d t)).events
+      → IsNow (trade Fifo slot lots (match_start b d t)) b' d' t'
+      → Emits m now next (trade Fifo slot lots (match_start b d t)).events
       → IsGoing m start next price t0 end b' d' t'
-  going-more now next slot lots b b' d d' t t' g h l some n told =
-      let at = moment b d t in
+  going-more now next slot lots b b' d d' t t' g h l some n emits =
+      let at = match_start b d t in
       let m' = trade Fifo slot lots at in
-      let M = moment_with b d t g.events in
+      let M = match_with b d t g.events in
       let evs = g.events ++ m'.events in
       let given : give Fifo slot lots at ≡ m' = ap (λ (c : Bool). cond c at m') (some-test lots (omega (arith, some))) in
       let level : level_now price M ≡ h.entry ∷ h.rest = ap (λ (k : Level). orders_at k b.resting) g.faces ∙ h.is in
-      let round : next_round price M ≡ moment_with m'.book m'.desk m'.taker evs =
+      let round : next_round price M ≡ match_with m'.book m'.desk m'.taker evs =
       ap (λ (es : List Entry). head_gives es M) level
       ∙ ap (λ (s : ℕ). give Fifo s (min t.order.leaves h.entry.order.shown) M) h.slot_is
       ∙ ap (λ (k : ℕ). give Fifo slot k M) (sym l)
       ∙ give-events Fifo slot lots b d t g.events
       ∙ ap (with_events g.events) given in
-      let same : moment_with m'.book m'.desk m'.taker evs ≡ moment_with b' d' t' evs =
-      sym (ap (λ (x : Book). moment_with x d' t' evs) n.book ∙ ap (λ (x : Desk). moment_with m'.book x t' evs) n.desk ∙ ap (λ (x : Taker). moment_with m'.book m'.desk x evs) n.taker) in
+      let same : match_with m'.book m'.desk m'.taker evs ≡ match_with b' d' t' evs =
+      sym (ap (λ (x : Book). match_with x d' t' evs) n.book ∙ ap (λ (x : Desk). match_with m'.book x t' evs) n.desk ∙ ap (λ (x : Taker). match_with m'.book m'.desk x evs) n.taker) in
       let left : t'.order.leaves ≡ t.order.leaves - lots = ap (λ (x : Taker). x.order.leaves) n.taker in
       record {
         events = evs;
-        told = emits_joined m start now next g.events m'.events g.told told;
+        emits = emits_joined m start now next g.events m'.events g.emits emits;
         leads =
-            enough price t'.order.leaves (t.order.leaves - 1) (moment_with b' d' t' evs) (omega arith) (omega (arith, left, some))
+            enough price t'.order.leaves (t.order.leaves - 1) (match_with b' d' t' evs) (omega arith) (omega (arith, left, some))
             ∙ ap (fifo_rounds (t.order.leaves - 1) price) (sym (round ∙ same))
             ∙ sym (round_step price t.order.leaves M (omega (arith, l, some)))
             ∙ g.leads;
         faces = ap (facing price) n.taker ∙ g.faces;
       }
 
-  pub going-end : (now : E) (b : Book) (d : Desk) (t : Taker) (g : IsGoing m start now price t0 end b d t) → fifo_rounds t.order.leaves price (moment_with b d t g.events) ≡ moment_with b d t g.events
+  pub going-end : (now : E) (b : Book) (d : Desk) (t : Taker) (g : IsGoing m start now price t0 end b d t) → fifo_rounds t.order.leaves price (match_with b d t g.events) ≡ match_with b d t g.events
       → IsNow end b d t × Emits m start now end.events
   going-end now b d t g e =
-      let is : moment_with b d t g.events ≡ end = sym e ∙ g.leads in
-      (record { book = ap (λ (x : Moment). x.book) is; desk = ap (λ (x : Moment). x.desk) is; taker = ap (λ (x : Moment). x.taker) is }, subst (λ (x : Moment). Emits m start now x.events) is g.told)
+      let is : match_with b d t g.events ≡ end = sym e ∙ g.leads in
+      (record { book = ap (λ (x : MatchState). x.book) is; desk = ap (λ (x : MatchState). x.desk) is; taker = ap (λ (x : MatchState). x.taker) is }, subst (λ (x : MatchState). Emits m start now x.events) is g.emits)

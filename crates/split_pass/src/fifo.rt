@@ -1,8 +1,8 @@
 //! The head of a level gives what it shows, again and again.
 ghost use Rattle.std.specs.Prelude.{◌≡◌};
 ghost use Rattle.gx_base.specs.Emits.{Emits};
-ghost use Rattle.plain_book.specs.Match.{moment, IsNow, CanTrade};
-ghost use Rattle.plain_book.specs.Steps.{fifo, IsOver};
+ghost use Rattle.plain_book.specs.Match.{match_start, IsNow, CanTrade};
+ghost use Rattle.plain_book.specs.Steps.{fifo, IsLevelDone};
 ghost use Rattle.plain_book.specs.Keeping.{KeepsRoom};
 
 use crate::gift::lots_of;
@@ -21,11 +21,11 @@ pub fn fifo_pass<B: Book, E: Emit>(
     out: &mut E,
 )
     requires can { CanTrade (B.book book.old) desk.old taker.old }
-    ensures now { IsNow (fifo price (moment (B.book book.old) desk.old taker.old)) (B.book book.new) desk.new taker.new }
-    ensures told { Emits E.meanings out.old out.new (fifo price (moment (B.book book.old) desk.old taker.old)).events }
+    ensures now { IsNow (fifo price (match_start (B.book book.old) desk.old taker.old)) (B.book book.new) desk.new taker.new }
+    ensures emits { Emits E.meanings out.old out.new (fifo price (match_start (B.book book.old) desk.old taker.old)).events }
     ensures can { CanTrade (B.book book.new) desk.new taker.new }
     ensures room { KeepsRoom desk.old taker.old.order.leaves desk.new taker.new.order.leaves }
-    ensures over { IsOver price (B.book book.new) taker.new }
+    ensures over { IsLevelDone price (B.book book.new) taker.new }
 {
     let instrument = taker.order.instrument;
     let side = opposite_side(taker.order.side);

@@ -2,7 +2,7 @@
 ghost use Rattle.std.specs.Prelude.{◌≡◌, ◌≤◌, ◌*◌, ◌/◌};
 ghost use Rattle.gx_base.specs.Emits.{Emits};
 ghost use Rattle.gx_base.specs.declared.event.StepName.TheVariants.{Split};
-ghost use Rattle.plain_book.specs.Match.{moment, gives, IsNow, CanTrade};
+ghost use Rattle.plain_book.specs.Match.{match_start, gives, IsNow, CanTrade};
 ghost use Rattle.plain_book.specs.Steps.{split, spent, level_now};
 ghost use Rattle.plain_book.specs.Keeping.{KeepsRoom};
 
@@ -34,8 +34,8 @@ pub fn split_pass<B: Book, E: Emit>(
 )
     requires percent { (1 ≤ percent) × (percent ≤ 100) }
     requires can { CanTrade (B.book book.old) desk.old taker.old }
-    ensures now { IsNow (split percent price (moment (B.book book.old) desk.old taker.old)) (B.book book.new) desk.new taker.new }
-    ensures told { Emits E.meanings out.old out.new (split percent price (moment (B.book book.old) desk.old taker.old)).events }
+    ensures now { IsNow (split percent price (match_start (B.book book.old) desk.old taker.old)) (B.book book.new) desk.new taker.new }
+    ensures emits { Emits E.meanings out.old out.new (split percent price (match_start (B.book book.old) desk.old taker.old)).events }
     ensures can { CanTrade (B.book book.new) desk.new taker.new }
     ensures room { KeepsRoom desk.old taker.old.order.leaves desk.new taker.new.order.leaves }
 {
@@ -55,8 +55,8 @@ fn spend<B: Book, E: Emit>(
 )
     requires lots { lots ≤ taker.old.order.leaves }
     requires can { CanTrade (B.book book.old) desk.old taker.old }
-    ensures now { let m = moment (B.book book.old) desk.old taker.old in IsNow (gives Split (spent lots (level_now price m)) m) (B.book book.new) desk.new taker.new }
-    ensures told { let m = moment (B.book book.old) desk.old taker.old in Emits E.meanings out.old out.new (gives Split (spent lots (level_now price m)) m).events }
+    ensures now { let m = match_start (B.book book.old) desk.old taker.old in IsNow (gives Split (spent lots (level_now price m)) m) (B.book book.new) desk.new taker.new }
+    ensures emits { let m = match_start (B.book book.old) desk.old taker.old in Emits E.meanings out.old out.new (gives Split (spent lots (level_now price m)) m).events }
     ensures can { CanTrade (B.book book.new) desk.new taker.new }
     ensures room { KeepsRoom desk.old taker.old.order.leaves desk.new taker.new.order.leaves }
 {

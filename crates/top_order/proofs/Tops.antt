@@ -13,7 +13,7 @@ use Rattle.gx_base.specs.declared.event.StepName.TheVariants.{Top}
 use Rattle.plain_book.specs.declared.entry.Entry.{Entry}
 use Rattle.plain_book.specs.Orders.{Level, level_of, is_level, is_at, is_on, is_side, is_slot, orders_at, side_of, slot_of, top_of, HasSlot, order_of, opposite}
 use Rattle.plain_book.specs.Book.{AllDiffer, live_orders, slot_number}
-use Rattle.plain_book.specs.Match.{Moment, Share, give, gives}
+use Rattle.plain_book.specs.Match.{MatchState, Share, give, gives}
 use Rattle.plain_book.specs.Steps.{top_shares, top, level_now, facing}
 use Rattle.plain_book.proofs.Levels.{AllDiffer-front, HasSlot-left, order_of-left}
 
@@ -106,7 +106,7 @@ pub met_top : (t : Taker) (side : Side) (es : List Entry) (at : Option Slot) (sl
     → option_map slot_number at ≡ top_of t.order.instrument side es → at ≡ Some slot → Some slot.0 ≡ top_of t.order.instrument (opposite t.order.side) es
 met_top t side es at slot met top is = sym (ap (option_map slot_number) is) ∙ top ∙ ap (λ (d : Side). top_of t.order.instrument d es) met
 
-module _ (rule : TopRule) (price : Price) (m : Moment) (s : ℕ) (differ : AllDiffer (live_orders m.book)) (found : Some s ≡ top_of m.taker.order.instrument (opposite m.taker.order.side) m.book.resting) where
+module _ (rule : TopRule) (price : Price) (m : MatchState) (s : ℕ) (differ : AllDiffer (live_orders m.book)) (found : Some s ≡ top_of m.taker.order.instrument (opposite m.taker.order.side) m.book.resting) where
   abbrev the_order : Order
   the_order = order_of s m.book.resting
 

@@ -2,7 +2,7 @@
 ghost use Rattle.std.specs.Prelude.{◌≡◌, ◌≤◌};
 ghost use Rattle.std.specs.Ordering.{int_eq};
 ghost use Rattle.gx_base.specs.Emits.{Emits};
-ghost use Rattle.plain_book.specs.Match.{moment, IsNow, CanTrade};
+ghost use Rattle.plain_book.specs.Match.{match_start, IsNow, CanTrade};
 ghost use Rattle.plain_book.specs.Steps.{top};
 ghost use Rattle.plain_book.specs.Keeping.{KeepsRoom};
 
@@ -29,8 +29,8 @@ pub fn top_pass<B: Book, E: Emit>(
 )
     requires rule { (1 ≤ rule.now.min) × (rule.now.min ≤ rule.now.max) }
     requires can { CanTrade (B.book book.old) desk.old taker.old }
-    ensures now { IsNow (top rule.now price (moment (B.book book.old) desk.old taker.old)) (B.book book.new) desk.new taker.new }
-    ensures told { Emits E.meanings out.old out.new (top rule.now price (moment (B.book book.old) desk.old taker.old)).events }
+    ensures now { IsNow (top rule.now price (match_start (B.book book.old) desk.old taker.old)) (B.book book.new) desk.new taker.new }
+    ensures emits { Emits E.meanings out.old out.new (top rule.now price (match_start (B.book book.old) desk.old taker.old)).events }
     ensures can { CanTrade (B.book book.new) desk.new taker.new }
     ensures room { KeepsRoom desk.old taker.old.order.leaves desk.new taker.new.order.leaves }
 {

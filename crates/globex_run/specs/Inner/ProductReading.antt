@@ -18,15 +18,15 @@ pub record TakesText {P F : Type 0} (before after : SourceAt P) (room : List ℕ
   pub rose : OnErr result (Rose before.faults after.faults)
 
 -- why a text that was read gives no product
-abbrev pub JudgesAs : Result ProductLists ProductFault → NoProduct → Type 0
-JudgesAs read NoMemory = read ≡ Err fault.NoMemory
-JudgesAs read (Refused rule) = (read ≢ Err fault.NoMemory) × IsRefusedAt rule read
-JudgesAs read Unread = ⊥
+abbrev pub IsReasonFor : Result ProductLists ProductFault → NoProduct → Type 0
+IsReasonFor read NoMemory = read ≡ Err fault.NoMemory
+IsReasonFor read (Refused rule) = (read ≢ Err fault.NoMemory) × IsRefusedAt rule read
+IsReasonFor read Unread = ⊥
 
 -- what a text that was read gives
-abbrev pub Judges : Result ProductLists ProductFault → Result ProductLists NoProduct → Type 0
-Judges read (Ok product) = read ≡ Ok product
-Judges read (Err reason) = JudgesAs read reason
+abbrev pub IsAnswerFor : Result ProductLists ProductFault → Result ProductLists NoProduct → Type 0
+IsAnswerFor read (Ok product) = read ≡ Ok product
+IsAnswerFor read (Err reason) = IsReasonFor read reason
 
 -- why no product was taken
 abbrev pub TakesNone : {P : Type 0} → SourceAt P → SourceAt P → NoProduct → Type 0

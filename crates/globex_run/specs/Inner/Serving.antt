@@ -1,7 +1,7 @@
 -- What the steps of serving do: reading, serving one frame, and all that was served so far.
 use Rattle.std.specs.Prelude.{◌≡◌, ℕ, ◌+◌, ◌<◌, ◌≤◌, List, ◌++◌, length, IsTrue, IsFalse, Result, Ok, Err, IfOk, OnErr, []}
 use Rattle.std.specs.List.{concat}
-use Rattle.gx_base.specs.Told.{TellsPrefix}
+use Rattle.gx_base.specs.KnownBytes.{IsKnownPrefix}
 use Rattle.gx_station.specs.Counts.{Rose, HasCause}
 use Rattle.gx_station.specs.Sources.{and_left, IsAtEnd}
 use Rattle.gx_station.specs.Stations.{sent_and}
@@ -45,7 +45,7 @@ ServesFrame product old new before after frame (Err unserved.SendFailed) =
     (old.desk.messages < 10000)
     × (new.desk.messages ≡ old.desk.messages + 1)
     × IsTrue (is_served_frame product frame)
-    × TellsPrefix after.sent (sent_and before.sent (lines_of product (step_of product old frame).1))
+    × IsKnownPrefix after.sent (sent_and before.sent (lines_of product (step_of product old frame).1))
     × Rose before.faults after.faults
 
 -- how serving ends at a frame at this place

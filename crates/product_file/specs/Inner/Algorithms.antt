@@ -9,7 +9,7 @@ use Rattle.product_file.specs.declared.faults.ProductFault.TheVariants.{UnknownL
 use Rattle.product_file.specs.declared.faults.Key.TheVariants.{Algorithm, TopMin, TopMax, Least, Split, Steps}
 use Rattle.product_file.specs.Keys.{word_of}
 use Rattle.product_file.specs.Values.{entries_of, text_in}
-use Rattle.product_file.specs.Letters.{letter_of, is_own, usual_least}
+use Rattle.product_file.specs.Letters.{letter_of, is_configurable, usual_least}
 use Rattle.product_file.specs.Inner.Keys.{◌>>=◌, needed, number_if, text_of}
 use Rattle.product_file.specs.Inner.Shares.{shares_of}
 
@@ -31,7 +31,7 @@ has_split (Some value) = list_any is_split (entries_of (unwrap_or (as_array valu
 
 -- whether the list of steps is the file's own, and an array that has the text SPLIT
 abbrev pub needs_split : Letter → Data → Bool
-needs_split letter fields = is_own letter && has_split (get (word_of Steps) fields)
+needs_split letter fields = is_configurable letter && has_split (get (word_of Steps) fields)
 
 -- what the steps take: 1 and 999,999 lots are the usual limits of TOP, and a percentage of SPLIT that is absent is not used
 unfoldable pub parameters_of : List (List ℕ) → Letter → Data → Result Parameters ProductFault

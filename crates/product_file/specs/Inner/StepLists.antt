@@ -15,7 +15,7 @@ use Rattle.product_file.specs.declared.faults.ProductFault.TheVariants as fault
 use Rattle.product_file.specs.declared.faults.Key.TheVariants as key
 use Rattle.product_file.specs.Values.{text_in}
 use Rattle.product_file.specs.Rows.{is_text}
-use Rattle.product_file.specs.Letters.{is_own, is_step_name}
+use Rattle.product_file.specs.Letters.{is_configurable, is_step_name}
 use Rattle.product_file.specs.Inner.Keys.{◌>>=◌, where_passes, array_if}
 
 -- the step of a name, with what it takes: FIFO where the name is none of the others
@@ -31,7 +31,7 @@ step_named parameters name =
 -- the names that the file lists: needed where the list is the file's own, and tried wherever they stand
 unfoldable pub step_names_of : Letter → Data → Result (List (List ℕ)) ProductFault
 step_names_of letter fields = do
-  entries ← array_if (is_own letter) is_text key.Steps fields
+  entries ← array_if (is_configurable letter) is_text key.Steps fields
   where_passes (list_all is_step_name) fault.UnknownLetter (map text_in entries)
 
 -- the steps of a letter: the file's own list for K, and the letter's own for every other one

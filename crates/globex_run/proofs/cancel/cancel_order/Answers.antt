@@ -7,8 +7,8 @@ use Rattle.gx_base.proofs.Putting.{emits_as, emits_one}
 use Rattle.globex_run.specs.Cancels.{closed, order_cancelled}
 use Rattle.globex_run.proofs.cancel.cancel_order.Goals as goal
 
-pub returns-clause-told : goal.returns-clause-told
-returns-clause-told g c =
+pub returns-clause-emits : goal.returns-clause-emits
+returns-clause-emits g c =
     let by = Some c.args.request.now.id in
     let order = c.remove-order.result in
     emits_as g.E.Emit.meanings _ _ _ _

@@ -5,8 +5,8 @@ use Rattle.gx_base.specs.declared.event.ChangeFault.TheVariants.{Unknown}
 use Rattle.gx_base.proofs.Putting.{emits_as, emits_one}
 use Rattle.globex_run.proofs.cancel.refuse_cancel.Goals as goal
 
-pub returns-clause-told : goal.returns-clause-told
-returns-clause-told g c =
+pub returns-clause-emits : goal.returns-clause-emits
+returns-clause-emits g c =
     let request = c.args.request.now in
     emits_as g.E.Emit.meanings _ _ _ _
     (ap (λ (h : Head). RefusedChange h request.id request.old 0 0 false Unknown ∷ []) c.count_line-head.ensures.head)

@@ -4,8 +4,8 @@ use Rattle.gx_base.specs.declared.event.Event.TheVariants.{RefusedSession}
 use Rattle.gx_base.proofs.Putting.{emits_as, emits_one}
 use Rattle.globex_run.proofs.cancel.refuse_message.Goals as goal
 
-pub returns-clause-told : goal.returns-clause-told
-returns-clause-told g c =
+pub returns-clause-emits : goal.returns-clause-emits
+returns-clause-emits g c =
     let refusal = c.args.refusal.now in
     emits_as g.E.Emit.meanings _ _ _ _
     (ap (λ (h : Head). RefusedSession h refusal.seq refusal.tag refusal.reason refusal.rule ∷ []) c.count_line-head.ensures.head)

@@ -16,11 +16,11 @@ returns-in-Some-clause-now g c =
     let step = step-by-fault c.args.product.now c.args.new.now b c.args.desk.now (Some c.in-Some.fault) (sym c.fault_of.ensures ∙ c.in-Some.is) in
     subst (λ (s : State × List Event). IsState s.0 b c.refuse_new.new.desk) (sym step) (record { book = refl; desk = c.refuse_new.ensures.desk })
 
-pub returns-in-Some-clause-told : goal.returns-in-Some-clause-told
-returns-in-Some-clause-told g c =
+pub returns-in-Some-clause-emits : goal.returns-in-Some-clause-emits
+returns-in-Some-clause-emits g c =
     let b = g.B.Book.book c.args.book.now in
     let step = step-by-fault c.args.product.now c.args.new.now b c.args.desk.now (Some c.in-Some.fault) (sym c.fault_of.ensures ∙ c.in-Some.is) in
-    emits_as g.E.Emit.meanings _ _ _ _ (ap (λ (s : State × List Event). s.1) (sym step)) c.refuse_new.ensures.told
+    emits_as g.E.Emit.meanings _ _ _ _ (ap (λ (s : State × List Event). s.1) (sym step)) c.refuse_new.ensures.emits
 
 pub returns-in-None-clause-now : goal.returns-in-None-clause-now
 returns-in-None-clause-now g c =
@@ -31,12 +31,12 @@ returns-in-None-clause-now g c =
     subst (λ (s : State × List Event). IsState s.0 out c.enter_new.new.desk) (sym step)
     (subst (λ (l : List Step). IsState (state_in (new_of l new (state_of b c.args.desk.now))) out c.enter_new.new.desk) c.steps_for.ensures c.enter_new.ensures.now)
 
-pub returns-in-None-clause-told : goal.returns-in-None-clause-told
-returns-in-None-clause-told g c =
+pub returns-in-None-clause-emits : goal.returns-in-None-clause-emits
+returns-in-None-clause-emits g c =
     let b = g.B.Book.book c.args.book.now in
     let new = c.args.new.now in
     let step = step-by-fault c.args.product.now new b c.args.desk.now None (sym c.fault_of.ensures ∙ c.in-None.is) in
-    emits_as g.E.Emit.meanings _ _ _ _ (ap (λ (l : List Step). (new_of l new (state_of b c.args.desk.now)).events) c.steps_for.ensures ∙ ap (λ (s : State × List Event). s.1) (sym step)) c.enter_new.ensures.told
+    emits_as g.E.Emit.meanings _ _ _ _ (ap (λ (l : List Step). (new_of l new (state_of b c.args.desk.now)).events) c.steps_for.ensures ∙ ap (λ (s : State × List Event). s.1) (sym step)) c.enter_new.ensures.emits
 
 pub returns-in-None-clause-serving : goal.returns-in-None-clause-serving
 returns-in-None-clause-serving g c =

@@ -28,11 +28,11 @@ returns-clause-now g c =
     let is = accepted g (goal.at.returns-clause-now g c).After-put in
     entered-state c.args.steps.now c.args.new.now (g.B.Book.book c.args.book.now) c.args.desk.now _ _ _ is (g.B.Book.book c.match_order.new.book) _ _ _ c.match_order.ensures.now c.rest_order.ensures.now
 
-pub returns-clause-told : goal.returns-clause-told
-returns-clause-told g c =
+pub returns-clause-emits : goal.returns-clause-emits
+returns-clause-emits g c =
     let m = g.E.Emit.meanings in
-    let is = accepted g (goal.at.returns-clause-told g c).After-put in
-    emits_as m _ _ _ _ (entered-events c.args.steps.now c.args.new.now (g.B.Book.book c.args.book.now) c.args.desk.now _ _ _ is) (emits_joined m _ _ _ _ _ (emits_one m _ _ _ c.put.ensures) c.match_order.ensures.told)
+    let is = accepted g (goal.at.returns-clause-emits g c).After-put in
+    emits_as m _ _ _ _ (entered-events c.args.steps.now c.args.new.now (g.B.Book.book c.args.book.now) c.args.desk.now _ _ _ is) (emits_joined m _ _ _ _ _ (emits_one m _ _ _ c.put.ensures) c.match_order.ensures.emits)
 
 pub returns-clause-room : goal.returns-clause-room
 returns-clause-room g c bound room =

@@ -6,8 +6,8 @@ use Rattle.gx_base.proofs.Putting.{emits_as, emits_one}
 use Rattle.globex_run.specs.NewOrders.{refused_of}
 use Rattle.globex_run.proofs.entry.refuse_new.Goals as goal
 
-pub returns-clause-told : goal.returns-clause-told
-returns-clause-told g c =
+pub returns-clause-emits : goal.returns-clause-emits
+returns-clause-emits g c =
     emits_as g.E.Emit.meanings _ _ _ _
     (ap (λ (r : NewRefused). RefusedNew c.count_report-head.result r c.args.fault ∷ []) c.new_refused.ensures ∙ ap (λ (h : Head). RefusedNew h (refused_of c.args.new.now) c.args.fault ∷ []) c.count_report-head.ensures.head)
     (emits_one g.E.Emit.meanings _ _ _ c.put.ensures)

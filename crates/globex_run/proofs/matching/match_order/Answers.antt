@@ -5,9 +5,9 @@ use Rattle.globex_run.proofs.matching.match_order.Goals as goal
 pub returns-clause-now : goal.returns-clause-now
 returns-clause-now g c = now-numbered c.args.steps.now c.args.taker.now.order.price (g.B.Book.book c.args.book.now) (g.B.Book.book c.sweep.new.book) c.args.desk.now c.sweep.new.desk c.args.taker.now c.sweep.new.taker c.sweep.ensures.now c.sweep.ensures.stays c.rules.ensures.differ c.requires.differ
 
-pub returns-clause-told : goal.returns-clause-told
-returns-clause-told g c =
-    emits_as g.E.Emit.meanings _ _ _ _ (events-numbered c.args.steps.now c.args.taker.now.order.price (g.B.Book.book c.args.book.now) (g.B.Book.book c.sweep.new.book) c.args.desk.now c.sweep.new.desk c.args.taker.now c.sweep.new.taker c.sweep.ensures.now c.sweep.ensures.stays c.rules.ensures.differ c.requires.differ) c.sweep.ensures.told
+pub returns-clause-emits : goal.returns-clause-emits
+returns-clause-emits g c =
+    emits_as g.E.Emit.meanings _ _ _ _ (events-numbered c.args.steps.now c.args.taker.now.order.price (g.B.Book.book c.args.book.now) (g.B.Book.book c.sweep.new.book) c.args.desk.now c.sweep.new.desk c.args.taker.now c.sweep.new.taker c.sweep.ensures.now c.sweep.ensures.stays c.rules.ensures.differ c.requires.differ) c.sweep.ensures.emits
 
 pub returns-clause-numbered : goal.returns-clause-numbered
 returns-clause-numbered g c = still-numbered c.args.steps.now c.args.taker.now.order.price (g.B.Book.book c.args.book.now) (g.B.Book.book c.sweep.new.book) c.args.desk.now c.sweep.new.desk c.args.taker.now c.sweep.new.taker c.sweep.ensures.now c.sweep.ensures.stays c.rules.ensures.differ c.requires.differ c.rules-2.ensures.differ

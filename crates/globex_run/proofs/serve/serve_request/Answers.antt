@@ -12,4 +12,4 @@ returns-clause-sends g c =
     let events = (request_step c.args.product.now c.args.request.now (with_message c.args.engine.now)).1 in
     sends_to m _ _ _ _ _ (search rules)
     (sends_as m _ _ _ _ _ (ap (λ (n : NameLists). flat_map (line_of n) events) c.names.ensures)
-    (delivered m c.new-out.result c.apply.new.out c.flush.new.self _ _ _ _ _ c.new-out.ensures c.apply.ensures.told c.flush.ensures.flushes))
+    (delivered m c.new-out.result c.apply.new.out c.flush.new.self _ _ _ _ _ c.new-out.ensures c.apply.ensures.emits c.flush.ensures.flushes))

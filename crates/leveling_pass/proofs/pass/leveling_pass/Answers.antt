@@ -6,7 +6,7 @@ use Rattle.gx_base.specs.declared.order.Taker.{Taker}
 use Rattle.gx_base.specs.Emits.{Emits}
 use Rattle.plain_book.specs.declared.entry.Entry.{Entry}
 use Rattle.plain_book.specs.Orders.{orders_at, entry_at}
-use Rattle.plain_book.specs.Match.{Moment, moment, give, IsNow}
+use Rattle.plain_book.specs.Match.{MatchState, match_start, give, IsNow}
 use Rattle.plain_book.specs.Steps.{facing, leveling, leveling_shares}
 use Rattle.plain_book.proofs.Steps.{give-leaves}
 use Rattle.plain_book.proofs.Levels.{AllDiffer-front}
@@ -76,7 +76,7 @@ loop-k-init g c =
     let k = facing c.args.price t in
     let es = orders_at k b0.resting in
     record {
-      walk = walk-start g.E.Emit.meanings c.args.out.now k Leveling (leveling c.args.price (moment b0 c.args.desk.now t)) es (leveling_shares t.order.leaves es) b0 c.args.desk.now t
+      walk = walk-start g.E.Emit.meanings c.args.out.now k Leveling (leveling c.args.price (match_start b0 c.args.desk.now t)) es (leveling_shares t.order.leaves es) b0 c.args.desk.now t
           (record { before = []; behind = []; is = sym (append-nil es) }) refl;
       at = λ lt. c.queue_at-at.ensures.first;
       can = c.requires.can;
@@ -94,13 +94,13 @@ loop-k-preserved g c =
     let lots : c.lots_of-lots.result ≡ one_of (is_left_out e) q = one-read c.lots_of-lots.result q _ e.order c.lots_of-lots.ensures u.live_order in
     let b0 = g.B.Book.book c.args.book.now in
     let b = g.B.Book.book l.book in
-    let now = moment b l.desk l.taker in
+    let now = match_start b l.desk l.taker in
     let rest = drop (l._k + 1) es in
     let n = c.lots_of-lots.result in
     let m = g.E.Emit.meanings in
     let start = c.args.out.now in
     let r = c.give_lots in
-    let end = leveling c.args.price (moment b0 c.args.desk.now c.args.taker.now) in
+    let end = leveling c.args.price (match_start b0 c.args.desk.now c.args.taker.now) in
     let walk : IsWalk m start l.out k Leveling end (e ∷ rest) (leveling_shares q (e ∷ rest)) b l.desk l.taker = subst (λ (xs : List Entry). IsWalk m start l.out k Leveling end xs (leveling_shares q xs) b l.desk l.taker) u.turn.rest l.invariant.walk in
     let same : give Leveling c.in-Some.slot.0 n now ≡ give Leveling e.slot n now = ap (λ (s : ℕ). give Leveling s n now) u.turn.slot_is in
     let left : r.new.taker.order.leaves ≡ q - n = ap (λ (t : Taker). t.order.leaves) r.ensures.now.taker ∙ give-leaves Leveling c.in-Some.slot.0 n now in
@@ -110,8 +110,8 @@ loop-k-preserved g c =
     record {
       walk = walk-more m start k Leveling end l.out r.new.out e n rest (leveling_shares r.new.taker.order.leaves rest) b (g.B.Book.book r.new.book) l.desk r.new.desk l.taker r.new.taker
           (AllDiffer-front b.resting b.waiting c.rules.ensures.differ) walk2
-          (subst (λ (x : Moment). IsNow x (g.B.Book.book r.new.book) r.new.desk r.new.taker) same r.ensures.now)
-          (subst (λ (x : Moment). Emits m l.out r.new.out x.events) same r.ensures.told);
+          (subst (λ (x : MatchState). IsNow x (g.B.Book.book r.new.book) r.new.desk r.new.taker) same r.ensures.now)
+          (subst (λ (x : MatchState). Emits m l.out r.new.out x.events) same r.ensures.emits);
       at = λ more. c.next-at.ensures ∙ u.turn.next more;
       can = r.ensures.can;
       room = keeps-then c.args.desk.now l.desk r.new.desk c.args.taker.now.order.leaves q r.new.taker.order.leaves l.invariant.room r.ensures.keeps;

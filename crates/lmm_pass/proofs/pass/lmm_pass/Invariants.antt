@@ -3,7 +3,7 @@ use Rattle.std.specs.List.{IsDistinct, AllByRecursion}
 use Rattle.gx_base.specs.declared.event.StepName.TheVariants.{Lmm}
 use Rattle.gx_base.specs.declared.order.LmmShare.{LmmShare}
 use Rattle.plain_book.specs.Orders.{orders_at}
-use Rattle.plain_book.specs.Match.{moment, CanTrade}
+use Rattle.plain_book.specs.Match.{match_start, CanTrade}
 use Rattle.plain_book.specs.Steps.{facing, lmm, lmm_shares}
 use Rattle.plain_book.specs.Keeping.{KeepsRoom}
 use Rattle.lmm_pass.proofs.Parts.{part_in}
@@ -19,7 +19,7 @@ invariant-loop-share g l =
     let q = l.fn.taker.order.leaves in
     let left = drop l.share-index l.fn.shares in
     record {
-      way : IsOnTheWay g.E.Emit.meanings l.fn.out l.out Lmm (lmm_shares left q es) (lmm l.fn.shares l.fn.price (moment b l.fn.desk l.fn.taker)) (g.B.Book.book l.book) l.desk l.taker;
+      way : IsOnTheWay g.E.Emit.meanings l.fn.out l.out Lmm (lmm_shares left q es) (lmm l.fn.shares l.fn.price (match_start b l.fn.desk l.fn.taker)) (g.B.Book.book l.book) l.desk l.taker;
       level : facing l.fn.price l.taker ≡ k;
       unmoved : AreAsBefore left es (orders_at k (g.B.Book.book l.book).resting);
       firms : IsDistinct (λ a b. a == b) (map (λ (s : LmmShare). s.firm) left);

@@ -6,9 +6,9 @@ use Rattle.gx_base.specs.Emits.{Emits}
 use Rattle.plain_book.specs.declared.entry.Entry.{Entry}
 use Rattle.plain_book.specs.Orders.{orders_at, entry_at, order_of}
 use Rattle.plain_book.specs.Book.{Book}
-use Rattle.plain_book.specs.Match.{Moment, moment, give, gives, IsNow}
+use Rattle.plain_book.specs.Match.{MatchState, match_start, give, gives, IsNow}
 use Rattle.plain_book.specs.Steps.{facing, spent}
-use Rattle.plain_book.proofs.Steps.{give-leaves, moment_with}
+use Rattle.plain_book.proofs.Steps.{give-leaves, match_with}
 use Rattle.plain_book.proofs.Levels.{AllDiffer-front}
 use Rattle.plain_book.proofs.Walks.{Stands}
 use Rattle.plain_book.proofs.Turns.{turn_now, turn_end}
@@ -75,7 +75,7 @@ loop-k-init g c =
     let es = orders_at k b0.resting in
     let shares = spent c.args.lots (orders_of c.args.firm es) in
     record {
-      walk = walk-start g.E.Emit.meanings c.args.out.now k Lmm (gives Lmm shares (moment b0 c.args.desk.now t)) es shares b0 c.args.desk.now t
+      walk = walk-start g.E.Emit.meanings c.args.out.now k Lmm (gives Lmm shares (match_start b0 c.args.desk.now t)) es shares b0 c.args.desk.now t
           (record { before = []; behind = []; is = sym (append-nil es) }) refl;
       at = λ lt. c.queue_at-at.ensures.first;
       enough = c.requires.lots;
@@ -99,34 +99,34 @@ loop-k-preserved g c =
     let e = entry_at es i in
     let d = l.desk in
     let t = l.taker in
-    let now = moment b d t in
+    let now = match_start b d t in
     let rest = drop (i + 1) es in
     let n = c.gift_of-lots.result in
     let m = g.E.Emit.meanings in
     let start = c.args.out.now in
     let r = c.give_lots in
     let next = g.B.Book.book r.new.book in
-    let end = gives Lmm (spent c.args.lots (orders_of firm es)) (moment b0 c.args.desk.now t0) in
+    let end = gives Lmm (spent c.args.lots (orders_of firm es)) (match_start b0 c.args.desk.now t0) in
     let order : order_of c.in-Some.slot.0 (b.resting ++ b.waiting) ≡ e.order = u.live_order in
     let lots : n ≡ gift_of firm l.left e.order = c.gift_of-lots.ensures ∙ ap (gift_of firm l.left) order in
     let differ = AllDiffer-front b.resting b.waiting c.rules.ensures.differ in
     let walk : IsWalk m start l.out k Lmm end (e ∷ rest) (spent l.left (orders_of firm (e ∷ rest))) b d t = subst (λ (q : List Entry). IsWalk m start l.out k Lmm end q (spent l.left (orders_of firm q)) b d t) u.turn.rest l.invariant.walk in
     let walk2 : IsWalk m start l.out k Lmm end (e ∷ rest) ((e.slot, n) ∷ spent (l.left - n) (orders_of firm rest)) b d t = record {
       events = walk.events;
-      told = walk.told;
-      leads = ap (λ (x : ℕ). gives Lmm ((e.slot, x) ∷ spent (l.left - x) (orders_of firm rest)) (moment_with b d t walk.events)) lots ∙ gift-spent Lmm firm l.left e rest (moment_with b d t walk.events) ∙ walk.leads;
+      emits = walk.emits;
+      leads = ap (λ (x : ℕ). gives Lmm ((e.slot, x) ∷ spent (l.left - x) (orders_of firm rest)) (match_with b d t walk.events)) lots ∙ gift-spent Lmm firm l.left e rest (match_with b d t walk.events) ∙ walk.leads;
       remains = walk.remains;
     } in
     let same : give Lmm c.in-Some.slot.0 n now ≡ give Lmm e.slot n now = ap (λ (s : ℕ). give Lmm s n now) u.turn.slot_is in
     let left : r.new.taker.order.leaves ≡ t.order.leaves - n = ap (λ (x : Taker). x.order.leaves) r.ensures.now.taker ∙ give-leaves Lmm c.in-Some.slot.0 n now in
-    let gone : next ≡ (give Lmm e.slot (gift_of firm l.left e.order) now).book = r.ensures.now.book ∙ ap (λ (x : Moment). x.book) same ∙ ap (λ (x : ℕ). (give Lmm e.slot x now).book) lots in
+    let gone : next ≡ (give Lmm e.slot (gift_of firm l.left e.order) now).book = r.ensures.now.book ∙ ap (λ (x : MatchState). x.book) same ∙ ap (λ (x : ℕ). (give Lmm e.slot x now).book) lots in
     let remains = walk.remains in
     let stands : Stands k b.resting remains.before e (rest ++ remains.behind) = record { differ = differ; is = remains.is } in
     record {
       walk = walk-more m start k Lmm end l.out r.new.out e n rest (spent (l.left - n) (orders_of firm rest)) b next d r.new.desk t r.new.taker
           differ walk2
-          (subst (λ (x : Moment). IsNow x next r.new.desk r.new.taker) same r.ensures.now)
-          (subst (λ (x : Moment). Emits m l.out r.new.out x.events) same r.ensures.told);
+          (subst (λ (x : MatchState). IsNow x next r.new.desk r.new.taker) same r.ensures.now)
+          (subst (λ (x : MatchState). Emits m l.out r.new.out x.events) same r.ensures.emits);
       at = λ more. c.next-at.ensures ∙ u.turn.next more;
       enough = omega (arith, left, l.invariant.enough, lots, (gift-small firm l.left e.order).1);
       given = omega (arith, left, l.invariant.given, l.invariant.enough, lots, (gift-small firm l.left e.order).1);

@@ -3,7 +3,7 @@ use Rattle.std.specs.Prelude.{option_map}
 use Rattle.gx_base.specs.declared.event.StepName.TheVariants.{Lmm}
 use Rattle.plain_book.specs.Orders.{orders_at, slot_of}
 use Rattle.plain_book.specs.Book.{slot_number}
-use Rattle.plain_book.specs.Match.{moment, gives, CanTrade}
+use Rattle.plain_book.specs.Match.{match_start, gives, CanTrade}
 use Rattle.plain_book.specs.Steps.{facing, spent}
 use Rattle.plain_book.specs.Keeping.{KeepsRoom}
 use Rattle.plain_book.proofs.Going.{IsWalk}
@@ -16,7 +16,7 @@ invariant-loop-k g l =
     let k = facing l.fn.price l.fn.taker in
     let es = orders_at k b.resting in
     record {
-      walk : IsWalk g.E.Emit.meanings l.fn.out l.out k Lmm (gives Lmm (spent l.fn.lots (orders_of l.fn.firm es)) (moment b l.fn.desk l.fn.taker)) (drop l._k es) (spent l.left (orders_of l.fn.firm (drop l._k es))) (g.B.Book.book l.book) l.desk l.taker;
+      walk : IsWalk g.E.Emit.meanings l.fn.out l.out k Lmm (gives Lmm (spent l.fn.lots (orders_of l.fn.firm es)) (match_start b l.fn.desk l.fn.taker)) (drop l._k es) (spent l.left (orders_of l.fn.firm (drop l._k es))) (g.B.Book.book l.book) l.desk l.taker;
       at : l._k < length es → option_map slot_number l.at ≡ slot_of (drop l._k es);
       enough : l.left ≤ l.taker.order.leaves;
       given : l.fn.taker.order.leaves + l.left ≤ l.taker.order.leaves + l.fn.lots;

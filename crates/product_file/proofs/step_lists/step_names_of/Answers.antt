@@ -11,12 +11,12 @@ pub returns-then-are_step_names : goal.returns-then-are_step_names
 unfolding step_names_of
 returns-then-are_step_names c =
     let entries = c.in_ok-entries.entries.now in
-    let found = rw c.is_own.ensures at c.in_ok-entries.ensures in
+    let found = rw c.is_configurable.ensures at c.in_ok-entries.ensures in
     rw (← found, list_all-map is_step_name text_in (map view entries), list_all-map (λ (d : Data). is_step_name (text_in d)) view entries, ← c.are_step_names.ensures, c.if-are_step_names.true) refl
 
 pub returns-else-are_step_names : goal.returns-else-are_step_names
 unfolding step_names_of
 returns-else-are_step_names c =
     let entries = c.in_ok-entries.entries.now in
-    let found = rw c.is_own.ensures at c.in_ok-entries.ensures in
+    let found = rw c.is_configurable.ensures at c.in_ok-entries.ensures in
     rw (← found, list_all-map is_step_name text_in (map view entries), list_all-map (λ (d : Data). is_step_name (text_in d)) view entries, ← c.are_step_names.ensures, c.if-are_step_names.false) refl

@@ -6,7 +6,7 @@ use Rattle.gx_base.specs.Emits.{Emits}
 use Rattle.gx_base.proofs.Putting.{emits_none}
 use Rattle.plain_book.specs.declared.entry.Entry.{Entry}
 use Rattle.plain_book.specs.Orders.{orders_at, entry_at}
-use Rattle.plain_book.specs.Match.{Moment, moment, IsNow}
+use Rattle.plain_book.specs.Match.{MatchState, match_start, IsNow}
 use Rattle.plain_book.specs.Steps.{facing, prorata_shares, gives_marked}
 use Rattle.plain_book.proofs.Levels.{AllDiffer-front}
 use Rattle.plain_book.proofs.Turns.{turn_now, turn_end}
@@ -61,7 +61,7 @@ give_share-requires-clause-some g c =
     let u = turn_now k es _ _ c.queue_at-at.ensures.count c.loop-k-test.true _ c.loop-k.invariant.at c.in-Some.slot b c.in-Some.is c.rules.ensures c.loop-k.invariant.going.remains in
     let q = c.args.taker.now.order.leaves in
     let share = share_in c.args.least q es in
-    let end = gives_marked (prorata_shares c.args.least q es) (moment (g.B.Book.book c.args.book.now) c.args.desk.now c.args.taker.now) in
+    let end = gives_marked (prorata_shares c.args.least q es) (match_start (g.B.Book.book c.args.book.now) c.args.desk.now c.args.taker.now) in
     let m = g.E.Emit.meanings in
     let i = c.loop-k._k in
     let e = entry_at es i in
@@ -77,7 +77,7 @@ give_share-requires-clause-wanted g c =
     let u = turn_now k es _ _ c.queue_at-at.ensures.count c.loop-k-test.true _ c.loop-k.invariant.at c.in-Some.slot b c.in-Some.is c.rules.ensures c.loop-k.invariant.going.remains in
     let q = c.args.taker.now.order.leaves in
     let share = share_in c.args.least q es in
-    let end = gives_marked (prorata_shares c.args.least q es) (moment (g.B.Book.book c.args.book.now) c.args.desk.now c.args.taker.now) in
+    let end = gives_marked (prorata_shares c.args.least q es) (match_start (g.B.Book.book c.args.book.now) c.args.desk.now c.args.taker.now) in
     let m = g.E.Emit.meanings in
     let i = c.loop-k._k in
     let e = entry_at es i in
@@ -96,7 +96,7 @@ loop-k-init g c =
     record {
       going = record {
         events = [];
-        told = emits_none g.E.Emit.meanings c.args.out.now;
+        emits = emits_none g.E.Emit.meanings c.args.out.now;
         leads = refl;
         remains = record { before = []; behind = []; is = sym (append-nil es) };
         enough = shares-fit c.args.least q es;
@@ -115,7 +115,7 @@ loop-k-preserved g c =
     let u = turn_now k es _ _ c.queue_at-at.ensures.count c.loop-k-test.true _ c.loop-k.invariant.at c.in-Some.slot b c.in-Some.is c.rules.ensures c.loop-k.invariant.going.remains in
     let q = c.args.taker.now.order.leaves in
     let share = share_in c.args.least q es in
-    let end = gives_marked (prorata_shares c.args.least q es) (moment (g.B.Book.book c.args.book.now) c.args.desk.now c.args.taker.now) in
+    let end = gives_marked (prorata_shares c.args.least q es) (match_start (g.B.Book.book c.args.book.now) c.args.desk.now c.args.taker.now) in
     let m = g.E.Emit.meanings in
     let i = c.loop-k._k in
     let e = entry_at es i in
@@ -124,13 +124,13 @@ loop-k-preserved g c =
     let shown : c.order-order.result.shown ≡ e.order.shown = ap (λ (o : Order). o.shown) (c.order-order.ensures ∙ u.live_order) in
     let r = c.ratio_at-ratio.ensures in
     let is = share_is c.args.least _ _ _ q _ es e r.least r.total r.pool shown in
-    let now = moment b c.loop-k.desk c.loop-k.taker in
+    let now = match_start b c.loop-k.desk c.loop-k.taker in
     let same = marked_as c.in-Some.slot.0 e.slot _ (share e) now u.turn.slot_is is in
     record {
       going = going-more m c.args.out.now k share c.ratio_at-ratio.result.total end c.loop-k.out c.give_share.new.out e (drop (i + 1) es) b (g.B.Book.book c.give_share.new.book) c.loop-k.desk c.give_share.new.desk c.loop-k.taker c.give_share.new.taker
           (AllDiffer-front b.resting b.waiting c.rules.ensures.differ) going
-          (subst (λ (x : Moment). IsNow x (g.B.Book.book c.give_share.new.book) c.give_share.new.desk c.give_share.new.taker) same c.give_share.ensures.now)
-          (subst (λ (x : Moment). Emits m c.loop-k.out c.give_share.new.out x.events) same c.give_share.ensures.told);
+          (subst (λ (x : MatchState). IsNow x (g.B.Book.book c.give_share.new.book) c.give_share.new.desk c.give_share.new.taker) same c.give_share.ensures.now)
+          (subst (λ (x : MatchState). Emits m c.loop-k.out c.give_share.new.out x.events) same c.give_share.ensures.emits);
       at = λ more. c.next-at.ensures ∙ u.turn.next more;
       can = c.give_share.ensures.can;
       room = keeps-then c.args.desk.now c.loop-k.desk c.give_share.new.desk q c.loop-k.taker.order.leaves c.give_share.new.taker.order.leaves c.loop-k.invariant.room c.give_share.ensures.room;

@@ -2,7 +2,7 @@ use Rattle.std.proofs.Common.{◌≡◌, ◌<◌, length, drop}
 use Rattle.std.specs.Prelude.{option_map}
 use Rattle.plain_book.specs.Orders.{orders_at, slot_of}
 use Rattle.plain_book.specs.Book.{slot_number}
-use Rattle.plain_book.specs.Match.{moment, CanTrade}
+use Rattle.plain_book.specs.Match.{match_start, CanTrade}
 use Rattle.plain_book.specs.Steps.{facing, gives_marked, prorata_shares}
 use Rattle.plain_book.specs.Keeping.{KeepsRoom}
 use Rattle.prorata_pass.proofs.Floors.{share_in}
@@ -16,7 +16,7 @@ invariant-loop-k g l =
     let es = orders_at k b.resting in
     let q = l.fn.taker.order.leaves in
     record {
-      going : IsGoing g.E.Emit.meanings l.fn.out l.out k (share_in l.fn.least q es) l.ratio.total (gives_marked (prorata_shares l.fn.least q es) (moment b l.fn.desk l.fn.taker)) (drop l._k es) (g.B.Book.book l.book) l.desk l.taker;
+      going : IsGoing g.E.Emit.meanings l.fn.out l.out k (share_in l.fn.least q es) l.ratio.total (gives_marked (prorata_shares l.fn.least q es) (match_start b l.fn.desk l.fn.taker)) (drop l._k es) (g.B.Book.book l.book) l.desk l.taker;
       at : l._k < length es → option_map slot_number l.at ≡ slot_of (drop l._k es);
       can : CanTrade (g.B.Book.book l.book) l.desk l.taker;
       room : KeepsRoom l.fn.desk q l.desk l.taker.order.leaves;

@@ -2,9 +2,9 @@ use Rattle.std.proofs.Common.{◌≡◌, [], min, sym, ap, ◌∙◌, arith}
 use Rattle.gx_base.specs.declared.order.Order.{Order}
 use Rattle.gx_base.specs.declared.order.Taker.{Taker}
 use Rattle.plain_book.specs.Orders.{Level, orders_at}
-use Rattle.plain_book.specs.Match.{moment}
+use Rattle.plain_book.specs.Match.{match_start}
 use Rattle.plain_book.specs.Steps.{fifo, level_now}
-use Rattle.plain_book.proofs.Steps.{moment_with}
+use Rattle.plain_book.proofs.Steps.{match_with}
 use Rattle.plain_book.proofs.Trading.{keeps-then}
 use Rattle.split_pass.proofs.Rounds.{found, found_none, none-there, going-more, going-end}
 use Rattle.split_pass.proofs.fifo.fifo_pass.Goals as goal
@@ -15,19 +15,19 @@ returns-in-None-clause-now g c =
     let b = g.B.Book.book l.book in
     let v = l.invariant.going in
     let empty = found_none c.args.price c.args.taker.now c.opposite_side-side.result b c.first.result c.opposite_side-side.ensures c.first.ensures c.in-None.is in
-    let gone : level_now c.args.price (moment_with b l.desk l.taker v.events) ≡ [] = ap (λ (q : Level). orders_at q b.resting) v.faces ∙ empty in
-    let end = fifo c.args.price (moment (g.B.Book.book c.args.book.now) c.args.desk.now c.args.taker.now) in
-    (going-end g.E.Emit.meanings c.args.out.now c.args.price c.args.taker.now end l.out b l.desk l.taker v (none-there c.args.price l.taker.order.leaves (moment_with b l.desk l.taker v.events) gone)).0
+    let gone : level_now c.args.price (match_with b l.desk l.taker v.events) ≡ [] = ap (λ (q : Level). orders_at q b.resting) v.faces ∙ empty in
+    let end = fifo c.args.price (match_start (g.B.Book.book c.args.book.now) c.args.desk.now c.args.taker.now) in
+    (going-end g.E.Emit.meanings c.args.out.now c.args.price c.args.taker.now end l.out b l.desk l.taker v (none-there c.args.price l.taker.order.leaves (match_with b l.desk l.taker v.events) gone)).0
 
-pub returns-in-None-clause-told : goal.returns-in-None-clause-told
-returns-in-None-clause-told g c =
+pub returns-in-None-clause-emits : goal.returns-in-None-clause-emits
+returns-in-None-clause-emits g c =
     let l = c.loop-taker in
     let b = g.B.Book.book l.book in
     let v = l.invariant.going in
     let empty = found_none c.args.price c.args.taker.now c.opposite_side-side.result b c.first.result c.opposite_side-side.ensures c.first.ensures c.in-None.is in
-    let gone : level_now c.args.price (moment_with b l.desk l.taker v.events) ≡ [] = ap (λ (q : Level). orders_at q b.resting) v.faces ∙ empty in
-    let end = fifo c.args.price (moment (g.B.Book.book c.args.book.now) c.args.desk.now c.args.taker.now) in
-    (going-end g.E.Emit.meanings c.args.out.now c.args.price c.args.taker.now end l.out b l.desk l.taker v (none-there c.args.price l.taker.order.leaves (moment_with b l.desk l.taker v.events) gone)).1
+    let gone : level_now c.args.price (match_with b l.desk l.taker v.events) ≡ [] = ap (λ (q : Level). orders_at q b.resting) v.faces ∙ empty in
+    let end = fifo c.args.price (match_start (g.B.Book.book c.args.book.now) c.args.desk.now c.args.taker.now) in
+    (going-end g.E.Emit.meanings c.args.out.now c.args.price c.args.taker.now end l.out b l.desk l.taker v (none-there c.args.price l.taker.order.leaves (match_with b l.desk l.taker v.events) gone)).1
 
 pub lots_of-lots-requires : goal.lots_of-lots-requires
 lots_of-lots-requires g c =
@@ -74,12 +74,12 @@ loop-taker-preserved g c =
     let h = found c.args.price c.args.taker.now c.opposite_side-side.result b c.first.result c.in-Some.slot c.opposite_side-side.ensures c.first.ensures c.in-Some.is c.rules.ensures in
     let t0 = c.args.taker.now in
     let r = c.trade_lots in
-    let end = fifo c.args.price (moment (g.B.Book.book c.args.book.now) c.args.desk.now t0) in
+    let end = fifo c.args.price (match_start (g.B.Book.book c.args.book.now) c.args.desk.now t0) in
     let lots : c.lots_of-lots.result ≡ min l.taker.order.leaves h.entry.order.shown = c.lots_of-lots.ensures ∙ ap (λ (o : Order). min l.taker.order.leaves o.shown) h.live_order in
     record {
       going = going-more g.E.Emit.meanings c.args.out.now c.args.price t0 end l.out r.new.out c.in-Some.slot.0 c.lots_of-lots.result
           b (g.B.Book.book r.new.book) l.desk r.new.desk l.taker r.new.taker
-          l.invariant.going h lots (omega (arith, lots, h.fit.showing, c.loop-taker-test.true)) r.ensures.now r.ensures.told;
+          l.invariant.going h lots (omega (arith, lots, h.fit.showing, c.loop-taker-test.true)) r.ensures.now r.ensures.emits;
       can = r.ensures.can;
       room = keeps-then c.args.desk.now l.desk r.new.desk t0.order.leaves l.taker.order.leaves r.new.taker.order.leaves l.invariant.room r.ensures.keeps;
     }

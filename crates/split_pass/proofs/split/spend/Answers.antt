@@ -6,7 +6,7 @@ use Rattle.gx_base.specs.declared.order.Taker.{Taker}
 use Rattle.gx_base.specs.Emits.{Emits}
 use Rattle.plain_book.specs.declared.entry.Entry.{Entry}
 use Rattle.plain_book.specs.Orders.{orders_at, entry_at}
-use Rattle.plain_book.specs.Match.{Moment, moment, give, gives, IsNow}
+use Rattle.plain_book.specs.Match.{MatchState, match_start, give, gives, IsNow}
 use Rattle.plain_book.specs.Steps.{facing, spent}
 use Rattle.plain_book.proofs.Steps.{give-leaves}
 use Rattle.plain_book.proofs.Levels.{AllDiffer-front}
@@ -60,7 +60,7 @@ loop-k-init g c =
     let t = c.args.taker.now in
     let k = facing c.args.price t in
     let es = orders_at k b0.resting in
-    let now = moment b0 c.args.desk.now t in
+    let now = match_start b0 c.args.desk.now t in
     record {
       walk = walk-start g.E.Emit.meanings c.args.out.now k Split (gives Split (spent c.args.lots es) now) es (spent c.args.lots es) b0 c.args.desk.now t
           (record { before = []; behind = []; is = sym (append-nil es) }) refl;
@@ -83,13 +83,13 @@ loop-k-preserved g c =
     let b = g.B.Book.book l.book in
     let d = l.desk in
     let t = l.taker in
-    let now = moment b d t in
+    let now = match_start b d t in
     let rest = drop (i + 1) es in
     let n = c.lots_of-lots.result in
     let m = g.E.Emit.meanings in
     let start = c.args.out.now in
     let r = c.give_lots in
-    let end = gives Split (spent c.args.lots es) (moment b0 c.args.desk.now t0) in
+    let end = gives Split (spent c.args.lots es) (match_start b0 c.args.desk.now t0) in
     let lots : n ≡ min l.left e.order.shown = c.lots_of-lots.ensures ∙ ap (λ (o : Order). min l.left o.shown) u.live_order in
     let walk : IsWalk m start l.out k Split end (e ∷ rest) (spent l.left (e ∷ rest)) b d t = subst (λ (q : List Entry). IsWalk m start l.out k Split end q (spent l.left q) b d t) u.turn.rest l.invariant.walk in
     let walk2 : IsWalk m start l.out k Split end (e ∷ rest) ((e.slot, n) ∷ spent (l.left - n) rest) b d t =
@@ -99,8 +99,8 @@ loop-k-preserved g c =
     record {
       walk = walk-more m start k Split end l.out r.new.out e n rest (spent (l.left - n) rest) b (g.B.Book.book r.new.book) d r.new.desk t r.new.taker
           (AllDiffer-front b.resting b.waiting c.rules.ensures.differ) walk2
-          (subst (λ (x : Moment). IsNow x (g.B.Book.book r.new.book) r.new.desk r.new.taker) same r.ensures.now)
-          (subst (λ (x : Moment). Emits m l.out r.new.out x.events) same r.ensures.told);
+          (subst (λ (x : MatchState). IsNow x (g.B.Book.book r.new.book) r.new.desk r.new.taker) same r.ensures.now)
+          (subst (λ (x : MatchState). Emits m l.out r.new.out x.events) same r.ensures.emits);
       at = λ more. c.next-at.ensures ∙ u.turn.next more;
       enough = omega (arith, left, l.invariant.enough, lots);
       can = r.ensures.can;

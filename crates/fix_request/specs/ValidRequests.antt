@@ -16,7 +16,7 @@ use Rattle.fix_request.specs.declared.request.Request.{Request}
 use Rattle.fix_request.specs.declared.request.Request.TheVariants.{New, Cancel, Replace, Passed, Refused}
 
 -- the firm is listed, and the sequence number has one to nine digits
-pub record IsGivenSender (names : NameLists) (sender : Sender) : Type 0 where
+pub record IsValidSender (names : NameLists) (sender : Sender) : Type 0 where
   pub firm : sender.firm < length names.firms
   pub some : 1 ≤ sender.seq
   pub short : sender.seq < 10 ^ 9
@@ -48,8 +48,8 @@ HasPricesOf Market price trigger = IsAbsent price × IsAbsent trigger
 HasPricesOf Limit price trigger = IsPresent price × IsAbsent trigger
 HasPricesOf StopLimit price trigger = IsPresent price × IsPresent trigger
 
-pub record IsGivenNew (names : NameLists) (order : NewOrder) : Type 0 where
-  pub sender : IsGivenSender names order.sender
+pub record IsValidNew (names : NameLists) (order : NewOrder) : Type 0 where
+  pub sender : IsValidSender names order.sender
   pub named : IsListed names order.named
   pub quantity : order.quantity < 10 ^ 9
   pub min : order.min < 10 ^ 9
@@ -58,8 +58,8 @@ pub record IsGivenNew (names : NameLists) (order : NewOrder) : Type 0 where
   pub trigger : IsWithinLimit order.trigger
   pub prices : HasPricesOf order.kind order.price order.trigger
 
-pub record IsGivenReplace (names : NameLists) (order : ReplaceOrder) : Type 0 where
-  pub sender : IsGivenSender names order.sender
+pub record IsValidReplace (names : NameLists) (order : ReplaceOrder) : Type 0 where
+  pub sender : IsValidSender names order.sender
   pub named : IsListed names order.named
   pub quantity : order.quantity < 10 ^ 9
   pub price : IsWithinLimit order.price
@@ -67,18 +67,18 @@ pub record IsGivenReplace (names : NameLists) (order : ReplaceOrder) : Type 0 wh
   pub prices : HasPricesOf order.kind order.price order.trigger
 
 -- the firm, if one is known, is listed; the rule is one of the ten
-pub record IsGivenRefusal (names : NameLists) (refusal : Refusal) : Type 0 where
+pub record IsValidRefusal (names : NameLists) (refusal : Refusal) : Type 0 where
   pub firm : IfSome refusal.firm (λ firm. firm < length names.firms)
   pub some : 1 ≤ refusal.rule
   pub few : refusal.rule ≤ 10
 
 -- all of it, for each kind of request
-abbrev pub IsGivenBy : NameLists → Request → Type 0
-IsGivenBy names (New order) = IsGivenNew names order
-IsGivenBy names (Cancel order) = IsGivenSender names order.sender
-IsGivenBy names (Replace order) = IsGivenReplace names order
-IsGivenBy names (Passed sender) = IsGivenSender names sender
-IsGivenBy names (Refused refusal) = IsGivenRefusal names refusal
+abbrev pub IsValidIn : NameLists → Request → Type 0
+IsValidIn names (New order) = IsValidNew names order
+IsValidIn names (Cancel order) = IsValidSender names order.sender
+IsValidIn names (Replace order) = IsValidReplace names order
+IsValidIn names (Passed sender) = IsValidSender names sender
+IsValidIn names (Refused refusal) = IsValidRefusal names refusal
 
-abbrev pub IsGivenRequest : ProductLists → Request → Type 0
-IsGivenRequest product request = IsGivenBy product.names request
+abbrev pub IsValidRequest : ProductLists → Request → Type 0
+IsValidRequest product request = IsValidIn product.names request

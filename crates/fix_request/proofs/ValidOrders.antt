@@ -16,7 +16,7 @@ use Rattle.fix_request.specs.Faults.{fault}
 use Rattle.fix_request.specs.Inner.Rules.{where_passes, needed, needed_where, formed, listed}
 use Rattle.fix_request.specs.MessageTable.{known_if_some, named_of}
 use Rattle.fix_request.specs.Inner.Orders.{side_of, kind_of, life_of, symbol_tag, symbol_text, has_price, has_trigger, quantity_or_zero, price_if_read, OrderTexts, order_texts, order_forms, new_of, cancel_of, replace_of}
-use Rattle.fix_request.specs.Given.{IsGivenSender, IsListed, IsGivenNew, IsGivenReplace}
+use Rattle.fix_request.specs.ValidRequests.{IsValidSender, IsListed, IsValidNew, IsValidReplace}
 use Rattle.fix_request.specs.declared.forms.OrderForms.{OrderForms}
 use Rattle.fix_request.specs.declared.request.Sender.{Sender}
 use Rattle.fix_request.specs.declared.request.Px.{Px}
@@ -115,10 +115,10 @@ there text (Some other) px fits is = subst (Fits text) (same_Some other px is) f
 
 -- ---- each type
 
-pub new_holds : (names : NameLists) (sender : Sender) (values : Values) → IsGivenSender names sender → Holds (IsGivenNew names) (new_of names sender values)
+pub new_holds : (names : NameLists) (sender : Sender) (values : Values) → IsValidSender names sender → Holds (IsValidNew names) (new_of names sender values)
 unfolding new_of
 new_holds names sender values known =
-    let P : NewOrder → Type 0 = IsGivenNew names in
+    let P : NewOrder → Type 0 = IsValidNew names in
     step Any P (needed 11 values.id) _ (needed_holds 11 values.id) (λ id_text _.
     step HasTexts P (order_texts values) _ (texts_hold values) (λ texts has_texts.
     step (λ id. where_passes is_name id_text ≡ Some id) P (formed 11 (where_passes is_name id_text)) _ (formed_holds 11 (where_passes is_name id_text)) (λ id _.
@@ -144,20 +144,20 @@ new_holds names sender values known =
       prices = prices_of kind texts.price texts.trigger price trigger (has_texts.price ∙ text.price) (has_texts.trigger ∙ text.trigger) price_there trigger_there;
     })))))))))))
 
-pub cancel_holds : (names : NameLists) (sender : Sender) (values : Values) → IsGivenSender names sender → Holds (λ (order : CancelOrder). IsGivenSender names order.sender) (cancel_of sender values)
+pub cancel_holds : (names : NameLists) (sender : Sender) (values : Values) → IsValidSender names sender → Holds (λ (order : CancelOrder). IsValidSender names order.sender) (cancel_of sender values)
 unfolding cancel_of
 cancel_holds names sender values known =
-    let P : CancelOrder → Type 0 = λ order. IsGivenSender names order.sender in
+    let P : CancelOrder → Type 0 = λ order. IsValidSender names order.sender in
     step Any P (needed 11 values.id) _ (needed_holds 11 values.id) (λ id_text _.
     step Any P (needed 41 values.old) _ (needed_holds 41 values.old) (λ old_text _.
     step (λ id. where_passes is_name id_text ≡ Some id) P (formed 11 (where_passes is_name id_text)) _ (formed_holds 11 (where_passes is_name id_text)) (λ id _.
     step (λ old. where_passes is_name old_text ≡ Some old) P (formed 41 (where_passes is_name old_text)) _ (formed_holds 41 (where_passes is_name old_text)) (λ old _.
     known))))
 
-pub replace_holds : (names : NameLists) (sender : Sender) (values : Values) → IsGivenSender names sender → Holds (IsGivenReplace names) (replace_of names sender values)
+pub replace_holds : (names : NameLists) (sender : Sender) (values : Values) → IsValidSender names sender → Holds (IsValidReplace names) (replace_of names sender values)
 unfolding replace_of
 replace_holds names sender values known =
-    let P : ReplaceOrder → Type 0 = IsGivenReplace names in
+    let P : ReplaceOrder → Type 0 = IsValidReplace names in
     step Any P (needed 11 values.id) _ (needed_holds 11 values.id) (λ id_text _.
     step Any P (needed 41 values.old) _ (needed_holds 41 values.old) (λ old_text _.
     step HasTexts P (order_texts values) _ (texts_hold values) (λ texts has_texts.

@@ -18,7 +18,7 @@ use Rattle.fix_request.specs.Inner.Orders.{new_of, cancel_of, replace_of}
 use Rattle.fix_request.specs.SessionRules.{first_empty, is_sequence_number}
 use Rattle.fix_request.specs.Requests.{no_time}
 use Rattle.fix_request.specs.Inner.Requests.{no_value_in, well_formed_values, checked_values, firm_of, target_of, sequence_of, time_of, message_type_of, content_by, content_of, known, request_of_body}
-use Rattle.fix_request.specs.Given.{IsGivenSender, IsGivenRefusal, IsGivenBy}
+use Rattle.fix_request.specs.ValidRequests.{IsValidSender, IsValidRefusal, IsValidIn}
 use Rattle.fix_request.specs.declared.fault.Fault.{Fault}
 use Rattle.fix_request.specs.declared.message_type.MessageType.{MessageType}
 use Rattle.fix_request.specs.declared.message_type.MessageType.TheVariants.{Session, New, Cancel, Replace}
@@ -28,7 +28,7 @@ use Rattle.fix_request.specs.declared.request.Request.{Request}
 use Rattle.fix_request.specs.declared.request.Request.TheVariants as request
 use Rattle.fix_request.proofs.Holding.{IsFault, Holds, step, some_or, weaker, mapped}
 use Rattle.fix_request.proofs.Numbers.{short_below}
-use Rattle.fix_request.proofs.GivenOrders.{new_holds, cancel_holds, replace_holds}
+use Rattle.fix_request.proofs.ValidOrders.{new_holds, cancel_holds, replace_holds}
 
 abbrev Any : {A : Type 0} → A → Type 0
 Any a = ⊤
@@ -102,17 +102,17 @@ time_holds values =
 
 -- ---- rules 7 to 10
 
-content_by_holds : (names : NameLists) (sender : Sender) (values : Values) (type : MessageType) → IsGivenSender names sender → Holds (IsGivenBy names) (content_by names sender values type)
+content_by_holds : (names : NameLists) (sender : Sender) (values : Values) (type : MessageType) → IsValidSender names sender → Holds (IsValidIn names) (content_by names sender values type)
 unfolding content_by
 content_by_holds names sender values Session given = given
-content_by_holds names sender values New given = mapped (IsGivenBy names) request.New (new_of names sender values) (new_holds names sender values given)
-content_by_holds names sender values Cancel given = mapped (IsGivenBy names) request.Cancel (cancel_of sender values) (cancel_holds names sender values given)
-content_by_holds names sender values Replace given = mapped (IsGivenBy names) request.Replace (replace_of names sender values) (replace_holds names sender values given)
+content_by_holds names sender values New given = mapped (IsValidIn names) request.New (new_of names sender values) (new_holds names sender values given)
+content_by_holds names sender values Cancel given = mapped (IsValidIn names) request.Cancel (cancel_of sender values) (cancel_holds names sender values given)
+content_by_holds names sender values Replace given = mapped (IsValidIn names) request.Replace (replace_of names sender values) (replace_holds names sender values given)
 
-content_holds : (names : NameLists) (sender : Sender) (values : Values) → IsGivenSender names sender → Holds (IsGivenBy names) (content_of names sender values)
+content_holds : (names : NameLists) (sender : Sender) (values : Values) → IsValidSender names sender → Holds (IsValidIn names) (content_of names sender values)
 unfolding content_of
 content_holds names sender values given =
-    let P : Request → Type 0 = IsGivenBy names in
+    let P : Request → Type 0 = IsValidIn names in
     let type = option_and_then message_type_of values.type in
     step (λ t. type ≡ Some t) P (ok_or type (fault 7 11 35)) _ (some_or type (fault 7 11 35) (record { some = lit≤ tt; few = lit≤ tt })) (λ t _.
     content_by_holds names sender values t given)
@@ -121,7 +121,7 @@ content_holds names sender values given =
 
 -- a request, or a refusal that can be given
 abbrev AnswerHolds : {A : Type 0} → NameLists → (A → Type 0) → Result A Refusal → Type 0
-AnswerHolds names P r = MatchResult r P (IsGivenRefusal names)
+AnswerHolds names P r = MatchResult r P (IsValidRefusal names)
 
 answer : {A B : Type 0} (names : NameLists) (Q : A → Type 0) (P : B → Type 0) (firm : Option ℕ) (seq : ℕ) (time : List ℕ) (r : Result A Fault) (next : A → Result B Refusal) → IfSome firm (λ f. f < length names.firms) → Holds Q r → ((a : A) → Q a → AnswerHolds names P (next a)) → AnswerHolds names P (known firm seq time r >>= next)
 answer names Q P firm seq time (Ok a) next is first others = others a first
@@ -131,10 +131,10 @@ last_answer : {A : Type 0} (names : NameLists) (P : A → Type 0) (firm : Option
 last_answer names P firm seq time (Ok a) is holds = holds
 last_answer names P firm seq time (Err f) is holds = record { firm = is; some = holds.some; few = holds.few }
 
-pub body_holds : (names : NameLists) (body : List ℕ) → MatchResult (request_of_body names body) (IsGivenBy names) (IsGivenRefusal names)
+pub body_holds : (names : NameLists) (body : List ℕ) → MatchResult (request_of_body names body) (IsValidIn names) (IsValidRefusal names)
 unfolding request_of_body
 body_holds names body =
-    let P : Request → Type 0 = IsGivenBy names in
+    let P : Request → Type 0 = IsValidIn names in
     answer names Any P None 0 no_time (checked_values body) _ tt (checked_holds body) (λ values _.
     answer names (λ firm. firm < length names.firms) P None 0 no_time (firm_of names values) _ tt (firm_holds names values) (λ firm within.
     answer names Any P (Some firm) 0 no_time (target_of names values) _ within (target_holds names values) (λ target _.
