@@ -3,10 +3,11 @@ pub mod Levels
 pub mod Pairs
 pub mod Live
 pub mod Walks
-pub mod Steps
+pub mod TradedShares
 pub mod Turns
 pub mod Found
-pub mod Going
+pub mod Matching
+pub mod Marks
 pub mod Trading
 pub mod Before
 pub mod Sorted
@@ -16,4 +17,3 @@ pub mod Named
 pub mod Right
 pub mod Settled
 pub mod Kept
-pub mod Numbers

@@ -2,7 +2,7 @@
 ghost use Rattle.std.specs.Prelude.{◌≡◌, ◌<◌, ◌≤◌, ◌+◌, false, IfOk, [], ◌∷◌, ◌++◌, length, vec_len, vec_capacity};
 ghost use Rattle.plain_book.specs.Orders.{HasSlot, order_of, traded, filled_by, refreshed, placed, without};
 ghost use Rattle.plain_book.specs.Book.{EachPair, AreInBookOrder, empty_book, resting_placed};
-ghost use Rattle.plain_book.specs.Keeping.{freed, IsFreeList};
+ghost use Rattle.plain_book.specs.Inner.FreeSlots.{freed, IsFreeList};
 
 use crate::book::Book;
 use crate::edits::{
@@ -30,7 +30,7 @@ pub struct PlainBook {
 
 impl Model for PlainBook {
     ghost use Rattle.plain_book.specs.Book.{Book};
-    ghost use Rattle.plain_book.specs.Keeping.{book_of, IsKept};
+    ghost use Rattle.plain_book.specs.Inner.FreeSlots.{book_of, IsKept};
     ghost use Rattle.std.specs.Prelude.{vec_capacity};
 
     ghost Value = { Book };

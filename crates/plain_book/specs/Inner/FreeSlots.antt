@@ -1,22 +1,8 @@
--- How a book that keeps its two lists keeps its slots, and what no part of a match uses up.
-use Rattle.std.specs.Prelude.{◌≡◌, ℕ, ◌+◌, ◌-◌, ◌*◌, ◌<◌, ◌≤◌, ◌==◌, if◌then◌else◌, List, [], ◌∷◌, ◌++◌, length, slice_index, ◌⊎◌}
-use Rattle.gx_base.specs.declared.order.Desk.{Desk}
+-- How a book that keeps its orders in two lists keeps its slots: each is an order's, or free.
+use Rattle.std.specs.Prelude.{◌≡◌, ℕ, ◌+◌, ◌-◌, ◌<◌, ◌≤◌, ◌==◌, if◌then◌else◌, List, [], ◌∷◌, ◌++◌, length, ◌⊎◌}
 use Rattle.plain_book.specs.declared.entry.Entry.{Entry}
 use Rattle.plain_book.specs.Orders.{HasSlot, order_of}
 use Rattle.plain_book.specs.Book.{Book, IsRight, live_orders}
-
--- ---- counters
-
--- no counter together with twice the lots that are still wanted is above what it was with those that were wanted before
-pub record KeepsRoom (old : Desk) (wanted : ℕ) (new : Desk) (left : ℕ) : Type 0 where
-  pub messages : new.messages ≡ old.messages
-  pub orders : new.orders ≡ old.orders
-  pub fewer : left ≤ wanted
-  pub trades : new.trades + 2 * left ≤ old.trades + 2 * wanted
-  pub reports : new.reports + 2 * left ≤ old.reports + 2 * wanted
-  pub lines : (firm : ℕ) → slice_index new.lines firm + 2 * left ≤ slice_index old.lines firm + 2 * wanted
-
--- ---- free slots
 
 abbrev pub book_of : ℕ → ℕ → List Entry → List Entry → Book
 book_of capacity instruments resting waiting = record { capacity = capacity; instruments = instruments; resting = resting; waiting = waiting }
