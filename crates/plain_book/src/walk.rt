@@ -93,14 +93,15 @@ pub fn trade_level<B: Book, E: Emit, R: ShareRule>(
         Matches E.meanings (trade_shares step (shares_by R.meanings rule.old level)) before after
     }
 {
+    book.rules();
     let mut at = first_facing(book, taker, price);
     let mut end = None;
     while let Some(slot) = at {
-        book.rules();
         at = next_before(book, slot, end);
         let order = book.order(slot);
         let lots = rule.share(&order);
         end = end_after(end, slot, &order, lots);
         trade_share(book, desk, taker, slot, lots, step, out);
+        book.rules();
     }
 }
