@@ -1,6 +1,6 @@
 -- How runs of puts go together.
-use Rattle.std.proofs.Common.{◌≡◌, ◌⊎◌, inl, inr, ℕ, ◌+◌, ◌<◌, ◌≤◌, get_or, Bool, true, false, List, [], ◌∷◌, ◌++◌, length, take, Option, Some, None, refl, sym, ◌∙◌, ap, subst, arith, length-append}
-use Rattle.std.proofs.lemmas.Bool.{true≢false}
+use Rattle.std.proofs.Common.{◌≡◌, inl, inr, ℕ, ◌+◌, ◌<◌, ◌≤◌, get_or, true, false, List, [], ◌∷◌, ◌++◌, length, take, Option, Some, None, refl, sym, ◌∙◌, ap, subst, arith, length-append}
+use Rattle.std.proofs.lemmas.Bool.{cases_Bool, true≢false}
 use Rattle.std.proofs.lemmas.List.{take-append-le, take_more}
 use Rattle.std.proofs.lemmas.List.Sums.{fold-append}
 use Rattle.std.proofs.Math.Seq.{take-append-add}
@@ -8,10 +8,6 @@ use Rattle.std.specs.Option.{option_map}
 use Rattle.gx_base.specs.KnownBytes.{IsKnownPrefix, known_itself}
 use Rattle.gx_base.specs.Emits.{EmitMeanings, Puts, Emits, seen_after}
 use Rattle.gx_base.specs.declared.event.Event.{Event}
-
-pub true_or_false : (b : Bool) → (b ≡ true) ⊎ (b ≡ false)
-true_or_false true = inl refl
-true_or_false false = inr refl
 
 -- no event leaves what is seen
 pub seen_after_none : (f : List ℕ → Event → List ℕ) (s : Option (List ℕ)) → seen_after f s [] ≡ s
@@ -40,7 +36,7 @@ module _ {E : Type 0} (m : EmitMeanings E) where
   emits_one a b x put = record {
     later = put.later;
     all = λ ok. put.done ok ∙ seen_after_one (m.after a) (m.seen a) x;
-    part = λ failed. elim (true_or_false (m.has_failed a)) [
+    part = λ failed. elim (cases_Bool (m.has_failed a)) [
       | inl was ↦ (0, omega arith, subst (λ s. IsKnownPrefix (m.seen b) s) (ap m.seen (put.stays was) ∙ sym (seen_after_none (m.after a) (m.seen a))) (known_itself (m.seen b)))
       | inr was_not ↦ (1, omega arith, subst (λ s. IsKnownPrefix (m.seen b) s) (seen_after_one (m.after a) (m.seen a) x) (put.cut was_not failed))
     ];
@@ -51,11 +47,11 @@ module _ {E : Type 0} (m : EmitMeanings E) where
   pub emits_joined : (a b c : E) (xs ys : List Event) → Emits m a b xs → Emits m b c ys → Emits m a c (xs ++ ys)
   emits_joined a b c xs ys first second = record {
     later = m.later_then a b c first.later second.later;
-    all = λ ok. elim (true_or_false (m.has_failed b)) [
+    all = λ ok. elim (cases_Bool (m.has_failed b)) [
       | inl was ↦ absurd (true≢false (sym (ap m.has_failed (second.stays was) ∙ was) ∙ ok))
       | inr was_not ↦ second.all ok ∙ ap (λ f. seen_after f (m.seen b) ys) same_rule ∙ ap (λ s. seen_after (m.after a) s ys) (first.all was_not) ∙ sym (seen_after-append (m.after a) (m.seen a) xs ys)
     ];
-    part = λ failed. elim (true_or_false (m.has_failed b)) [
+    part = λ failed. elim (cases_Bool (m.has_failed b)) [
       | inl was ↦
           let p = first.part was in
           let lt : p.0 ≤ length (xs ++ ys) = omega (arith, p.1, length-append xs ys) in
