@@ -10,6 +10,8 @@ use Rattle.std.specs.Char.{is_ascii_digit}
 use Rattle.std.specs.Str.Parse.{digits_value, digits_value_after}
 use Rattle.gx_base.proofs.Capped.{capped_append}
 use Rattle.gx_base.specs.Numbers.{are_digits, are_zeros, is_point, unsigned_text, is_price_text, whole_digits, fraction_digits, units_of, price_limit, price_of, fixed_digits, fraction_text}
+use Rattle.gx_base.specs.declared.digits.TheConstants.{CEILING}
+use Rattle.gx_base.specs.declared.limits.TheConstants.{MOST_DECIMALS}
 use Rattle.gx_base.specs.declared.price.PriceFault.TheVariants.{Range}
 
 pub are_digits-take : (n : ℕ) (ds : List ℕ) → are_digits ds ≡ true → are_digits (take n ds) ≡ true
@@ -54,7 +56,7 @@ pub record IsRead (text : List ℕ) (decimals : ℕ) (rest whole fraction : List
   pub short : length text ≤ 32
   pub digits : true ≡ are_price_digits whole fraction
   pub zeros : true ≡ are_zeros (drop decimals fraction)
-  pub units_is : units ≡ min 1000000000000 (units_from decimals whole fraction)
+  pub units_is : units ≡ min CEILING (units_from decimals whole fraction)
 
 module _ {text : List ℕ} {decimals : ℕ} {rest whole fraction : List ℕ} {units : ℕ} (read : IsRead text decimals rest whole fraction units) where
   whole_same : whole ≡ whole_digits text
@@ -72,8 +74,8 @@ module _ {text : List ℕ} {decimals : ℕ} {rest whole fraction : List ℕ} {un
   fits : not (are_zeros (drop decimals (fraction_digits text))) ≡ false
   fits = not_from_true _ (sym (read.zeros ∙ ap (λ fs. are_zeros (drop decimals fs)) fraction_same))
 
-  capped : units ≡ min 1000000000000 (units_of text decimals)
-  capped = read.units_is ∙ ap (λ ws. min 1000000000000 (units_from decimals ws fraction)) whole_same ∙ ap (λ fs. min 1000000000000 (units_from decimals (whole_digits text) fs)) fraction_same
+  capped : units ≡ min CEILING (units_of text decimals)
+  capped = read.units_is ∙ ap (λ ws. min CEILING (units_from decimals ws fraction)) whole_same ∙ ap (λ fs. min CEILING (units_from decimals (whole_digits text) fs)) fraction_same
 
   pub price_of-range : price_limit < units → Err Range ≡ price_of text decimals
   price_of-range above =
@@ -90,7 +92,7 @@ pub length-fraction_text : (decimals n : ℕ) → length (fraction_text decimals
 length-fraction_text zero n = omega arith
 length-fraction_text (suc k) n = omega (arith, length-fixed_digits (suc k) n)
 
-pub length-whole : (decimals n : ℕ) → decimals ≤ 8 → n < 10 ^ 19 → length (decimal (n / 10 ^ decimals)) + decimals ≤ 19
+pub length-whole : (decimals n : ℕ) → decimals ≤ MOST_DECIMALS → n < 10 ^ 19 → length (decimal (n / 10 ^ decimals)) + decimals ≤ 19
 length-whole decimals n few small =
     let some : 0 < 10 ^ decimals = one-le-pow decimals 10 (omega arith) in
     let all : 19 - decimals + decimals ≡ 19 = omega arith in

@@ -2,10 +2,11 @@
 use Rattle.std.specs.Prelude.{ℕ, ◌%◌, List, [], ◌∷◌, ◌++◌, sum, codes}
 use Prim.Native.String.{String}
 use Rattle.gx_base.specs.Numbers.{fixed_digits}
+use Rattle.gx_base.specs.declared.limits.TheConstants.{SOH}
 
 -- the byte that ends a field
 abbrev pub soh : ℕ
-soh = 1
+soh = SOH
 
 -- a field: its tag, `=`, its value, and SOH
 abbrev pub field : String → List ℕ → List ℕ

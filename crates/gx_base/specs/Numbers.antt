@@ -4,6 +4,7 @@ use Rattle.std.specs.Char.{is_ascii_digit}
 use Rattle.std.specs.Int.{is_negative}
 use Rattle.std.specs.List.{before_first, after_first, list_all}
 use Rattle.std.specs.Str.Parse.{digits_value}
+use Rattle.gx_base.specs.declared.limits.TheConstants.{MOST_PRICE_UNITS}
 use Rattle.gx_base.specs.declared.price.Price.{Price}
 use Rattle.gx_base.specs.declared.price.PriceFault.{PriceFault}
 use Rattle.gx_base.specs.declared.price.PriceFault.TheVariants.{Format, Scale, Range}
@@ -66,7 +67,7 @@ signed_units negative n = if negative then neg_ℤ (pos n) else pos n
 
 -- the greatest price in units, either way
 abbrev pub price_limit : ℕ
-price_limit = 999999999999
+price_limit = MOST_PRICE_UNITS
 
 -- the price of a text in units of 10 ^ -decimals, or the first of the three faults
 abbrev pub price_of : List ℕ → ℕ → Result Price PriceFault

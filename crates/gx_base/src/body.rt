@@ -7,6 +7,7 @@ ghost use Rattle.gx_base.specs.Line.{field_if, cause_text, number_text, cancel_i
 use crate::event::{Cause, ChangeFault, Event, Head, NewFault, NewRefused};
 use crate::fields::{field, number, price};
 use crate::id::ShortId;
+use crate::limits::MOST_DECIMALS;
 use crate::names::Names;
 use crate::order::{Kind, Order};
 use crate::price::Price;
@@ -234,7 +235,7 @@ fn order_fields(into: &mut [u8], at: usize, names: &Names, order: &Order) -> usi
 /// The price and the stop price, as far as the kind of the order has them.
 fn price_fields(into: &mut [u8], at: usize, order: &Order, decimals: u8) -> usize
     requires room { at + 60 ≤ length into.old }
-    requires decimals { decimals ≤ 8 }
+    requires decimals { decimals ≤ MOST_DECIMALS }
     ensures fields { take result into.new ≡ take at into.old ++ price_fields order.now.kind order.now.price order.now.trigger decimals }
     ensures short { result ≤ at + 60 }
 {
@@ -251,7 +252,7 @@ fn price_fields(into: &mut [u8], at: usize, order: &Order, decimals: u8) -> usiz
 /// A trade: how much, and at which price.
 fn trade_fields(into: &mut [u8], at: usize, lots: u32, trade_price: Price, decimals: u8) -> usize
     requires room { at + 60 ≤ length into.old }
-    requires decimals { decimals ≤ 8 }
+    requires decimals { decimals ≤ MOST_DECIMALS }
     ensures fields { take result into.new ≡ take at into.old ++ trade_fields lots trade_price decimals }
     ensures short { result ≤ at + 60 }
 {

@@ -4,10 +4,11 @@ ghost use Rattle.std.specs.Str.Parse.{digits_value, digits_value_after};
 ghost use Rattle.std.specs.List.{before_first, after_first};
 ghost use Rattle.gx_base.specs.Numbers.{are_digits, are_zeros, is_point, fixed_digits};
 
+use crate::limits::MOST_PRICE_UNITS;
 use std::cmp;
 
 /// One more than the greatest price in units. Numbers that are read stop growing there, so that no text overflows.
-pub(crate) const CEILING: u64 = 1_000_000_000_000;
+pub(crate) const CEILING: u64 = MOST_PRICE_UNITS + 1;
 
 /// Whether each byte is a digit.
 pub(crate) fn are_digits(text: &[u8]) -> bool

@@ -1,13 +1,11 @@
 //! Fields in a row, and the frame round them. Each call writes behind the first `at` bytes of the room that it is lent,
 //! and answers where what it wrote ends.
 ghost use Rattle.std.specs.Prelude.{◌≡◌, ◌+◌, ◌-◌, ◌%◌, ◌<◌, ◌≤◌, [], ◌∷◌, ◌++◌, length, take, drop, sum, decimal};
-ghost use Rattle.gx_base.specs.Frames.{soh, head_of, trailer_of};
+ghost use Rattle.gx_base.specs.Frames.{head_of, trailer_of};
 ghost use Rattle.gx_base.specs.Numbers.{price_text};
 
+use crate::limits::{LONGEST_LINE, MOST_DECIMALS, SOH};
 use crate::price::{Price, write_price};
-
-/// The byte that ends a field.
-const SOH: u8 = 1;
 
 /// Room before a body for its head, whose length has at most three digits.
 pub(crate) const GAP: usize = 16;
@@ -17,7 +15,7 @@ pub(crate) fn field(into: &mut [u8], at: usize, tag: &[u8], value: &[u8]) -> usi
     requires room { at + 30 ≤ length into.old }
     requires tag { length tag.now ≤ 5 }
     requires value { length value.now ≤ 24 }
-    ensures field { take result into.new ≡ take at into.old ++ (tag.now ++ value.now ++ soh ∷ []) }
+    ensures field { take result into.new ≡ take at into.old ++ (tag.now ++ value.now ++ SOH ∷ []) }
     ensures behind { drop result into.new ≡ drop result into.old }
     ensures end { result ≡ at + length tag.now + length value.now + 1 }
     ensures short { result ≤ at + 30 }
@@ -31,7 +29,7 @@ pub(crate) fn field(into: &mut [u8], at: usize, tag: &[u8], value: &[u8]) -> usi
 pub(crate) fn number(into: &mut [u8], at: usize, tag: &[u8], n: u64) -> usize
     requires room { at + 30 ≤ length into.old }
     requires tag { length tag.now ≤ 5 }
-    ensures field { take result into.new ≡ take at into.old ++ (tag.now ++ decimal n ++ soh ∷ []) }
+    ensures field { take result into.new ≡ take at into.old ++ (tag.now ++ decimal n ++ SOH ∷ []) }
     ensures behind { drop result into.new ≡ drop result into.old }
     ensures end { result ≡ at + length tag.now + length (decimal n) + 1 }
     ensures short { result ≤ at + 30 }
@@ -44,8 +42,8 @@ pub(crate) fn number(into: &mut [u8], at: usize, tag: &[u8], n: u64) -> usize
 pub(crate) fn price(into: &mut [u8], at: usize, tag: &[u8], price: Price, decimals: u8) -> usize
     requires room { at + 30 ≤ length into.old }
     requires tag { length tag.now ≤ 5 }
-    requires decimals { decimals ≤ 8 }
-    ensures field { take result into.new ≡ take at into.old ++ (tag.now ++ price_text price decimals ++ soh ∷ []) }
+    requires decimals { decimals ≤ MOST_DECIMALS }
+    ensures field { take result into.new ≡ take at into.old ++ (tag.now ++ price_text price decimals ++ SOH ∷ []) }
     ensures short { result ≤ at + 30 }
 {
     let mut text = [0; 24];
@@ -58,7 +56,7 @@ pub(crate) fn price(into: &mut [u8], at: usize, tag: &[u8], price: Price, decima
 pub(crate) fn put_head(into: &mut [u8], end: usize) -> usize
     requires gap { GAP ≤ end }
     requires short { end ≤ 1000 }
-    requires room { 1024 ≤ length into.old }
+    requires room { LONGEST_LINE ≤ length into.old }
     ensures head { take result into.new ≡ head_of (decimal (end - GAP)) ++ drop GAP (take end into.old) }
     ensures end { result ≤ end }
 {
@@ -74,7 +72,7 @@ pub(crate) fn put_head(into: &mut [u8], end: usize) -> usize
 #[tactic(auto, using(crate::proofs::Framing::few_digits, crate::proofs::Framing::same_further))]
 fn head_fields(into: &mut [u8], count: usize) -> usize
     requires few { count < 1000 }
-    requires room { 1024 ≤ length into.old }
+    requires room { LONGEST_LINE ≤ length into.old }
     ensures fields { take result into.new ≡ head_of (decimal count) }
     ensures behind { drop result into.new ≡ drop result into.old }
     ensures short { result ≤ GAP }

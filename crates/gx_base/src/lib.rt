@@ -7,6 +7,7 @@ mod emit;
 mod event;
 mod fields;
 mod id;
+mod limits;
 mod line;
 #[cfg(test)]
 mod line_tests;
@@ -23,6 +24,10 @@ mod values;
 pub use emit::{ByteEmit, Emit, NullEmit};
 pub use event::{Cause, ChangeFault, Event, Head, NewFault, NewRefused, StepName};
 pub use id::ShortId;
+pub use limits::{
+    ADDRESSEES, LONGEST_LINE, MOST_DECIMALS, MOST_FIRMS, MOST_INSTRUMENTS, MOST_LOTS,
+    MOST_PRICE_UNITS, SOH,
+};
 pub use line::{write_line, write_line_into};
 pub use names::{Listed, Names};
 pub use order::{Desk, Kind, Life, LmmShare, Order, Side, Slot, Taker, TopRule};

@@ -4,6 +4,7 @@ ghost use Rattle.std.specs.Str.Parse.{digits_value};
 ghost use Rattle.gx_base.specs.Numbers.{are_digits, are_zeros, has_minus, signed_units, unsigned_text, fraction_text, price_of, price_text};
 
 use crate::digits::{CEILING, are_digits, are_zeros, read_on, split_at_point, write_fixed_digits};
+use crate::limits::{MOST_DECIMALS, MOST_PRICE_UNITS};
 use itoa::Buffer;
 use std::cmp;
 use thiserror::Error;
@@ -21,18 +22,16 @@ pub enum PriceFault {
     /// A digit behind the instrument's decimals is not 0.
     #[error("the price has more decimals than the instrument")]
     Scale,
-    /// Beyond 999,999,999,999 units, either way.
+    /// Beyond `MOST_PRICE_UNITS` units, either way.
     #[error("the price is beyond 999999999999 units")]
     Range,
 }
 
-/// The greatest price in units, either way.
-const LIMIT: u64 = CEILING - 1;
-
-/// The price that a text writes, in units of 10 to the power of minus `decimals`, of which there are at most 8; or the
+/// The price that a text writes, in units of 10 to the power of minus `decimals`, of which there are at most
+/// `MOST_DECIMALS`; or the
 /// first fault in the order of `PriceFault`. Our own rule, within the float format of FIX 4.2.
 pub fn read_price(text: &[u8], decimals: u8) -> Result<Price, PriceFault>
-    requires { decimals ≤ 8 }
+    requires { decimals ≤ MOST_DECIMALS }
     ensures { result ≡ price_of text.now decimals }
 {
     let (whole, fraction) = split_at_point(without_minus(text));
@@ -43,7 +42,7 @@ pub fn read_price(text: &[u8], decimals: u8) -> Result<Price, PriceFault>
         return Err(PriceFault::Scale);
     }
     let units = read_units(whole, fraction, decimals);
-    if units > LIMIT {
+    if units > MOST_PRICE_UNITS {
         return Err(PriceFault::Range);
     }
     Ok(Price(with_sign(units, has_minus(text))))
@@ -81,31 +80,31 @@ fn are_zeros_behind(fraction: &[u8], decimals: u8) -> bool
 /// The number whose digits are those of `whole` and the first `decimals` of `fraction`, filled up with zeros, or
 /// `CEILING` where that is less.
 fn read_units(whole: &[u8], fraction: &[u8], decimals: u8) -> u64
-    requires few { decimals ≤ 8 }
+    requires few { decimals ≤ MOST_DECIMALS }
     requires whole_digits { IsTrue (are_digits whole.now) }
     requires fraction_digits { IsTrue (are_digits fraction.now) }
     ensures { result ≡ min CEILING (digits_value 10 (whole.now ++ take decimals (fraction.now ++ replicate decimals 48))) }
 {
     let kept = cmp::min(fraction.len(), decimals as usize);
-    let zeros = [b'0'; 8];
+    let zeros = [b'0'; MOST_DECIMALS as usize];
     let units = read_on(read_on(0, whole), &fraction[..kept]);
     read_on(units, &zeros[..decimals as usize - kept])
 }
 
 /// So many units, or as many below zero.
 fn with_sign(units: u64, negative: bool) -> i64
-    requires { units ≤ LIMIT }
+    requires { units ≤ MOST_PRICE_UNITS }
     ensures { result ≡ signed_units negative units }
 {
     let units = units as i64;
     if negative { -units } else { units }
 }
 
-/// Writes a price with exactly `decimals` digits behind the point, at most 8, into the front of `into`, and answers how
+/// Writes a price with exactly `decimals` digits behind the point, at most `MOST_DECIMALS`, into the front of `into`, and answers how
 /// many bytes that takes; what stands behind them is left open. There is at least one digit before the point, and no
 /// point where `decimals` is 0. It takes every `i64`, also those that `read_price` refuses.
 pub fn write_price(price: Price, decimals: u8, into: &mut [u8; 24]) -> usize
-    requires { decimals ≤ 8 }
+    requires { decimals ≤ MOST_DECIMALS }
     ensures text { take result into.new ≡ price_text price decimals }
     ensures count { result ≡ length (price_text price decimals) }
     ensures short { result ≤ 24 }
@@ -131,7 +130,7 @@ fn append(into: &mut [u8; 24], end: usize, bytes: &[u8]) -> usize
 /// Writes a point and the last `decimals` digits of a number behind the first `end` bytes of `into`, or nothing where
 /// `decimals` is 0. Answers where they end.
 fn append_fraction(into: &mut [u8; 24], end: usize, units: u64, decimals: u8) -> usize
-    requires few { decimals ≤ 8 }
+    requires few { decimals ≤ MOST_DECIMALS }
     requires room { end + length (fraction_text decimals units) ≤ 24 }
     ensures text { take result into.new ≡ take end into.old ++ fraction_text decimals units }
     ensures end { result ≡ end + length (fraction_text decimals units) }
@@ -139,7 +138,7 @@ fn append_fraction(into: &mut [u8; 24], end: usize, units: u64, decimals: u8) ->
     if decimals == 0 {
         return end;
     }
-    let mut text = [b'.'; 9];
+    let mut text = [b'.'; 1 + MOST_DECIMALS as usize];
     let len = 1 + decimals as usize;
     write_fixed_digits(units, &mut text[1..len]);
     append(into, end, &text[..len])

@@ -7,7 +7,7 @@ use std::test::Fail;
 
 #[test]
 fn quantities(rt: HostRuntime) {
-    assert_eq!(rt; read_quantity(b"999999"), Some(999_999));
+    assert_eq!(rt; read_quantity(b"999999"), Some(MOST_LOTS));
     assert_eq!(rt; read_quantity(b"1000000"), Some(1_000_000));
     assert_eq!(rt; read_quantity(b"5.00"), Some(5));
     assert_eq!(rt; read_quantity(b"5."), Some(5));

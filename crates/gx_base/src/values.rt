@@ -4,6 +4,7 @@ ghost use Rattle.gx_base.specs.Line.{addressee, instrument_name, decimals_of, si
 
 use crate::event::{ChangeFault, NewFault, StepName};
 use crate::id::ShortId;
+use crate::limits::MOST_DECIMALS;
 use crate::names::{Listed, Names};
 use crate::order::{Kind, Life, Side};
 
@@ -21,7 +22,7 @@ pub(crate) fn addressee(names: &Names, firm: Option<u8>) -> ShortId
 pub(crate) fn listed(names: &Names, instrument: u8) -> Listed
     ensures name { result.name ≡ instrument_name names.now instrument }
     ensures decimals { result.decimals ≡ decimals_of names.now instrument }
-    ensures few { result.decimals ≤ 8 }
+    ensures few { result.decimals ≤ MOST_DECIMALS }
 {
     if (instrument as usize) < names.instrument_count() {
         names.listed(instrument)
