@@ -12,6 +12,7 @@ use Rattle.gx_base.proofs.Capped.{capped_append}
 use Rattle.gx_base.specs.Numbers.{are_digits, are_zeros, is_point, unsigned_text, is_price_text, whole_digits, fraction_digits, units_of, price_limit, price_of, fixed_digits, fraction_text}
 use Rattle.gx_base.specs.declared.digits.TheConstants.{CEILING}
 use Rattle.gx_base.specs.declared.limits.TheConstants.{MOST_DECIMALS}
+use Rattle.gx_base.specs.declared.price.TheConstants.{LONGEST_PRICE}
 use Rattle.gx_base.specs.declared.price.PriceFault.TheVariants.{Range}
 
 pub are_digits-take : (n : ℕ) (ds : List ℕ) → are_digits ds ≡ true → are_digits (take n ds) ≡ true
@@ -42,18 +43,18 @@ are_price_digits whole fraction = nat_le 1 (length whole + length fraction) && a
 abbrev units_from : ℕ → List ℕ → List ℕ → ℕ
 units_from decimals whole fraction = digits_value 10 (whole ++ take decimals (fraction ++ replicate decimals 48))
 
-is_price_text-from : (text : List ℕ) → length text ≤ 32 → are_price_digits (whole_digits text) (fraction_digits text) ≡ true → is_price_text text ≡ true
+is_price_text-from : (text : List ℕ) → length text ≤ LONGEST_PRICE → are_price_digits (whole_digits text) (fraction_digits text) ≡ true → is_price_text text ≡ true
 is_price_text-from text short h =
     let both = and_parts _ _ h in
     let two = and_parts _ _ both.0 in
-    and_from _ _ (and_from _ _ (and_from _ _ (le-leb (length text) 32 short) two.0) two.1) both.1
+    and_from _ _ (and_from _ _ (and_from _ _ (le-leb (length text) LONGEST_PRICE short) two.0) two.1) both.1
 
 -- what `read_price` finds on its way
 pub record IsRead (text : List ℕ) (decimals : ℕ) (rest whole fraction : List ℕ) (units : ℕ) : Type 0 where
   pub rest_is : rest ≡ unsigned_text text
   pub whole_is : whole ≡ before_first is_point rest
   pub fraction_is : fraction ≡ after_first is_point rest
-  pub short : length text ≤ 32
+  pub short : length text ≤ LONGEST_PRICE
   pub digits : true ≡ are_price_digits whole fraction
   pub zeros : true ≡ are_zeros (drop decimals fraction)
   pub units_is : units ≡ min CEILING (units_from decimals whole fraction)

@@ -18,6 +18,14 @@ pub const MOST_PRICE_UNITS: u64 = 999_999_999_999;
 /// Whom reports go to: the firms by their numbers and, last, the addressee `UNKNOWN` (our own rule).
 pub const ADDRESSEES: usize = 65;
 
+/// How many bytes a name has at most: that of a firm, an instrument or the exchange, and the id of an order (our own
+/// rule).
+pub const LONGEST_NAME: usize = 24;
+
+/// How many bytes the value of a field of a report has at most: names, prices, numbers, times and our own words (our own
+/// rule).
+pub const LONGEST_VALUE: usize = 24;
+
 /// How many bytes a report line has at most (our own rule).
 pub const LONGEST_LINE: usize = 1024;
 

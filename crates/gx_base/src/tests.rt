@@ -48,7 +48,7 @@ fn written_prices(rt: HostRuntime) {
 fn assert_writes(rt: &impl Abort, units: i64, decimals: u8, text: &[u8])
     requires { decimals ≤ 8 }
 {
-    let mut room = [0; 24];
+    let mut room = [0; LONGEST_VALUE];
     let len = write_price(Price(units), decimals, &mut room);
     assert_eq!(rt; &room[..len], text);
 }

@@ -1,6 +1,6 @@
 use Rattle.std.proofs.Common.{◌+◌, ◌-◌, length, ap, arith}
 use Rattle.std.proofs.lemmas.Slice.{drop-put_mid}
-use Rattle.gx_base.proofs.fields.append.Goals as goal
+use Rattle.gx_base.proofs.bytes.append.Goals as goal
 
 pub returns-clause-behind : goal.returns-clause-behind
 returns-clause-behind c =
