@@ -1,12 +1,13 @@
--- A list in which no name stands twice has at most six steps.
+-- Laws of the names of steps: a list in which none stands twice has at most as many steps as there are names.
 use Rattle.std.proofs.Common.{◌≡◌, ℕ, ◌+◌, ◌≤◌, Bool, true, false, cond, ◌||◌, List, [], ◌∷◌, ◌++◌, length, Option, Some, None, refl, arith}
 use Rattle.std.proofs.Math.Bool.{or-false}
 use Rattle.std.proofs.lemmas.List.Folds.{list_any-append}
 use Rattle.gx_base.specs.declared.event.StepName.{StepName}
 use Rattle.gx_base.specs.declared.event.StepName.TheVariants as name
 use Rattle.step_config.specs.declared.step.Step.{Step}
-use Rattle.step_config.proofs.NoFault.{no_fault}
-use Rattle.step_config.specs.Rules.{name_of, is_same_name, has_name, first_twice_after, fault_of}
+use Rattle.step_config.specs.declared.step.TheConstants.{MOST_STEPS}
+use Rattle.step_config.specs.Rules.{name_of, is_same_name, has_name, first_twice_after}
+use Rattle.step_config.specs.RepeatLaws.{none_from_cond}
 
 abbrev free : Bool → ℕ
 free true = 0
@@ -47,18 +48,11 @@ room-push earlier step h =
     rw (has_name-push name.Top earlier step, has_name-push name.Lmm earlier step, has_name-push name.Split earlier step, has_name-push name.ProRata earlier step, has_name-push name.Leveling earlier step, has_name-push name.Fifo earlier step)
     (taken (name_of step) (λ n. has_name n earlier) h)
 
-pub none_from_cond : {X : Type 0} (b : Bool) (x : X) (rest : Option X) → cond b (Some x) rest ≡ None → (b ≡ false) × (rest ≡ None)
-none_from_cond true x rest e = cc
-none_from_cond false x rest e = (refl, e)
-
 few_after : (earlier steps : List Step) → first_twice_after is_same_name name_of earlier steps ≡ None → length steps ≤ room earlier
 few_after earlier [] e = omega arith
 few_after earlier (step ∷ rest) e =
     let parts = none_from_cond (has_name (name_of step) earlier) (name_of step) (first_twice_after is_same_name name_of (earlier ++ step ∷ []) rest) e in
     omega (arith, few_after (earlier ++ step ∷ []) rest (parts.1), room-push earlier step (parts.0))
 
-pub few_once : (steps : List Step) → first_twice_after is_same_name name_of [] steps ≡ None → length steps ≤ 6
+pub few_once : (steps : List Step) → first_twice_after is_same_name name_of [] steps ≡ None → length steps ≤ MOST_STEPS
 few_once steps e = few_after [] steps e
-
-pub few_steps : (steps : List Step) → fault_of steps ≡ None → length steps ≤ 6
-few_steps steps e = few_once steps (no_fault steps e).once
