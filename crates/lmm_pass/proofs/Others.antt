@@ -13,9 +13,8 @@ use Rattle.plain_book.specs.Book.{AllDiffer}
 use Rattle.plain_book.specs.Match.{MatchState, Share, trade, trade_share, trade_shares}
 use Rattle.plain_book.specs.Shares.{shares_by}
 use Rattle.plain_book.specs.Steps.{facing}
-use Rattle.plain_book.proofs.Filters.{filter-comm}
-use Rattle.plain_book.proofs.Levels.{HasSlot-filter, HasSlot-either, AllDiffer-filter, without-middle, placed-level, renewed}
-use Rattle.plain_book.proofs.Walks.{Stands, Remains, stands-differ, stands-order, stands-level, stands-with_order, settled-remains, AllDiffer-with_order}
+use Rattle.plain_book.proofs.Levels.{HasSlot-filter, HasSlot-either, AllDiffer-filter, renewed}
+use Rattle.plain_book.proofs.Walks.{Stands, stands-order, stands-with_order, stands-without, stands-last, AllDiffer-with_order}
 use Rattle.lmm_pass.specs.Firms.{lots_for_firm, spending_on_firm}
 use Rattle.lmm_pass.proofs.Spends.{is_of_firm, orders_of, spent_on}
 
@@ -66,78 +65,72 @@ settled-differ s o es d =
       | false ↦ elim [ true ↦ placed-differ n (without s es) gone (without-lacks s es) | false ↦ AllDiffer-with_order s o es d ]
     ] in go (o.leaves == 0) (o.shown == 0)
 
--- ---- one trade
+-- ---- a walk
 
 -- an element that does not pass can be left out
 filter-skip : {X : Type 0} (p : X → Bool) (xs ys : List X) (x : X) → p x ≡ false → filter p (xs ++ x ∷ ys) ≡ filter p (xs ++ ys)
 filter-skip p xs ys x h =
     filter-append p xs (x ∷ ys) ∙ ap (λ (b : Bool). filter p xs ++ cond b (x ∷ filter p ys) (filter p ys)) h ∙ sym (filter-append p xs ys)
 
-module _ (k : Level) (es xs : List Entry) (e : Entry) (ys : List Entry) (s : Stands k es xs e ys) (p : Entry → Bool) (here : p e ≡ false) where
-  gone : orders_at k (without e.slot es) ≡ xs ++ ys
-  gone = filter-comm (is_at k) (λ x. not (x.slot == e.slot)) es ∙ ap (without e.slot) s.is ∙ without-middle xs ys e (stands-differ s)
-
-  last : (n : Entry) → level_of n.order ≡ level_of e.order → orders_at k (placed n (without e.slot es)) ≡ (xs ++ ys) ++ n ∷ []
-  last n l =
-      let at = l ∙ stands-level s in
-      ap (λ (q : Level). orders_at q (placed n (without e.slot es))) (sym at)
-      ∙ placed-level n (without e.slot es)
-      ∙ ap (λ (q : Level). orders_at q (without e.slot es) ++ n ∷ []) at
-      ∙ ap (λ (q : List Entry). q ++ n ∷ []) gone
-
-  -- the others, without e
-  others : filter p (orders_at k es) ≡ filter p (xs ++ ys)
-  others = ap (filter p) s.is ∙ filter-skip p xs ys e here
-
-  settled-others : (o : Order) → level_of o ≡ level_of e.order → p (renewed e o) ≡ false → p (record { slot = e.slot; order = refreshed o; is_top = false }) ≡ false
-      → filter p (orders_at k (settled e.slot o es)) ≡ filter p (orders_at k es)
-  settled-others o l stays back =
-      let n : Entry = record { slot = e.slot; order = refreshed o; is_top = false } in
-      let go : (a b : Bool) → filter p (orders_at k (cond a (without e.slot es) (cond b (placed n (without e.slot es)) (with_order e.slot o es)))) ≡ filter p (xs ++ ys) = elim [
-        | true ↦ λ b. ap (filter p) gone
-        | false ↦ elim [
-          | true ↦ ap (filter p) (last n l) ∙ filter-skip p (xs ++ ys) [] n back ∙ ap (filter p) (append-nil (xs ++ ys))
-          | false ↦ ap (filter p) (stands-with_order s o l) ∙ filter-skip p xs ys (renewed e o) stays
-        ]
-      ] in go (o.leaves == 0) (o.shown == 0) ∙ sym others
-
--- ---- a walk
-
 -- what is left of a walk stands in the level, and the orders of a firm stand there as before
 pub record IsBeside (k : Level) (firm : ℕ) (old now rest : List Entry) : Type 0 where
+  pub ahead : List Entry
+  pub behind : List Entry
   pub differ : AllDiffer now
-  pub remains : Remains k now rest
+  pub is : orders_at k now ≡ ahead ++ (rest ++ behind)
   pub unmoved : orders_of firm (orders_at k now) ≡ orders_of firm old
 
 module _ (k : Level) (firm : ℕ) (old : List Entry) (e : Entry) (rest : List Entry) where
-  -- an order of another firm trades
-  beside-traded : (lots : ℕ) (m : MatchState) → (e.order.firm == firm) ≡ false → IsBeside k firm old m.book.resting (e ∷ rest) → IsBeside k firm old (trade Lmm e.slot lots m).book.resting rest
-  beside-traded lots m other b =
-      let es = m.book.resting in
-      let xs = b.remains.before in
-      let ys = b.remains.behind in
-      let s : Stands k es xs e (rest ++ ys) = record { differ = b.differ; is = b.remains.is } in
-      let o : Order = filled_by lots (order_of e.slot es) in
-      let at : level_of o ≡ level_of e.order = ap level_of (stands-order s) in
-      let its : (o.firm == firm) ≡ false = ap (λ (x : Order). x.firm == firm) (stands-order s) ∙ other in
-      record {
-        differ = settled-differ e.slot o es b.differ;
-        remains = settled-remains k es xs e rest ys s o at;
-        unmoved = settled-others k es xs e (rest ++ ys) s (is_of_firm firm) other o at its its ∙ b.unmoved;
-      }
+  -- an order of another firm trades, and so leaves, goes behind the others, or stays
+  beside-settled : (es : List Entry) (o : Order) → (e.order.firm == firm) ≡ false → (o.firm == firm) ≡ false → level_of o ≡ level_of e.order → IsBeside k firm old es (e ∷ rest) → IsBeside k firm old (settled e.slot o es) rest
+  beside-settled es o other its at b =
+      let xs = b.ahead in
+      let ys = b.behind in
+      let s : Stands k es xs e (rest ++ ys) = record { differ = b.differ; is = b.is } in
+      let n : Entry = record { slot = e.slot; order = refreshed o; is_top = false } in
+      let left : orders_of firm (xs ++ (rest ++ ys)) ≡ orders_of firm old = sym (filter-skip (is_of_firm firm) xs (rest ++ ys) e other) ∙ ap (orders_of firm) (sym b.is) ∙ b.unmoved in
+      let differ = settled-differ e.slot o es b.differ in
+      let go : (c d : Bool) → let now = cond c (without e.slot es) (cond d (placed n (without e.slot es)) (with_order e.slot o es)) in AllDiffer now → IsBeside k firm old now rest = elim [
+        | true ↦ λ d differ. record { ahead = xs; behind = ys; differ = differ; is = stands-without s; unmoved = ap (orders_of firm) (stands-without s) ∙ left }
+        | false ↦ elim [
+          | true ↦ λ differ. record {
+              ahead = xs;
+              behind = ys ++ n ∷ [];
+              differ = differ;
+              is = stands-last s n at ∙ append_assoc xs (rest ++ ys) (n ∷ []) ∙ ap (λ (q : List Entry). xs ++ q) (append_assoc rest ys (n ∷ []));
+              unmoved = ap (orders_of firm) (stands-last s n at) ∙ filter-skip (is_of_firm firm) (xs ++ (rest ++ ys)) [] n its ∙ ap (orders_of firm) (append-nil (xs ++ (rest ++ ys))) ∙ left;
+            }
+          | false ↦ λ differ. record {
+              ahead = xs ++ renewed e o ∷ [];
+              behind = ys;
+              differ = differ;
+              is = stands-with_order s o at ∙ sym (append_assoc xs (renewed e o ∷ []) (rest ++ ys));
+              unmoved = ap (orders_of firm) (stands-with_order s o at) ∙ filter-skip (is_of_firm firm) xs (rest ++ ys) (renewed e o) its ∙ left;
+            }
+        ]
+      ] in go (o.leaves == 0) (o.shown == 0) differ
 
   -- an order trades nothing
   beside-passed : (now : List Entry) → IsBeside k firm old now (e ∷ rest) → IsBeside k firm old now rest
   beside-passed now b = record {
+    ahead = b.ahead ++ e ∷ [];
+    behind = b.behind;
     differ = b.differ;
-    remains = record { before = b.remains.before ++ e ∷ []; behind = b.remains.behind; is = b.remains.is ∙ sym (append_assoc b.remains.before (e ∷ []) (rest ++ b.remains.behind)) };
+    is = b.is ∙ sym (append_assoc b.ahead (e ∷ []) (rest ++ b.behind));
     unmoved = b.unmoved;
   }
 
   beside-share : (lots : ℕ) (m : MatchState) → (e.order.firm == firm) ≡ false → IsBeside k firm old m.book.resting (e ∷ rest) → IsBeside k firm old (trade_share Lmm e.slot lots m).book.resting rest
   beside-share lots m other b =
-      let go : (c : Bool) → IsBeside k firm old (cond c m (trade Lmm e.slot lots m)).book.resting rest = elim [ true ↦ beside-passed m.book.resting b | false ↦ beside-traded lots m other b ] in
+      let es = m.book.resting in
+      let order : order_of e.slot es ≡ e.order = order-of-beside es b in
+      let o : Order = filled_by lots (order_of e.slot es) in
+      let traded = beside-settled es o other (ap (λ (x : Order). x.firm == firm) order ∙ other) (ap level_of order) b in
+      let go : (c : Bool) → IsBeside k firm old (cond c m (trade Lmm e.slot lots m)).book.resting rest = elim [ true ↦ beside-passed es b | false ↦ traded ] in
       go (lots == 0)
+    where
+      order-of-beside : (es : List Entry) → IsBeside k firm old es (e ∷ rest) → order_of e.slot es ≡ e.order
+      order-of-beside es b = let s : Stands k es b.ahead e (rest ++ b.behind) = record { differ = b.differ; is = b.is } in stands-order s
 
   -- an order trades of what is left for a firm that is another one
   beside-spent : (its left : ℕ) (m : MatchState) → (its == firm) ≡ false → IsBeside k firm old m.book.resting (e ∷ rest) → IsBeside k firm old (trade_share Lmm e.slot (lots_for_firm its left e.order) m).book.resting rest
@@ -157,7 +150,7 @@ pub spent-others : (k : Level) (its firm left : ℕ) (m : MatchState) → AllDif
     → orders_of firm (orders_at k (trade_shares Lmm (shares_by spending_on_firm (spent_on its left) (orders_at k m.book.resting)) m).book.resting) ≡ orders_of firm (orders_at k m.book.resting)
 spent-others k its firm left m differ apart =
     let es = orders_at k m.book.resting in
-    beside-all k its firm left es es m apart (record { differ = differ; remains = record { before = []; behind = []; is = sym (append-nil es) }; unmoved = refl })
+    beside-all k its firm left es es m apart (record { ahead = []; behind = []; differ = differ; is = sym (append-nil es); unmoved = refl })
 
 -- ---- the level that the incoming order meets stays
 

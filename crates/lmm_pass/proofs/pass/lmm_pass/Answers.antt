@@ -1,4 +1,5 @@
-use Rattle.std.proofs.Common.{◌≡◌, ◌≤◌, ◌+◌, ◌∷◌, ◌∙◌, List, [], drop, length, arith, subst, sym}
+use Rattle.std.proofs.Common.{◌≡◌, ◌≤◌, ◌+◌, ◌∷◌, ◌∙◌, List, [], drop, length, arith, subst}
+use Rattle.std.proofs.lemmas.List.{drop_all}
 use Rattle.gx_base.specs.declared.order.LmmShare.{LmmShare}
 use Rattle.plain_book.specs.Orders.{orders_at}
 use Rattle.plain_book.specs.Matches.{match_at}
@@ -27,9 +28,6 @@ trade_level-requires-clause-within g c =
     let few : c.part_of.result ≤ l.taker.order.leaves = omega (arith, c.part_of.ensures, way-wanted m price shares before s (drop (i + 1) shares) now way) in
     spent-within l.taker.order.leaves s.firm c.part_of.result (orders_at (facing price l.taker) b.resting) few
 
-pub trade_level-requires-clause-stub : goal.trade_level-requires-clause-stub
-trade_level-requires-clause-stub g c = ?
-
 pub loop-share-preserved : goal.loop-share-preserved
 loop-share-preserved g c =
     let m = g.E.Emit.meanings in
@@ -43,3 +41,14 @@ loop-share-preserved g c =
     let r = c.trade_level.new in
     let way = subst (λ (left : List LmmShare). IsUnderWay m price shares before left now) (next-share shares i c.loop-share-test.true) l.invariant in
     way-more m price shares before (share_at shares i) (drop (i + 1) shares) now (match_at (g.B.Book.book r.book) r.desk r.taker r.out) c.part_of.result (AllDiffer-front b.resting b.waiting c.rules.ensures.differ) way c.part_of.ensures c.trade_level.ensures
+
+pub returns : goal.returns
+returns g c =
+    let m = g.E.Emit.meanings in
+    let price = c.args.price in
+    let shares = c.args.shares.now in
+    let l = c.loop-share in
+    let before = match_at (g.B.Book.book c.args.book.now) c.args.desk.now c.args.taker.now c.args.out.now in
+    let now = match_at (g.B.Book.book l.book) l.desk l.taker l.out in
+    let all : drop l.share-index shares ≡ [] = drop_all l.share-index shares (omega (arith, c.loop-share-test.false)) in
+    way-end m price shares before now (subst (λ (left : List LmmShare). IsUnderWay m price shares before left now) all l.invariant)

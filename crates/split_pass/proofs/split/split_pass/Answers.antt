@@ -15,9 +15,6 @@ trade_level-requires-clause-within g c =
     let t = c.args.taker.now in
     spent-within t.order.leaves c.part_of.result (orders_at (facing c.args.price t) (g.B.Book.book c.args.book.now).resting) c.part_of.ensures.at_most
 
-pub trade_level-requires-clause-stub : goal.trade_level-requires-clause-stub
-trade_level-requires-clause-stub g c = ?
-
 pub returns : goal.returns
 returns g c =
     let b = g.B.Book.book c.args.book.now in
