@@ -20,7 +20,7 @@ ones_of lots = record { left = lots }
 abbrev is_left_out : Entry → Bool
 is_left_out e = e.order.prorated == 0
 
--- the share of an order that had one is 0, which gives no trade
+-- the share of an order that had one is 0, and so it does not trade
 pub trade-ones : (lots : ℕ) (es : List Entry) (m : MatchState) → trade_shares Leveling (shares_by one_each (ones_of lots) es) m ≡ trade_shares Leveling (leveling_shares lots es) m
 trade-ones lots [] m = refl
 trade-ones lots (e ∷ es) m =

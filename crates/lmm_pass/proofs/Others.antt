@@ -8,7 +8,7 @@ use Rattle.gx_base.specs.declared.price.Price.{Price}
 use Rattle.gx_base.specs.declared.order.Order.{Order}
 use Rattle.gx_base.specs.declared.event.StepName.TheVariants.{Lmm}
 use Rattle.plain_book.specs.declared.entry.Entry.{Entry}
-use Rattle.plain_book.specs.Orders.{Level, level_of, is_at, is_at_earlier_level, orders_at, order_of, HasSlot, without, with_order, placed, settled, refreshed, filled_by}
+use Rattle.plain_book.specs.Orders.{Level, level_of, is_at_earlier_level, orders_at, order_of, HasSlot, without, with_order, placed, settled, refreshed, filled_by}
 use Rattle.plain_book.specs.Book.{AllDiffer}
 use Rattle.plain_book.specs.Match.{MatchState, Share, trade, trade_share, trade_shares}
 use Rattle.plain_book.specs.Shares.{shares_by}
@@ -94,19 +94,19 @@ module _ (k : Level) (firm : ℕ) (old : List Entry) (e : Entry) (rest : List En
         | true ↦ λ d differ. record { ahead = xs; behind = ys; differ = differ; is = stands-without s; unmoved = ap (orders_of firm) (stands-without s) ∙ left }
         | false ↦ elim [
           | true ↦ λ differ. record {
-              ahead = xs;
-              behind = ys ++ n ∷ [];
-              differ = differ;
-              is = stands-last s n at ∙ append_assoc xs (rest ++ ys) (n ∷ []) ∙ ap (λ (q : List Entry). xs ++ q) (append_assoc rest ys (n ∷ []));
-              unmoved = ap (orders_of firm) (stands-last s n at) ∙ filter-skip (is_of_firm firm) (xs ++ (rest ++ ys)) [] n its ∙ ap (orders_of firm) (append-nil (xs ++ (rest ++ ys))) ∙ left;
-            }
+            ahead = xs;
+            behind = ys ++ n ∷ [];
+            differ = differ;
+            is = stands-last s n at ∙ append_assoc xs (rest ++ ys) (n ∷ []) ∙ ap (λ (q : List Entry). xs ++ q) (append_assoc rest ys (n ∷ []));
+            unmoved = ap (orders_of firm) (stands-last s n at) ∙ filter-skip (is_of_firm firm) (xs ++ (rest ++ ys)) [] n its ∙ ap (orders_of firm) (append-nil (xs ++ (rest ++ ys))) ∙ left;
+          }
           | false ↦ λ differ. record {
-              ahead = xs ++ renewed e o ∷ [];
-              behind = ys;
-              differ = differ;
-              is = stands-with_order s o at ∙ sym (append_assoc xs (renewed e o ∷ []) (rest ++ ys));
-              unmoved = ap (orders_of firm) (stands-with_order s o at) ∙ filter-skip (is_of_firm firm) xs (rest ++ ys) (renewed e o) its ∙ left;
-            }
+            ahead = xs ++ renewed e o ∷ [];
+            behind = ys;
+            differ = differ;
+            is = stands-with_order s o at ∙ sym (append_assoc xs (renewed e o ∷ []) (rest ++ ys));
+            unmoved = ap (orders_of firm) (stands-with_order s o at) ∙ filter-skip (is_of_firm firm) xs (rest ++ ys) (renewed e o) its ∙ left;
+          }
         ]
       ] in go (o.leaves == 0) (o.shown == 0) differ
 

@@ -21,7 +21,7 @@ orders_of firm es = filter (is_of_firm firm) es
 abbrev pub spent_on : ℕ → ℕ → SpentOnFirm
 spent_on firm lots = record { firm = firm; left = lots }
 
--- the share of another firm's order is 0, which gives no trade
+-- the share of another firm's order is 0, and so it does not trade
 pub trade-spent : (firm lots : ℕ) (es : List Entry) (m : MatchState) → trade_shares Lmm (shares_by spending_on_firm (spent_on firm lots) es) m ≡ trade_shares Lmm (spent lots (orders_of firm es)) m
 trade-spent firm lots [] m = refl
 trade-spent firm lots (e ∷ es) m =
@@ -45,7 +45,7 @@ spent-within wanted firm lots (e ∷ es) le =
     let w = lots-within firm lots e.order in
     (w.0, omega (arith, w.1), spent-within (wanted - n) firm (lots - n) es (omega arith))
 
--- no more than these lots are wanted no more
+-- at most these lots are traded
 pub spent-leaves : (lots : ℕ) (es : List Entry) (m : MatchState) → m.taker.order.leaves ≤ (trade_shares Lmm (spent lots es) m).taker.order.leaves + lots
 spent-leaves lots [] m = omega arith
 spent-leaves lots (e ∷ es) m =

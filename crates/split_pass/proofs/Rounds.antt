@@ -1,5 +1,5 @@
 -- Rounds of FIFO, and how many are enough.
-use Rattle.std.proofs.Common.{◌≡◌, ◌≢◌, ℕ, ◌+◌, ◌-◌, ◌<◌, ◌≤◌, min, Bool, false, cond, List, [], ◌∷◌, refl, sym, ap, subst, ◌∙◌, arith, inl, inr, ◌⊎◌}
+use Rattle.std.proofs.Common.{◌≡◌, ◌≢◌, ℕ, ◌+◌, ◌-◌, ◌≤◌, min, Bool, false, cond, List, [], ◌∷◌, refl, sym, ap, subst, ◌∙◌, arith, inl, inr}
 use Prim.Native.Nat.{zero, suc}
 use Rattle.std.proofs.lemmas.Bool.Decides.{eqb_tells}
 use Rattle.std.specs.Prelude.{◌==◌}
@@ -9,12 +9,11 @@ use Rattle.gx_base.specs.declared.event.Event.{Event}
 use Rattle.gx_base.specs.declared.event.StepName.TheVariants.{Fifo}
 use Rattle.gx_base.specs.Emits.{EmitMeanings}
 use Rattle.plain_book.specs.declared.entry.Entry.{Entry}
-use Rattle.plain_book.specs.Orders.{Level, orders_at}
 use Rattle.plain_book.specs.Book.{Book}
 use Rattle.plain_book.specs.Match.{MatchState, trade, trade_share}
 use Rattle.plain_book.specs.Matches.{MatchAt, start_at, CanTrade, Matches}
 use Rattle.plain_book.specs.Steps.{facing, level_now, trade_head, fifo_rounds, fifo, IsLevelDone}
-use Rattle.plain_book.proofs.TradedShares.{IgnoresEvents, with_events, share-ignores, share-leaves}
+use Rattle.plain_book.proofs.TradedShares.{IgnoresEvents, with_events, share-ignores}
 use Rattle.plain_book.proofs.Matching.{matches-none, matches-then, matches-as}
 use Rattle.split_pass.proofs.Heads.{IsHead}
 

@@ -1,4 +1,4 @@
-use Rattle.std.proofs.Common.{◌≡◌, ◌≤◌, ◌+◌, ◌∷◌, ◌∙◌, List, [], drop, length, arith, subst}
+use Rattle.std.proofs.Common.{◌≡◌, ◌≤◌, ◌+◌, List, [], drop, arith, subst}
 use Rattle.std.proofs.lemmas.List.{drop_all}
 use Rattle.gx_base.specs.declared.order.LmmShare.{LmmShare}
 use Rattle.plain_book.specs.Orders.{orders_at}

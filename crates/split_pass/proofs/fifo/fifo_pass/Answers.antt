@@ -1,6 +1,5 @@
-use Rattle.std.proofs.Common.{◌≡◌, ◌≤◌, min, sym, ap, ◌∙◌, arith, inl, inr, []}
+use Rattle.std.proofs.Common.{◌≡◌, ◌≤◌, min, sym, ap, ◌∙◌, arith, inl, inr}
 use Rattle.gx_base.specs.declared.order.Order.{Order}
-use Rattle.plain_book.specs.Orders.{Level, orders_at}
 use Rattle.plain_book.specs.Matches.{match_at}
 use Rattle.split_pass.proofs.Heads.{found, found_none}
 use Rattle.split_pass.proofs.Rounds.{rounding-more, rounding-end}

@@ -1,7 +1,7 @@
-use Rattle.std.proofs.Common.{arith, ap, subst, ◌≡◌, ◌∙◌, ℕ, List, ◌*◌, ◌/◌}
+use Rattle.std.proofs.Common.{ap, ◌≡◌, ◌∙◌, ℕ, List, ◌*◌, ◌/◌}
 use Rattle.gx_base.specs.declared.event.StepName.TheVariants.{Split}
 use Rattle.plain_book.specs.Orders.{orders_at}
-use Rattle.plain_book.specs.Match.{MatchState, Share, match_start, trade_shares}
+use Rattle.plain_book.specs.Match.{Share, match_start, trade_shares}
 use Rattle.plain_book.specs.Matches.{match_at}
 use Rattle.plain_book.specs.Shares.{shares_by}
 use Rattle.plain_book.specs.Steps.{facing, split, spent}
