@@ -99,7 +99,7 @@ shares-take price step (x ∷ xs) m w d =
     let n = trade_share step x.0 x.1 m in
     takes-then price m n (trade_shares step xs n) (share-takes price step x.0 x.1 m w d) (shares-want step xs n) (λ k. shares-take price step xs n (wants-some price m n k w) k.differ)
 
-head-wants : (es : List Entry) (m : MatchState) → wants (trade_head es m) ≤ wants m
+pub head-wants : (es : List Entry) (m : MatchState) → wants (trade_head es m) ≤ wants m
 head-wants [] m = omega arith
 head-wants (e ∷ es) m = share-wants name.Fifo e.slot (min m.taker.order.leaves e.order.shown) m
 

@@ -30,7 +30,7 @@ match-more m steps i s price a b c lt is before step =
 
 -- ---- the rounds of a sweep
 
-pub next-none : (steps : List Step) (limit : Price) (m : MatchState) → IsSweepDone limit m.book m.taker → match_next steps (next_price limit m.book m.taker) m ≡ m
+next-none : (steps : List Step) (limit : Price) (m : MatchState) → IsSweepDone limit m.book m.taker → match_next steps (next_price limit m.book m.taker) m ≡ m
 next-none steps limit m h = ap (λ (next : Option Price). match_next steps next m) h
 
 -- the sweep is done, and stays as it is
@@ -44,7 +44,7 @@ rounds-last zero steps limit m = refl
 rounds-last (suc n) steps limit m = rounds-last n steps limit (match_next steps (next_price limit m.book m.taker) m)
 
 -- more rounds than were needed
-rounds-more : (n k : ℕ) (steps : List Step) (limit : Price) (m : MatchState) → k ≤ n → let r = sweep_rounds k steps limit m in IsSweepDone limit r.book r.taker → sweep_rounds k steps limit m ≡ sweep_rounds n steps limit m
+pub rounds-more : (n k : ℕ) (steps : List Step) (limit : Price) (m : MatchState) → k ≤ n → let r = sweep_rounds k steps limit m in IsSweepDone limit r.book r.taker → sweep_rounds k steps limit m ≡ sweep_rounds n steps limit m
 rounds-more n zero steps limit m le h = sym (rounds-none n steps limit m h)
 rounds-more zero (suc k) steps limit m le h = absurd (omega (arith, le))
 rounds-more (suc n) (suc k) steps limit m le h = rounds-more n k steps limit (match_next steps (next_price limit m.book m.taker) m) (omega (arith, le)) h

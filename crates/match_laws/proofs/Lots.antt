@@ -19,11 +19,8 @@ use Rattle.plain_book.specs.Steps.{facing, level_now, spent, top_shares, lmm_sha
 use Rattle.plain_book.proofs.Filters.{filter-under}
 use Rattle.plain_book.proofs.Levels.{AllDiffer-filter, AllDiffer-front, lacks}
 use Rattle.plain_book.proofs.Pairs.{all-filter, all-with}
-use Rattle.prorata_pass.proofs.Floors.{shares-fit}
-use Rattle.lmm_pass.specs.Firms.{is_of_firm, orders_of}
-use Rattle.lmm_pass.proofs.Parts.{part_in, parts-fit}
-use Rattle.lmm_pass.proofs.Unmoved.{firm_of, distinct-more}
-use Rattle.level_sweep.specs.Laws.{lots_of, shown_by, shares_of, shares_now}
+use Rattle.match_laws.proofs.Parts.{parts-fit}
+use Rattle.match_laws.specs.Laws.{lots_of, shown_by, shares_of, shares_now}
 
 lots-cons : (s : Share) (ss : List Share) → lots_of (s ∷ ss) ≡ s.1 + lots_of ss
 lots-cons s ss = sum_by-cons (λ (x : Share). x.1) s ss
@@ -108,18 +105,34 @@ one-wanted f q h s (e ∷ es) d =
       | inr t ↦ subst (λ (b : Bool). sum_by f (cond b (e ∷ F) F) ≤ q) (sym t.0) (one-wanted f q h s es d.1)
     ]
 
-abbrev top_gift : ℕ → ℕ → Entry → ℕ
-top_gift most q e = min q (min e.order.shown most)
+abbrev top_share : ℕ → ℕ → Entry → ℕ
+top_share most q e = min q (min e.order.shown most)
 
 top-wanted : (most : ℕ) (top : Option ℕ) (q : ℕ) (es : List Entry) → AllDiffer es → lots_of (top_shares most top q es) ≤ q
 top-wanted most None q es d = omega arith
-top-wanted most (Some s) q es d = omega (arith, lots-map (top_gift most q) (filter (is_slot s) es), one-wanted (top_gift most q) q (λ e. omega arith) s es d)
+top-wanted most (Some s) q es d = omega (arith, lots-map (top_share most q) (filter (is_slot s) es), one-wanted (top_share most q) q (λ e. omega arith) s es d)
 
 top-shown : (most : ℕ) (top : Option ℕ) (q : ℕ) (es : List Entry) → lots_of (top_shares most top q es) ≤ shown_by es
 top-shown most None q es = omega arith
-top-shown most (Some s) q es = omega (arith, lots-shown (top_gift most q) (λ e. omega arith) (filter (is_slot s) es), part-shown (is_slot s) es)
+top-shown most (Some s) q es = omega (arith, lots-shown (top_share most q) (λ e. omega arith) (filter (is_slot s) es), part-shown (is_slot s) es)
 
 -- ---- the lead market makers
+
+abbrev firm_of : LmmShare → ℕ
+firm_of s = s.firm
+
+abbrev percent_of : LmmShare → ℕ
+percent_of s = s.percent
+
+-- the part of q that a lead market maker gets
+abbrev part_in : ℕ → LmmShare → ℕ
+part_in q s = q * s.percent / 100
+
+abbrev is_of_firm : ℕ → Entry → Bool
+is_of_firm firm e = e.order.firm == firm
+
+abbrev orders_of : ℕ → List Entry → List Entry
+orders_of firm es = filter (is_of_firm firm) es
 
 lots-append : (xs ys : List Share) → lots_of (xs ++ ys) ≡ lots_of xs + lots_of ys
 lots-append xs ys = sum_by-append (λ (s : Share). s.1) xs ys
@@ -151,6 +164,10 @@ distinct-first : (f : LmmShare) (fs : List LmmShare) → IsDistinct (λ a b. a =
 unfolding IsDistinct
 distinct-first f fs d = d.0
 
+distinct-more : (f : LmmShare) (fs : List LmmShare) → IsDistinct (λ a b. a == b) (map firm_of (f ∷ fs)) → IsDistinct (λ a b. a == b) (map firm_of fs)
+unfolding IsDistinct
+distinct-more f fs d = d.1
+
 lmm-shown : (fs : List LmmShare) (q : ℕ) (es : List Entry) → IsDistinct (λ a b. a == b) (map firm_of fs) → lots_of (lmm_shares fs q es) ≤ shown_by es
 lmm-shown [] q es d = omega arith
 lmm-shown (f ∷ fs) q es d =
@@ -173,10 +190,18 @@ share-shown least pool (suc n) shown h =
     let go : (b : Bool) → cond b 0 (pool * shown / suc n) ≤ shown = elim [ true ↦ omega arith | false ↦ le ] in
     go (nat_lt (pool * shown / suc n) least)
 
+share-part : (least pool total shown : ℕ) → prorata_share least pool total shown ≤ pool * shown / total
+share-part least pool total shown =
+    let part = pool * shown / total in
+    let go : (b : Bool) → cond b 0 part ≤ part = elim [ true ↦ omega arith | false ↦ omega arith ] in
+    go (nat_lt part least)
+
 prorata-wanted : (least q : ℕ) (es : List Entry) → lots_of (prorata_shares least q es) ≤ q
 prorata-wanted least q es =
     let total = shown_by es in
-    omega (arith, lots-map (λ (e : Entry). prorata_share least (min q total) total e.order.shown) es, shares-fit least q es)
+    let pool = min q total in
+    let f = λ (e : Entry). prorata_share least pool total e.order.shown in
+    omega (arith, lots-map f es, parts-fit f (λ (e : Entry). e.order.shown) pool total (λ e. share-part least pool total e.order.shown) es (omega arith))
 
 prorata-shown : (least q : ℕ) (es : List Entry) → lots_of (prorata_shares least q es) ≤ shown_by es
 prorata-shown least q es =
@@ -203,7 +228,7 @@ is_left_out e = e.order.prorated == 0
 
 of-wanted : (step : Step) (top : Option ℕ) (q : ℕ) (es : List Entry) → IsRightStep step → AllDiffer es → lots_of (shares_of step top q es) ≤ q
 of-wanted (Top rule) top q es h d = top-wanted rule.max top q es d
-of-wanted (Lmm shares) top q es h d = omega (arith, lmm-wanted shares.items q es, parts-fit q shares.items h.at_most_all)
+of-wanted (Lmm shares) top q es h d = omega (arith, lmm-wanted shares.items q es, parts-fit (part_in q) percent_of q 100 (λ s. omega arith) shares.items h.at_most_all)
 of-wanted (Split percent) top q es h d = omega (arith, spent-wanted (q * percent / 100) es, split-part q percent h.at_most)
 of-wanted (ProRata least) top q es h d = prorata-wanted least q es
 of-wanted Leveling top q es h d = ones-wanted q (filter is_left_out es)

@@ -9,15 +9,15 @@ use Rattle.plain_book.specs.declared.entry.Entry.{Entry}
 use Rattle.plain_book.specs.Orders.{HasSlot, order_of, no_order, without, with_order, placed, settled, traded, refreshed, filled_by, is_at_earlier_level}
 use Rattle.plain_book.specs.Book.{Book, IsRight, IsResting, AllDiffer}
 use Rattle.plain_book.specs.Match.{MatchState}
-use Rattle.plain_book.specs.Steps.{head_gives}
+use Rattle.plain_book.specs.Steps.{trade_head}
 use Rattle.plain_book.proofs.Pairs.{all-filter, all-with}
 use Rattle.plain_book.proofs.Levels.{HasSlot-filter, HasSlot-either, AllDiffer-filter, AllDiffer-front, with_order-none}
 use Rattle.plain_book.proofs.Walks.{AllDiffer-with_order}
 use Rattle.plain_book.proofs.Live.{AllOrders, orders-with_order, orders-placed}
 use Rattle.plain_book.proofs.Right.{without-gone}
 use Rattle.plain_book.proofs.Sorted.{IsInserted, inserted-differ}
-use Rattle.level_sweep.specs.Sweep.{wanted_step, match_best}
-use Rattle.level_sweep.proofs.Each.{Relation, IsKept, each-head, each-wanted, each-best}
+use Rattle.level_sweep.specs.Sweep.{wanted_step, level_match}
+use Rattle.level_sweep.proofs.EachTrade.{Relation, IsKept, each-head, each-wanted, each-match}
 use Rattle.level_sweep.proofs.Names.{none-traded}
 
 -- an order shows at least one lot, and all that is open where it shows no part
@@ -126,10 +126,10 @@ showing = record {
 pub showing-wanted : (s : Step) (price : Price) (m : MatchState) → AreShowing m.book.resting → AreShowing (wanted_step s price m).book.resting
 showing-wanted s price m a = each-wanted ShowingStays showing s price m a
 
-pub showing-best : (steps : List Step) (limit : Price) (m : MatchState) → AreShowing m.book.resting → AreShowing (match_best steps limit m).book.resting
-showing-best steps limit m a = each-best ShowingStays showing steps limit m a
+pub showing-match : (steps : List Step) (price : Price) (m : MatchState) → AreShowing m.book.resting → AreShowing (level_match steps price m).book.resting
+showing-match steps price m a = each-match ShowingStays showing steps price m a
 
-pub showing-head : (es : List Entry) (m : MatchState) → AreShowing m.book.resting → AreShowing (head_gives es m).book.resting
+pub showing-head : (es : List Entry) (m : MatchState) → AreShowing m.book.resting → AreShowing (trade_head es m).book.resting
 showing-head es m a = each-head ShowingStays showing es m a
 
 -- a right book

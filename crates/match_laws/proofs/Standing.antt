@@ -17,7 +17,7 @@ use Rattle.plain_book.proofs.Live.{AllOrders, orders-at, orders-with_order, orde
 use Rattle.plain_book.proofs.Sorted.{book-order, put-in, ordered-put, IsInserted, inserted-differ}
 use Rattle.plain_book.proofs.Right.{without-gone}
 use Rattle.level_sweep.specs.Sweep.{sweep}
-use Rattle.level_sweep.proofs.Each.{Relation, IsKept, each-sweep}
+use Rattle.level_sweep.proofs.EachTrade.{Relation, IsKept, each-sweep}
 use Rattle.level_sweep.proofs.Names.{none-traded}
 
 -- P holds of the level of each order

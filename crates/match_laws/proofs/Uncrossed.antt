@@ -1,7 +1,8 @@
 -- No sweep crosses a book, and no order does that comes to rest after it.
 use Rattle.std.proofs.Common.{◌≡◌, ℕ, ◌≤◌, Bool, true, false, cond, not, ◌&&◌, List, refl, sym, ap, subst, ◌∙◌, arith, inl, inr, Option, Some, None}
-use Rattle.std.specs.Prelude.{◌==◌, IsTrue}
+use Rattle.std.specs.Prelude.{◌==◌}
 use Rattle.std.specs.List.{AllByRecursion}
+use Rattle.std.proofs.lemmas.Bool.Decides.{eqb_tells}
 use Rattle.gx_base.specs.declared.price.Price.{Price}
 use Rattle.gx_base.specs.declared.order.Order.{Order}
 use Rattle.gx_base.specs.declared.order.Side.{Side}
@@ -16,9 +17,9 @@ use Rattle.plain_book.proofs.Levels.{same, is_side-refl, AllDiffer-front}
 use Rattle.plain_book.proofs.Pairs.{all-with, all-both, all-map}
 use Rattle.plain_book.proofs.Live.{orders-placed}
 use Rattle.plain_book.proofs.Tops.{behind-on, new-best-all}
-use Rattle.level_sweep.specs.Sweep.{sweep, IsMet, IsSweepDone}
-use Rattle.level_sweep.specs.Laws.{AreApart, IsUncrossed}
-use Rattle.level_sweep.proofs.Standing.{Levels, IsInOrder, sweep-levels, sweep-in-order}
+use Rattle.level_sweep.specs.Sweep.{sweep, within_limit, IsSweepDone}
+use Rattle.match_laws.specs.Laws.{AreApart, IsUncrossed}
+use Rattle.match_laws.proofs.Standing.{Levels, IsInOrder, sweep-levels, sweep-in-order}
 use Rattle.level_sweep.proofs.Swept.{sweep-order}
 
 -- where no level is added, none is crossed
@@ -67,13 +68,13 @@ on-facing i j s t e f =
     ap (λ (n : ℕ). (j == n) && is_side t s) e ∙ ap (λ (d : Side). (j == j) && is_side t d) f ∙ ap (λ (b : Bool). b && is_side t t) (same j) ∙ is_side-refl t
 
 -- no price is within the limit
-not-met : (limit : Price) (t : Taker) (best : Option Price) → (IsMet limit t best → ⊥) → is_best_price (opposite t.order.side) limit.0 best ≡ true
-not-met limit t None h = refl
-not-met limit t (Some p) h =
-    let go : (b : Bool) → (IsTrue (not b) → ⊥) → b ≡ true = elim [
+none-within : (d : Side) (limit : Price) (best : Option Price) → within_limit d limit best ≡ None → is_best_price d limit.0 best ≡ true
+none-within d limit None h = refl
+none-within d limit (Some p) h =
+    let go : (b : Bool) → cond (not b) (Some p) None ≡ None → b ≡ true = elim [
       | true ↦ λ k. refl
-      | false ↦ λ k. absurd (k refl)
-    ] in go (is_better (opposite t.order.side) limit.0 p.0) h
+      | false ↦ λ k. absurd (let e : Some p ≡ None = k in cc)
+    ] in go (is_better d limit.0 p.0) h
 
 -- so it is apart from each order
 abbrev IsBeyond : Order → Entry → Type 0
@@ -104,23 +105,25 @@ resting-uncrossed slot o top_min es clear h =
       | false ↦ uncrossed-placed (newcomer false) es clear h
     ] in go (is_new_best o es)
 
--- where a limit is through, an order of that limit crosses nothing
-through-uncrossed : (slot : ℕ) (limit : Price) (t : Taker) (top_min : Option ℕ) (b : Book) → t.order.price ≡ limit → EachPair AreInBookOrder b.resting → IsUncrossed b.resting → IsSweepDone limit b t → 1 ≤ t.order.leaves
+-- where a sweep to its limit is done, an order crosses nothing
+done-uncrossed : (slot : ℕ) (limit : Price) (t : Taker) (top_min : Option ℕ) (b : Book) → t.order.price ≡ limit → EachPair AreInBookOrder b.resting → IsUncrossed b.resting → IsSweepDone limit b t → 1 ≤ t.order.leaves
     → IsUncrossed (book_placed slot t.order top_min b).resting
-through-uncrossed slot limit t top_min b is r h through some = elim through [
-  | inl none ↦ absurd (omega (arith, none, some))
-  | inr left ↦
-      let best = best_of t.order.instrument (opposite t.order.side) b.resting in
-      let beyond : AllByRecursion (IsBeyond t.order) b.resting = beyond-all t.order b.resting r (ap (λ (p : Price). is_best_price (opposite t.order.side) p.0 best) is ∙ not-met limit t best left) in
-      resting-uncrossed slot t.order top_min b.resting (all-with (IsBeyond t.order) (λ (e : Entry). AreClear (level_of t.order) (level_of e.order)) (λ e k. beyond-clear t.order e k) b.resting beyond) h
-]
+done-uncrossed slot limit t top_min b is r h done some =
+    let d = opposite t.order.side in
+    let best = best_of t.order.instrument d b.resting in
+    let within : within_limit d limit best ≡ None = elim (eqb_tells t.order.leaves 0) [
+      | inl z ↦ absurd (omega (arith, z.1, some))
+      | inr z ↦ sym (ap (λ (c : Bool). cond c None (within_limit d limit best)) z.0) ∙ done
+    ] in
+    let beyond : AllByRecursion (IsBeyond t.order) b.resting = beyond-all t.order b.resting r (ap (λ (p : Price). is_best_price d p.0 best) is ∙ none-within d limit best within) in
+    resting-uncrossed slot t.order top_min b.resting (all-with (IsBeyond t.order) (λ (e : Entry). AreClear (level_of t.order) (level_of e.order)) (λ e k. beyond-clear t.order e k) b.resting beyond) h
 
 pub rested-uncrossed : (steps : List Step) (m : MatchState) (slot : ℕ) (top_min : Option ℕ) → IsRight m.book → IsUncrossed m.book.resting
     → IsSweepDone m.taker.order.price (sweep steps m.taker.order.price m).book (sweep steps m.taker.order.price m).taker
     → 1 ≤ (sweep steps m.taker.order.price m).taker.order.leaves
     → IsUncrossed (book_placed slot (sweep steps m.taker.order.price m).taker.order top_min (sweep steps m.taker.order.price m).book).resting
-rested-uncrossed steps m slot top_min right h through some =
+rested-uncrossed steps m slot top_min right h done some =
     let limit = m.taker.order.price in
     let end = sweep steps limit m in
     let start : IsInOrder m.book.resting = record { differ = AllDiffer-front m.book.resting m.book.waiting right.differ; ordered = right.ordered } in
-    through-uncrossed slot limit end.taker top_min end.book (ap (λ (o : Order). o.price) (sweep-order steps limit m)) (sweep-in-order steps limit m start).ordered (sweep-uncrossed steps limit m h) through some
+    done-uncrossed slot limit end.taker top_min end.book (ap (λ (o : Order). o.price) (sweep-order steps limit m)) (sweep-in-order steps limit m start).ordered (sweep-uncrossed steps limit m h) done some

@@ -1,5 +1,5 @@
 //! Laws of a match. Their functions do nothing: what is proved is what their contracts say.
-ghost use Rattle.std.specs.Prelude.{◌≡◌, ◌≤◌, ℕ, List, Option, Some};
+ghost use Rattle.std.specs.Prelude.{◌≡◌, ◌≤◌, ℕ, List, Option, Some, None};
 ghost use Rattle.gx_base.specs.declared.order.Side.{Side};
 ghost use Rattle.gx_base.specs.declared.price.Price.{Price};
 ghost use Rattle.step_config.specs.declared.step.Step.{Step};
@@ -7,9 +7,9 @@ ghost use Rattle.step_config.specs.RightSteps.{IsRightStep, AreRightSteps};
 ghost use Rattle.plain_book.specs.Orders.{order_of, best_of, top_of};
 ghost use Rattle.plain_book.specs.Book.{Book, IsRight, book_placed, book_without};
 ghost use Rattle.plain_book.specs.Match.{MatchState};
-ghost use Rattle.plain_book.specs.Steps.{level_now, IsLevelDone};
-ghost use Rattle.level_sweep.specs.Sweep.{level_match, sweep, IsSweepDone};
-ghost use Rattle.level_sweep.specs.Laws.{lots_of, shown_by, shares_now, IsUncrossed};
+ghost use Rattle.plain_book.specs.Steps.{level_now, trade_head, fifo, IsLevelDone};
+ghost use Rattle.level_sweep.specs.Sweep.{level_match, next_price, sweep, IsSweepDone};
+ghost use Rattle.match_laws.specs.Laws.{lots_of, shown_by, shares_now, IsUncrossed};
 
 /// The shares of a step add up to no more lots than are wanted, and to no more than the level shows.
 pub fn shares_fit()
@@ -17,9 +17,23 @@ pub fn shares_fit()
     ensures shown { (step : Step) (price : Price) (m : MatchState) → IsRightStep step → IsRight m.book → lots_of (shares_now step price m) ≤ shown_by (level_now price m) }
 {}
 
+/// FIFO without a count of rounds: where nothing is wanted or no order is left at the price, it does nothing; else the head
+/// of the queue trades, and FIFO goes on.
+pub fn fifo_goes_on()
+    ensures done { (price : Price) (m : MatchState) → IsLevelDone price m.book m.taker → fifo price m ≡ m }
+    ensures next { (price : Price) (m : MatchState) → IsRight m.book → fifo price m ≡ fifo price (trade_head (level_now price m) m) }
+{}
+
 /// A level match, in whose list FIFO stands last, leaves nothing wanted or no order at the price.
 pub fn level_matches_end()
     ensures { (steps : List Step) (price : Price) (m : MatchState) → AreRightSteps steps → IsRight m.book → IsLevelDone price (level_match steps price m).book (level_match steps price m).taker }
+{}
+
+/// A sweep without a count of rounds: where there is no next price, it does nothing; else there is a level match at the next
+/// price, and the sweep goes on.
+pub fn sweeps_go_on()
+    ensures none { (steps : List Step) (limit : Price) (m : MatchState) → next_price limit m.book m.taker ≡ None → sweep steps limit m ≡ m }
+    ensures next { (steps : List Step) (limit : Price) (m : MatchState) (price : Price) → AreRightSteps steps → IsRight m.book → next_price limit m.book m.taker ≡ Some price → sweep steps limit m ≡ sweep steps limit (level_match steps price m) }
 {}
 
 /// A sweep leaves nothing wanted or no price within the limit.

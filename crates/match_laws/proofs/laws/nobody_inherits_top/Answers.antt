@@ -1,5 +1,5 @@
-use Rattle.level_sweep.proofs.Marked.{top-swept, top-left}
-use Rattle.level_sweep.proofs.laws.nobody_inherits_top.Goals as goal
+use Rattle.match_laws.proofs.Tops.{top-swept, top-left}
+use Rattle.match_laws.proofs.laws.nobody_inherits_top.Goals as goal
 
 pub returns-clause-swept : goal.returns-clause-swept
 returns-clause-swept c = λ steps limit m i d s r h. top-swept steps limit m i d s r h

@@ -1,5 +1,5 @@
-use Rattle.level_sweep.proofs.Lots.{shares-wanted, shares-shown}
-use Rattle.level_sweep.proofs.laws.shares_fit.Goals as goal
+use Rattle.match_laws.proofs.Lots.{shares-wanted, shares-shown}
+use Rattle.match_laws.proofs.laws.shares_fit.Goals as goal
 
 pub returns-clause-wanted : goal.returns-clause-wanted
 returns-clause-wanted c = shares-wanted

@@ -1,6 +1,6 @@
-use Rattle.level_sweep.proofs.Showing.{showing-right}
-use Rattle.level_sweep.proofs.Ended.{sweep-ends}
-use Rattle.level_sweep.proofs.laws.sweeps_end.Goals as goal
+use Rattle.match_laws.proofs.Showing.{showing-right}
+use Rattle.match_laws.proofs.Done.{sweep-done}
+use Rattle.match_laws.proofs.laws.sweeps_end.Goals as goal
 
 pub returns : goal.returns
-returns c steps limit m right book = sweep-ends steps limit m right.fifo_last (showing-right m.book book)
+returns c steps limit m right book = sweep-done steps limit right.fifo_last m (showing-right m.book book)

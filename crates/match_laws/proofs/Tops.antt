@@ -15,7 +15,7 @@ use Rattle.plain_book.specs.Match.{MatchState}
 use Rattle.plain_book.proofs.Levels.{same, is_side-same, is_side-refl, and-left, and-right, renewed, with_order-none, AllDiffer-front}
 use Rattle.plain_book.proofs.Pairs.{all-filter, all-append, all-with, all-both, differ-pairs}
 use Rattle.level_sweep.specs.Sweep.{sweep}
-use Rattle.level_sweep.proofs.Each.{Relation, IsKept, each-sweep}
+use Rattle.level_sweep.proofs.EachTrade.{Relation, IsKept, each-sweep}
 use Rattle.level_sweep.proofs.Names.{none-traded}
 
 not-both : {A : Type 0} (b : Bool) → b ≡ true → b ≡ false → A
@@ -137,15 +137,15 @@ top-left b gone i d s r h =
 abbrev on_side : ℕ → Side → Order → Bool
 on_side i d o = (o.instrument == i) && is_side o.side d
 
--- who stands on the side is told by the slot, and P holds of the slot of each order that is marked
+-- who stands on the side is known by the slot, and P holds of the slot of each order that is marked
 module _ (i : ℕ) (d : Side) (on : ℕ → Bool) (P : ℕ → Type 0) where
-  abbrev Told : Entry → Type 0
-  Told e = (on_side i d e.order ≡ on e.slot) × (e.is_top ≡ true → P e.slot)
+  abbrev KnownBySlot : Entry → Type 0
+  KnownBySlot e = (on_side i d e.order ≡ on e.slot) × (e.is_top ≡ true → P e.slot)
 
   abbrev Found : ℕ → List Entry → Type 0
   Found s es = ((HasSlot s es → ⊥) × (order_of s es ≡ no_order)) ⊎ (on_side i d (order_of s es) ≡ on s)
 
-  found : (s : ℕ) (es : List Entry) → AllByRecursion Told es → Found s es
+  found : (s : ℕ) (es : List Entry) → AllByRecursion KnownBySlot es → Found s es
   found s [] h = inl ((λ k. k), refl)
   found s (e ∷ es) h = elim (eqb_tells e.slot s) [
     | inl t ↦ inr (ap (λ (b : Bool). on_side i d (cond b e.order (order_of s es))) t.0 ∙ h.0.0 ∙ ap on t.1)
@@ -157,53 +157,53 @@ module _ (i : ℕ) (d : Side) (on : ℕ → Bool) (P : ℕ → Type 0) where
         ]
   ]
 
-  told-with_order : (s : ℕ) (o : Order) (es : List Entry) → on_side i d o ≡ on s → AllByRecursion Told es → AllByRecursion Told (with_order s o es)
-  told-with_order s o [] p a = tt
-  told-with_order s o (e ∷ es) p a = (
+  known-with_order : (s : ℕ) (o : Order) (es : List Entry) → on_side i d o ≡ on s → AllByRecursion KnownBySlot es → AllByRecursion KnownBySlot (with_order s o es)
+  known-with_order s o [] p a = tt
+  known-with_order s o (e ∷ es) p a = (
     elim (eqb_tells e.slot s) [
-      | inl t ↦ subst (λ (b : Bool). Told (cond b (renewed e o) e)) (sym t.0) (p ∙ ap on (sym t.1), a.0.1)
-      | inr t ↦ subst (λ (b : Bool). Told (cond b (renewed e o) e)) (sym t.0) a.0
+      | inl t ↦ subst (λ (b : Bool). KnownBySlot (cond b (renewed e o) e)) (sym t.0) (p ∙ ap on (sym t.1), a.0.1)
+      | inr t ↦ subst (λ (b : Bool). KnownBySlot (cond b (renewed e o) e)) (sym t.0) a.0
     ],
-    told-with_order s o es p a.1,
+    known-with_order s o es p a.1,
   )
 
-  told-settled : (s : ℕ) (o : Order) (es : List Entry) → on_side i d o ≡ on s → AllByRecursion Told es → AllByRecursion Told (settled s o es)
-  told-settled s o es p a =
+  known-settled : (s : ℕ) (o : Order) (es : List Entry) → on_side i d o ≡ on s → AllByRecursion KnownBySlot es → AllByRecursion KnownBySlot (settled s o es)
+  known-settled s o es p a =
       let n : Entry = record { slot = s; order = refreshed o; is_top = false } in
       let left = without s es in
-      let gone : AllByRecursion Told left = all-filter Told (λ e. not (e.slot == s)) es a in
+      let gone : AllByRecursion KnownBySlot left = all-filter KnownBySlot (λ e. not (e.slot == s)) es a in
       let unmarked : false ≡ true → P s = λ h. not-both false h refl in
-      let back : AllByRecursion Told (placed n left) = all-append Told (filter (λ e. not (is_at_earlier_level n e)) left) (n ∷ filter (is_at_earlier_level n) left) (all-filter Told (λ e. not (is_at_earlier_level n e)) left gone) ((p, unmarked), all-filter Told (is_at_earlier_level n) left gone) in
-      let go : (x y : Bool) → AllByRecursion Told (cond x left (cond y (placed n left) (with_order s o es))) = elim [
+      let back : AllByRecursion KnownBySlot (placed n left) = all-append KnownBySlot (filter (λ e. not (is_at_earlier_level n e)) left) (n ∷ filter (is_at_earlier_level n) left) (all-filter KnownBySlot (λ e. not (is_at_earlier_level n e)) left gone) ((p, unmarked), all-filter KnownBySlot (is_at_earlier_level n) left gone) in
+      let go : (x y : Bool) → AllByRecursion KnownBySlot (cond x left (cond y (placed n left) (with_order s o es))) = elim [
         | true ↦ λ y. gone
-        | false ↦ elim [ true ↦ back | false ↦ told-with_order s o es p a ]
+        | false ↦ elim [ true ↦ back | false ↦ known-with_order s o es p a ]
       ] in go (o.leaves == 0) (o.shown == 0)
 
-  told-traded : (s n : ℕ) (es : List Entry) → AllByRecursion Told es → AllByRecursion Told (traded s n es)
-  told-traded s n es a = elim (found s es a) [
-    | inl g ↦ subst (AllByRecursion Told) (sym (none-traded s s n es es g.1)) (all-filter Told (λ e. not (e.slot == s)) es a)
-    | inr p ↦ told-settled s (filled_by n (order_of s es)) es p a
+  known-traded : (s n : ℕ) (es : List Entry) → AllByRecursion KnownBySlot es → AllByRecursion KnownBySlot (traded s n es)
+  known-traded s n es a = elim (found s es a) [
+    | inl g ↦ subst (AllByRecursion KnownBySlot) (sym (none-traded s s n es es g.1)) (all-filter KnownBySlot (λ e. not (e.slot == s)) es a)
+    | inr p ↦ known-settled s (filled_by n (order_of s es)) es p a
   ]
 
-  told-marked : (s n : ℕ) (es : List Entry) → AllByRecursion Told es → AllByRecursion Told (with_order s (record (order_of s es) { prorated = n }) es)
-  told-marked s n es a = elim (found s es a) [
-    | inl g ↦ subst (AllByRecursion Told) (sym (with_order-none s (record (order_of s es) { prorated = n }) es g.0)) a
-    | inr p ↦ told-with_order s (record (order_of s es) { prorated = n }) es p a
+  known-marked : (s n : ℕ) (es : List Entry) → AllByRecursion KnownBySlot es → AllByRecursion KnownBySlot (with_order s (record (order_of s es) { prorated = n }) es)
+  known-marked s n es a = elim (found s es a) [
+    | inl g ↦ subst (AllByRecursion KnownBySlot) (sym (with_order-none s (record (order_of s es) { prorated = n }) es g.0)) a
+    | inr p ↦ known-with_order s (record (order_of s es) { prorated = n }) es p a
   ]
 
-  abbrev ToldStays : Relation
-  ToldStays a b = AllByRecursion Told a.book.resting → AllByRecursion Told b.book.resting
+  abbrev KnownStay : Relation
+  KnownStay a b = AllByRecursion KnownBySlot a.book.resting → AllByRecursion KnownBySlot b.book.resting
 
-  told : IsKept ToldStays
-  told = record {
+  known : IsKept KnownStay
+  known = record {
     same = λ m a. a;
     both = λ a b c h k x. k (h x);
-    trades = λ step s n m a. told-traded s n m.book.resting a;
-    marks = λ s n m a. told-marked s n m.book.resting a;
+    trades = λ step s n m a. known-traded s n m.book.resting a;
+    marks = λ s n m a. known-marked s n m.book.resting a;
   }
 
-  told-sweep : (steps : List Step) (limit : Price) (m : MatchState) → AllByRecursion Told m.book.resting → AllByRecursion Told (sweep steps limit m).book.resting
-  told-sweep steps limit m a = each-sweep ToldStays told steps limit m a
+  known-sweep : (steps : List Step) (limit : Price) (m : MatchState) → AllByRecursion KnownBySlot m.book.resting → AllByRecursion KnownBySlot (sweep steps limit m).book.resting
+  known-sweep steps limit m a = each-sweep KnownStay known steps limit m a
 
 -- who is TOP after a sweep was TOP before it
 pub top-swept : (steps : List Step) (limit : Price) (m : MatchState) (i : ℕ) (d : Side) (s : ℕ) → IsRight m.book → top_of i d (sweep steps limit m).book.resting ≡ Some s → top_of i d m.book.resting ≡ Some s
@@ -215,7 +215,7 @@ top-swept steps limit m i d s r h =
     let P = λ (n : ℕ). on n ≡ true → Was n in
     let A = Marked i d Was in
     let B = λ (e : Entry). order_of e.slot es ≡ e.order in
-    let before : AllByRecursion (Told i d on P) es =
-    all-with (λ e. A e × B e) (Told i d on P) (λ e k. let is = ap (on_side i d) (sym k.1) in (is, (λ top o. k.0 top (is ∙ o)))) es
+    let before : AllByRecursion (KnownBySlot i d on P) es =
+    all-with (λ e. A e × B e) (KnownBySlot i d on P) (λ e k. let is = ap (on_side i d) (sym k.1) in (is, (λ top o. k.0 top (is ∙ o)))) es
     (all-both A B es (marked-top i d es r.tops) (own-orders es (AllDiffer-front es m.book.waiting r.differ))) in
-    top-holds i d Was s es' (all-with (Told i d on P) A (λ e k top o. k.1 top (sym k.0 ∙ o)) es' (told-sweep i d on P steps limit m before)) h
+    top-holds i d Was s es' (all-with (KnownBySlot i d on P) A (λ e k top o. k.1 top (sym k.0 ∙ o)) es' (known-sweep i d on P steps limit m before)) h
