@@ -19,7 +19,7 @@ use Rattle.plain_book.proofs.Levels.{with_order-level}
 use Rattle.plain_book.proofs.Walks.{AllDiffer-with_order}
 use Rattle.plain_book.proofs.TradedShares.{share-leaves}
 use Rattle.level_sweep.specs.Sweep.{step_of, level_match, wanted_step}
-use Rattle.level_sweep.proofs.EachTrade.{Relation, IsKept, wanted-cases, each-match}
+use Rattle.level_sweep.proofs.EachTrade.{Relation, IsKept, wanted-cases, each-shares, each-head, each-fifo, each-match}
 
 abbrev wants : MatchState → ℕ
 wants m = m.taker.order.leaves
@@ -36,6 +36,15 @@ wanted = record {
   trades = λ step s n m. omega arith;
   marks = λ s n m. omega arith;
 }
+
+shares-want : (step : StepName) (xs : List Share) (m : MatchState) → wants (trade_shares step xs m) ≤ wants m
+shares-want step xs m = each-shares WantsNoMore wanted step xs m
+
+pub head-wants : (es : List Entry) (m : MatchState) → wants (trade_head es m) ≤ wants m
+head-wants es m = each-head WantsNoMore wanted es m
+
+fifo-wants : (price : Price) (n : ℕ) (m : MatchState) → wants (fifo_rounds n price m) ≤ wants m
+fifo-wants price n m = each-fifo WantsNoMore wanted price n m
 
 pub match-wants : (steps : List Step) (price : Price) (m : MatchState) → wants (level_match steps price m) ≤ wants m
 match-wants steps price m = each-match WantsNoMore wanted steps price m
@@ -86,30 +95,15 @@ share-takes price step s n m w d =
       | inr t ↦ inl (let some : n ≢ 0 = t.1 in omega (arith, share-leaves step s n m, some, w))
     ]
 
-share-wants : (step : StepName) (s n : ℕ) (m : MatchState) → wants (trade_share step s n m) ≤ wants m
-share-wants step s n m = omega (arith, share-leaves step s n m)
-
-shares-want : (step : StepName) (xs : List Share) (m : MatchState) → wants (trade_shares step xs m) ≤ wants m
-shares-want step [] m = omega arith
-shares-want step (x ∷ xs) m = omega (arith, shares-want step xs (trade_share step x.0 x.1 m), share-wants step x.0 x.1 m)
-
 shares-take : (price : Price) (step : StepName) (xs : List Share) (m : MatchState) → 0 < wants m → AllDiffer m.book.resting → TakesLots price m (trade_shares step xs m)
 shares-take price step [] m w d = inr (keeps-same price m d)
 shares-take price step (x ∷ xs) m w d =
     let n = trade_share step x.0 x.1 m in
     takes-then price m n (trade_shares step xs n) (share-takes price step x.0 x.1 m w d) (shares-want step xs n) (λ k. shares-take price step xs n (wants-some price m n k w) k.differ)
 
-pub head-wants : (es : List Entry) (m : MatchState) → wants (trade_head es m) ≤ wants m
-head-wants [] m = omega arith
-head-wants (e ∷ es) m = share-wants name.Fifo e.slot (min m.taker.order.leaves e.order.shown) m
-
 head-takes : (price : Price) (es : List Entry) (m : MatchState) → 0 < wants m → AllDiffer m.book.resting → TakesLots price m (trade_head es m)
 head-takes price [] m w d = inr (keeps-same price m d)
 head-takes price (e ∷ es) m w d = share-takes price name.Fifo e.slot (min m.taker.order.leaves e.order.shown) m w d
-
-fifo-wants : (price : Price) (n : ℕ) (m : MatchState) → wants (fifo_rounds n price m) ≤ wants m
-fifo-wants price zero m = omega arith
-fifo-wants price (suc n) m = omega (arith, fifo-wants price n (trade_head (level_now price m) m), head-wants (level_now price m) m)
 
 fifo-takes : (price : Price) (n : ℕ) (m : MatchState) → 0 < wants m → AllDiffer m.book.resting → TakesLots price m (fifo_rounds n price m)
 fifo-takes price zero m w d = inr (keeps-same price m d)

@@ -23,9 +23,6 @@ module _ (P : MatchState → MatchState → Type 0) (price : Price) (es : List E
     (shares : (step : StepName) (xs : List Share) → P (trade_shares step xs (with_events es m)) (trade_shares step xs m))
     (rounds : P (fifo_rounds m.taker.order.leaves price (with_events es m)) (fifo_rounds m.taker.order.leaves price m))
     (none : P (with_events es m) m) where
-  abbrev shares_at : StepName → List Share → Type 0
-  shares_at step xs = P (trade_shares step xs (with_events es m)) (trade_shares step xs m)
-
   step-cases : (s : Step) → P (step_of s price (with_events es m)) (step_of s price m)
   step-cases (Top rule) = shares name.Top (top_shares rule.max (top_of m.taker.order.instrument (opposite m.taker.order.side) m.book.resting) m.taker.order.leaves (level_now price m))
   step-cases (Lmm lmms) = shares name.Lmm (lmm_shares lmms.items m.taker.order.leaves (level_now price m))
@@ -79,7 +76,7 @@ module _ (R : Relation) (kept : IsKept R) where
   each-head [] m = kept.same m
   each-head (e ∷ es) m = each-share name.Fifo e.slot _ m
 
-  each-fifo : (price : Price) (n : ℕ) → Keeps (fifo_rounds n price)
+  pub each-fifo : (price : Price) (n : ℕ) → Keeps (fifo_rounds n price)
   each-fifo price zero m = kept.same m
   each-fifo price (suc n) m =
       let k = trade_head (level_now price m) m in kept.both m k (fifo_rounds n price k) (each-head (level_now price m) m) (each-fifo price n k)

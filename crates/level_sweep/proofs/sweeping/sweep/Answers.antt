@@ -1,4 +1,4 @@
-use Rattle.std.proofs.Common.{◌≡◌, ◌<◌, sym, ◌∙◌, Some}
+use Rattle.std.proofs.Common.{◌≡◌, ◌<◌, Some}
 use Rattle.plain_book.specs.Matches.{match_at, start_at, Matches}
 use Rattle.plain_book.proofs.Levels.{AllDiffer-front}
 use Rattle.level_sweep.specs.Sweep.{next_price, sweep}
@@ -10,7 +10,7 @@ use Rattle.level_sweep.proofs.sweeping.sweep.Goals as goal
 use Rattle.level_sweep.proofs.sweeping.sweep.Goals.{After-match_level, In_default}
 
 next : (g : Over) (c : After-match_level g) → next_price c.args.limit (g.B.Book.book c.loop-price.book) c.loop-price.taker ≡ Some c.in-Some.price
-next g c = sym c.next_price.ensures ∙ c.in-Some.is
+next g c = cc (c.next_price.ensures, c.in-Some.is)
 
 -- the level match took lots
 fewer : (g : Over) (c : After-match_level g) → c.match_level.new.taker.order.leaves < c.loop-price.taker.order.leaves
@@ -33,11 +33,13 @@ loop-price-preserved g c =
     let after = match_at (g.B.Book.book r.new.book) r.new.desk r.new.taker r.new.out in
     swept-more g.E.Emit.meanings c.args.steps.now c.args.limit start now after c.in-Some.price l.invariant (next g c) r.ensures.matches (fewer g c)
 
-swept : (g : Over) (c : In_default g) → let l = c.loop-price in let start = match_at (g.B.Book.book c.args.book.now) c.args.desk.now c.args.taker.now c.args.out.now in Matches g.E.Emit.meanings (sweep c.args.steps.now c.args.limit) start (match_at (g.B.Book.book l.book) l.desk l.taker l.out)
+swept : (g : Over) (c : In_default g) → let l = c.loop-price in
+    let start = match_at (g.B.Book.book c.args.book.now) c.args.desk.now c.args.taker.now c.args.out.now in
+    Matches g.E.Emit.meanings (sweep c.args.steps.now c.args.limit) start (match_at (g.B.Book.book l.book) l.desk l.taker l.out)
 swept g c =
     let l = c.loop-price in
     let start = match_at (g.B.Book.book c.args.book.now) c.args.desk.now c.args.taker.now c.args.out.now in
-    swept-end g.E.Emit.meanings c.args.steps.now c.args.limit start (match_at (g.B.Book.book l.book) l.desk l.taker l.out) l.invariant (sym c.next_price.ensures ∙ c.in_default.is)
+    swept-end g.E.Emit.meanings c.args.steps.now c.args.limit start (match_at (g.B.Book.book l.book) l.desk l.taker l.out) l.invariant (cc (c.next_price.ensures, c.in_default.is))
 
 pub returns-clause-matches : goal.returns-clause-matches
 returns-clause-matches g c = swept g c
