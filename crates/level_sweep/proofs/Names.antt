@@ -10,13 +10,12 @@ use Rattle.step_config.specs.declared.step.Step.{Step}
 use Rattle.plain_book.specs.declared.entry.Entry.{Entry}
 use Rattle.plain_book.specs.Orders.{HasSlot, order_of, no_order, without, with_order, placed, settled, traded, refreshed, filled_by, is_at_earlier_level}
 use Rattle.plain_book.specs.Book.{AllDiffer}
-use Rattle.plain_book.specs.Match.{MatchState, give}
-use Rattle.plain_book.specs.Steps.{give_marked, head_gives}
+use Rattle.plain_book.specs.Match.{MatchState, marked, trade_share}
+use Rattle.plain_book.specs.Steps.{trade_head}
 use Rattle.plain_book.proofs.Levels.{same, renewed, with_order-none}
 use Rattle.plain_book.proofs.Pairs.{all-filter, all-append, all-with, all-both}
-use Rattle.plain_book.proofs.Steps.{marked}
-use Rattle.level_sweep.specs.Sweep.{wanted_step, match_best, sweep}
-use Rattle.level_sweep.proofs.Each.{Relation, IsKept, each-give, each-give_marked, each-head, each-wanted, each-best, each-sweep}
+use Rattle.level_sweep.specs.Sweep.{wanted_step, level_match, sweep}
+use Rattle.level_sweep.proofs.EachTrade.{Relation, IsKept, each-marked, each-share, each-head, each-wanted, each-match, each-sweep}
 use Rattle.plain_book.specs.Numbers.{numbered}
 
 -- P holds of the slot and the number of each order
@@ -110,23 +109,20 @@ names P = record {
   marks = λ s n m a. names-marked P s n m.book.resting a;
 }
 
-pub keeps-give : (step : StepName) (s n : ℕ) → KeepsNames (give step s n)
-keeps-give step s n P m a = each-give (NamesStay P) (names P) step s n m a
+pub keeps-marked : (step : StepName) (s n : ℕ) → KeepsNames (marked step s n)
+keeps-marked step s n P m a = each-marked (NamesStay P) (names P) step s n m a
 
-pub keeps-mark : (s n : ℕ) → KeepsNames (λ m. record m { book = marked s n m.book })
-keeps-mark s n P m a = names-marked P s n m.book.resting a
+pub keeps-share : (step : StepName) (s n : ℕ) → KeepsNames (trade_share step s n)
+keeps-share step s n P m a = each-share (NamesStay P) (names P) step s n m a
 
-pub keeps-give_marked : (s n : ℕ) → KeepsNames (give_marked s n)
-keeps-give_marked s n P m a = each-give_marked (NamesStay P) (names P) s n m a
-
-pub keeps-head : (es : List Entry) → KeepsNames (head_gives es)
+pub keeps-head : (es : List Entry) → KeepsNames (trade_head es)
 keeps-head es P m a = each-head (NamesStay P) (names P) es m a
 
 pub keeps-wanted : (s : Step) (price : Price) → KeepsNames (wanted_step s price)
 keeps-wanted s price P m a = each-wanted (NamesStay P) (names P) s price m a
 
-pub keeps-best : (steps : List Step) (limit : Price) → KeepsNames (match_best steps limit)
-keeps-best steps limit P m a = each-best (NamesStay P) (names P) steps limit m a
+pub keeps-match : (steps : List Step) (price : Price) → KeepsNames (level_match steps price)
+keeps-match steps price P m a = each-match (NamesStay P) (names P) steps price m a
 
 pub keeps-sweep : (steps : List Step) (limit : Price) → KeepsNames (sweep steps limit)
 keeps-sweep steps limit P m a = each-sweep (NamesStay P) (names P) steps limit m a
