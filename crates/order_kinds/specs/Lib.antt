@@ -8,3 +8,4 @@ pub mod Accepting
 pub mod Step
 pub mod ServedRequests
 pub mod Cores
+pub mod Inner

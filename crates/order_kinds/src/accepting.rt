@@ -74,14 +74,16 @@ fn accept_new<B: Book, E: Emit>(
     ensures rose { CountsRose 2000002 (record state.old.desk { orders = state.old.desk.orders + 1 }) state.new.desk }
 {
     state.desk.orders += 1;
-    let order = terms.order(new, state.desk.orders);
-    let head = count_report(&mut state.desk, new.sender.firm, new.sender.time);
-    out.put(&Event::Accepted { head, order });
     let mut taker = Taker {
-        order,
+        order: terms.order(new, state.desk.orders),
         time: new.sender.time,
         range: None,
     };
+    let head = count_report(&mut state.desk, new.sender.firm, new.sender.time);
+    out.put(&Event::Accepted {
+        head,
+        order: taker.order,
+    });
     let instrument = terms.instrument;
     enter(
         &mut state.book,

@@ -25,7 +25,7 @@ pub const MOST_MESSAGES: u64 = 16_777_216;
 /// these. At every moment there are no more orders than messages, at most `MOST_MESSAGES` messages, and no other counter is
 /// above 2^38 for each message.
 #[derive(Drop)]
-pub struct Core<B> {
+pub struct Core<B: Book> {
     state: EngineState<B>,
 }
 

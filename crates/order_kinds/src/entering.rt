@@ -70,11 +70,9 @@ fn finish<B: Book, E: Emit>(
 )
     requires can { CanTrade (B.book book.old) desk.old taker.now }
     requires rests { 1 ≤ taker.now.order.leaves → may_rest taker.now.order.life ≡ true → CanRest (B.book book.old) taker.now.order }
-    ensures takes {
-        let before = match_at (B.book book.old) desk.old taker.now out.old in
+    ensures takes { let before = match_at (B.book book.old) desk.old taker.now out.old in
         let after = match_at (B.book book.new) desk.new taker.now out.new in
-        TakesPart E.meanings (λ name. finished name steps.now) before after
-    }
+        TakesPart E.meanings (λ name. finished name steps.now) before after }
     ensures rose { CountsRose 1 desk.old desk.new }
 {
     if taker.order.leaves == 0 {
@@ -110,11 +108,9 @@ pub(crate) fn enter<B: Book, E: Emit>(
     requires can { CanTrade (B.book book.old) desk.old taker.old }
     requires rests { may_rest taker.old.order.life ≡ true → CanRest (B.book book.old) taker.old.order }
     requires open { 1 ≤ taker.old.order.leaves }
-    ensures takes {
-        let before = match_at (B.book book.old) desk.old taker.old out.old in
+    ensures takes { let before = match_at (B.book book.old) desk.old taker.old out.old in
         let after = match_at (B.book book.new) desk.new taker.new out.new in
-        TakesPart E.meanings (λ name. entered name steps.now) before after
-    }
+        TakesPart E.meanings (λ name. entered name steps.now) before after }
     ensures rose { CountsRose (2 * taker.old.order.leaves + 1) desk.old desk.new }
 {
     if !is_least_open(book, taker) {

@@ -60,9 +60,9 @@ fn has_id<B: Book>(book: &B, new: &NewOrder) -> bool
 }
 
 /// Whether a new order has a price or a stop price that its instrument does not have.
-fn has_off_tick(instrument: Instrument<'_>, new: &NewOrder) -> bool
-    requires { IsRule instrument.rule.now }
-    ensures { result ≡ has_off_tick (listed_instrument instrument) new.now }
+fn has_off_tick(instrument: &Instrument<'_>, new: &NewOrder) -> bool
+    requires { IsRule instrument.now.rule.now }
+    ensures { result ≡ has_off_tick (listed_instrument instrument.now) new.now }
 {
     let tick = tick_of(instrument.rule);
     is_off_tick(tick, new.price) || is_off_tick(tick, new.trigger)
@@ -70,11 +70,11 @@ fn has_off_tick(instrument: Instrument<'_>, new: &NewOrder) -> bool
 
 /// The price at which a new order is entered: its own, or for a market order the protected limit. `None` for a market
 /// order exactly where the other side is empty.
-fn limit_of<B: Book>(book: &B, instrument: Instrument<'_>, new: &NewOrder) -> Option<Price>
-    requires rule { IsRule instrument.rule.now }
-    requires listed { instrument.number < (B.book book.now).instruments }
+fn limit_of<B: Book>(book: &B, instrument: &Instrument<'_>, new: &NewOrder) -> Option<Price>
+    requires rule { IsRule instrument.now.rule.now }
+    requires listed { instrument.now.number < (B.book book.now).instruments }
     requires range { ArePricesInRange (B.book book.now).resting }
-    ensures { result ≡ limit_of new.now.kind (listed_instrument instrument) new.now (B.book book.now) }
+    ensures { result ≡ limit_of new.now.kind (listed_instrument instrument.now) new.now (B.book book.now) }
 {
     match new.kind {
         Kind::Market => {
@@ -87,7 +87,6 @@ fn limit_of<B: Book>(book: &B, instrument: Instrument<'_>, new: &NewOrder) -> Op
 }
 
 impl<'a> Terms<'a> {
-
     /// The terms of a new order, or the first of the rules that refuses it, in the order of `NewFault`.
     pub(crate) fn of<B: Book>(
         state: &EngineState<B>,
@@ -107,7 +106,7 @@ impl<'a> Terms<'a> {
         if !is_quantity(new.quantity) {
             return Err(NewFault::Quantity);
         }
-        if has_off_tick(instrument, new) {
+        if has_off_tick(&instrument, new) {
             return Err(NewFault::Tick);
         }
         if has_bad_min(new) {
@@ -119,7 +118,7 @@ impl<'a> Terms<'a> {
         if state.book.live() == product.max_orders() {
             return Err(NewFault::BookFull);
         }
-        match limit_of(&state.book, instrument, new) {
+        match limit_of(&state.book, &instrument, new) {
             None => Err(NewFault::NoMarket),
             Some(limit) => Ok(Terms { instrument, limit }),
         }

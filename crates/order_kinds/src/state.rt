@@ -12,7 +12,7 @@ pub(crate) type LastPrices = ArrayVec<Option<Price>, MOST_INSTRUMENTS>;
 
 /// The live orders, the last trade prices, and the counters.
 #[derive(Drop)]
-pub(crate) struct EngineState<B> {
+pub(crate) struct EngineState<B: Book> {
     pub(crate) book: B,
     pub(crate) last: LastPrices,
     pub(crate) desk: Desk,
