@@ -1,6 +1,6 @@
 //! Lines through a buffer to a station in memory.
-use crate::{Outgoing, ReportBuffer, SendFault, write_line};
-use gx_base::{Emit, Event, Head, Kind, Life, Listed, Names, Order, Price, ShortId, Side, Stamp};
+use crate::{MOST_WAITING, Outgoing, ReportBuffer, SendFault, write_line};
+use gx_base::{Emit, Event, Head, Kind, LONGEST_LINE, Life, Listed, Names, Order, Price, ShortId, Side, Stamp};
 use gx_station::MemStation;
 use std::alloc::{AllocError, Global};
 use std::process::Abort;
@@ -58,7 +58,7 @@ fn station(alloc: Global, fail: Vec<u64>) -> Result<MemStation, AllocError> {
 fn lines_wait_until_they_are_flushed(rt: HostRuntime) -> Result<(), Fail> {
     let names = product_names(&rt);
     let event = accepted(&rt, b"a1");
-    let mut line = [0; 1024];
+    let mut line = [0; LONGEST_LINE];
     let count = write_line(&event, &names, &mut line);
     assert_eq!(rt; count, 182);
     let mut twice = Vec::from_slice(rt.alloc(), &line[..count])?;
@@ -99,7 +99,7 @@ fn a_full_buffer_is_sent_at_once(rt: HostRuntime) -> Result<(), Fail> {
     }
     drop(out);
     assert_eq!(rt; station.calls(), 1);
-    assert_eq!(rt; station.output().len(), 65_536);
+    assert_eq!(rt; station.output().len(), MOST_WAITING);
     Ok(())
 }
 

@@ -3,10 +3,7 @@ use Rattle.std.specs.Prelude.{ℕ, ◌+◌, ◌-◌, ◌<◌, Bool, ◌&&◌, �
 use Rattle.std.specs.Char.{is_ascii_digit}
 use Rattle.std.specs.Str.Parse.{digits_value}
 use Rattle.gx_base.specs.Frames.{soh, frame_of}
-
--- the longest body, in bytes
-abbrev pub longest_body : ℕ
-longest_body = 4000
+use Rattle.fix_frame.specs.declared.place.TheConstants.{MOST_DIGITS, LONGEST_BODY}
 
 -- the digits behind `8=FIX.4.2|9=`, which are 12 bytes
 abbrev pub length_text : List ℕ → List ℕ
@@ -23,8 +20,8 @@ body_in b = take (body_length b) (drop (13 + length (length_text b)) b)
 -- begin string, the length of the body in one to six digits, the body, of which the last byte is SOH, and checksum
 abbrev pub is_frame : List ℕ → Bool
 is_frame b =
-    nat_le 1 (length (length_text b)) && nat_le (length (length_text b)) 6
-    && nat_le 1 (body_length b) && nat_le (body_length b) longest_body
+    nat_le 1 (length (length_text b)) && nat_le (length (length_text b)) MOST_DIGITS
+    && nat_le 1 (body_length b) && nat_le (body_length b) LONGEST_BODY
     && (length (body_in b) == body_length b)
     && (slice_index (body_in b) (body_length b - 1) == soh)
     && bytes_eq b (frame_of (length_text b) (body_in b))

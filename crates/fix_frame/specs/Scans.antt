@@ -4,7 +4,9 @@ use Rattle.std.specs.Char.{is_ascii_digit}
 use Rattle.std.specs.Str.Parse.{digits_value}
 use Rattle.gx_base.specs.Frames.{soh, field, head_of, trailer_of}
 use Rattle.gx_base.specs.Numbers.{fixed_digits}
-use Rattle.fix_frame.specs.Grammar.{IsFrame, IsUnfinished, IsRefused, longest_body}
+use Rattle.fix_frame.specs.Grammar.{IsFrame, IsUnfinished, IsRefused}
+use Rattle.fix_frame.specs.declared.place.TheConstants.{MOST_DIGITS, LONGEST_BODY}
+use Rattle.fix_frame.specs.declared.trailer.TheConstants.{TRAILER_LENGTH}
 use Rattle.fix_frame.specs.declared.place.Place.{Place}
 use Rattle.fix_frame.specs.declared.place.Place.TheVariants.{Begin, Length, Body, Trailer, Whole, Broken}
 use Rattle.fix_frame.specs.declared.scan.Scan.{Scan}
@@ -18,13 +20,13 @@ begin_text = codes "8=FIX.4.2" ++ soh ∷ codes "9="
 -- at most six digits, which write n, a length that a body may have or 0
 pub record IsLengthText (text : List ℕ) (n : ℕ) : Type 0 where
   pub each : (k : ℕ) → k < length text → is_ascii_digit (slice_index text k) ≡ true
-  pub few : length text ≤ 6
+  pub few : length text ≤ MOST_DIGITS
   pub value : digits_value 10 text ≡ n
-  pub most : n ≤ longest_body
+  pub most : n ≤ LONGEST_BODY
 
 -- so many digits that write this number are a length or go on to one: where they are zeros, another must follow
 abbrev pub MayBeLength : ℕ → ℕ → Type 0
-MayBeLength digits number = (digits ≤ 6) × (number ≤ longest_body) × (number ≡ 0 → digits < 6)
+MayBeLength digits number = (digits ≤ MOST_DIGITS) × (number ≤ LONGEST_BODY) × (number ≡ 0 → digits < MOST_DIGITS)
 
 -- the first bytes of `begin_text`, and their sum
 pub record InBegin (bytes : List ℕ) (count checksum : ℕ) : Type 0 where
@@ -58,7 +60,7 @@ pub record InTrailer (bytes : List ℕ) (count checksum : ℕ) : Type 0 where
   pub is_text : IsLengthText text (length body)
   pub some : 0 < length body
   pub last : slice_index body (length body - 1) ≡ soh
-  pub some_left : count < 7
+  pub some_left : count < TRAILER_LENGTH
   pub summed : checksum ≡ sum (head_of text ++ body) % 256
 
 -- the bytes end at this place

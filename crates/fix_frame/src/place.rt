@@ -11,10 +11,13 @@ pub const SOH: u8 = 1;
 pub const BEGIN: &[u8; 12] = b"8=FIX.4.2\x019=";
 
 /// How many digits the body's length has at most.
-const MOST_DIGITS: usize = 6;
+pub const MOST_DIGITS: usize = 6;
 
 /// How many bytes a body has at most.
-const LONGEST_BODY: usize = 4000;
+pub const LONGEST_BODY: usize = 4000;
+
+/// The front of a frame, and not all of it, has fewer bytes than this.
+pub const FRONT_LIMIT: usize = 4096;
 
 /// What some bytes are, and so what may follow them.
 #[derive(Clone, Copy)]
@@ -52,7 +55,7 @@ pub fn after_begin(count: usize, byte: u8) -> Place
 
 /// The place behind one more byte of the body's length, a digit or the SOH that ends it.
 pub fn after_length(digits: usize, number: usize, byte: u8) -> Place
-    requires { (digits ≤ 6) × (number ≤ 4000) }
+    requires { (digits ≤ MOST_DIGITS) × (number ≤ LONGEST_BODY) }
     ensures { (before : List ℕ) (checksum : ℕ) → InLength before digits number checksum → IsAt (before ++ byte ∷ []) result ((checksum + byte) % 256) }
 {
     if byte == SOH && number > 0 {
@@ -94,7 +97,7 @@ pub fn after_body(left: usize, part: &[u8]) -> Place
 
 /// The place behind one more byte of the trailer of bytes with this checksum.
 pub fn after_trailer(count: usize, checksum: u8, byte: u8) -> Place
-    requires { count < 7 }
+    requires { count < TRAILER_LENGTH }
     ensures { (before : List ℕ) → InTrailer before count checksum → IsAt (before ++ byte ∷ []) result checksum }
 {
     if byte != trailer_with(checksum)[count] {

@@ -9,7 +9,8 @@ use Rattle.std.specs.Str.Parse.{digits_value}
 use Rattle.gx_base.specs.Texts.{is_time_text}
 use Rattle.gx_base.specs.NameLists.{NameLists}
 use Rattle.fix_request.specs.Fields.{texts_of, has_tag, Field, fields_of, value_of}
-use Rattle.fix_request.specs.Faults.{fault, first_fault, if_missing, if_fails}
+use Rattle.gx_base.specs.FirstFault.{first_fault}
+use Rattle.fix_request.specs.Faults.{fault, if_missing, if_fails}
 use Rattle.fix_request.specs.MessageTable.{Item, Form, Allowed, Row, session_row, new_row, cancel_row, replace_row, row_of_type, row_of, is_needed, value_in, missing, ill_formed, not_allowed}
 use Rattle.fix_request.specs.SessionRules.{first_empty, first_tag_fault, bad_tag_fault, no_value_fault, is_firm, is_exchange, is_sequence_number, content_faults, faults_of}
 use Rattle.fix_request.specs.Asked.{sender_of, asked_for}

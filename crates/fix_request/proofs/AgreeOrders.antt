@@ -11,7 +11,8 @@ use Rattle.gx_base.specs.declared.order.Side.TheVariants.{Buy, Sell}
 use Rattle.gx_base.specs.declared.order.Kind.TheVariants.{Limit, Market, StopLimit}
 use Rattle.gx_base.specs.declared.order.Life.TheVariants.{Day, Gtc, Fak, Fok}
 use Rattle.fix_request.specs.Fields.{Field, value_of}
-use Rattle.fix_request.specs.Faults.{fault, first_fault, if_missing, if_fails}
+use Rattle.gx_base.specs.FirstFault.{first_fault}
+use Rattle.fix_request.specs.Faults.{fault, if_missing, if_fails}
 use Rattle.fix_request.specs.MessageTable as table
 use Rattle.fix_request.specs.MessageTable.{Item, sides, kinds, lives, texts_in, limit, stop, is_one_of, symbol_of, symbol_tag, is_40_among, value_in, instrument_in, is_range_fault, is_in_range, missing, ill_formed, not_allowed}
 use Rattle.fix_request.specs.SessionRules.{content_faults}

@@ -2,7 +2,7 @@
 use Rattle.std.proofs.Common.{◌≡◌, List, [], ◌∷◌, ◌++◌, Option, Some, None, Result, Ok, Err, refl, ap, ◌∙◌}
 use Rattle.std.specs.List.{AllByRecursion}
 use Rattle.std.specs.Option.{option_or}
-use Rattle.fix_request.specs.Faults.{first_fault}
+use Rattle.gx_base.specs.FirstFault.{first_fault}
 use Rattle.fix_request.specs.Inner.Rules.{◌>>=◌, result_map}
 use Rattle.fix_request.specs.declared.fault.Fault.{Fault}
 

@@ -7,7 +7,8 @@ use Rattle.gx_base.specs.Numbers.{are_digits}
 use Rattle.gx_base.specs.Texts.{is_time_text}
 use Rattle.gx_base.specs.NameLists.{NameLists}
 use Rattle.fix_request.specs.Fields.{texts_of, has_tag, Field, fields_of, value_of}
-use Rattle.fix_request.specs.Faults.{fault, first_fault, if_missing, if_fails}
+use Rattle.gx_base.specs.FirstFault.{first_fault}
+use Rattle.fix_request.specs.Faults.{fault, if_missing, if_fails}
 use Rattle.fix_request.specs.MessageTable.{Row, row_of, missing, ill_formed, not_allowed}
 use Rattle.fix_request.specs.declared.fault.Fault.{Fault}
 

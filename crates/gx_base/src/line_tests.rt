@@ -4,6 +4,7 @@ ghost use Rattle.std.specs.Prelude.{◌≡◌};
 use crate::emit::{ByteEmit, Emit};
 use crate::event::{Cause, ChangeFault, Event, Head, NewFault, NewRefused, StepName};
 use crate::id::ShortId;
+use crate::limits::{LONGEST_LINE, SOH};
 use crate::line::write_line;
 use crate::names::{Listed, Names};
 use crate::order::{Kind, Life, Order, Side};
@@ -220,10 +221,10 @@ fn refused_session(head: Head, seq: u32, tag: u32, reason: u8, rule: u8) -> Even
 
 /// The line of an event is this one, in which a bar stands for each SOH.
 fn assert_line(rt: &impl Abort, names: &Names, event: &Event, want: &[u8]) {
-    let mut room = [0; 1024];
+    let mut room = [0; LONGEST_LINE];
     let count = write_line(event, names, &mut room);
     for byte in room.iter_mut() {
-        if *byte == 1 {
+        if *byte == SOH {
             *byte = b'|';
         }
     }
@@ -234,7 +235,7 @@ fn assert_line(rt: &impl Abort, names: &Names, event: &Event, want: &[u8]) {
 fn with_bars(alloc: Global, lines: &[u8]) -> Result<Vec<u8>, AllocError> {
     lines
         .iter()
-        .map(|byte| if *byte == 1 { b'|' } else { *byte })
+        .map(|byte| if *byte == SOH { b'|' } else { *byte })
         .collect(alloc)
 }
 

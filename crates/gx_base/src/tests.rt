@@ -7,7 +7,7 @@ use std::test::Fail;
 
 #[test]
 fn quantities(rt: HostRuntime) {
-    assert_eq!(rt; read_quantity(b"999999"), Some(999_999));
+    assert_eq!(rt; read_quantity(b"999999"), Some(MOST_LOTS));
     assert_eq!(rt; read_quantity(b"1000000"), Some(1_000_000));
     assert_eq!(rt; read_quantity(b"5.00"), Some(5));
     assert_eq!(rt; read_quantity(b"5."), Some(5));
@@ -48,7 +48,7 @@ fn written_prices(rt: HostRuntime) {
 fn assert_writes(rt: &impl Abort, units: i64, decimals: u8, text: &[u8])
     requires { decimals ≤ 8 }
 {
-    let mut room = [0; 24];
+    let mut room = [0; LONGEST_VALUE];
     let len = write_price(Price(units), decimals, &mut room);
     assert_eq!(rt; &room[..len], text);
 }

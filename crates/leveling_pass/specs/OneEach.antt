@@ -8,6 +8,7 @@ use Rattle.leveling_pass.specs.declared.pass.OneEach.{OneEach}
 abbrev pub lot_for : ℕ → Order → ℕ
 lot_for left o = if o.prorated == 0 then min left 1 else 0
 
+-- each order that had no share trades one lot, as far as any are left
 abbrev pub one_each : ShareMeanings OneEach
 one_each = record {
   share = λ rule o. lot_for rule.left o;

@@ -39,11 +39,9 @@ pub fn leveling_pass<B: Book, E: Emit>(
     out: &mut E,
 )
     requires can { CanTrade (B.book book.old) desk.old taker.old }
-    ensures {
-        let before = match_at (B.book book.old) desk.old taker.old out.old in
+    ensures { let before = match_at (B.book book.old) desk.old taker.old out.old in
         let after = match_at (B.book book.new) desk.new taker.new out.new in
-        Matches E.meanings (leveling price) before after
-    }
+        Matches E.meanings (leveling price) before after }
 {
     book.rules();
     let mut each = OneEach {

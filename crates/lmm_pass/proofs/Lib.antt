@@ -1,4 +1,5 @@
 pub mod Others
 pub mod Parts
+pub mod Spends
+pub mod UnderWay
 pub mod Unmoved
-pub mod Going

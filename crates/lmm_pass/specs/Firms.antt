@@ -8,6 +8,7 @@ use Rattle.lmm_pass.specs.declared.pass.SpentOnFirm.{SpentOnFirm}
 abbrev pub lots_for_firm : ℕ → ℕ → Order → ℕ
 lots_for_firm firm left o = if o.firm == firm then min left o.shown else 0
 
+-- each order of the firm trades what it shows, as far as any lots are left
 abbrev pub spending_on_firm : ShareMeanings SpentOnFirm
 spending_on_firm = record {
   share = λ rule o. lots_for_firm rule.firm rule.left o;

@@ -56,11 +56,9 @@ pub fn lmm_pass<B: Book, E: Emit>(
     requires percents { AllByRecursion (λ (s : LmmShare). (1 ≤ s.percent) × (s.percent ≤ 100)) shares.now }
     requires sum { sum_by (λ (s : LmmShare). s.percent) shares.now ≤ 100 }
     requires can { CanTrade (B.book book.old) desk.old taker.old }
-    ensures {
-        let before = match_at (B.book book.old) desk.old taker.old out.old in
+    ensures { let before = match_at (B.book book.old) desk.old taker.old out.old in
         let after = match_at (B.book book.new) desk.new taker.new out.new in
-        Matches E.meanings (lmm shares.now price) before after
-    }
+        Matches E.meanings (lmm shares.now price) before after }
 {
     let wanted = taker.order.leaves;
     for share in shares {

@@ -4,10 +4,11 @@ pub mod Pairs
 pub mod Live
 pub mod Walks
 pub mod TradedShares
-pub mod Turns
 pub mod Found
 pub mod Matching
 pub mod Marks
+pub mod WalkSteps
+pub mod WalkLevel
 pub mod Trading
 pub mod Before
 pub mod Sorted

@@ -5,7 +5,7 @@ use Rattle.gx_base.specs.declared.order.Desk.{Desk}
 use Rattle.gx_base.specs.declared.order.Taker.{Taker}
 use Rattle.gx_base.specs.declared.event.Event.{Event}
 use Rattle.gx_base.specs.Emits.{EmitMeanings, Emits}
-use Rattle.gx_base.proofs.Putting.{emits_none, emits_joined, emits_as}
+use Rattle.gx_base.specs.EmitLaws.{emits_none, emits_joined, emits_as}
 use Rattle.plain_book.specs.Book.{Book}
 use Rattle.plain_book.specs.Match.{MatchState}
 use Rattle.plain_book.specs.Matches.{MatchAt, start_at, IsNow, CanTrade, KeepsRoom, Matches}

@@ -1,5 +1,6 @@
 -- What a function that takes part in a match says of its arguments.
 use Rattle.std.specs.Prelude.{◌≡◌, ℕ, ◌+◌, ◌*◌, ◌^◌, ◌<◌, ◌≤◌, slice_index, false}
+use Rattle.gx_base.specs.declared.limits.TheConstants.{MOST_FIRMS, MOST_LOTS}
 use Rattle.gx_base.specs.declared.order.Desk.{Desk}
 use Rattle.gx_base.specs.declared.order.Taker.{Taker}
 use Rattle.gx_base.specs.Emits.{EmitMeanings, Emits}
@@ -30,10 +31,10 @@ pub record IsNow (m : MatchState) (b : Book) (d : Desk) (t : Taker) : Type 0 whe
 -- the incoming order fits the book, its quantities add up, and each counter has room for what it can still trade
 pub record CanTrade (b : Book) (d : Desk) (t : Taker) : Type 0 where
   pub listed : t.order.instrument < b.instruments
-  pub firm : t.order.firm < 64
+  pub firm : t.order.firm < MOST_FIRMS
   pub unnamed : is_live t.order.firm t.order.id (live_orders b) ≡ false
   pub whole : t.order.filled + t.order.leaves ≡ t.order.quantity
-  pub small : t.order.quantity ≤ 999999
+  pub small : t.order.quantity ≤ MOST_LOTS
   pub messages : d.messages + 2 * t.order.leaves < 2 ^ 63
   pub orders : d.orders + 2 * t.order.leaves < 2 ^ 63
   pub trades : d.trades + 2 * t.order.leaves < 2 ^ 63

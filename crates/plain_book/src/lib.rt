@@ -5,6 +5,7 @@
 mod book;
 mod edits;
 mod entry;
+mod percent;
 mod plain;
 mod scan;
 mod trade;
@@ -12,6 +13,7 @@ mod walk;
 
 pub use book::Book;
 pub use entry::Entry;
+pub use percent::percent_of;
 pub use plain::PlainBook;
 pub use trade::{count_report, opposite_side, trade_lots, trade_share};
 pub use walk::{ShareRule, trade_level};

@@ -6,7 +6,9 @@ ghost use Rattle.plain_book.specs.Match.{trade, trade_if_any, trade_share, lower
 ghost use Rattle.plain_book.specs.Matches.{match_at, Matches, CanTrade};
 
 use crate::book::Book;
-use gx_base::{Desk, Emit, Event, Head, Order, Price, Side, Slot, Stamp, StepName, Taker};
+use gx_base::{
+    Desk, Emit, Event, Head, MOST_FIRMS, Order, Price, Side, Slot, Stamp, StepName, Taker,
+};
 
 /// The side that an order of this side meets.
 pub fn opposite_side(side: Side) -> Side
@@ -20,7 +22,7 @@ pub fn opposite_side(side: Side) -> Side
 
 /// Counts an execution report to a firm, and gives its head.
 pub fn count_report(desk: &mut Desk, firm: u8, time: Stamp) -> Head
-    requires firm { firm < 64 }
+    requires firm { firm < MOST_FIRMS }
     requires reports { desk.old.reports < 2 ^ 63 }
     requires lines { slice_index desk.old.lines firm < 2 ^ 63 }
     ensures head { result ≡ next_head desk.old firm time }
@@ -96,11 +98,9 @@ pub fn trade_lots<B: Book, E: Emit>(
     requires shown { lots ≤ (order_of slot.0 (B.book book.old).resting).shown }
     requires wanted { lots ≤ taker.old.order.leaves }
     requires can { CanTrade (B.book book.old) desk.old taker.old }
-    ensures {
-        let before = match_at (B.book book.old) desk.old taker.old out.old in
+    ensures { let before = match_at (B.book book.old) desk.old taker.old out.old in
         let after = match_at (B.book book.new) desk.new taker.new out.new in
-        Matches E.meanings (trade step slot.0 lots) before after
-    }
+        Matches E.meanings (trade step slot.0 lots) before after }
 {
     book.rules();
     let given = book.trade(slot, lots);
@@ -129,11 +129,9 @@ fn trade_if_any<B: Book, E: Emit>(
     requires shown { lots ≤ (order_of slot.0 (B.book book.old).resting).shown }
     requires wanted { lots ≤ taker.old.order.leaves }
     requires can { CanTrade (B.book book.old) desk.old taker.old }
-    ensures {
-        let before = match_at (B.book book.old) desk.old taker.old out.old in
+    ensures { let before = match_at (B.book book.old) desk.old taker.old out.old in
         let after = match_at (B.book book.new) desk.new taker.new out.new in
-        Matches E.meanings (trade_if_any step slot.0 lots) before after
-    }
+        Matches E.meanings (trade_if_any step slot.0 lots) before after }
 {
     if lots > 0 {
         trade_lots(book, desk, taker, slot, lots, step, out);
@@ -170,11 +168,9 @@ pub fn trade_share<B: Book, E: Emit>(
     requires shown { lots ≤ (order_of slot.0 (B.book book.old).resting).shown }
     requires wanted { lots ≤ taker.old.order.leaves }
     requires can { CanTrade (B.book book.old) desk.old taker.old }
-    ensures {
-        let before = match_at (B.book book.old) desk.old taker.old out.old in
+    ensures { let before = match_at (B.book book.old) desk.old taker.old out.old in
         let after = match_at (B.book book.new) desk.new taker.new out.new in
-        Matches E.meanings (trade_share step slot.0 lots) before after
-    }
+        Matches E.meanings (trade_share step slot.0 lots) before after }
 {
     mark(book, slot, lots, step);
     trade_if_any(book, desk, taker, slot, lots, step, out);

@@ -86,21 +86,20 @@ pub fn trade_level<B: Book, E: Emit, R: ShareRule>(
 )
     requires within { AreWithin R.meanings taker.old.order.leaves rule.old (orders_at (facing price taker.old) (B.book book.old).resting) }
     requires can { CanTrade (B.book book.old) desk.old taker.old }
-    ensures {
-        let before = match_at (B.book book.old) desk.old taker.old out.old in
+    ensures { let before = match_at (B.book book.old) desk.old taker.old out.old in
         let after = match_at (B.book book.new) desk.new taker.new out.new in
         let level = orders_at (facing price taker.old) (B.book book.old).resting in
-        Matches E.meanings (trade_shares step (shares_by R.meanings rule.old level)) before after
-    }
+        Matches E.meanings (trade_shares step (shares_by R.meanings rule.old level)) before after }
 {
+    book.rules();
     let mut at = first_facing(book, taker, price);
     let mut end = None;
     while let Some(slot) = at {
-        book.rules();
         at = next_before(book, slot, end);
         let order = book.order(slot);
         let lots = rule.share(&order);
         end = end_after(end, slot, &order, lots);
         trade_share(book, desk, taker, slot, lots, step, out);
+        book.rules();
     }
 }

@@ -5,6 +5,7 @@ use Rattle.std.proofs.lemmas.Str.{IsUtf8-from_is_utf8}
 use Rattle.toml.specs.Data.{Data, Members, no_members, table}
 use Rattle.toml.specs.Parse.{parse_document, lines}
 use Rattle.toml.specs.Errors.{IsBlank}
+use Rattle.product_file.specs.declared.limits.TheConstants.{LONGEST_TEXT}
 use Rattle.product_file.specs.declared.faults.ProductFault.TheVariants.{Missing}
 use Rattle.product_file.specs.declared.faults.Key.TheVariants.{Exchange}
 use Rattle.product_file.specs.ProductTexts.{product_of, document_of, TakesMemory}
@@ -12,7 +13,7 @@ use Rattle.product_file.specs.Inner.Keys.{needed_name}
 use Rattle.product_file.specs.Inner.Documents.{product_of_document}
 use Rattle.product_file.proofs.RowProduct.{by_rows}
 
-pub read_document : (text : List ℕ) (document : Data) → nat_lt 65536 (length text) ≡ false → document_of text ≡ Some document → product_of text ≡ product_of_document document
+pub read_document : (text : List ℕ) (document : Data) → nat_lt LONGEST_TEXT (length text) ≡ false → document_of text ≡ Some document → product_of text ≡ product_of_document document
 unfolding product_of
 read_document text document few found = rw (few, found) (sym (by_rows document))
 
@@ -41,7 +42,7 @@ no_keys text document blank found =
     subst (λ (d : Data). needed_name Exchange d ≡ Err (Missing Exchange)) (from_table (is_utf8 text) document read) refl
 
 -- where the first key was read, the text has lines
-pub takes_memory : (text : List ℕ) (document : Data) (exchange : List ℕ) → length text ≤ 65536 → document_of text ≡ Some document → Ok exchange ≡ needed_name Exchange document → TakesMemory text
+pub takes_memory : (text : List ℕ) (document : Data) (exchange : List ℕ) → length text ≤ LONGEST_TEXT → document_of text ≡ Some document → Ok exchange ≡ needed_name Exchange document → TakesMemory text
 takes_memory text document exchange few found named = record {
   few = few;
   is_utf8 = is_utf8_read text document found;

@@ -2,6 +2,7 @@
 use Rattle.std.proofs.Common.{◌≡◌, ℕ, ◌≤◌, List, Option, Some, None, unwrap_or, IfSome, Ok}
 use Rattle.gx_base.specs.NameLists.{AreRight}
 use Rattle.toml.specs.Data.{Data}
+use Rattle.product_file.specs.declared.limits.TheConstants.{MOST_ORDERS, LEAST_JOURNAL, MOST_JOURNAL}
 use Rattle.product_file.specs.Inner.FirmNames.{firms_of}
 use Rattle.product_file.specs.Inner.Instruments.{InstrumentLists, instruments_of}
 use Rattle.product_file.specs.Products.{IsRightProduct}
@@ -26,7 +27,7 @@ module _ (document : Data) (exchange : List ℕ) (firms : List (List ℕ)) (all 
         few_decimals = instruments.right.few_decimals;
       }
 
-  pub right_product : (max_orders journal_limit : ℕ) → (1 ≤ max_orders) × (max_orders ≤ 100000) → (131072 ≤ journal_limit) × (journal_limit ≤ 268435456)
+  pub right_product : (max_orders journal_limit : ℕ) → (1 ≤ max_orders) × (max_orders ≤ MOST_ORDERS) → (LEAST_JOURNAL ≤ journal_limit) × (journal_limit ≤ MOST_JOURNAL)
       → IsRightProduct (record { names = record { exchange = exchange; firms = firms; instruments = all.listed }; max_orders = max_orders; journal_limit = journal_limit; rules = all.rules })
   right_product max_orders journal_limit orders limit =
       let right = right_firms document firms e in

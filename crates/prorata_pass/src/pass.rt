@@ -32,11 +32,9 @@ pub fn prorata_pass<B: Book, E: Emit>(
 )
     requires least { 1 ≤ least }
     requires can { CanTrade (B.book book.old) desk.old taker.old }
-    ensures {
-        let before = match_at (B.book book.old) desk.old taker.old out.old in
+    ensures { let before = match_at (B.book book.old) desk.old taker.old out.old in
         let after = match_at (B.book book.new) desk.new taker.new out.new in
-        Matches E.meanings (prorata least price) before after
-    }
+        Matches E.meanings (prorata least price) before after }
 {
     book.rules();
     let total = shown_facing(book, taker, price);

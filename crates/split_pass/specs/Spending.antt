@@ -1,5 +1,5 @@
 -- Lots that are spent over orders by priority.
-use Rattle.std.specs.Prelude.{ℕ, ◌-◌, min}
+use Rattle.std.specs.Prelude.{◌-◌, min}
 use Rattle.plain_book.specs.Shares.{ShareMeanings}
 use Rattle.split_pass.specs.declared.split.Spent.{Spent}
 

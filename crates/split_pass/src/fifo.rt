@@ -28,11 +28,9 @@ pub fn fifo_pass<B: Book, E: Emit>(
     out: &mut E,
 )
     requires can { CanTrade (B.book book.old) desk.old taker.old }
-    ensures matches {
-        let before = match_at (B.book book.old) desk.old taker.old out.old in
+    ensures matches { let before = match_at (B.book book.old) desk.old taker.old out.old in
         let after = match_at (B.book book.new) desk.new taker.new out.new in
-        Matches E.meanings (fifo price) before after
-    }
+        Matches E.meanings (fifo price) before after }
     ensures done { IsLevelDone price (B.book book.new) taker.new }
 {
     let instrument = taker.order.instrument;

@@ -48,11 +48,9 @@ pub fn split_pass<B: Book, E: Emit>(
 )
     requires percent { (1 ≤ percent) × (percent ≤ 100) }
     requires can { CanTrade (B.book book.old) desk.old taker.old }
-    ensures {
-        let before = match_at (B.book book.old) desk.old taker.old out.old in
+    ensures { let before = match_at (B.book book.old) desk.old taker.old out.old in
         let after = match_at (B.book book.new) desk.new taker.new out.new in
-        Matches E.meanings (split percent price) before after
-    }
+        Matches E.meanings (split percent price) before after }
 {
     let mut spent = Spent {
         left: part_of(taker.order.leaves, percent),

@@ -27,11 +27,9 @@ pub fn top_pass<B: Book, E: Emit>(
 )
     requires rule { (1 ≤ rule.now.min) × (rule.now.min ≤ rule.now.max) }
     requires can { CanTrade (B.book book.old) desk.old taker.old }
-    ensures {
-        let before = match_at (B.book book.old) desk.old taker.old out.old in
+    ensures { let before = match_at (B.book book.old) desk.old taker.old out.old in
         let after = match_at (B.book book.new) desk.new taker.new out.new in
-        Matches E.meanings (top rule.now price) before after
-    }
+        Matches E.meanings (top rule.now price) before after }
 {
     let instrument = taker.order.instrument;
     let side = opposite_side(taker.order.side);

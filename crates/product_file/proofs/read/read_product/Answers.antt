@@ -1,6 +1,7 @@
 use Rattle.std.proofs.Common.{◌≡◌, false, nat_lt, length, sym, lit≤, arith, rules}
 use Rattle.std.proofs.lemmas.Bool.{le-ltb}
 use Rattle.toml.specs.View.{view}
+use Rattle.product_file.specs.declared.limits.TheConstants.{LONGEST_TEXT, MOST_ORDERS, USUAL_ORDERS, LEAST_JOURNAL, MOST_JOURNAL, USUAL_JOURNAL}
 use Rattle.product_file.specs.Inner.Documents.{product_of_document}
 use Rattle.product_file.specs.Inner.Instruments.{lists_of}
 use Rattle.product_file.proofs.RightProduct.{usual_within, right_names, right_product}
@@ -11,14 +12,14 @@ pub returns-in_err-exchange-clause-refused : goal.returns-in_err-exchange-clause
 unfolding product_of_document
 returns-in_err-exchange-clause-refused c =
     let text = c.args.text.now in
-    let few : nat_lt 65536 (length text) ≡ false = le-ltb 65536 (length text) (omega arith) in
+    let few : nat_lt LONGEST_TEXT (length text) ≡ false = le-ltb LONGEST_TEXT (length text) (omega arith) in
     rw (read_document text (view c.in_ok-document.document) few c.in_ok-document.ensures.read) (search rules)
 
 pub returns-in_err-firms-clause-refused : goal.returns-in_err-firms-clause-refused
 unfolding product_of_document
 returns-in_err-firms-clause-refused c =
     let text = c.args.text.now in
-    let few : nat_lt 65536 (length text) ≡ false = le-ltb 65536 (length text) (omega arith) in
+    let few : nat_lt LONGEST_TEXT (length text) ≡ false = le-ltb LONGEST_TEXT (length text) (omega arith) in
     rw (read_document text (view c.in_ok-document.document) few c.in_ok-document.ensures.read) (search rules)
 
 pub returns-in_err-firms-clause-memory : goal.returns-in_err-firms-clause-memory
@@ -28,7 +29,7 @@ pub returns-in_err-max_orders-clause-refused : goal.returns-in_err-max_orders-cl
 unfolding product_of_document
 returns-in_err-max_orders-clause-refused c =
     let text = c.args.text.now in
-    let few : nat_lt 65536 (length text) ≡ false = le-ltb 65536 (length text) (omega arith) in
+    let few : nat_lt LONGEST_TEXT (length text) ≡ false = le-ltb LONGEST_TEXT (length text) (omega arith) in
     rw (read_document text (view c.in_ok-document.document) few c.in_ok-document.ensures.read) (search rules)
 
 pub returns-in_err-max_orders-clause-memory : goal.returns-in_err-max_orders-clause-memory
@@ -38,7 +39,7 @@ pub returns-in_err-journal_limit-clause-refused : goal.returns-in_err-journal_li
 unfolding product_of_document
 returns-in_err-journal_limit-clause-refused c =
     let text = c.args.text.now in
-    let few : nat_lt 65536 (length text) ≡ false = le-ltb 65536 (length text) (omega arith) in
+    let few : nat_lt LONGEST_TEXT (length text) ≡ false = le-ltb LONGEST_TEXT (length text) (omega arith) in
     rw (read_document text (view c.in_ok-document.document) few c.in_ok-document.ensures.read) (search rules)
 
 pub returns-in_err-journal_limit-clause-memory : goal.returns-in_err-journal_limit-clause-memory
@@ -48,7 +49,7 @@ pub returns-in_err-instruments-clause-refused : goal.returns-in_err-instruments-
 unfolding product_of_document
 returns-in_err-instruments-clause-refused c =
     let text = c.args.text.now in
-    let few : nat_lt 65536 (length text) ≡ false = le-ltb 65536 (length text) (omega arith) in
+    let few : nat_lt LONGEST_TEXT (length text) ≡ false = le-ltb LONGEST_TEXT (length text) (omega arith) in
     rw (read_document text (view c.in_ok-document.document) few c.in_ok-document.ensures.read) (search rules)
 
 pub returns-in_err-instruments-clause-memory : goal.returns-in_err-instruments-clause-memory
@@ -64,8 +65,8 @@ pub new-requires : goal.new-requires
 new-requires c =
     let document = view c.in_ok-document.document in
     let listed = rw c.deref.ensures.0 at c.in_ok-instruments.ensures in
-    let orders = usual_within c.in_ok-max_orders.max_orders 1 100000 10000 c.in_ok-max_orders.ensures.within (lit≤ tt) (lit≤ tt) in
-    let limit = usual_within c.in_ok-journal_limit.journal_limit 131072 268435456 16777216 c.in_ok-journal_limit.ensures.within (lit≤ tt) (lit≤ tt) in
+    let orders = usual_within c.in_ok-max_orders.max_orders 1 MOST_ORDERS USUAL_ORDERS c.in_ok-max_orders.ensures.within (lit≤ tt) (lit≤ tt) in
+    let limit = usual_within c.in_ok-journal_limit.journal_limit LEAST_JOURNAL MOST_JOURNAL USUAL_JOURNAL c.in_ok-journal_limit.ensures.within (lit≤ tt) (lit≤ tt) in
     rw (c.new-names.ensures, c.unwrap_or.ensures, c.unwrap_or-2.ensures, c.deref-2.ensures.0, c.deref-3.ensures.0)
     (right_product document c.in_ok-exchange.exchange c.in_ok-firms.firms.items (lists_of c.in_ok-instruments.instruments) c.in_ok-firms.ensures.read (sym listed) _ _ orders limit)
 
@@ -73,5 +74,5 @@ pub returns-clause-read : goal.returns-clause-read
 unfolding product_of_document
 returns-clause-read c =
     let text = c.args.text.now in
-    let few : nat_lt 65536 (length text) ≡ false = le-ltb 65536 (length text) (omega arith) in
+    let few : nat_lt LONGEST_TEXT (length text) ≡ false = le-ltb LONGEST_TEXT (length text) (omega arith) in
     rw (read_document text (view c.in_ok-document.document) few c.in_ok-document.ensures.read) (search rules)

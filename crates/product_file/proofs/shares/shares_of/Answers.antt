@@ -3,6 +3,7 @@ use Rattle.std.proofs.lemmas.Bool.Decides.{nat_tests}
 use Rattle.std.proofs.lemmas.List.{length-map}
 use Rattle.toml.specs.View.{view}
 use Rattle.gx_base.specs.declared.order.LmmShare.{LmmShare}
+use Rattle.step_config.specs.declared.step.TheConstants.{MOST_SHARES}
 use Rattle.product_file.specs.Inner.Shares.{shares_after}
 use Rattle.product_file.proofs.Mapped.{drop-mapped}
 use Rattle.product_file.proofs.SharesAfter.{shares_from, next_share, no_share}
@@ -14,7 +15,7 @@ returns-in_err-share c =
     let i = c.loop-entry.entry-index in
     let entries = map view c.in_ok-entries.entries.now in
     let here = drop-mapped view c.in_ok-entries.entries.now i c.entry-item.result c.loop-entry-test.true c.entry-item.is in
-    let few : nat_le (length entries) 8 ≡ true = rw (length-map c.in_ok-entries.entries.now view) (grind (arith, nat_tests)) in
+    let few : nat_le (length entries) MOST_SHARES ≡ true = rw (length-map c.in_ok-entries.entries.now view) (grind (arith, nat_tests)) in
     let fails = rw c.deref.ensures.0 at c.in_err-share.ensures in
     let none = no_share firms c.loop-entry.shares.items (view c.entry-item.result) (drop (i + 1) entries) c.in_err-share.field-0.0 fails in
     let whole = shares_from firms (view c.args.table.now) entries c.in_ok-entries.ensures few ∙ c.loop-entry.invariant.rest ∙ ap (shares_after firms c.loop-entry.shares.items) here ∙ none in
