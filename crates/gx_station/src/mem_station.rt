@@ -176,6 +176,7 @@ impl Station for MemStation {
     ghost honest = { memory_honest };
 
     /// As the trait says, and exactly by the room and the list that `new` was given.
+    #[tactic(auto, using(crate::proofs::Entries::one_more))]
     fn length(&mut self) -> Result<u64, Failed>
         ensures measures { Measures memory_meanings self.old self.new result }
         ensures exactly { Answers self.old self.new (has_turn self.old) (was_measured self.old) (store_failed self.old (Looked 0)) (store_refused self.old) result }
@@ -194,6 +195,7 @@ impl Station for MemStation {
     }
 
     /// As the trait says, and exactly by the room and the list that `new` was given.
+    #[tactic(auto, using(crate::proofs::Entries::one_more))]
     fn read(&mut self, at: u64, into: &mut [u8]) -> Result<(), Failed>
         requires { at + length into.old ≤ self.old.reach }
         ensures reads { Reads memory_meanings self.old self.new at into.new result }
@@ -214,6 +216,7 @@ impl Station for MemStation {
     }
 
     /// As the trait says, and exactly by the room and the list that `new` was given.
+    #[tactic(auto, using(crate::proofs::Entries::one_more))]
     fn write(&mut self, at: u64, bytes: &[u8]) -> Result<(), Failed>
         requires within { at ≤ self.old.reach }
         requires small { at + length bytes.now ≤ 2 ^ 62 }
@@ -243,6 +246,7 @@ impl Station for MemStation {
     }
 
     /// As the trait says, and exactly by the room and the list that `new` was given.
+    #[tactic(auto, using(crate::proofs::Entries::one_more))]
     fn sync(&mut self) -> Result<(), Failed>
         ensures syncs { Syncs memory_meanings self.old self.new result }
         ensures exactly { Answers self.old self.new (has_turn self.old) (listed self.old (Synced true)) (store_failed self.old (Synced false)) (store_refused self.old) result }
@@ -260,6 +264,7 @@ impl Station for MemStation {
     }
 
     /// As the trait says, and exactly by the room and the list that `new` was given.
+    #[tactic(auto, using(crate::proofs::Entries::one_more))]
     fn send(&mut self, bytes: &[u8]) -> Result<(), Failed>
         ensures sends { Sends memory_meanings self.old self.new bytes.now result }
         ensures passes { PassesOutputs memory_meanings self.old self.new }
