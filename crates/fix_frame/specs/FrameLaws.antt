@@ -9,7 +9,7 @@ use Rattle.std.specs.List.{prefix_len}
 use Rattle.std.specs.Str.Parse.{digits_value}
 use Rattle.gx_base.specs.Frames.{soh, head_of, trailer_of, frame_of}
 use Rattle.fix_frame.specs.Grammar.{IsFrame, length_text, body_length, body_in}
-use Rattle.fix_frame.specs.declared.place.TheConstants.{MOST_DIGITS, LONGEST_BODY}
+use Rattle.fix_frame.specs.declared.place.TheConstants.{MOST_LENGTH_DIGITS, LONGEST_BODY}
 use Rattle.fix_frame.specs.HeadLaws.{IsLength, HasHead, stop_within, head_goes_on, one_head}
 
 -- the last seven bytes are the trailer of those before them, of which the last is SOH
@@ -22,7 +22,7 @@ ends_frame bytes =
 pub record IsMade (digits body b : List ℕ) : Type 0 where
   pub each : (k : ℕ) → k < length digits → is_ascii_digit (get_or digits k 0) ≡ true
   pub some : 1 ≤ length digits
-  pub few : length digits ≤ MOST_DIGITS
+  pub few : length digits ≤ MOST_LENGTH_DIGITS
   pub value : digits_value 10 digits ≡ length body
   pub least : 1 ≤ length body
   pub most : length body ≤ LONGEST_BODY
@@ -53,7 +53,7 @@ frame_made b h =
     let text = length_text b in
     let n = body_length b in
     let body = body_in b in
-    let p = and_seven (nat_le 1 (length text)) (nat_le (length text) MOST_DIGITS) (nat_le 1 n) (nat_le n LONGEST_BODY) (length body == n) (slice_index body (n - 1) == soh) (bytes_eq b (frame_of text body)) h in
+    let p = and_seven (nat_le 1 (length text)) (nat_le (length text) MOST_LENGTH_DIGITS) (nat_le 1 n) (nat_le n LONGEST_BODY) (length body == n) (slice_index body (n - 1) == soh) (bytes_eq b (frame_of text body)) h in
     let long : length body ≡ n = eqb-true (length body) n p.4 in
     let least : 1 ≤ n = leb-true 1 n p.2 in
     let most : n ≤ LONGEST_BODY = leb-true n 4000 p.3 in
@@ -72,7 +72,7 @@ frame_made b h =
 -- ---- its head, its length and its end
 
 -- digits, SOH and what follows
-pub length_made : (digits rest : List ℕ) (n : ℕ) → ((k : ℕ) → k < length digits → is_ascii_digit (get_or digits k 0) ≡ true) → digits_value 10 digits ≡ n → 1 ≤ length digits → length digits ≤ MOST_DIGITS → 1 ≤ n → n ≤ LONGEST_BODY → IsLength (digits ++ 1 ∷ rest) (length digits) n
+pub length_made : (digits rest : List ℕ) (n : ℕ) → ((k : ℕ) → k < length digits → is_ascii_digit (get_or digits k 0) ≡ true) → digits_value 10 digits ≡ n → 1 ≤ length digits → length digits ≤ MOST_LENGTH_DIGITS → 1 ≤ n → n ≤ LONGEST_BODY → IsLength (digits ++ 1 ∷ rest) (length digits) n
 length_made digits rest n each value some few least most =
     let text = digits ++ 1 ∷ rest in
     let stop : get_or text (length digits) 0 ≡ 1 = get_or_at digits 1 rest 0 (length digits) refl in
@@ -139,7 +139,7 @@ made_ends digits body b made =
 
 -- ---- a frame from its parts
 
-is_frame_from : (b text body : List ℕ) → length_text b ≡ text → body_length b ≡ length body → body_in b ≡ body → 1 ≤ length text → length text ≤ MOST_DIGITS → 1 ≤ length body → length body ≤ LONGEST_BODY → get_or body (length body - 1) 0 ≡ 1 → b ≡ frame_of text body → IsFrame b
+is_frame_from : (b text body : List ℕ) → length_text b ≡ text → body_length b ≡ length body → body_in b ≡ body → 1 ≤ length text → length text ≤ MOST_LENGTH_DIGITS → 1 ≤ length body → length body ≤ LONGEST_BODY → get_or body (length body - 1) 0 ≡ 1 → b ≡ frame_of text body → IsFrame b
 is_frame_from b text body text_is length_is body_is some few least most last whole =
     let t = length_text b in
     let n = body_length b in
