@@ -1,7 +1,7 @@
 -- What was sent by an `Outgoing` from its making to its last flush.
-use Rattle.std.proofs.Common.{◌≡◌, inl, inr, ℕ, true, false, List, [], ◌++◌, Option, Some, None, Result, Ok, Err, take, drop, refl, sym, ◌∙◌, ap, subst, append_assoc}
+use Rattle.std.proofs.Common.{◌≡◌, inl, inr, ℕ, true, false, List, [], ◌++◌, Option, Some, None, Result, Ok, Err, take, drop, refl, sym, ◌∙◌, ap, subst}
 use Rattle.std.proofs.lemmas.Bool.{cases_Bool}
-use Rattle.std.proofs.lemmas.List.{append-nil, take-append-drop}
+use Rattle.std.proofs.lemmas.List.{take-append-drop}
 use Rattle.std.specs.List.{flat_map}
 use Rattle.std.proofs.lemmas.Grind.{flat_map-append}
 use Rattle.gx_base.specs.KnownBytes.{IsKnownPrefix, known_then, known_itself}
@@ -13,9 +13,9 @@ use Rattle.gx_base.specs.Emits.{Emits, seen_after}
 use Rattle.gx_base.specs.declared.event.Event.{Event}
 use Rattle.gx_base.specs.NameLists.{NameLists}
 use Rattle.gx_station.specs.Stations.{StationMeanings, sent_and}
-use Rattle.gx_station.specs.Quiet.{Quiet, Sends}
+use Rattle.gx_station.specs.Quiet.{Sends}
 use Rattle.gx_station.specs.SendLaws.{sent_and_none, known_front}
-use Rattle.exec_report.specs.Outgoing.{outgoing_seen, IsLaterOutgoing, IsNew, Flushes, outgoing_then, outgoing_meanings}
+use Rattle.exec_report.specs.Outgoing.{outgoing_seen, IsNew, Flushes, outgoing_then, outgoing_meanings}
 use Rattle.exec_report.specs.declared.outgoing.Outgoing.{Outgoing}
 
 pub seen_after-with_line : (names : NameLists) (sent : Option (List ℕ)) (events : List Event) → seen_after (with_line names) sent events ≡ sent_and sent (flat_map (line_of names) events)
@@ -79,9 +79,3 @@ module _ {S : Type 0} (m : StationMeanings S) where
   pub delivered : {T F : Type 0} (a b c : Outgoing S) (buffer : MutBor (List ℕ)) (station : MutBor S) (names : NameLists) (events : List Event) (result : Result T F) → IsNew m a buffer station names → Run a b events → Flushes m b c result → Sends m station.now c.station.now (flat_map (line_of names) events) result
   delivered a b c buffer station names events result made run flush =
       subst (λ x. Sends m x c.station.now (flat_map (line_of names) events) result) made.station (delivered_lem a b c names events made.buffer made.names made.works run result flush)
-
-  -- t is the station after the loan
-  pub quiet_to : (a b c : Outgoing S) (buffer : MutBor (List ℕ)) (station : MutBor S) (names : NameLists) (t : S) → IsNew m a buffer station names → IsLaterOutgoing m a b → IsLaterOutgoing m b c → t ≡ c.station.now → Quiet m station.now t
-  quiet_to a b c buffer station names t made first second to =
-      let all = (outgoing_then m a b c first second).quiet in
-      subst (λ x. Quiet m station.now x) (sym to) (subst (λ x. Quiet m x c.station.now) made.station all)

@@ -1,6 +1,8 @@
 //! Lines through a buffer to a station in memory.
 use crate::{MOST_WAITING, Outgoing, ReportBuffer, SendFault, write_line};
-use gx_base::{Emit, Event, Head, Kind, LONGEST_LINE, Life, Listed, Names, Order, Price, ShortId, Side, Stamp};
+use gx_base::{
+    Emit, Event, Head, Kind, LONGEST_LINE, Life, Listed, Names, Order, Price, ShortId, Side, Stamp,
+};
 use gx_station::MemStation;
 use std::alloc::{AllocError, Global};
 use std::process::Abort;

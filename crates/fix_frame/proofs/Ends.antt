@@ -4,7 +4,8 @@ use Rattle.std.proofs.lemmas.Bool.{cases_lt, cases_eq, cases_Bool}
 use Rattle.std.specs.Char.{is_ascii_digit}
 use Rattle.fix_frame.specs.Grammar.{IsFrame, IsFrameFront}
 use Rattle.fix_frame.specs.Stream.{rest_of, IsBroken, IsCut}
-use Rattle.fix_frame.specs.Scans.{begin_text, trailer_with, InBegin, InLength, InBody, InTrailer, IsAt}
+use Rattle.gx_base.specs.Frames.{trailer_with}
+use Rattle.fix_frame.specs.Scans.{begin_text, InBegin, InLength, InBody, InTrailer, IsAt}
 use Rattle.fix_frame.specs.declared.place.Place.{Place}
 use Rattle.fix_frame.specs.declared.place.Place.TheVariants.{Begin, Length, Body, Trailer, Whole, Broken}
 use Rattle.fix_frame.specs.FrameLaws.{frame_alone}

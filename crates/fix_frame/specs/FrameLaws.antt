@@ -9,20 +9,14 @@ use Rattle.std.specs.List.{prefix_len}
 use Rattle.std.specs.Str.Parse.{digits_value}
 use Rattle.gx_base.specs.Frames.{soh, head_of, trailer_of, frame_of}
 use Rattle.fix_frame.specs.Grammar.{IsFrame, length_text, body_length, body_in}
-use Rattle.fix_frame.specs.declared.place.TheConstants.{MOST_DIGITS, LONGEST_BODY}
+use Rattle.fix_frame.specs.declared.place.TheConstants.{MOST_LENGTH_DIGITS, LONGEST_BODY}
 use Rattle.fix_frame.specs.HeadLaws.{IsLength, HasHead, stop_within, head_goes_on, one_head}
-
--- the last seven bytes are the trailer of those before them, of which the last is SOH
-abbrev pub ends_frame : List ℕ → Bool
-ends_frame bytes =
-    let front = take (length bytes - 7) bytes in
-    (slice_index front (length front - 1) == soh) && bytes_eq (drop (length bytes - 7) bytes) (trailer_of front)
 
 -- b is the frame of this body, with these digits as its length
 pub record IsMade (digits body b : List ℕ) : Type 0 where
   pub each : (k : ℕ) → k < length digits → is_ascii_digit (get_or digits k 0) ≡ true
   pub some : 1 ≤ length digits
-  pub few : length digits ≤ MOST_DIGITS
+  pub few : length digits ≤ MOST_LENGTH_DIGITS
   pub value : digits_value 10 digits ≡ length body
   pub least : 1 ≤ length body
   pub most : length body ≤ LONGEST_BODY
@@ -53,7 +47,7 @@ frame_made b h =
     let text = length_text b in
     let n = body_length b in
     let body = body_in b in
-    let p = and_seven (nat_le 1 (length text)) (nat_le (length text) MOST_DIGITS) (nat_le 1 n) (nat_le n LONGEST_BODY) (length body == n) (slice_index body (n - 1) == soh) (bytes_eq b (frame_of text body)) h in
+    let p = and_seven (nat_le 1 (length text)) (nat_le (length text) MOST_LENGTH_DIGITS) (nat_le 1 n) (nat_le n LONGEST_BODY) (length body == n) (slice_index body (n - 1) == soh) (bytes_eq b (frame_of text body)) h in
     let long : length body ≡ n = eqb-true (length body) n p.4 in
     let least : 1 ≤ n = leb-true 1 n p.2 in
     let most : n ≤ LONGEST_BODY = leb-true n 4000 p.3 in
@@ -72,7 +66,7 @@ frame_made b h =
 -- ---- its head, its length and its end
 
 -- digits, SOH and what follows
-pub length_made : (digits rest : List ℕ) (n : ℕ) → ((k : ℕ) → k < length digits → is_ascii_digit (get_or digits k 0) ≡ true) → digits_value 10 digits ≡ n → 1 ≤ length digits → length digits ≤ MOST_DIGITS → 1 ≤ n → n ≤ LONGEST_BODY → IsLength (digits ++ 1 ∷ rest) (length digits) n
+pub length_made : (digits rest : List ℕ) (n : ℕ) → ((k : ℕ) → k < length digits → is_ascii_digit (get_or digits k 0) ≡ true) → digits_value 10 digits ≡ n → 1 ≤ length digits → length digits ≤ MOST_LENGTH_DIGITS → 1 ≤ n → n ≤ LONGEST_BODY → IsLength (digits ++ 1 ∷ rest) (length digits) n
 length_made digits rest n each value some few least most =
     let text = digits ++ 1 ∷ rest in
     let stop : get_or text (length digits) 0 ≡ 1 = get_or_at digits 1 rest 0 (length digits) refl in
@@ -112,34 +106,9 @@ made_length digits body b made =
     let trailer : length (trailer_of front) ≡ 7 = refl in
     omega (arith, length-append front (trailer_of front), length-head_of digits body)
 
--- front and t are what `ends_frame` compares
-abbrev closes : List ℕ → List ℕ → Bool
-closes front t = (slice_index front (length front - 1) == 1) && bytes_eq t (trailer_of front)
-
-ends_frame_is : (front t b : List ℕ) → b ≡ front ++ t → length t ≡ 7 → ends_frame b ≡ closes front t
-ends_frame_is front t b whole long =
-    let total = ap length whole in
-    let place : length front ≡ length b - 7 = omega (arith, length-append front t) in
-    ap₂ closes (ap (λ (x : List ℕ). take (length b - 7) x) whole ∙ take_at front t (length b - 7) place) (ap (λ (x : List ℕ). drop (length b - 7) x) whole ∙ drop_at front t (length b - 7) place)
-
--- the last byte before the trailer is the body's last
-last_of_body : (digits body : List ℕ) → 1 ≤ length body → get_or (head_of digits ++ body) (length (head_of digits ++ body) - 1) 0 ≡ get_or body (length body - 1) 0
-last_of_body digits body least =
-    let total = length-append (head_of digits) body in
-    get_or-append_right (head_of digits) body (length (head_of digits)) (length (head_of digits ++ body) - 1) 0 refl (omega arith)
-    ∙ ap (λ (x : ℕ). get_or body x 0) (omega arith)
-
-pub made_ends : (digits body b : List ℕ) → IsMade digits body b → ends_frame b ≡ true
-made_ends digits body b made =
-    let front = head_of digits ++ body in
-    let last : get_or front (length front - 1) 0 ≡ 1 = last_of_body digits body made.least ∙ made.last in
-    let same : bytes_eq (trailer_of front) (trailer_of front) ≡ true = (bytes_eq-Decides (trailer_of front) (trailer_of front)).1 refl in
-    ends_frame_is front (trailer_of front) b made.whole refl
-    ∙ and_from (slice_index front (length front - 1) == 1) (bytes_eq (trailer_of front) (trailer_of front)) (eq-eqb (get_or front (length front - 1) 0) 1 last) same
-
 -- ---- a frame from its parts
 
-is_frame_from : (b text body : List ℕ) → length_text b ≡ text → body_length b ≡ length body → body_in b ≡ body → 1 ≤ length text → length text ≤ MOST_DIGITS → 1 ≤ length body → length body ≤ LONGEST_BODY → get_or body (length body - 1) 0 ≡ 1 → b ≡ frame_of text body → IsFrame b
+is_frame_from : (b text body : List ℕ) → length_text b ≡ text → body_length b ≡ length body → body_in b ≡ body → 1 ≤ length text → length text ≤ MOST_LENGTH_DIGITS → 1 ≤ length body → length body ≤ LONGEST_BODY → get_or body (length body - 1) 0 ≡ 1 → b ≡ frame_of text body → IsFrame b
 is_frame_from b text body text_is length_is body_is some few least most last whole =
     let t = length_text b in
     let n = body_length b in
@@ -157,44 +126,19 @@ is_frame_from b text body text_is length_is body_is some few least most last who
     let a5 = and_from _ (slice_index i (n - 1) == soh) a4 (eq-eqb (get_or i (n - 1) 0) 1 last') in
     and_from _ (bytes_eq b (frame_of t i)) a5 ((bytes_eq-Decides b (frame_of t i)).1 whole')
 
--- what stands before the trailer, from the head
-head_splits : (b : List ℕ) (d n : ℕ) → HasHead b d n → b ≡ head_of (take d (drop 12 b)) ++ drop (13 + d) b
-head_splits b d n has =
-    let xs = drop 12 b in
-    let text = take d xs in
-    let within : d < length xs = stop_within xs d has.text.stop in
-    let rest : drop (d + 1) xs ≡ drop (13 + d) b = drop-drop (d + 1) 12 b ∙ ap (λ (x : ℕ). drop x b) (omega arith) in
-    let soh_first : drop d xs ≡ 1 ∷ drop (13 + d) b = drop_more xs d 0 within ∙ ap₂ (λ (x : ℕ) (ys : List ℕ). x ∷ ys) has.text.stop rest in
-    let tail : xs ≡ (text ++ 1 ∷ []) ++ drop (13 + d) b = sym (take-append-drop d xs) ∙ (ap (λ ys. text ++ ys) soh_first ∙ sym (append_assoc text (1 ∷ []) (drop (13 + d) b))) in
-    sym (take-append-drop 12 b) ∙ ap₂ (λ (x y : List ℕ). x ++ y) has.begin tail
-
-pub frame_from_head : (b : List ℕ) (d n : ℕ) → HasHead b d n → length b ≡ 13 + d + n + 7 → ends_frame b ≡ true → IsFrame b
-frame_from_head b d n has total ends =
-    let xs = drop 12 b in
-    let text = take d xs in
-    let tail = drop (13 + d) b in
-    let body = take n tail in
-    let t = drop n tail in
-    let front = head_of text ++ body in
-    let within : d < length xs = stop_within xs d has.text.stop in
-    let text_is : length_text b ≡ text = ap (λ (x : ℕ). take x xs) has.text.count in
-    let text_long : length text ≡ d = length-take-le d xs (omega arith) in
-    let tail_long = length-drop (13 + d) b in
-    let body_long : length body ≡ n = length-take-le n tail (omega arith) in
-    let t_long : length t ≡ 7 = omega (arith, length-drop n tail) in
-    let value_is : body_length b ≡ n = ap (λ (x : List ℕ). digits_value 10 x) text_is ∙ has.text.value in
-    let digits_long : length (length_text b) ≡ d = ap length text_is ∙ text_long in
-    let body_is : body_in b ≡ body = ap₂ (λ (x y : ℕ). take x (drop (13 + y) b)) value_is digits_long in
-    let whole : b ≡ front ++ t = head_splits b d n has ∙ (ap (λ (x : List ℕ). head_of text ++ x) (sym (take-append-drop n tail)) ∙ sym (append_assoc (head_of text) body t)) in
-    let closed = and_parts (slice_index front (length front - 1) == 1) (bytes_eq t (trailer_of front)) (sym (ends_frame_is front t b whole t_long) ∙ ends) in
-    let least = has.text.least in
-    let most = has.text.most in
-    let last : get_or body (length body - 1) 0 ≡ 1 = sym (last_of_body text body (omega arith)) ∙ eqb-true (get_or front (length front - 1) 0) 1 closed.0 in
-    let trailer : t ≡ trailer_of front = (bytes_eq-Decides t (trailer_of front)).0 closed.1 in
-    is_frame_from b text body text_is (value_is ∙ sym body_long) body_is (omega (arith, has.text.some)) (omega (arith, has.text.few)) (omega arith) (omega arith) last (whole ∙ ap (λ (x : List ℕ). front ++ x) trailer)
-
 pub made_frame : (digits body b : List ℕ) → IsMade digits body b → IsFrame b
-made_frame digits body b made = frame_from_head b (length digits) (length body) (made_head digits body b made) (made_length digits body b made) (made_ends digits body b made)
+made_frame digits body b made =
+    let t = trailer_of (head_of digits ++ body) in
+    let has = made_head digits body b made in
+    let behind : drop 12 b ≡ digits ++ 1 ∷ (body ++ t) = ap (λ (x : List ℕ). drop 12 x) made.whole ∙ behind_begin digits body t in
+    let text_is : length_text b ≡ digits =
+        ap (λ (x : ℕ). take x (drop 12 b)) has.text.count ∙ (ap (λ (x : List ℕ). take (length digits) x) behind ∙ take_at digits (1 ∷ (body ++ t)) (length digits) refl) in
+    let length_is : body_length b ≡ length body = ap (λ (x : List ℕ). digits_value 10 x) text_is ∙ made.value in
+    let front : drop (13 + length digits) b ≡ body ++ t =
+        ap (λ (x : List ℕ). drop (13 + length digits) x) (made.whole ∙ append_assoc (head_of digits) body t) ∙ drop_at (head_of digits) (body ++ t) (13 + length digits) (omega (arith, length-append digits (1 ∷ []))) in
+    let body_is : body_in b ≡ body =
+        ap₂ (λ (x : ℕ) (y : List ℕ). take x (drop (13 + length y) b)) length_is text_is ∙ (ap (λ (x : List ℕ). take (length body) x) front ∙ take_at body t (length body) refl) in
+    is_frame_from b digits body text_is length_is body_is made.some made.few made.least made.most made.last made.whole
 
 -- ---- a frame and its head
 

@@ -9,7 +9,6 @@ mod place;
 mod scan;
 #[cfg(test)]
 mod tests;
-mod trailer;
 
 pub use body::frame_body;
 pub use framer::{Framer, ROOM};
@@ -19,4 +18,4 @@ pub use laws::{
     refused_bytes_stay_refused, streams_end_one_way, unfinished_frames_begin_with_none,
 };
 pub use next::Next;
-pub use place::{FRONT_LIMIT, LONGEST_BODY, MOST_DIGITS};
+pub use place::{FRONT_LIMIT, LONGEST_BODY, MOST_LENGTH_DIGITS};

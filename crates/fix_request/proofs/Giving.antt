@@ -2,23 +2,19 @@
 use Rattle.std.proofs.Common.{◌≡◌, List, [], ◌∷◌, ◌++◌, Option, Some, None, Result, Ok, Err, refl, ap, ◌∙◌}
 use Rattle.std.specs.List.{AllByRecursion}
 use Rattle.std.specs.Option.{option_or}
-use Rattle.gx_base.specs.FirstFault.{first_fault}
+use Rattle.gx_base.specs.FirstFault.{first_fault, unless_fault}
 use Rattle.fix_request.specs.Inner.Rules.{◌>>=◌, result_map}
 use Rattle.fix_request.specs.declared.fault.Fault.{Fault}
 
-abbrev pub unless : {A : Type 0} → Option Fault → A → Result A Fault
-unless None a = Ok a
-unless (Some f) a = Err f
-
 pub record Gives {A : Type 0} (r : Result A Fault) (faults : List (Option Fault)) (a : A) : Type 0 where
-  pub is : r ≡ unless (first_fault faults) a
+  pub is : r ≡ unless_fault (first_fault faults) a
 
-then : {A B : Type 0} (o p : Option Fault) (a : A) (b : B) (next : A → Result B Fault) → (o ≡ None → next a ≡ unless p b) → (unless o a >>= next) ≡ unless (option_or o p) b
+then : {A B : Type 0} (o p : Option Fault) (a : A) (b : B) (next : A → Result B Fault) → (o ≡ None → next a ≡ unless_fault p b) → (unless_fault o a >>= next) ≡ unless_fault (option_or o p) b
 then None p a b next more = more refl
 then (Some f) p a b next more = refl
 
 -- one step, and those that follow it
-pub step : {A B : Type 0} {o : Option Fault} {ps : List (Option Fault)} {b : B} (r : Result A Fault) (a : A) (next : A → Result B Fault) → r ≡ unless o a → (o ≡ None → Gives (next a) ps b) → Gives (r >>= next) (o ∷ ps) b
+pub step : {A B : Type 0} {o : Option Fault} {ps : List (Option Fault)} {b : B} (r : Result A Fault) (a : A) (next : A → Result B Fault) → r ≡ unless_fault o a → (o ≡ None → Gives (next a) ps b) → Gives (r >>= next) (o ∷ ps) b
 step {o = o} {ps = ps} {b = b} r a next is more =
     record { is = ap (λ s. s >>= next) is ∙ then o (first_fault ps) a b next (λ none. (more none).is) }
 
@@ -34,7 +30,7 @@ steps {ps = ps} {b = b} os r a next first more =
       is =
           ap (λ s. s >>= next) first.is
           ∙ then (first_fault os) (first_fault ps) a b next (λ none. (more none).is)
-          ∙ ap (λ o. unless o b) (first-append os ps);
+          ∙ ap (λ o. unless_fault o b) (first-append os ps);
     }
 
 or-None : (o : Option Fault) → o ≡ option_or o None
@@ -42,10 +38,10 @@ or-None None = refl
 or-None (Some f) = refl
 
 -- a step that is the last
-pub last : {A : Type 0} {o : Option Fault} {a : A} (r : Result A Fault) → r ≡ unless o a → Gives r (o ∷ []) a
-last {o = o} {a = a} r is = record { is = is ∙ ap (λ p. unless p a) (or-None o) }
+pub last : {A : Type 0} {o : Option Fault} {a : A} (r : Result A Fault) → r ≡ unless_fault o a → Gives r (o ∷ []) a
+last {o = o} {a = a} r is = record { is = is ∙ ap (λ p. unless_fault p a) (or-None o) }
 
-map_unless : {A B : Type 0} (g : A → B) (o : Option Fault) (a : A) → result_map g (unless o a) ≡ unless o (g a)
+map_unless : {A B : Type 0} (g : A → B) (o : Option Fault) (a : A) → result_map g (unless_fault o a) ≡ unless_fault o (g a)
 map_unless g None a = refl
 map_unless g (Some f) a = refl
 

@@ -7,6 +7,7 @@ use Rattle.std.proofs.lemmas.List.{length-map}
 use Rattle.std.proofs.lemmas.List.Quantifiers.{position-Some}
 use Rattle.std.proofs.lemmas.Option.{cond_some, none-some, same_Some}
 use Rattle.std.specs.Str.Parse.{digits_value}
+use Rattle.gx_base.specs.declared.digits.TheConstants.{MOST_DIGITS}
 use Rattle.gx_base.specs.Numbers.{are_digits, is_point, is_quantity_text, quantity_of}
 use Rattle.gx_base.specs.Texts.{is_name}
 use Rattle.gx_base.specs.NameLists.{NameLists, instrument_names}
@@ -47,21 +48,21 @@ formed_holds tag o = some_or o (fault 9 6 tag) (record { some = lit≤ tt; few =
 listed_holds : {A : Type 0} (tag : ℕ) (o : Option A) → Holds (λ a. o ≡ Some a) (listed tag o)
 listed_holds tag o = some_or o (fault 10 5 tag) (record { some = lit≤ tt; few = lit≤ tt })
 
-quantity_below : (text : List ℕ) (quantity : ℕ) → quantity_of text ≡ Some quantity → quantity < 10 ^ 9
+quantity_below : (text : List ℕ) (quantity : ℕ) → quantity_of text ≡ Some quantity → quantity < 10 ^ MOST_DIGITS
 quantity_below text quantity read =
     let digits = before_first is_point text in
     let is = cond_some (is_quantity_text text) (digits_value 10 digits) quantity read in
-    let c = and_parts (nat_le 1 (length digits) && nat_le (length digits) 9 && are_digits digits) _ is.0 in
-    let b = and_parts (nat_le 1 (length digits) && nat_le (length digits) 9) (are_digits digits) c.0 in
-    let a = and_parts (nat_le 1 (length digits)) (nat_le (length digits) 9) b.0 in
-    let below = short_below digits b.1 (leb-true (length digits) 9 a.1) in
+    let c = and_parts (nat_le 1 (length digits) && nat_le (length digits) MOST_DIGITS && are_digits digits) _ is.0 in
+    let b = and_parts (nat_le 1 (length digits) && nat_le (length digits) MOST_DIGITS) (are_digits digits) c.0 in
+    let a = and_parts (nat_le 1 (length digits)) (nat_le (length digits) MOST_DIGITS) b.0 in
+    let below = short_below digits b.1 (leb-true (length digits) MOST_DIGITS a.1) in
     let same : digits_value 10 digits ≡ quantity = is.1 in
     omega arith
 
-quantity_holds : (tag : ℕ) (text : List ℕ) → Holds (λ quantity. quantity < 10 ^ 9) (formed tag (quantity_of text))
-quantity_holds tag text = weaker (λ quantity. quantity_of text ≡ Some quantity) (λ quantity. quantity < 10 ^ 9) (formed tag (quantity_of text)) (formed_holds tag (quantity_of text)) (quantity_below text)
+quantity_holds : (tag : ℕ) (text : List ℕ) → Holds (λ quantity. quantity < 10 ^ MOST_DIGITS) (formed tag (quantity_of text))
+quantity_holds tag text = weaker (λ quantity. quantity_of text ≡ Some quantity) (λ quantity. quantity < 10 ^ MOST_DIGITS) (formed tag (quantity_of text)) (formed_holds tag (quantity_of text)) (quantity_below text)
 
-quantity_or_zero_holds : (tag : ℕ) (text : Option (List ℕ)) → Holds (λ quantity. quantity < 10 ^ 9) (quantity_or_zero tag text)
+quantity_or_zero_holds : (tag : ℕ) (text : Option (List ℕ)) → Holds (λ quantity. quantity < 10 ^ MOST_DIGITS) (quantity_or_zero tag text)
 quantity_or_zero_holds tag None = omega arith
 quantity_or_zero_holds tag (Some text) = quantity_holds tag text
 
@@ -95,7 +96,7 @@ texts_hold values =
 
 record HasForms (names : NameLists) (texts : OrderTexts) (forms : OrderForms) : Type 0 where
   pub named : IsListed names forms.named
-  pub quantity : forms.quantity < 10 ^ 9
+  pub quantity : forms.quantity < 10 ^ MOST_DIGITS
   pub price : FitsIfSome texts.price forms.price
   pub trigger : FitsIfSome texts.trigger forms.trigger
 
@@ -104,7 +105,7 @@ unfolding order_forms
 forms_hold names tag texts =
     let P : OrderForms → Type 0 = HasForms names texts in
     step (λ symbol. where_passes is_name texts.symbol ≡ Some symbol) P (formed tag (where_passes is_name texts.symbol)) _ (formed_holds tag (where_passes is_name texts.symbol)) (λ symbol _.
-    step (λ quantity. quantity < 10 ^ 9) P (formed 38 (quantity_of texts.quantity)) _ (quantity_holds 38 texts.quantity) (λ quantity below.
+    step (λ quantity. quantity < 10 ^ MOST_DIGITS) P (formed 38 (quantity_of texts.quantity)) _ (quantity_holds 38 texts.quantity) (λ quantity below.
     step (FitsIfSome texts.price) P (price_if_read names (named_of names symbol) 44 texts.price) _ (price_fits names (named_of names symbol) 44 texts.price) (λ price price_fits_text.
     step (FitsIfSome texts.trigger) P (price_if_read names (named_of names symbol) 99 texts.trigger) _ (price_fits names (named_of names symbol) 99 texts.trigger) (λ trigger trigger_fits_text.
     record { named = named_is_listed names symbol; quantity = below; price = price_fits_text; trigger = trigger_fits_text }))))
@@ -123,8 +124,8 @@ new_holds names sender values known =
     step HasTexts P (order_texts values) _ (texts_hold values) (λ texts has_texts.
     step (λ id. where_passes is_name id_text ≡ Some id) P (formed 11 (where_passes is_name id_text)) _ (formed_holds 11 (where_passes is_name id_text)) (λ id _.
     step (HasForms names texts) P (order_forms names (symbol_tag values) texts) _ (forms_hold names (symbol_tag values) texts) (λ forms has_forms.
-    step (λ min. min < 10 ^ 9) P (quantity_or_zero 110 values.min) _ (quantity_or_zero_holds 110 values.min) (λ min min_below.
-    step (λ show. show < 10 ^ 9) P (quantity_or_zero 210 values.show) _ (quantity_or_zero_holds 210 values.show) (λ show show_below.
+    step (λ min. min < 10 ^ MOST_DIGITS) P (quantity_or_zero 110 values.min) _ (quantity_or_zero_holds 110 values.min) (λ min min_below.
+    step (λ show. show < 10 ^ MOST_DIGITS) P (quantity_or_zero 210 values.show) _ (quantity_or_zero_holds 210 values.show) (λ show show_below.
     step (λ side. side_of texts.side ≡ Some side) P (listed 54 (side_of texts.side)) _ (listed_holds 54 (side_of texts.side)) (λ side _.
     step (λ kind. kind_of texts.kind ≡ Some kind) P (listed 40 (kind_of texts.kind)) _ (listed_holds 40 (kind_of texts.kind)) (λ kind kind_is_read.
     step (λ life. life_of values.life ≡ Some life) P (listed 59 (life_of values.life)) _ (listed_holds 59 (life_of values.life)) (λ life _.

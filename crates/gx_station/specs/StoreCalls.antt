@@ -1,5 +1,5 @@
 -- What the calls on the image of a station do to it.
-use Rattle.std.specs.Prelude.{◌≡◌, ℕ, ◌+◌, max, List, length, take, drop, Option, Some, None, option_map, Result, IfOk, OnOk, OnErr, IfSome}
+use Rattle.std.specs.Prelude.{◌≡◌, ℕ, ◌+◌, max, List, length, take, drop, option_map, Result, IfOk, OnOk, OnErr, IfSome}
 use Rattle.gx_base.specs.KnownBytes.{WhereKnown}
 use Rattle.gx_station.specs.Counts.{HasCause}
 use Rattle.gx_station.specs.Disk.{Torn, written}

@@ -1,7 +1,7 @@
 -- A step takes lots, or leaves as many orders at its price as there were.
 use Rattle.std.proofs.Common.{◌≡◌, ◌≢◌, ℕ, ◌<◌, ◌≤◌, Bool, true, false, cond, List, [], ◌∷◌, length, refl, sym, ap, subst, ◌∙◌, arith, inl, inr, ◌⊎◌}
 use Prim.Native.Nat.{zero, suc}
-use Rattle.std.specs.Prelude.{◌==◌, min}
+use Rattle.std.specs.Prelude.{min}
 use Rattle.std.proofs.lemmas.List.{length-map}
 use Rattle.std.proofs.lemmas.Bool.Decides.{eqb_tells}
 use Rattle.gx_base.specs.declared.order.Order.{Order}
@@ -18,7 +18,7 @@ use Rattle.plain_book.specs.Steps.{level_now, trade_head, fifo_rounds}
 use Rattle.plain_book.proofs.Levels.{with_order-level}
 use Rattle.plain_book.proofs.Walks.{AllDiffer-with_order}
 use Rattle.plain_book.proofs.TradedShares.{share-leaves}
-use Rattle.level_sweep.specs.Sweep.{step_of, level_match, wanted_step}
+use Rattle.level_sweep.specs.Sweep.{level_match, wanted_step}
 use Rattle.level_sweep.proofs.EachTrade.{Relation, IsKept, wanted-cases, each-shares, each-head, each-fifo, each-match}
 
 abbrev wants : MatchState → ℕ

@@ -1,4 +1,5 @@
 pub mod EachTrade
+pub mod EachOrder
 pub mod Events
 pub mod Resting
 pub mod Advance

@@ -16,7 +16,8 @@ use Rattle.plain_book.specs.Steps.{facing, level_now}
 use Rattle.plain_book.proofs.Levels.{same, renewed}
 use Rattle.plain_book.proofs.Pairs.{all-from, all-with}
 use Rattle.plain_book.specs.Numbers.{by_number, numbered, book_numbered, match_numbered}
-use Rattle.level_sweep.proofs.Names.{GoesWith, Agree, KeepsNames, found, none-traded, keeps-marked, keeps-share}
+use Rattle.level_sweep.proofs.EachOrder.{none-traded}
+use Rattle.level_sweep.proofs.Names.{GoesWith, Agree, KeepsNames, found-name, keeps-marked, keeps-share}
 
 -- ---- lists
 
@@ -104,7 +105,7 @@ module _ (s k : ℕ) where
   traded-numbered n es a =
       let o : Order = filled_by n (order_of s es) in
       ap (λ (x : Order). settled k (filled_by n x) (numbered es)) (order-numbered es a)
-      ∙ elim (found (GoesWith s k) s es a) [
+      ∙ elim (found-name (GoesWith s k) s es a) [
         | inl g ↦ none-traded s k n es (numbered es) g.1 ∙ without-numbered es a ∙ ap numbered (sym (none-traded s s n es es g.1))
         | inr p ↦ settled-numbered o es (test-is (order_of s es).number k (sym p ∙ same s)) a
       ]
@@ -112,7 +113,7 @@ module _ (s k : ℕ) where
   with_mark-numbered : (n : ℕ) (es : List Entry) → Agree s k es → with_order k (record (order_of k (numbered es)) { prorated = n }) (numbered es) ≡ numbered (with_order s (record (order_of s es) { prorated = n }) es)
   with_mark-numbered n es a =
       ap (λ (x : Order). with_order k (record x { prorated = n }) (numbered es)) (order-numbered es a)
-      ∙ elim (found (GoesWith s k) s es a) [
+      ∙ elim (found-name (GoesWith s k) s es a) [
         | inl g ↦ none-marked (record (order_of s es) { prorated = n }) es a g.0
         | inr p ↦ with_order-numbered (record (order_of s es) { prorated = n }) es (test-is (order_of s es).number k (sym p ∙ same s)) a
       ]

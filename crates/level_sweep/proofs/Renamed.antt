@@ -21,7 +21,7 @@ use Rattle.plain_book.proofs.Levels.{same, AllDiffer-front}
 use Rattle.plain_book.proofs.Pairs.{all-filter, all-with, all-append, all-front, all-back}
 use Rattle.level_sweep.specs.Sweep.{step_of, wanted_step, level_match, within_limit, next_price, match_next, sweep_rounds, sweep}
 use Rattle.plain_book.specs.Numbers.{by_number, numbered, book_numbered, match_numbered}
-use Rattle.level_sweep.proofs.Names.{Names, found, GoesWith, Agree, Matched, matched-from, matched-kept, keeps-head, keeps-wanted, keeps-match, keeps-sweep}
+use Rattle.level_sweep.proofs.Names.{Names, found-name, GoesWith, Agree, Matched, matched-from, matched-kept, keeps-head, keeps-wanted, keeps-match, keeps-sweep}
 use Rattle.level_sweep.proofs.Resting.{rest-sweep}
 use Rattle.level_sweep.proofs.Numbered.{SameShares, test-is, filter-numbered, filter-order, level-numbered, side-numbered, best-numbered, placed-numbered, without-numbered, share-numbered, shares-numbered}
 
@@ -271,7 +271,7 @@ waited-same slot o b =
 pub named-live : (s : ℕ) (b : Book) → AllDiffer (live_orders b) → AllDiffer (live_orders (book_numbered b)) → HasSlot s (live_orders b) → Agree s (order_of s (live_orders b)).number (live_orders b)
 named-live s b d n has =
     let es = live_orders b in
-    elim (found (λ s k. Agree s k es) s es (matched-live b d n)) [ inl g ↦ absurd (g.0 has) | inr a ↦ a ]
+    elim (found-name (λ s k. Agree s k es) s es (matched-live b d n)) [ inl g ↦ absurd (g.0 has) | inr a ↦ a ]
 
 -- an order is removed by its number as by its slot
 pub removed-same : (s : ℕ) (b : Book) → AllDiffer (live_orders b) → AllDiffer (live_orders (book_numbered b)) → HasSlot s (live_orders b)

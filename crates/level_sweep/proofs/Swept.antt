@@ -11,7 +11,7 @@ use Rattle.plain_book.specs.Orders.{HasSlot, order_of, no_order, without, with_o
 use Rattle.plain_book.specs.Match.{MatchState}
 use Rattle.level_sweep.specs.Sweep.{sweep}
 use Rattle.level_sweep.proofs.EachTrade.{Relation, IsKept, each-sweep}
-use Rattle.level_sweep.proofs.Names.{none-traded}
+use Rattle.level_sweep.proofs.EachOrder.{none-traded}
 
 -- ---- the number of orders
 

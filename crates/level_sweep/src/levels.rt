@@ -26,11 +26,9 @@ fn run_step<B: Book, E: Emit>(
 )
     requires right { IsRightStep step.now }
     requires can { CanTrade (B.book book.old) desk.old taker.old }
-    ensures matches {
-        let before = match_at (B.book book.old) desk.old taker.old out.old in
+    ensures matches { let before = match_at (B.book book.old) desk.old taker.old out.old in
         let after = match_at (B.book book.new) desk.new taker.new out.new in
-        Matches E.meanings (step_of step.now price) before after
-    }
+        Matches E.meanings (step_of step.now price) before after }
     ensures done { is_fifo step.now ≡ true → IsLevelDone price (B.book book.new) taker.new }
 {
     match step {
@@ -54,11 +52,9 @@ fn run_if_wanted<B: Book, E: Emit>(
 )
     requires right { IsRightStep step.now }
     requires can { CanTrade (B.book book.old) desk.old taker.old }
-    ensures matches {
-        let before = match_at (B.book book.old) desk.old taker.old out.old in
+    ensures matches { let before = match_at (B.book book.old) desk.old taker.old out.old in
         let after = match_at (B.book book.new) desk.new taker.new out.new in
-        Matches E.meanings (wanted_step step.now price) before after
-    }
+        Matches E.meanings (wanted_step step.now price) before after }
     ensures done { is_fifo step.now ≡ true → IsLevelDone price (B.book book.new) taker.new }
 {
     if taker.order.leaves > 0 {
@@ -78,11 +74,9 @@ pub fn match_level<B: Book, E: Emit>(
     out: &mut E,
 )
     requires can { CanTrade (B.book book.old) desk.old taker.old }
-    ensures matches {
-        let before = match_at (B.book book.old) desk.old taker.old out.old in
+    ensures matches { let before = match_at (B.book book.old) desk.old taker.old out.old in
         let after = match_at (B.book book.new) desk.new taker.new out.new in
-        Matches E.meanings (level_match steps.now price) before after
-    }
+        Matches E.meanings (level_match steps.now price) before after }
     ensures done { IsLevelDone price (B.book book.new) taker.new }
     ensures stays { B.book book.new ≡ with_resting (B.book book.new).resting (B.book book.old) }
 {

@@ -48,11 +48,9 @@ pub fn sweep<B: Book, E: Emit>(
     out: &mut E,
 )
     requires can { CanTrade (B.book book.old) desk.old taker.old }
-    ensures matches {
-        let before = match_at (B.book book.old) desk.old taker.old out.old in
+    ensures matches { let before = match_at (B.book book.old) desk.old taker.old out.old in
         let after = match_at (B.book book.new) desk.new taker.new out.new in
-        Matches E.meanings (sweep steps.now limit) before after
-    }
+        Matches E.meanings (sweep steps.now limit) before after }
     ensures done { IsSweepDone limit (B.book book.new) taker.new }
     ensures stays { B.book book.new ≡ with_resting (B.book book.new).resting (B.book book.old) }
 {

@@ -1,5 +1,5 @@
 -- A level match whose list ends with FIFO works off its level, and a sweep by such a list goes as far as it can.
-use Rattle.std.proofs.Common.{◌≡◌, ◌≢◌, ℕ, ◌<◌, ◌≤◌, Bool, true, false, cond, List, [], ◌∷◌, refl, sym, ap, subst, ◌∙◌, arith, inl, inr, Option, Some, None}
+use Rattle.std.proofs.Common.{◌≡◌, ℕ, ◌<◌, ◌≤◌, Bool, true, false, cond, List, [], ◌∷◌, refl, sym, ap, subst, ◌∙◌, arith, inl, inr, Option, Some, None}
 use Prim.Native.Nat.{zero, suc}
 use Rattle.std.specs.Prelude.{min, ◌==◌}
 use Rattle.std.proofs.lemmas.Bool.Decides.{eqb_tells}
@@ -107,7 +107,7 @@ module _ (steps : List Step) (limit : Price) (fifo_last : is_fifo_last steps ≡
   match-fewer : (price : Price) (m : MatchState) → AreShowing m.book.resting → Next m (Some price) → (level_match steps price m).taker.order.leaves < m.taker.order.leaves
   match-fewer price m a next =
       let end = level_match steps price m in
-      next-takes steps limit price m end.book end.desk end.taker a.differ next (record { book = refl; desk = refl; taker = refl }) (match-done steps price m fifo_last a)
+      next-takes steps limit price m end.book end.desk end.taker a.in_order.differ next (record { book = refl; desk = refl; taker = refl }) (match-done steps price m fifo_last a)
 
   nothing-wanted : (m : MatchState) → m.taker.order.leaves ≤ 0 → SweepDone limit m
   nothing-wanted m h =

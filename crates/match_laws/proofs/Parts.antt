@@ -1,5 +1,5 @@
 -- Parts that are rounded down add up to the whole at most.
-use Rattle.std.proofs.Common.{◌≡◌, ◌≢◌, ℕ, ◌*◌, ◌/◌, ◌≤◌, List, [], ◌∷◌, refl, sym, subst, ap, ◌∙◌, arith, inl, inr, sum_by}
+use Rattle.std.proofs.Common.{◌≡◌, ℕ, ◌*◌, ◌/◌, ◌≤◌, List, [], ◌∷◌, refl, sym, ap, ◌∙◌, arith, sum_by}
 use Prim.Native.Nat.{zero, suc}
 use Rattle.std.proofs.Math.Nat.{div-mul-le_self, le_of_mul-le-mul_right, mul-le-mul_left, div-zero}
 use Rattle.std.proofs.lemmas.List.Sums.{sum_by-cons}

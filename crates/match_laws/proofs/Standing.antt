@@ -1,5 +1,5 @@
 -- Where the orders stand: a sweep adds no order at a level where none was, and keeps the book's order.
-use Rattle.std.proofs.Common.{◌≡◌, ℕ, Bool, true, false, cond, not, List, [], ◌∷◌, refl, sym, ap, subst, ◌∙◌, inl, inr, ◌⊎◌}
+use Rattle.std.proofs.Common.{◌≡◌, ℕ, Bool, true, false, cond, not, List, [], ◌∷◌, refl, sym, ap, subst, ◌∙◌, inl, inr}
 use Rattle.std.specs.Prelude.{◌==◌}
 use Rattle.std.specs.List.{AllByRecursion}
 use Rattle.std.proofs.lemmas.Bool.Decides.{eqb_tells}
@@ -7,18 +7,18 @@ use Rattle.gx_base.specs.declared.price.Price.{Price}
 use Rattle.gx_base.specs.declared.order.Order.{Order}
 use Rattle.step_config.specs.declared.step.Step.{Step}
 use Rattle.plain_book.specs.declared.entry.Entry.{Entry}
-use Rattle.plain_book.specs.Orders.{Level, level_of, is_before, is_at_earlier_level, HasSlot, order_of, no_order, without, with_order, reordered, placed, settled, traded, refreshed, filled_by}
-use Rattle.plain_book.specs.Book.{AllDiffer, EachPair, AreInBookOrder}
+use Rattle.plain_book.specs.Orders.{Level, level_of, is_before, is_at_earlier_level, HasSlot, order_of, without, with_order, reordered, placed, settled, refreshed, filled_by}
+use Rattle.plain_book.specs.Book.{Book, IsRight, AllDiffer, EachPair, AreInBookOrder}
 use Rattle.plain_book.specs.Match.{MatchState}
-use Rattle.plain_book.proofs.Levels.{renewed, AllDiffer-filter}
+use Rattle.plain_book.proofs.Levels.{renewed, AllDiffer-filter, AllDiffer-front}
 use Rattle.plain_book.proofs.Walks.{AllDiffer-with_order}
-use Rattle.plain_book.proofs.Pairs.{all-filter, pairs-filter, pairs-map}
-use Rattle.plain_book.proofs.Live.{AllOrders, orders-at, orders-with_order, orders-settled}
+use Rattle.plain_book.proofs.Pairs.{pairs-filter, pairs-map}
+use Rattle.plain_book.proofs.Live.{AllOrders}
 use Rattle.plain_book.proofs.Sorted.{book-order, put-in, ordered-put, IsInserted, inserted-differ}
 use Rattle.plain_book.proofs.Right.{without-gone}
 use Rattle.level_sweep.specs.Sweep.{sweep}
 use Rattle.level_sweep.proofs.EachTrade.{Relation, IsKept, each-sweep}
-use Rattle.level_sweep.proofs.Names.{none-traded}
+use Rattle.level_sweep.proofs.EachOrder.{StaysTrue, AllStay, all-kept}
 
 -- P holds of the level of each order
 abbrev pub Levels : (Level → Type 0) → List Entry → Type 0
@@ -26,45 +26,17 @@ Levels P es = AllOrders (λ (o : Order). P (level_of o)) es
 
 -- ---- levels
 
-has-or-none : (s : ℕ) (es : List Entry) → HasSlot s es ⊎ (order_of s es ≡ no_order)
-has-or-none s [] = inr refl
-has-or-none s (e ∷ es) = elim (eqb_tells e.slot s) [
-  | inl t ↦ inl (inl t.1)
-  | inr t ↦ elim (has-or-none s es) [
-    | inl h ↦ inl (inr h)
-    | inr z ↦ inr (ap (λ (b : Bool). cond b e.order (order_of s es)) t.0 ∙ z)
-  ]
-]
-
 module _ (P : Level → Type 0) where
-  abbrev Q : Order → Type 0
-  Q o = P (level_of o)
+  abbrev LevelHolds : Entry → Type 0
+  LevelHolds e = P (level_of e.order)
 
-  levels-traded : (s n : ℕ) (es : List Entry) → Levels P es → Levels P (traded s n es)
-  levels-traded s n es a = elim (has-or-none s es) [
-    | inl h ↦
-        let p : Q (order_of s es) = orders-at Q s es a h in
-        orders-settled Q s (filled_by n (order_of s es)) es p p a
-    | inr z ↦ subst (Levels P) (sym (none-traded s s n es es z)) (all-filter (λ (e : Entry). Q e.order) (λ e. not (e.slot == s)) es a)
-  ]
-
-  levels-marked : (s n : ℕ) (es : List Entry) → Levels P es → Levels P (with_order s (record (order_of s es) { prorated = n }) es)
-  levels-marked s n es a = orders-with_order Q s (record (order_of s es) { prorated = n }) es (λ h. orders-at Q s es a h) a
-
-  abbrev LevelsStay : Relation
-  LevelsStay a b = Levels P a.book.resting → Levels P b.book.resting
-
-  levels : IsKept LevelsStay
-  levels = record {
-    same = λ m a. a;
-    both = λ a b c h k x. k (h x);
-    trades = λ step s n m a. levels-traded s n m.book.resting a;
-    marks = λ s n m a. levels-marked s n m.book.resting a;
-  }
+  -- no trade gives an order another level
+  levels : StaysTrue LevelHolds
+  levels = record { fills = λ n e x p q is some. p; refreshes = λ n e p some none. p; marks = λ n e x p q is. p }
 
   -- what holds of the levels of all orders holds of them after a sweep
   pub sweep-levels : (steps : List Step) (limit : Price) (m : MatchState) → Levels P m.book.resting → Levels P (sweep steps limit m).book.resting
-  sweep-levels steps limit m a = each-sweep LevelsStay levels steps limit m a
+  sweep-levels steps limit m a = each-sweep (AllStay LevelHolds levels) (all-kept LevelHolds levels) steps limit m a
 
 -- ---- the book's order
 
@@ -123,11 +95,11 @@ in-order-settled s o es l r =
       | false ↦ elim [ true ↦ in-order-placed n left (without-gone s es) gone | false ↦ in-order-with s o es l r ]
     ] in go (o.leaves == 0) (o.shown == 0)
 
-abbrev OrderStays : Relation
+abbrev pub OrderStays : Relation
 OrderStays a b = IsInOrder a.book.resting → IsInOrder b.book.resting
 
-order : IsKept OrderStays
-order = record {
+pub order-kept : IsKept OrderStays
+order-kept = record {
   same = λ m r. r;
   both = λ a b c h k r. k (h r);
   trades = λ step s n m r. in-order-settled s (filled_by n (order_of s m.book.resting)) m.book.resting refl r;
@@ -135,4 +107,8 @@ order = record {
 }
 
 pub sweep-in-order : (steps : List Step) (limit : Price) (m : MatchState) → IsInOrder m.book.resting → IsInOrder (sweep steps limit m).book.resting
-sweep-in-order steps limit m r = each-sweep OrderStays order steps limit m r
+sweep-in-order steps limit m r = each-sweep OrderStays order-kept steps limit m r
+
+-- a right book
+pub right-in-order : (b : Book) → IsRight b → IsInOrder b.resting
+right-in-order b r = record { differ = AllDiffer-front b.resting b.waiting r.differ; ordered = r.ordered }

@@ -1,5 +1,5 @@
 -- Who is marked as TOP: it stands at the best price of its side, and a sweep marks nobody.
-use Rattle.std.proofs.Common.{◌≡◌, ◌≢◌, ℕ, Bool, true, false, cond, not, ◌&&◌, List, [], ◌∷◌, filter, refl, sym, ap, subst, ◌∙◌, inl, inr, ◌⊎◌, Option, Some, None}
+use Rattle.std.proofs.Common.{◌≡◌, ◌≢◌, ℕ, Bool, true, false, cond, not, ◌&&◌, List, [], ◌∷◌, filter, refl, sym, ap, subst, ◌∙◌, inl, inr, Option, Some, None}
 use Rattle.std.specs.Prelude.{◌==◌}
 use Rattle.std.specs.List.{AllByRecursion}
 use Rattle.std.proofs.lemmas.Bool.{true≢false}
@@ -9,14 +9,14 @@ use Rattle.gx_base.specs.declared.order.Order.{Order}
 use Rattle.gx_base.specs.declared.order.Side.{Side}
 use Rattle.step_config.specs.declared.step.Step.{Step}
 use Rattle.plain_book.specs.declared.entry.Entry.{Entry}
-use Rattle.plain_book.specs.Orders.{HasSlot, order_of, no_order, is_on, is_side, side_of, price_of, best_of, slot_of, top_of, without, with_order, placed, settled, traded, refreshed, filled_by, is_at_earlier_level}
+use Rattle.plain_book.specs.Orders.{order_of, is_on, is_side, side_of, price_of, best_of, slot_of, top_of, without}
 use Rattle.plain_book.specs.Book.{Book, AllDiffer, EachPair, AllowsTop, IsRight}
 use Rattle.plain_book.specs.Match.{MatchState}
-use Rattle.plain_book.proofs.Levels.{same, is_side-same, is_side-refl, and-left, and-right, renewed, with_order-none, AllDiffer-front}
-use Rattle.plain_book.proofs.Pairs.{all-filter, all-append, all-with, all-both, differ-pairs}
+use Rattle.plain_book.proofs.Levels.{same, is_side-same, is_side-refl, and-left, and-right, AllDiffer-front}
+use Rattle.plain_book.proofs.Pairs.{all-filter, all-with, all-both, differ-pairs}
 use Rattle.level_sweep.specs.Sweep.{sweep}
-use Rattle.level_sweep.proofs.EachTrade.{Relation, IsKept, each-sweep}
-use Rattle.level_sweep.proofs.Names.{none-traded}
+use Rattle.level_sweep.proofs.EachTrade.{each-sweep}
+use Rattle.level_sweep.proofs.EachOrder.{StaysTrue, AllStay, all-kept}
 
 not-both : {A : Type 0} (b : Bool) → b ≡ true → b ≡ false → A
 not-both b h k = absurd (true≢false (sym h ∙ k))
@@ -142,68 +142,15 @@ module _ (i : ℕ) (d : Side) (on : ℕ → Bool) (P : ℕ → Type 0) where
   abbrev KnownBySlot : Entry → Type 0
   KnownBySlot e = (on_side i d e.order ≡ on e.slot) × (e.is_top ≡ true → P e.slot)
 
-  abbrev Found : ℕ → List Entry → Type 0
-  Found s es = ((HasSlot s es → ⊥) × (order_of s es ≡ no_order)) ⊎ (on_side i d (order_of s es) ≡ on s)
-
-  found : (s : ℕ) (es : List Entry) → AllByRecursion KnownBySlot es → Found s es
-  found s [] h = inl ((λ k. k), refl)
-  found s (e ∷ es) h = elim (eqb_tells e.slot s) [
-    | inl t ↦ inr (ap (λ (b : Bool). on_side i d (cond b e.order (order_of s es))) t.0 ∙ h.0.0 ∙ ap on t.1)
-    | inr t ↦
-        let is : order_of s (e ∷ es) ≡ order_of s es = ap (λ (b : Bool). cond b e.order (order_of s es)) t.0 in
-        elim (found s es h.1) [
-          | inl g ↦ inl ((λ k. elim k [ inl a ↦ t.1 a | inr a ↦ g.0 a ]), is ∙ g.1)
-          | inr p ↦ inr (ap (on_side i d) is ∙ p)
-        ]
-  ]
-
-  known-with_order : (s : ℕ) (o : Order) (es : List Entry) → on_side i d o ≡ on s → AllByRecursion KnownBySlot es → AllByRecursion KnownBySlot (with_order s o es)
-  known-with_order s o [] p a = tt
-  known-with_order s o (e ∷ es) p a = (
-    elim (eqb_tells e.slot s) [
-      | inl t ↦ subst (λ (b : Bool). KnownBySlot (cond b (renewed e o) e)) (sym t.0) (p ∙ ap on (sym t.1), a.0.1)
-      | inr t ↦ subst (λ (b : Bool). KnownBySlot (cond b (renewed e o) e)) (sym t.0) a.0
-    ],
-    known-with_order s o es p a.1,
-  )
-
-  known-settled : (s : ℕ) (o : Order) (es : List Entry) → on_side i d o ≡ on s → AllByRecursion KnownBySlot es → AllByRecursion KnownBySlot (settled s o es)
-  known-settled s o es p a =
-      let n : Entry = record { slot = s; order = refreshed o; is_top = false } in
-      let left = without s es in
-      let gone : AllByRecursion KnownBySlot left = all-filter KnownBySlot (λ e. not (e.slot == s)) es a in
-      let unmarked : false ≡ true → P s = λ h. not-both false h refl in
-      let back : AllByRecursion KnownBySlot (placed n left) = all-append KnownBySlot (filter (λ e. not (is_at_earlier_level n e)) left) (n ∷ filter (is_at_earlier_level n) left) (all-filter KnownBySlot (λ e. not (is_at_earlier_level n e)) left gone) ((p, unmarked), all-filter KnownBySlot (is_at_earlier_level n) left gone) in
-      let go : (x y : Bool) → AllByRecursion KnownBySlot (cond x left (cond y (placed n left) (with_order s o es))) = elim [
-        | true ↦ λ y. gone
-        | false ↦ elim [ true ↦ back | false ↦ known-with_order s o es p a ]
-      ] in go (o.leaves == 0) (o.shown == 0)
-
-  known-traded : (s n : ℕ) (es : List Entry) → AllByRecursion KnownBySlot es → AllByRecursion KnownBySlot (traded s n es)
-  known-traded s n es a = elim (found s es a) [
-    | inl g ↦ subst (AllByRecursion KnownBySlot) (sym (none-traded s s n es es g.1)) (all-filter KnownBySlot (λ e. not (e.slot == s)) es a)
-    | inr p ↦ known-settled s (filled_by n (order_of s es)) es p a
-  ]
-
-  known-marked : (s n : ℕ) (es : List Entry) → AllByRecursion KnownBySlot es → AllByRecursion KnownBySlot (with_order s (record (order_of s es) { prorated = n }) es)
-  known-marked s n es a = elim (found s es a) [
-    | inl g ↦ subst (AllByRecursion KnownBySlot) (sym (with_order-none s (record (order_of s es) { prorated = n }) es g.0)) a
-    | inr p ↦ known-with_order s (record (order_of s es) { prorated = n }) es p a
-  ]
-
-  abbrev KnownStay : Relation
-  KnownStay a b = AllByRecursion KnownBySlot a.book.resting → AllByRecursion KnownBySlot b.book.resting
-
-  known : IsKept KnownStay
+  known : StaysTrue KnownBySlot
   known = record {
-    same = λ m a. a;
-    both = λ a b c h k x. k (h x);
-    trades = λ step s n m a. known-traded s n m.book.resting a;
-    marks = λ s n m a. known-marked s n m.book.resting a;
+    fills = λ n e x p q is some. (p.0 ∙ ap on (sym is), q.1);
+    refreshes = λ n e p some none. (p.0, λ h. not-both false h refl);
+    marks = λ n e x p q is. (p.0 ∙ ap on (sym is), q.1);
   }
 
   known-sweep : (steps : List Step) (limit : Price) (m : MatchState) → AllByRecursion KnownBySlot m.book.resting → AllByRecursion KnownBySlot (sweep steps limit m).book.resting
-  known-sweep steps limit m a = each-sweep KnownStay known steps limit m a
+  known-sweep steps limit m a = each-sweep (AllStay KnownBySlot known) (all-kept KnownBySlot known) steps limit m a
 
 -- who is TOP after a sweep was TOP before it
 pub top-swept : (steps : List Step) (limit : Price) (m : MatchState) (i : ℕ) (d : Side) (s : ℕ) → IsRight m.book → top_of i d (sweep steps limit m).book.resting ≡ Some s → top_of i d m.book.resting ≡ Some s

@@ -13,13 +13,13 @@ use Rattle.plain_book.specs.declared.entry.Entry.{Entry}
 use Rattle.plain_book.specs.Orders.{Level, level_of, opposite, is_side, is_on, is_better, is_best_price, is_new_best, is_at_earlier_level, best_of, placed, with_top, topped}
 use Rattle.plain_book.specs.Book.{Book, IsRight, EachPair, AreInBookOrder, first_shown, is_enough, resting_placed, book_placed}
 use Rattle.plain_book.specs.Match.{MatchState}
-use Rattle.plain_book.proofs.Levels.{same, is_side-refl, AllDiffer-front}
+use Rattle.plain_book.proofs.Levels.{same, is_side-refl}
 use Rattle.plain_book.proofs.Pairs.{all-with, all-both, all-map}
 use Rattle.plain_book.proofs.Live.{orders-placed}
 use Rattle.plain_book.proofs.Tops.{behind-on, new-best-all}
 use Rattle.level_sweep.specs.Sweep.{sweep, within_limit, IsSweepDone}
 use Rattle.match_laws.specs.Laws.{AreApart, IsUncrossed}
-use Rattle.match_laws.proofs.Standing.{Levels, IsInOrder, sweep-levels, sweep-in-order}
+use Rattle.match_laws.proofs.Standing.{Levels, sweep-levels, sweep-in-order, right-in-order}
 use Rattle.level_sweep.proofs.Swept.{sweep-order}
 
 -- where no level is added, none is crossed
@@ -125,5 +125,4 @@ pub rested-uncrossed : (steps : List Step) (m : MatchState) (slot : ℕ) (top_mi
 rested-uncrossed steps m slot top_min right h done some =
     let limit = m.taker.order.price in
     let end = sweep steps limit m in
-    let start : IsInOrder m.book.resting = record { differ = AllDiffer-front m.book.resting m.book.waiting right.differ; ordered = right.ordered } in
-    done-uncrossed slot limit end.taker top_min end.book (ap (λ (o : Order). o.price) (sweep-order steps limit m)) (sweep-in-order steps limit m start).ordered (sweep-uncrossed steps limit m h) done some
+    done-uncrossed slot limit end.taker top_min end.book (ap (λ (o : Order). o.price) (sweep-order steps limit m)) (sweep-in-order steps limit m (right-in-order m.book right)).ordered (sweep-uncrossed steps limit m h) done some

@@ -1,5 +1,4 @@
 pub mod Mapped
-pub mod Repeats
 pub mod Numbered
 pub mod Given
 pub mod Lists

@@ -31,11 +31,7 @@ fn buy<B: Book>(rt: &impl Abort, book: &mut B, wanted: u32, least: u32) -> (Take
 #[test]
 fn shares_below_the_least_are_none(rt: HostRuntime) -> Result<(), Fail> {
     let mut book = PlainBook::new(rt.alloc(), 4, 1)?;
-    let sells = [
-        sell(&rt, 1, 10, 0),
-        sell(&rt, 2, 1, 0),
-        sell(&rt, 3, 9, 0),
-    ];
+    let sells = [sell(&rt, 1, 10, 0), sell(&rt, 2, 1, 0), sell(&rt, 3, 9, 0)];
     rest_all(&rt, &mut book, &sells);
     let (taker, desk) = buy(&rt, &mut book, 10, 5);
     assert_eq!(rt; (taker.order.leaves, desk.trades, desk.reports), (5, 1, 2));
