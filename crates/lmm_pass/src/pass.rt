@@ -1,20 +1,12 @@
 //! Each lead market maker's percentage of what is wanted is spent over its own orders of a level.
-ghost use Rattle.std.specs.Prelude.{◌≡◌, ◌≤◌, ◌*◌, ◌/◌, ◌==◌, map, sum_by};
+ghost use Rattle.std.specs.Prelude.{◌≤◌, ◌==◌, map, sum_by};
 ghost use Rattle.std.specs.List.{IsDistinct, AllByRecursion};
 ghost use Rattle.gx_base.specs.declared.order.LmmShare.{LmmShare};
 ghost use Rattle.plain_book.specs.Matches.{match_at, Matches, CanTrade};
 ghost use Rattle.plain_book.specs.Steps.{lmm};
 
 use gx_base::{Desk, Emit, LmmShare, Order, Price, StepName, Taker};
-use plain_book::{Book, ShareRule, trade_level};
-
-/// A percentage of some lots, rounded down.
-fn part_of(wanted: u32, percent: u8) -> u32
-    requires { percent ≤ 100 }
-    ensures { result ≡ wanted * percent / 100 }
-{
-    (u64::from(wanted) * u64::from(percent) / 100) as u32
-}
+use plain_book::{Book, ShareRule, percent_of, trade_level};
 
 /// Lots that are spent over the orders of a firm by priority: each trades what it shows, as far as any are left.
 #[derive(Drop)]
@@ -65,7 +57,7 @@ pub fn lmm_pass<B: Book, E: Emit>(
         book.rules();
         let mut spent = SpentOnFirm {
             firm: share.firm,
-            left: part_of(wanted, share.percent),
+            left: percent_of(wanted, share.percent),
         };
         trade_level(book, desk, taker, price, StepName::Lmm, &mut spent, out);
     }

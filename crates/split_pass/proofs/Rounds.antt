@@ -11,10 +11,10 @@ use Rattle.gx_base.specs.Emits.{EmitMeanings}
 use Rattle.plain_book.specs.declared.entry.Entry.{Entry}
 use Rattle.plain_book.specs.Book.{Book}
 use Rattle.plain_book.specs.Match.{MatchState, trade, trade_share}
-use Rattle.plain_book.specs.Matches.{MatchAt, start_at, CanTrade, Matches}
+use Rattle.plain_book.specs.Matches.{MatchAt, start_at, Matches}
 use Rattle.plain_book.specs.Steps.{facing, level_now, trade_head, fifo_rounds, fifo, IsLevelDone}
 use Rattle.plain_book.proofs.TradedShares.{IgnoresEvents, with_events, share-ignores}
-use Rattle.plain_book.proofs.Matching.{matches-none, matches-then, matches-as}
+use Rattle.plain_book.proofs.Matching.{matches-then, matches-as}
 use Rattle.split_pass.proofs.Heads.{IsHead}
 
 abbrev pub next_round : Price → MatchState → MatchState
@@ -73,9 +73,6 @@ pub record IsRounding {E : Type 0} (m : EmitMeanings E) (price : Price) (before 
   pub faces : facing price now.taker ≡ facing price before.taker
 
 module _ {E : Type 0} (m : EmitMeanings E) (price : Price) where
-  pub rounding-start : (a : MatchAt E) → CanTrade a.book a.desk a.taker → IsRounding m price a a
-  rounding-start a can = record { rounds = 0; matches = matches-none m a can; few = omega arith; faces = refl }
-
   -- one more round
   pub rounding-more : (a b c : MatchAt E) (slot lots : ℕ) (h : IsHead (facing price b.taker) b.book slot) → lots ≡ min b.taker.order.leaves h.entry.order.shown → 1 ≤ lots
       → IsRounding m price a b → Matches m (trade Fifo slot lots) b c → IsRounding m price a c

@@ -1,19 +1,10 @@
 //! A percentage of what is wanted is spent over a level by priority.
-ghost use Rattle.std.specs.Prelude.{◌≡◌, ◌≤◌, ◌*◌, ◌/◌};
+ghost use Rattle.std.specs.Prelude.{◌≤◌};
 ghost use Rattle.plain_book.specs.Matches.{match_at, Matches, CanTrade};
 ghost use Rattle.plain_book.specs.Steps.{split};
 
 use gx_base::{Desk, Emit, Order, Price, StepName, Taker};
-use plain_book::{Book, ShareRule, trade_level};
-
-/// A percentage of some lots, rounded down.
-fn part_of(wanted: u32, percent: u8) -> u32
-    requires { percent ≤ 100 }
-    ensures value { result ≡ wanted * percent / 100 }
-    ensures at_most { result ≤ wanted }
-{
-    (u64::from(wanted) * u64::from(percent) / 100) as u32
-}
+use plain_book::{Book, ShareRule, percent_of, trade_level};
 
 /// Lots that are spent over orders by priority: each trades what it shows, as far as any are left.
 #[derive(Drop)]
@@ -53,7 +44,7 @@ pub fn split_pass<B: Book, E: Emit>(
         Matches E.meanings (split percent price) before after }
 {
     let mut spent = Spent {
-        left: part_of(taker.order.leaves, percent),
+        left: percent_of(taker.order.leaves, percent),
     };
     trade_level(book, desk, taker, price, StepName::Split, &mut spent, out);
 }

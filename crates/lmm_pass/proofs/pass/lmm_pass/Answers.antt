@@ -25,8 +25,8 @@ trade_level-requires-clause-within g c =
     let before = match_at (g.B.Book.book c.args.book.now) c.args.desk.now c.args.taker.now c.args.out.now in
     let now = match_at b l.desk l.taker l.out in
     let way = subst (λ (left : List LmmShare). IsUnderWay m price shares before left now) (next-share shares i c.loop-share-test.true) l.invariant in
-    let few : c.part_of.result ≤ l.taker.order.leaves = omega (arith, c.part_of.ensures, way-wanted m price shares before s (drop (i + 1) shares) now way) in
-    spent-within l.taker.order.leaves s.firm c.part_of.result (orders_at (facing price l.taker) b.resting) few
+    let few : c.percent_of.result ≤ l.taker.order.leaves = omega (arith, c.percent_of.ensures.value, way-wanted m price shares before s (drop (i + 1) shares) now way) in
+    spent-within l.taker.order.leaves s.firm c.percent_of.result (orders_at (facing price l.taker) b.resting) few
 
 pub loop-share-preserved : goal.loop-share-preserved
 loop-share-preserved g c =
@@ -40,7 +40,7 @@ loop-share-preserved g c =
     let now = match_at b l.desk l.taker l.out in
     let r = c.trade_level.new in
     let way = subst (λ (left : List LmmShare). IsUnderWay m price shares before left now) (next-share shares i c.loop-share-test.true) l.invariant in
-    way-more m price shares before (share_at shares i) (drop (i + 1) shares) now (match_at (g.B.Book.book r.book) r.desk r.taker r.out) c.part_of.result (AllDiffer-front b.resting b.waiting c.rules.ensures.differ) way c.part_of.ensures c.trade_level.ensures
+    way-more m price shares before (share_at shares i) (drop (i + 1) shares) now (match_at (g.B.Book.book r.book) r.desk r.taker r.out) c.percent_of.result (AllDiffer-front b.resting b.waiting c.rules.ensures.differ) way c.percent_of.ensures.value c.trade_level.ensures
 
 pub returns : goal.returns
 returns g c =
