@@ -24,7 +24,7 @@ use Rattle.globex_run.specs.declared.serve.Ending.{Ending}
 use Rattle.globex_run.specs.declared.serve.Ending.TheVariants.{Done, ReadFault, SendFault, BadFrame, Truncated, Full}
 use Rattle.globex_run.proofs.Fronts.{front-none, front-other}
 use Rattle.globex_run.proofs.Running.{reports-push, served-push, and_left-none}
-use Rattle.exec_report.proofs.Sent.{sent_and-append}
+use Rattle.gx_station.specs.SendLaws.{sent_and-append}
 
 module _ {I S : Type 0} (product : ProductLists) (before now : Streams I S) (framing : Framing) (state : State) (run : IsServed product before now framing state) (few : state.desk.messages ≤ 10000) where
   abbrev Result : SourceAt I → StationAt S → Ending → ℕ → Type 0

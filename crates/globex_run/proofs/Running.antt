@@ -16,7 +16,7 @@ use Rattle.globex_run.specs.Step.{step_of, state_after, events_from, reports_of,
 use Rattle.globex_run.specs.Outside.{SourceAt, StationAt, Streams}
 use Rattle.globex_run.specs.Inner.Serving.{TakesMore, ServesFrame, IsEmptyFramer, IsServed}
 use Rattle.globex_run.specs.ServedRequests.{is_served_frame, AreServed}
-use Rattle.exec_report.proofs.Sent.{sent_and-append, sent_and_none}
+use Rattle.gx_station.specs.SendLaws.{sent_and-append, sent_and_none}
 
 -- ---- lists of frames
 

@@ -6,4 +6,6 @@ pub mod Frames
 pub mod Line
 pub mod KnownBytes
 pub mod Emits
+pub mod EmitLaws
 pub mod ByteLog
+pub mod LineLaws

@@ -5,7 +5,7 @@ use Rattle.gx_base.specs.declared.order.Desk.{Desk}
 use Rattle.gx_base.specs.declared.order.Taker.{Taker}
 use Rattle.gx_base.specs.declared.event.Event.{Event}
 use Rattle.gx_base.specs.Emits.{EmitMeanings, Emits}
-use Rattle.gx_base.proofs.Putting.{emits_none, emits_joined}
+use Rattle.gx_base.specs.EmitLaws.{emits_none, emits_joined}
 use Rattle.plain_book.specs.Book.{Book}
 use Rattle.plain_book.specs.Match.{MatchState, match_start, IsNow}
 use Rattle.plain_book.proofs.Steps.{match_with, with_events}

@@ -8,7 +8,7 @@ use Rattle.gx_base.specs.declared.order.Taker.{Taker}
 use Rattle.gx_base.specs.declared.event.Event.{Event}
 use Rattle.gx_base.specs.declared.event.StepName.{StepName}
 use Rattle.gx_base.specs.Emits.{EmitMeanings, Emits}
-use Rattle.gx_base.proofs.Putting.{emits_none, emits_joined}
+use Rattle.gx_base.specs.EmitLaws.{emits_none, emits_joined}
 use Rattle.plain_book.specs.declared.entry.Entry.{Entry}
 use Rattle.plain_book.specs.Book.{Book}
 use Rattle.plain_book.specs.Match.{MatchState, match_start, Share, trade, give, gives, IsNow}

@@ -12,7 +12,7 @@ use Rattle.gx_base.specs.declared.order.Taker.{Taker}
 use Rattle.gx_base.specs.declared.event.Event.{Event}
 use Rattle.gx_base.specs.declared.event.StepName.TheVariants.{Fifo}
 use Rattle.gx_base.specs.Emits.{EmitMeanings, Emits}
-use Rattle.gx_base.proofs.Putting.{emits_joined}
+use Rattle.gx_base.specs.EmitLaws.{emits_joined}
 use Rattle.plain_book.specs.declared.entry.Entry.{Entry}
 use Rattle.plain_book.specs.Orders.{Level, level, orders_at, opposite, HasSlot, order_of, slot_of}
 use Rattle.plain_book.specs.Book.{Book, IsRight, IsResting, live_orders, slot_number}

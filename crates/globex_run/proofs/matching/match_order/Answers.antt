@@ -1,4 +1,4 @@
-use Rattle.gx_base.proofs.Putting.{emits_as}
+use Rattle.gx_base.specs.EmitLaws.{emits_as}
 use Rattle.globex_run.proofs.Sweeping.{now-numbered, events-numbered, still-numbered, no-more, same-order}
 use Rattle.globex_run.proofs.matching.match_order.Goals as goal
 

@@ -1,5 +1,5 @@
 use Rattle.std.proofs.Common.{◌<◌, ◌+◌, ◌-◌, ◌∙◌, ℕ, ap, sym, subst, arith, slice_index}
-use Rattle.gx_base.proofs.Putting.{emits_as}
+use Rattle.gx_base.specs.EmitLaws.{emits_as}
 use Rattle.gx_base.specs.declared.order.Order.{Order}
 use Rattle.gx_base.specs.declared.order.Desk.{Desk}
 use Rattle.plain_book.specs.Orders.{order_of}

@@ -3,7 +3,7 @@ use Rattle.std.proofs.lemmas.List.{append-nil}
 use Rattle.std.proofs.lemmas.List.Sums.{sum_by-cons}
 use Rattle.gx_base.specs.declared.order.Order.{Order}
 use Rattle.gx_base.specs.Emits.{Emits}
-use Rattle.gx_base.proofs.Putting.{emits_none}
+use Rattle.gx_base.specs.EmitLaws.{emits_none}
 use Rattle.plain_book.specs.declared.entry.Entry.{Entry}
 use Rattle.plain_book.specs.Orders.{orders_at, entry_at}
 use Rattle.plain_book.specs.Match.{MatchState, match_start, IsNow}

@@ -1,7 +1,7 @@
 use Rattle.std.proofs.Common.{◌≡◌, min, sym, ap, subst, ◌∙◌, arith, refl}
 use Rattle.gx_base.specs.declared.order.Order.{Order}
 use Rattle.gx_base.specs.Emits.{Emits}
-use Rattle.gx_base.proofs.Putting.{emits_none}
+use Rattle.gx_base.specs.EmitLaws.{emits_none}
 use Rattle.plain_book.specs.Match.{MatchState, match_start, IsNow}
 use Rattle.top_order.proofs.Tops.{met_top, top_rests, top_lives, top_order, top_here, top_away}
 use Rattle.top_order.proofs.pass.top_pass.Goals as goal

@@ -1,17 +1,13 @@
 -- How runs of puts go together.
-use Rattle.std.proofs.Common.{◌≡◌, ◌⊎◌, inl, inr, ℕ, ◌+◌, ◌<◌, ◌≤◌, get_or, Bool, true, false, List, [], ◌∷◌, ◌++◌, length, take, Option, Some, None, refl, sym, ◌∙◌, ap, subst, arith, length-append}
-use Rattle.std.proofs.lemmas.Bool.{true≢false}
-use Rattle.std.proofs.lemmas.List.{take-append-le, take_more}
+use Rattle.std.proofs.Common.{◌≡◌, inl, inr, ℕ, ◌+◌, ◌≤◌, List, [], ◌∷◌, ◌++◌, length, take, Option, Some, None, refl, sym, ◌∙◌, ap, subst, arith, length-append}
+use Rattle.std.proofs.lemmas.Bool.{cases_Bool, true≢false}
+use Rattle.std.proofs.lemmas.List.{take-append-le}
 use Rattle.std.proofs.lemmas.List.Sums.{fold-append}
 use Rattle.std.proofs.Math.Seq.{take-append-add}
 use Rattle.std.specs.Option.{option_map}
 use Rattle.gx_base.specs.KnownBytes.{IsKnownPrefix, known_itself}
 use Rattle.gx_base.specs.Emits.{EmitMeanings, Puts, Emits, seen_after}
 use Rattle.gx_base.specs.declared.event.Event.{Event}
-
-pub true_or_false : (b : Bool) → (b ≡ true) ⊎ (b ≡ false)
-true_or_false true = inl refl
-true_or_false false = inr refl
 
 -- no event leaves what is seen
 pub seen_after_none : (f : List ℕ → Event → List ℕ) (s : Option (List ℕ)) → seen_after f s [] ≡ s
@@ -40,7 +36,7 @@ module _ {E : Type 0} (m : EmitMeanings E) where
   emits_one a b x put = record {
     later = put.later;
     all = λ ok. put.done ok ∙ seen_after_one (m.after a) (m.seen a) x;
-    part = λ failed. elim (true_or_false (m.has_failed a)) [
+    part = λ failed. elim (cases_Bool (m.has_failed a)) [
       | inl was ↦ (0, omega arith, subst (λ s. IsKnownPrefix (m.seen b) s) (ap m.seen (put.stays was) ∙ sym (seen_after_none (m.after a) (m.seen a))) (known_itself (m.seen b)))
       | inr was_not ↦ (1, omega arith, subst (λ s. IsKnownPrefix (m.seen b) s) (seen_after_one (m.after a) (m.seen a) x) (put.cut was_not failed))
     ];
@@ -51,11 +47,11 @@ module _ {E : Type 0} (m : EmitMeanings E) where
   pub emits_joined : (a b c : E) (xs ys : List Event) → Emits m a b xs → Emits m b c ys → Emits m a c (xs ++ ys)
   emits_joined a b c xs ys first second = record {
     later = m.later_then a b c first.later second.later;
-    all = λ ok. elim (true_or_false (m.has_failed b)) [
+    all = λ ok. elim (cases_Bool (m.has_failed b)) [
       | inl was ↦ absurd (true≢false (sym (ap m.has_failed (second.stays was) ∙ was) ∙ ok))
       | inr was_not ↦ second.all ok ∙ ap (λ f. seen_after f (m.seen b) ys) same_rule ∙ ap (λ s. seen_after (m.after a) s ys) (first.all was_not) ∙ sym (seen_after-append (m.after a) (m.seen a) xs ys)
     ];
-    part = λ failed. elim (true_or_false (m.has_failed b)) [
+    part = λ failed. elim (cases_Bool (m.has_failed b)) [
       | inl was ↦
           let p = first.part was in
           let lt : p.0 ≤ length (xs ++ ys) = omega (arith, p.1, length-append xs ys) in
@@ -77,23 +73,5 @@ module _ {E : Type 0} (m : EmitMeanings E) where
       same_rule : m.after b ≡ m.after a
       same_rule = m.after_stays a b first.later
 
-  -- one turn of a loop over a list of events
-  pub emits_more : (a b c : E) (events : List Event) (i : ℕ) (d : Event) → i < length events → Emits m a b (take i events) → Puts m b c (get_or events i d) → Emits m a c (take (i + 1) events)
-  emits_more a b c events i d lt so_far put =
-      subst (λ (l : List Event). Emits m a c l) (sym (take_more events i d lt)) (emits_joined a b c (take i events) (get_or events i d ∷ []) so_far (emits_one b c (get_or events i d) put))
-
   pub emits_as : (a b : E) (xs ys : List Event) → xs ≡ ys → Emits m a b xs → Emits m a b ys
   emits_as a b xs ys same run = subst (λ (l : List Event). Emits m a b l) same run
-
-  -- after a failure the events that were left out count for nothing
-  pub emits_stopped : (a b : E) (xs ys : List Event) → m.has_failed b ≡ true → Emits m a b xs → Emits m a b (xs ++ ys)
-  emits_stopped a b xs ys stopped run = record {
-    later = run.later;
-    all = λ ok. absurd (true≢false (sym stopped ∙ ok));
-    part = λ failed.
-        let p = run.part failed in
-        let lt : p.0 ≤ length (xs ++ ys) = omega (arith, p.1, length-append xs ys) in
-        let front : take p.0 (xs ++ ys) ≡ take p.0 xs = take-append-le p.0 xs ys p.1 in
-        (p.0, lt, subst (λ (l : List Event). IsKnownPrefix (m.seen b) (seen_after (m.after a) (m.seen a) l)) (sym front) p.2);
-    stays = run.stays;
-  }

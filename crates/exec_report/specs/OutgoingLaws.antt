@@ -1,37 +1,26 @@
 -- What was sent by an `Outgoing` from its making to its last flush.
-use Rattle.std.proofs.Common.{◌≡◌, inl, inr, ℕ, true, false, List, [], ◌++◌, Option, Some, None, Result, Ok, Err, take, drop, refl, sym, ◌∙◌, ap, subst, append_assoc}
+use Rattle.std.proofs.Common.{◌≡◌, inl, inr, ℕ, true, false, List, [], ◌++◌, Option, Some, None, Result, Ok, Err, take, drop, refl, sym, ◌∙◌, ap, subst}
 use Rattle.std.proofs.lemmas.Bool.{cases_Bool}
-use Rattle.std.proofs.lemmas.List.{append-nil, take-append-drop}
+use Rattle.std.proofs.lemmas.List.{take-append-drop}
 use Rattle.std.specs.List.{flat_map}
 use Rattle.std.proofs.lemmas.Grind.{flat_map-append}
 use Rattle.gx_base.specs.KnownBytes.{IsKnownPrefix, known_then, known_itself}
 use Rattle.std.specs.Borrow.{MutBor}
 use Rattle.gx_base.specs.Line.{line_of}
 use Rattle.gx_base.specs.ByteLog.{with_line}
-use Rattle.gx_base.proofs.Lines.{fold-with_line}
+use Rattle.gx_base.specs.LineLaws.{fold-with_line}
 use Rattle.gx_base.specs.Emits.{Emits, seen_after}
 use Rattle.gx_base.specs.declared.event.Event.{Event}
 use Rattle.gx_base.specs.NameLists.{NameLists}
 use Rattle.gx_station.specs.Stations.{StationMeanings, sent_and}
-use Rattle.gx_station.specs.Quiet.{Quiet, Sends}
-use Rattle.exec_report.specs.Outgoing.{outgoing_seen, IsLaterOutgoing, IsNew, Flushes, outgoing_then, outgoing_meanings}
+use Rattle.gx_station.specs.Quiet.{Sends}
+use Rattle.gx_station.specs.SendLaws.{sent_and_none, known_front}
+use Rattle.exec_report.specs.Outgoing.{outgoing_seen, IsNew, Flushes, outgoing_then, outgoing_meanings}
 use Rattle.exec_report.specs.declared.outgoing.Outgoing.{Outgoing}
 
 pub seen_after-with_line : (names : NameLists) (sent : Option (List ℕ)) (events : List Event) → seen_after (with_line names) sent events ≡ sent_and sent (flat_map (line_of names) events)
 seen_after-with_line names None events = refl
 seen_after-with_line names (Some bytes) events = ap Some (fold-with_line names bytes events)
-
-pub sent_and_none : (sent : Option (List ℕ)) → sent_and sent [] ≡ sent
-sent_and_none None = refl
-sent_and_none (Some bytes) = ap Some (append-nil bytes)
-
-pub sent_and-append : (sent : Option (List ℕ)) (xs ys : List ℕ) → sent_and sent (xs ++ ys) ≡ sent_and (sent_and sent xs) ys
-sent_and-append None xs ys = refl
-sent_and-append (Some bytes) xs ys = ap Some (sym (append_assoc bytes xs ys))
-
-pub known_front : (sent : Option (List ℕ)) (xs ys : List ℕ) → IsKnownPrefix (sent_and sent xs) (sent_and sent (xs ++ ys))
-known_front None xs ys = tt
-known_front (Some bytes) xs ys = record { rest = ys; is = sym (append_assoc bytes xs ys) }
 
 module _ {S : Type 0} (m : StationMeanings S) where
   abbrev Run : Outgoing S → Outgoing S → List Event → Type 0
@@ -90,16 +79,3 @@ module _ {S : Type 0} (m : StationMeanings S) where
   pub delivered : {T F : Type 0} (a b c : Outgoing S) (buffer : MutBor (List ℕ)) (station : MutBor S) (names : NameLists) (events : List Event) (result : Result T F) → IsNew m a buffer station names → Run a b events → Flushes m b c result → Sends m station.now c.station.now (flat_map (line_of names) events) result
   delivered a b c buffer station names events result made run flush =
       subst (λ x. Sends m x c.station.now (flat_map (line_of names) events) result) made.station (delivered_lem a b c names events made.buffer made.names made.works run result flush)
-
-  -- t is the station after the loan
-  pub quiet_to : (a b c : Outgoing S) (buffer : MutBor (List ℕ)) (station : MutBor S) (names : NameLists) (t : S) → IsNew m a buffer station names → IsLaterOutgoing m a b → IsLaterOutgoing m b c → t ≡ c.station.now → Quiet m station.now t
-  quiet_to a b c buffer station names t made first second to =
-      let all = (outgoing_then m a b c first second).quiet in
-      subst (λ x. Quiet m station.now x) (sym to) (subst (λ x. Quiet m x c.station.now) made.station all)
-
--- t is the station after the loan
-pub sends_to : {S T F : Type 0} (m : StationMeanings S) (a b t : S) (bytes : List ℕ) (result : Result T F) → t ≡ b → Sends m a b bytes result → Sends m a t bytes result
-sends_to m a b t bytes result to sends = subst (λ x. Sends m a x bytes result) (sym to) sends
-
-pub sends_as : {S T F : Type 0} (m : StationMeanings S) (a b : S) (bytes same : List ℕ) (result : Result T F) → bytes ≡ same → Sends m a b bytes result → Sends m a b same result
-sends_as m a b bytes same result e sends = subst (λ (l : List ℕ). Sends m a b l result) e sends
