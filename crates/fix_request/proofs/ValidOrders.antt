@@ -7,6 +7,7 @@ use Rattle.std.proofs.lemmas.List.{length-map}
 use Rattle.std.proofs.lemmas.List.Quantifiers.{position-Some}
 use Rattle.std.proofs.lemmas.Option.{cond_some, none-some, same_Some}
 use Rattle.std.specs.Str.Parse.{digits_value}
+use Rattle.gx_base.specs.declared.order.Kind.{Kind}
 use Rattle.gx_base.specs.declared.digits.TheConstants.{MOST_DIGITS}
 use Rattle.gx_base.specs.Numbers.{are_digits, is_point, is_quantity_text, quantity_of}
 use Rattle.gx_base.specs.Texts.{is_name}
@@ -17,7 +18,7 @@ use Rattle.fix_request.specs.Faults.{fault}
 use Rattle.fix_request.specs.Inner.Rules.{where_passes, needed, needed_where, formed, listed}
 use Rattle.fix_request.specs.MessageTable.{known_if_some, named_of}
 use Rattle.fix_request.specs.Inner.Orders.{side_of, kind_of, life_of, symbol_tag, symbol_text, has_price, has_trigger, quantity_or_zero, price_if_read, OrderTexts, order_texts, order_forms, new_of, cancel_of, replace_of}
-use Rattle.fix_request.specs.ValidRequests.{IsValidSender, IsListed, IsValidNew, IsValidReplace}
+use Rattle.fix_request.specs.ValidRequests.{IsValidSender, IsListed, IsWithinLimit, HasPricesOf, IsValidNew, IsValidReplace}
 use Rattle.fix_request.specs.declared.forms.OrderForms.{OrderForms}
 use Rattle.fix_request.specs.declared.request.Sender.{Sender}
 use Rattle.fix_request.specs.declared.request.Px.{Px}
@@ -114,6 +115,23 @@ there : (text : Option (List ℕ)) (o : Option Px) (px : Px) → FitsIfSome text
 there text None px fits is = absurd (none-some px is)
 there text (Some other) px fits is = subst (Fits text) (same_Some other px is) fits
 
+-- both prices are those of an order of this kind
+record ArePricesOf (kind : Kind) (limit stop : Px) : Type 0 where
+  pub price : IsWithinLimit limit
+  pub trigger : IsWithinLimit stop
+  pub prices : HasPricesOf kind limit stop
+
+prices_hold : (names : NameLists) (texts : OrderTexts) (forms : OrderForms) (kind : Kind) (price trigger : Px) → HasTexts texts → HasForms names texts forms → kind_of texts.kind ≡ Some kind → forms.price ≡ Some price → forms.trigger ≡ Some trigger → ArePricesOf kind price trigger
+prices_hold names texts forms kind price trigger has_texts has_forms kind_is_read price_is trigger_is =
+    let text = kind_is texts.kind kind kind_is_read in
+    let price_there = there texts.price forms.price price has_forms.price price_is in
+    let trigger_there = there texts.trigger forms.trigger trigger has_forms.trigger trigger_is in
+    record {
+      price = within_where texts.price price price_there;
+      trigger = within_where texts.trigger trigger trigger_there;
+      prices = prices_of kind texts.price texts.trigger price trigger (has_texts.price ∙ text.price) (has_texts.trigger ∙ text.trigger) price_there trigger_there;
+    }
+
 -- ---- each type
 
 pub new_holds : (names : NameLists) (sender : Sender) (values : Values) → IsValidSender names sender → Holds (IsValidNew names) (new_of names sender values)
@@ -131,18 +149,16 @@ new_holds names sender values known =
     step (λ life. life_of values.life ≡ Some life) P (listed 59 (life_of values.life)) _ (listed_holds 59 (life_of values.life)) (λ life _.
     step (λ price. forms.price ≡ Some price) P (listed 44 forms.price) _ (listed_holds 44 forms.price) (λ price price_is.
     step (λ trigger. forms.trigger ≡ Some trigger) P (listed 99 forms.trigger) _ (listed_holds 99 forms.trigger) (λ trigger trigger_is.
-    let text = kind_is texts.kind kind kind_is_read in
-    let price_there = there texts.price forms.price price has_forms.price price_is in
-    let trigger_there = there texts.trigger forms.trigger trigger has_forms.trigger trigger_is in
+    let both = prices_hold names texts forms kind price trigger has_texts has_forms kind_is_read price_is trigger_is in
     record {
       sender = known;
       named = has_forms.named;
       quantity = has_forms.quantity;
       min = min_below;
       show = show_below;
-      price = within_where texts.price price price_there;
-      trigger = within_where texts.trigger trigger trigger_there;
-      prices = prices_of kind texts.price texts.trigger price trigger (has_texts.price ∙ text.price) (has_texts.trigger ∙ text.trigger) price_there trigger_there;
+      price = both.price;
+      trigger = both.trigger;
+      prices = both.prices;
     })))))))))))
 
 pub cancel_holds : (names : NameLists) (sender : Sender) (values : Values) → IsValidSender names sender → Holds (λ (order : CancelOrder). IsValidSender names order.sender) (cancel_of sender values)
@@ -169,14 +185,12 @@ replace_holds names sender values known =
     step (λ kind. kind_of texts.kind ≡ Some kind) P (listed 40 (kind_of texts.kind)) _ (listed_holds 40 (kind_of texts.kind)) (λ kind kind_is_read.
     step (λ price. forms.price ≡ Some price) P (listed 44 forms.price) _ (listed_holds 44 forms.price) (λ price price_is.
     step (λ trigger. forms.trigger ≡ Some trigger) P (listed 99 forms.trigger) _ (listed_holds 99 forms.trigger) (λ trigger trigger_is.
-    let text = kind_is texts.kind kind kind_is_read in
-    let price_there = there texts.price forms.price price has_forms.price price_is in
-    let trigger_there = there texts.trigger forms.trigger trigger has_forms.trigger trigger_is in
+    let both = prices_hold names texts forms kind price trigger has_texts has_forms kind_is_read price_is trigger_is in
     record {
       sender = known;
       named = has_forms.named;
       quantity = has_forms.quantity;
-      price = within_where texts.price price price_there;
-      trigger = within_where texts.trigger trigger trigger_there;
-      prices = prices_of kind texts.price texts.trigger price trigger (has_texts.price ∙ text.price) (has_texts.trigger ∙ text.trigger) price_there trigger_there;
+      price = both.price;
+      trigger = both.trigger;
+      prices = both.prices;
     }))))))))))

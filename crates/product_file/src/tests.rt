@@ -149,53 +149,6 @@ fn a_file_for_each_rule(rt: HostRuntime) -> Result<(), Fail> {
 }
 
 #[test]
-fn at_most_the_longest_text(rt: HostRuntime) -> Result<(), Fail> {
-    let alloc = rt.alloc();
-    let mut text = Vec::new(alloc);
-    text.extend_from_slice(ROW.as_bytes())?;
-    text.resize(LONGEST_TEXT, b'\n')?;
-    assert_eq!(rt; rule_of(alloc, text.as_slice()), 0);
-    text.push(b'\n')?;
-    assert_eq!(rt; rule_of(alloc, text.as_slice()), 1);
-    Ok(())
-}
-
-/// A product of so many firms F0, F1 .. and so many instruments I0, I1 .., with an LMM share of the last firm.
-fn full(alloc: Global, firms: u32, instruments: u32) -> Result<String, AllocError> {
-    let mut text = String::new(alloc);
-    text.push_str("exchange = \"GX\"\nfirms = [")?;
-    for i in 0..firms {
-        let firm = format!(in alloc; "\"F{i}\",")?;
-        text.push_str(firm.as_str())?;
-    }
-    text.push_str("]\n")?;
-    for i in 0..instruments {
-        let table = format!(in alloc;
-            "[[instrument]]\nname = \"I{i}\"\n{NUMBERS}\nalgorithm = \"T\"\nlmm = [{{ firm = \"F63\", percent = 10 }}]\n"
-        )?;
-        text.push_str(table.as_str())?;
-    }
-    Ok(text)
-}
-
-#[test]
-fn full_product(rt: HostRuntime) -> Result<(), Fail> {
-    let alloc = rt.alloc();
-    let text = full(alloc, 64, 16)?;
-    let product = read_product(alloc, text.as_bytes()).ok().ok_or("right")?;
-    assert_eq!(rt; product.names().find_firm(b"F63"), Some(63));
-    assert_eq!(rt; product.names().find_instrument(b"I15"), Some(15));
-    product.limits();
-    let mut shares = ArrayVec::new();
-    shares.push(LmmShare {
-        firm: 63,
-        percent: 10,
-    });
-    assert!(rt; product.rule(0).steps.list() == [Step::Lmm(shares), Step::Fifo].as_slice());
-    Ok(())
-}
-
-#[test]
 fn faults_name_their_place(rt: HostRuntime) -> Result<(), Fail> {
     let alloc = rt.alloc();
     let text = file(
