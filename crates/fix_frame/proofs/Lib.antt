@@ -1,7 +1,7 @@
-pub mod Heads
-pub mod Frames
-pub mod Places
-pub mod Scanning
-pub mod Ends
-pub mod Framings
-pub mod Bodies
+mod Heads
+mod Frames
+mod Places
+mod Scanning
+mod Ends
+mod Framings
+mod Bodies

@@ -1,7 +1,7 @@
-pub mod Capped
-pub mod Places
-pub mod PriceTexts
-pub mod Times
+mod Capped
+mod Places
+mod PriceTexts
+mod Times
 mod Logs
 mod Framing
 mod Rows

@@ -1,7 +1,7 @@
+-- Offered to the crates above: what they may cite.
 pub mod EachTrade
 pub mod EachOrder
 pub mod Events
-pub mod Resting
 pub mod Advance
 pub mod Done
 pub mod Rounds
@@ -9,3 +9,6 @@ pub mod Names
 pub mod Numbered
 pub mod Renamed
 pub mod Swept
+
+-- What the proofs of this crate alone cite.
+mod Resting

@@ -1,6 +1,6 @@
-pub mod Others
-pub mod Parts
-pub mod Slots
-pub mod Spends
-pub mod UnderWay
-pub mod Unmoved
+mod Others
+mod Parts
+mod Slots
+mod Spends
+mod UnderWay
+mod Unmoved

@@ -1,7 +1,7 @@
-pub mod Parts
-pub mod Lots
-pub mod Standing
-pub mod Showing
-pub mod Done
-pub mod Tops
-pub mod Uncrossed
+mod Parts
+mod Lots
+mod Standing
+mod Showing
+mod Done
+mod Tops
+mod Uncrossed

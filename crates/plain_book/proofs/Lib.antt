@@ -1,20 +1,23 @@
+-- Offered to the crates above: what they may cite.
 pub mod Filters
 pub mod Levels
 pub mod Pairs
 pub mod Live
 pub mod Walks
 pub mod TradedShares
-pub mod Found
 pub mod Matching
-pub mod Marks
-pub mod WalkSteps
-pub mod WalkLevel
-pub mod Trading
-pub mod Before
+pub mod Found
 pub mod Sorted
-pub mod Mapped
 pub mod Tops
-pub mod Named
 pub mod Right
-pub mod Settled
-pub mod Kept
+
+-- What the proofs of this crate alone cite.
+mod Before
+mod Mapped
+mod Named
+mod Settled
+mod Kept
+mod Trading
+mod Marks
+mod WalkSteps
+mod WalkLevel

@@ -1,3 +1,3 @@
-pub mod NoFault
-pub mod Places
-pub mod Right
+mod NoFault
+mod Places
+mod Right
