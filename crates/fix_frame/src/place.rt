@@ -75,7 +75,9 @@ pub fn after_length(digits: usize, number: usize, byte: u8) -> Place
 fn may_be_length(digits: usize, number: usize) -> bool
     ensures { IsTrue result ↔ MayBeLength digits number }
 {
-    digits <= MOST_LENGTH_DIGITS && number <= LONGEST_BODY && (number > 0 || digits < MOST_LENGTH_DIGITS)
+    digits <= MOST_LENGTH_DIGITS
+        && number <= LONGEST_BODY
+        && (number > 0 || digits < MOST_LENGTH_DIGITS)
 }
 
 /// The place behind more bytes of the body, of which so many were left.

@@ -1,5 +1,5 @@
 -- The product of a text whose document was read, and texts that are refused before memory is taken.
-use Rattle.std.proofs.Common.{◌≡◌, ◌≤◌, ℕ, Bool, true, false, nat_lt, if◌then◌else◌, List, length, Option, Some, None, option_map, Ok, Err, IsUtf8, refl, sym, subst}
+use Rattle.std.proofs.Common.{◌≡◌, ◌≤◌, ℕ, Bool, true, false, if◌then◌else◌, List, length, Option, Some, None, option_map, Ok, Err, IsUtf8, refl, sym, subst}
 use Rattle.std.specs.Str.{is_utf8}
 use Rattle.std.proofs.lemmas.Bool.{le-ltb}
 use Rattle.std.proofs.lemmas.Str.{IsUtf8-from_is_utf8}

@@ -1,7 +1,7 @@
 -- What a row says of a key, and the fault of a table by the rows of its keys (our own format).
-use Rattle.std.specs.Prelude.{ℕ, Bool, true, false, not, if◌then◌else◌, List, [], ◌∷◌, map, take, Option, Some, None, is_some, Result, Ok, Err}
+use Rattle.std.specs.Prelude.{ℕ, Bool, true, false, not, List, [], ◌∷◌, map, take, Option, is_some}
 use Rattle.std.specs.List.{list_all, enumerate_from}
-use Rattle.std.specs.Option.{option_map_or, option_or}
+use Rattle.std.specs.Option.{option_map_or}
 use Rattle.gx_base.specs.FirstFault.{fault_if, first_fault}
 use Rattle.toml.specs.Data.{Data, as_str, as_integer, as_array, as_table}
 use Rattle.product_file.specs.declared.faults.Key.{Key}

@@ -16,7 +16,8 @@ mod tests;
 
 pub use faults::{Key, ProductFault};
 pub use limits::{
-    LEAST_JOURNAL, LONGEST_TEXT, MOST_JOURNAL, MOST_ORDERS, MOST_PROTECTION, MOST_TICK, USUAL_JOURNAL, USUAL_ORDERS,
+    LEAST_JOURNAL, LONGEST_TEXT, MOST_JOURNAL, MOST_ORDERS, MOST_PROTECTION, MOST_TICK,
+    USUAL_JOURNAL, USUAL_ORDERS,
 };
 pub use product::{InstrumentRule, Product};
 pub use read::read_product;

@@ -11,7 +11,9 @@ use crate::faults::{Key, ProductFault};
 use crate::firms::firms_of;
 use crate::instruments::instruments_of;
 use crate::keys::{name_at, number_if};
-use crate::limits::{LEAST_JOURNAL, LONGEST_TEXT, MOST_JOURNAL, MOST_ORDERS, USUAL_JOURNAL, USUAL_ORDERS};
+use crate::limits::{
+    LEAST_JOURNAL, LONGEST_TEXT, MOST_JOURNAL, MOST_ORDERS, USUAL_JOURNAL, USUAL_ORDERS,
+};
 use crate::product::Product;
 use gx_base::Names;
 use std::alloc::Global;
@@ -34,7 +36,13 @@ pub fn read_product(alloc: Global, text: &[u8]) -> Result<Product, ProductFault>
     let exchange = name_at(&document, Key::Exchange)?;
     let firms = firms_of(alloc, &document)?;
     let max_orders = number_if(false, &document, Key::MaxOrders, 1, MOST_ORDERS)?;
-    let journal_limit = number_if(false, &document, Key::JournalLimit, LEAST_JOURNAL, MOST_JOURNAL)?;
+    let journal_limit = number_if(
+        false,
+        &document,
+        Key::JournalLimit,
+        LEAST_JOURNAL,
+        MOST_JOURNAL,
+    )?;
     let instruments = instruments_of(&firms, &document)?;
     let names = Names::new(exchange, &firms, &instruments.listed);
     Ok(Product::new(

@@ -1,8 +1,7 @@
 -- A list of steps that has no fault is right.
-use Rattle.std.proofs.Common.{◌≡◌, ℕ, ◌≤◌, ◌==◌, Bool, true, false, not, ◌||◌, ◌&&◌, nat_le, List, [], ◌∷◌, ◌++◌, length, map, Option, Some, None, option_map, refl, append_assoc, append-nil, arith}
+use Rattle.std.proofs.Common.{◌≡◌, ℕ, ◌≤◌, ◌==◌, Bool, true, false, not, ◌&&◌, nat_le, List, [], ◌∷◌, length, map, Option, Some, None, option_map, refl, arith}
 use Rattle.std.proofs.lemmas.Bool.Decides.{nat_tests}
-use Rattle.std.proofs.lemmas.List.Folds.{list_any-append}
-use Rattle.std.specs.List.{IsDistinct, AllByRecursion, list_any, find}
+use Rattle.std.specs.List.{AllByRecursion, find}
 use Rattle.gx_base.specs.declared.limits.TheConstants.{MOST_LOTS}
 use Rattle.gx_base.specs.declared.order.LmmShare.{LmmShare}
 use Rattle.gx_base.specs.declared.order.TopRule.{TopRule}
@@ -10,7 +9,7 @@ use Rattle.step_config.specs.declared.step.Step.{Step}
 use Rattle.step_config.specs.declared.step.Step.TheVariants.{Top, Lmm, Split, ProRata, Leveling, Fifo}
 use Rattle.step_config.specs.declared.step.StepFault.TheVariants.{Percent, Least, MinMax}
 use Rattle.gx_base.specs.FirstFault.{first_fault}
-use Rattle.step_config.specs.Rules.{name_of, is_same_name, is_empty, is_within, is_percent, is_top_rule, first_twice_after, fault_of_shares, fault_of_step, fault_of}
+use Rattle.step_config.specs.Rules.{name_of, is_same_name, is_empty, is_within, is_percent, is_top_rule, fault_of_shares, fault_of_step, fault_of}
 use Rattle.step_config.specs.RightSteps.{IsBetween, IsRightRule, AreRightShares, IsRightStep, AreRightSteps}
 use Rattle.step_config.proofs.NoFault.{no_fault, few_steps, no_share_fault, no_first_step, passes}
 use Rattle.step_config.specs.RepeatLaws.{none_from_cond, distinct}

@@ -1,5 +1,5 @@
 -- Which lists of steps are right, and what is wrong with another one (our own rule).
-use Rattle.std.specs.Prelude.{ℕ, ◌-◌, ◌==◌, Bool, true, false, not, ◌&&◌, nat_lt, nat_le, if◌then◌else◌, List, [], ◌∷◌, ◌++◌, length, map, slice_get, sum_by, find, option_map, Option, Some, None, Result, Ok, Err}
+use Rattle.std.specs.Prelude.{ℕ, ◌-◌, ◌==◌, Bool, true, false, not, ◌&&◌, nat_lt, nat_le, if◌then◌else◌, List, [], ◌∷◌, ◌++◌, length, map, slice_get, sum_by, find, option_map, Option, Some, None, Result}
 use Rattle.std.specs.List.{list_any, before_first}
 use Rattle.gx_base.specs.FirstFault.{fault_if, first_fault, unless_fault}
 use Rattle.gx_base.specs.declared.limits.TheConstants.{MOST_LOTS}

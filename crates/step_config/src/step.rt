@@ -115,7 +115,9 @@ impl Step {
 }
 
 /// The same shares again. Takes no memory.
-pub(crate) fn copy_shares(shares: &ArrayVec<LmmShare, MOST_SHARES>) -> ArrayVec<LmmShare, MOST_SHARES>
+pub(crate) fn copy_shares(
+    shares: &ArrayVec<LmmShare, MOST_SHARES>,
+) -> ArrayVec<LmmShare, MOST_SHARES>
     ensures { result ≡ shares.now }
 {
     let shares = shares.as_slice();

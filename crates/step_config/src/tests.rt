@@ -9,7 +9,12 @@ use std::process::Abort;
 use std::test::Fail;
 
 /// Two shares.
-fn shares_of(firm: u8, percent: u8, other_firm: u8, other_percent: u8) -> ArrayVec<LmmShare, MOST_SHARES> {
+fn shares_of(
+    firm: u8,
+    percent: u8,
+    other_firm: u8,
+    other_percent: u8,
+) -> ArrayVec<LmmShare, MOST_SHARES> {
     let mut shares = ArrayVec::new();
     shares.push(LmmShare { firm, percent });
     shares.push(LmmShare {

@@ -1,4 +1,4 @@
-use Rattle.std.proofs.Common.{◌≡◌, false, nat_lt, length, sym, lit≤, arith, rules}
+use Rattle.std.proofs.Common.{sym, lit≤, arith, rules}
 use Rattle.toml.specs.View.{view}
 use Rattle.product_file.specs.declared.limits.TheConstants.{MOST_ORDERS, USUAL_ORDERS, LEAST_JOURNAL, MOST_JOURNAL, USUAL_JOURNAL}
 use Rattle.product_file.specs.Inner.Documents.{product_of_document}
