@@ -2,14 +2,26 @@ use Rattle.std.proofs.Common.{◌≡◌, ◌<◌, ◌+◌, ◌∷◌, ℕ, List,
 use Rattle.std.proofs.Math.Seq.{drop-cons}
 use Rattle.std.specs.List.{AllByRecursion}
 use Rattle.step_config.specs.declared.step.Step.{Step}
-use Rattle.step_config.specs.RightSteps.{IsRightStep}
+use Rattle.step_config.specs.RightSteps.{IsRightStep, AreRightSteps}
 use Rattle.plain_book.specs.Matches.{match_at, start_at}
 use Rattle.plain_book.specs.Steps.{IsLevelDone}
+use Rattle.plain_book.proofs.Matching.{matches-none}
 use Rattle.level_sweep.specs.Sweep.{level_match}
-use Rattle.level_sweep.proofs.Done.{LastOr, last-more}
+use Rattle.level_sweep.proofs.Done.{LastOr, last-more, last-first}
 use Rattle.level_sweep.proofs.Resting.{rest-match, rest-now}
 use Rattle.level_sweep.proofs.Rounds.{match-more}
 use Rattle.level_sweep.proofs.levels.match_level.Goals as goal
+
+pub loop-step-init : goal.loop-step-init
+loop-step-init g c =
+    let steps = c.args.steps.now in
+    let start = match_at (g.B.Book.book c.args.book.now) c.args.desk.now c.args.taker.now c.args.out.now in
+    let right : AreRightSteps steps = c.list-steps.ensures.right in
+    record {
+      matches = matches-none g.E.Emit.meanings start c.requires.can;
+      right = right.each;
+      last = last-first steps (IsLevelDone c.args.price start.book start.taker) right.fifo_last;
+    }
 
 pub loop-step-preserved : goal.loop-step-preserved
 loop-step-preserved g c =
