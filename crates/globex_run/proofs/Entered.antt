@@ -1,4 +1,4 @@
--- A new order is accepted and entered: the moment after all of it.
+-- A new order is accepted and entered: the state after all of it.
 use Rattle.std.proofs.Common.{◌≡◌, ℕ, ◌+◌, ◌<◌, false, List, [], ◌∷◌, None, sym, ap, subst, ◌∙◌, arith}
 use Rattle.gx_base.specs.declared.order.Order.{Order}
 use Rattle.gx_base.specs.declared.order.Desk.{Desk}
@@ -60,7 +60,7 @@ pub accepted-number : (new : NewOrder) (old desk : Desk) (order swept : Order) (
 accepted-number new old desk order swept head is same = ap (λ (o : Order). o.number) same ∙ ap (λ (o : Order). o.number) is.is_order
 
 module _ (steps : List Step) (new : NewOrder) (b : Book) (old desk : Desk) (order : Order) (head : Head) (is : IsAccepted new old desk order head) where
-  -- the moment after the sweep
+  -- the state of the match after the sweep
   abbrev pub swept : MatchState
   swept = sweep steps order.price (match_start (book_numbered b) desk (taker_with new order))
 
