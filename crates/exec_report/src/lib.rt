@@ -8,4 +8,4 @@ mod tests;
 
 pub use gx_base::write_line;
 pub use outgoing::{Outgoing, SendFault};
-pub use report_buffer::ReportBuffer;
+pub use report_buffer::{BUFFER_ROOM, MOST_WAITING, ReportBuffer};

@@ -4,7 +4,7 @@ ghost use Rattle.gx_base.specs.Emits.{Puts};
 ghost use Rattle.gx_base.specs.Line.{line_of};
 ghost use Rattle.exec_report.specs.Pushes.{Pushes, added_to, waiting_with};
 
-use crate::report_buffer::ReportBuffer;
+use crate::report_buffer::{MOST_WAITING, ReportBuffer};
 use gx_base::{Emit, Event, Names};
 use gx_station::Station;
 use thiserror::Error;
@@ -41,7 +41,7 @@ fn add_or_send<S: Station>(
 ) -> Result<(), SendFault>
     ensures pushes { Pushes S.meanings station.old station.new buffer.old buffer.new (line_of names.now event.now) result }
     ensures added { OnOk result (buffer.new ≡ added_to buffer.old (line_of names.now event.now)) }
-    ensures unsent { length buffer.old + length (line_of names.now event.now) < 65536 → station.new ≡ station.old }
+    ensures unsent { length buffer.old + length (line_of names.now event.now) < MOST_WAITING → station.new ≡ station.old }
 {
     if buffer.add_line(event, names) {
         return Ok(());
@@ -62,7 +62,7 @@ fn push_line<S: Station>(
 ) -> Result<(), SendFault>
     ensures pushes { Pushes S.meanings station.old station.new buffer.old buffer.new (line_of names.now event.now) result }
     ensures waits { OnOk result (buffer.new ≡ waiting_with buffer.old (line_of names.now event.now)) }
-    ensures unsent { length buffer.old + length (line_of names.now event.now) < 65536 → station.new ≡ station.old }
+    ensures unsent { length buffer.old + length (line_of names.now event.now) < MOST_WAITING → station.new ≡ station.old }
 {
     add_or_send(buffer, station, event, names)?;
     if !buffer.is_full() {
@@ -71,7 +71,7 @@ fn push_line<S: Station>(
     send_waiting(buffer, station)
 }
 
-/// Puts the lines of events into a buffer of 65,536 bytes, and sends the buffer first where a line does not fit, and at
+/// Puts the lines of events into a buffer of `MOST_WAITING` bytes, and sends the buffer first where a line does not fit, and at
 /// once where it is full. What is seen is what the station has sent and then the buffer, and after a failed send what
 /// the station has sent. It fails exactly where a send has failed, and does nothing from then on.
 #[derive(Drop)]
@@ -129,7 +129,7 @@ impl<'b, 's, 'n, S: Station> Emit for Outgoing<'b, 's, 'n, S> {
         ensures puts { Puts (outgoing_meanings S.meanings) self.old self.new event.now }
         ensures waits { self.old.stopped ≡ false → self.new.stopped ≡ false
             → self.new.buffer.now ≡ waiting_with self.old.buffer.now (line_of self.old.names.now event.now) }
-        ensures unsent { length self.old.buffer.now + length (line_of self.old.names.now event.now) < 65536
+        ensures unsent { length self.old.buffer.now + length (line_of self.old.names.now event.now) < MOST_WAITING
             → self.new.station.now ≡ self.old.station.now }
     {
         if self.stopped {

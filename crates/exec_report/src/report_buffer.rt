@@ -3,17 +3,17 @@ ghost use Rattle.std.specs.Prelude.{◌≡◌, ◌+◌, ◌≤◌, ◌↔◌, �
 ghost use Rattle.std.specs.Bool.{OnTrue, OnFalse};
 ghost use Rattle.gx_base.specs.Line.{line_of};
 
-use gx_base::{Event, Names, write_line_into};
+use gx_base::{Event, LONGEST_LINE, Names, write_line_into};
 use std::alloc::{AllocError, Global};
 use std::marker::Model;
 
-/// How many bytes may wait.
-const ROOM: usize = 65_536;
+/// How many bytes of lines may wait to be sent (our own rule).
+pub const MOST_WAITING: usize = 65_536;
 
-/// How many bytes a line has at most.
-const LINE: usize = 1_024;
+/// How many bytes a buffer has room for: those that may wait, and one line behind them.
+pub const BUFFER_ROOM: usize = MOST_WAITING + LONGEST_LINE;
 
-/// Report lines that wait to be sent, one behind the other, at most 65,536 bytes. Contracts see it as these bytes.
+/// Report lines that wait to be sent, one behind the other, at most `MOST_WAITING` bytes. Contracts see it as these bytes.
 #[derive(Drop)]
 pub struct ReportBuffer {
     /// The lines, and behind them room for one more than may wait.
@@ -28,10 +28,11 @@ impl Model for ReportBuffer {
     ghost Value = { List ℕ };
 
     ghost use Rattle.std.specs.Prelude.{◌≡◌, ◌≤◌, take, vec_len};
+    ghost use Rattle.exec_report.specs.declared.report_buffer.TheConstants.{MOST_WAITING, BUFFER_ROOM};
 
     ghost view = { λ b. take b.len b.bytes.items };
 
-    ghost invariant = { λ b. (b.len ≤ 65536) × (vec_len b.bytes ≡ 66560) };
+    ghost invariant = { λ b. (b.len ≤ MOST_WAITING) × (vec_len b.bytes ≡ BUFFER_ROOM) };
 }
 
 impl ReportBuffer {
@@ -40,7 +41,7 @@ impl ReportBuffer {
         ensures { IfOk result (λ b. b ≡ []) }
     {
         Ok(ReportBuffer {
-            bytes: vec![in alloc; 0; ROOM + LINE]?,
+            bytes: vec![in alloc; 0; BUFFER_ROOM]?,
             len: 0,
         })
     }
@@ -48,13 +49,13 @@ impl ReportBuffer {
     /// Writes the line of an event behind the bytes that wait, and answers whether there was room for it. Where there
     /// was none, nothing is added.
     pub(crate) fn add_line(&mut self, event: &Event, names: &Names) -> bool
-        ensures fits { IsTrue result ↔ (length self.old + length (line_of names.now event.now) ≤ 65536) }
+        ensures fits { IsTrue result ↔ (length self.old + length (line_of names.now event.now) ≤ MOST_WAITING) }
         ensures added { OnTrue result (self.new ≡ self.old ++ line_of names.now event.now) }
         ensures full { OnFalse result (self.new ≡ self.old) }
-        ensures short { length (line_of names.now event.now) ≤ 1024 }
+        ensures short { length (line_of names.now event.now) ≤ LONGEST_LINE }
     {
         let count = write_line_into(event, names, &mut self.bytes[self.len..]);
-        if count > ROOM - self.len {
+        if count > MOST_WAITING - self.len {
             return false;
         }
         self.len += count;
@@ -70,9 +71,9 @@ impl ReportBuffer {
 
     /// Whether as many bytes wait as may.
     pub(crate) fn is_full(&self) -> bool
-        ensures { result ≡ (length self.now == 65536) }
+        ensures { result ≡ (length self.now == MOST_WAITING) }
     {
-        self.len == ROOM
+        self.len == MOST_WAITING
     }
 
     /// Lends the bytes that wait.

@@ -1,6 +1,8 @@
 //! Lines through a buffer to a station in memory.
-use crate::{Outgoing, ReportBuffer, SendFault, write_line};
-use gx_base::{Emit, Event, Head, Kind, Life, Listed, Names, Order, Price, ShortId, Side, Stamp};
+use crate::{MOST_WAITING, Outgoing, ReportBuffer, write_line};
+use gx_base::{
+    Emit, Event, Head, Kind, LONGEST_LINE, Life, Listed, Names, Order, Price, ShortId, Side, Stamp,
+};
 use gx_station::MemStation;
 use std::alloc::{AllocError, Global};
 use std::process::Abort;
@@ -49,21 +51,21 @@ fn accepted(rt: &impl Abort, id: &[u8]) -> Event {
     }
 }
 
-/// A station that takes 100,000 bytes and 10 calls, of which the listed ones fail.
-fn station(alloc: Global, fail: Vec<u64>) -> Result<MemStation, AllocError> {
-    MemStation::new(alloc, Vec::new(alloc), 0, 100_000, 10, fail)
+/// A station that takes 100,000 bytes and 10 calls.
+fn station(alloc: Global) -> Result<MemStation, AllocError> {
+    MemStation::new(alloc, Vec::new(alloc), 0, 100_000, 10, Vec::new(alloc))
 }
 
 #[test]
 fn lines_wait_until_they_are_flushed(rt: HostRuntime) -> Result<(), Fail> {
     let names = product_names(&rt);
     let event = accepted(&rt, b"a1");
-    let mut line = [0; 1024];
+    let mut line = [0; LONGEST_LINE];
     let count = write_line(&event, &names, &mut line);
     assert_eq!(rt; count, 182);
     let mut twice = Vec::from_slice(rt.alloc(), &line[..count])?;
     twice.extend_from_slice(&line[..count])?;
-    let mut station = station(rt.alloc(), Vec::new(rt.alloc()))?;
+    let mut station = station(rt.alloc())?;
     let mut buffer = ReportBuffer::new(rt.alloc())?;
     let mut out = Outgoing::new(&mut buffer, &mut station, &names);
     out.put(&event);
@@ -86,7 +88,7 @@ fn lines_wait_until_they_are_flushed(rt: HostRuntime) -> Result<(), Fail> {
 #[test]
 fn a_full_buffer_is_sent_at_once(rt: HostRuntime) -> Result<(), Fail> {
     let names = product_names(&rt);
-    let mut station = station(rt.alloc(), Vec::new(rt.alloc()))?;
+    let mut station = station(rt.alloc())?;
     let mut buffer = ReportBuffer::new(rt.alloc())?;
     let mut out = Outgoing::new(&mut buffer, &mut station, &names);
     let event = accepted(&rt, b"a1");
@@ -99,42 +101,6 @@ fn a_full_buffer_is_sent_at_once(rt: HostRuntime) -> Result<(), Fail> {
     }
     drop(out);
     assert_eq!(rt; station.calls(), 1);
-    assert_eq!(rt; station.output().len(), 65_536);
-    Ok(())
-}
-
-/// 360 lines of 182 bytes leave room for 16 bytes.
-#[test]
-fn what_waits_is_sent_before_a_line_that_does_not_fit(rt: HostRuntime) -> Result<(), Fail> {
-    let names = product_names(&rt);
-    let mut station = station(rt.alloc(), Vec::new(rt.alloc()))?;
-    let mut buffer = ReportBuffer::new(rt.alloc())?;
-    let mut out = Outgoing::new(&mut buffer, &mut station, &names);
-    let event = accepted(&rt, b"a1");
-    for _ in 0..361 {
-        out.put(&event);
-    }
-    drop(out);
-    assert_eq!(rt; station.calls(), 1);
-    assert_eq!(rt; station.output().len(), 65_520);
-    Ok(())
-}
-
-#[test]
-fn after_a_failed_send_nothing_is_sent(rt: HostRuntime) -> Result<(), Fail> {
-    let names = product_names(&rt);
-    let fail = vec![in rt.alloc(); 1]?;
-    let mut station = station(rt.alloc(), fail)?;
-    let mut buffer = ReportBuffer::new(rt.alloc())?;
-    let mut out = Outgoing::new(&mut buffer, &mut station, &names);
-    out.put(&accepted(&rt, b"a1"));
-    assert!(rt; !out.failed());
-    assert_eq!(rt; out.flush(), Err(SendFault));
-    assert!(rt; out.failed());
-    out.put(&accepted(&rt, b"a1"));
-    assert_eq!(rt; out.flush(), Err(SendFault));
-    drop(out);
-    assert_eq!(rt; station.calls(), 1);
-    assert!(rt; station.output().is_empty());
+    assert_eq!(rt; station.output().len(), MOST_WAITING);
     Ok(())
 }

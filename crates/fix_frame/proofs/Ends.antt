@@ -4,11 +4,12 @@ use Rattle.std.proofs.lemmas.Bool.{cases_lt, cases_eq, cases_Bool}
 use Rattle.std.specs.Char.{is_ascii_digit}
 use Rattle.fix_frame.specs.Grammar.{IsFrame, IsFrameFront}
 use Rattle.fix_frame.specs.Stream.{rest_of, IsBroken, IsCut}
-use Rattle.fix_frame.specs.Scans.{begin_text, trailer_with, InBegin, InLength, InBody, InTrailer, IsAt}
+use Rattle.gx_base.specs.Frames.{trailer_with}
+use Rattle.fix_frame.specs.Scans.{begin_text, InBegin, InLength, InBody, InTrailer, IsAt}
 use Rattle.fix_frame.specs.declared.place.Place.{Place}
 use Rattle.fix_frame.specs.declared.place.Place.TheVariants.{Begin, Length, Body, Trailer, Whole, Broken}
-use Rattle.fix_frame.proofs.Frames.{frame_alone}
-use Rattle.fix_frame.proofs.Fronts.{unfinished_front, frame_front, refused_more}
+use Rattle.fix_frame.specs.FrameLaws.{frame_alone}
+use Rattle.fix_frame.specs.FrontLaws.{unfinished_front, frame_front, refused_more}
 use Rattle.fix_frame.proofs.Places.{nothing_scanned, begin_to_begin, begin_to_length, begin_refused, begin_unfinished, may_be_decided, length_to_body, length_to_length, length_refused_at_no_digit, length_refused_at_digit, length_unfinished, body_to_body, body_to_trailer, body_refused, body_unfinished, trailer_to_trailer, trailer_to_whole, trailer_refused, trailer_unfinished}
 
 -- ---- bytes are the front of a frame, or they are not

@@ -1,9 +1,7 @@
-pub mod Heads
-pub mod Frames
-pub mod Fronts
-pub mod Places
-pub mod Scanning
-pub mod Streams
-pub mod Ends
-pub mod Framings
-pub mod Bodies
+mod Heads
+mod Frames
+mod Places
+mod Scanning
+mod Ends
+mod Framings
+mod Bodies

@@ -9,10 +9,13 @@ use Rattle.std.specs.Char.{is_ascii_digit}
 use Rattle.std.specs.Str.Parse.{digits_value}
 use Rattle.gx_base.specs.Frames.{head_of, trailer_of, frame_of}
 use Rattle.fix_frame.specs.Grammar.{IsFrame, IsFrameFront, IsUnfinished, length_text, body_in, IsRefused}
-use Rattle.fix_frame.specs.Scans.{begin_text, IsLengthText, MayBeLength, InBegin, InLength, InBody, InTrailer, trailer_with}
-use Rattle.fix_frame.proofs.Heads.{IsLength, DigitsSoFar, digit_value_is, digits_more, no_length_from_stop, no_length_from_digits, no_length_from_zeros}
-use Rattle.fix_frame.proofs.Frames.{frame_head, frame_parts, text_made, made_frame}
-use Rattle.fix_frame.proofs.Fronts.{unfinished_before, refused_push}
+use Rattle.gx_base.specs.Frames.{trailer_with}
+use Rattle.fix_frame.specs.Scans.{begin_text, IsLengthText, MayBeLength, InBegin, InLength, InBody, InTrailer}
+use Rattle.fix_frame.specs.HeadLaws.{IsLength}
+use Rattle.fix_frame.proofs.Heads.{DigitsSoFar, digit_value_is, digits_more, no_length_from_stop, no_length_from_digits, no_length_from_zeros}
+use Rattle.fix_frame.specs.FrameLaws.{frame_head, made_frame}
+use Rattle.fix_frame.proofs.Frames.{frame_parts, text_made}
+use Rattle.fix_frame.specs.FrontLaws.{unfinished_before, refused_push}
 
 -- ---- the sum
 

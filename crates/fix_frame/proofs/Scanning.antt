@@ -6,7 +6,7 @@ use Rattle.fix_frame.specs.Scans.{IsAt, IsScanOf, IsOpen}
 use Rattle.fix_frame.specs.declared.scan.Scan.{Scan}
 use Rattle.fix_frame.specs.declared.place.Place.{Place}
 use Rattle.fix_frame.specs.declared.place.Place.TheVariants.{Begin, Length, Body, Trailer, Whole, Broken}
-use Rattle.fix_frame.proofs.Fronts.{refused_more}
+use Rattle.fix_frame.specs.FrontLaws.{refused_more}
 use Rattle.fix_frame.proofs.Places.{begin_unfinished, length_unfinished, body_unfinished, trailer_unfinished}
 
 -- more of the bytes held

@@ -2,6 +2,7 @@
 use Rattle.std.specs.Prelude.{◌≡◌, ℕ, ◌+◌, ◌-◌, ◌<◌, ◌≤◌, List, [], ◌∷◌, ◌++◌, length, take, drop}
 use Rattle.std.specs.List.{concat}
 use Rattle.fix_frame.specs.Grammar.{IsFrame, IsUnfinished, IsRefused}
+use Rattle.fix_frame.specs.declared.place.TheConstants.{FRONT_LIMIT}
 use Rattle.fix_frame.specs.declared.next.Next.{Next}
 use Rattle.fix_frame.specs.declared.next.Next.TheVariants.{Frame, More, Bad}
 
@@ -61,8 +62,8 @@ CanBeLent f (Frame start end) = LendsFrame f start end
 CanBeLent f More = Unit {0}
 CanBeLent f (Bad offset) = Unit {0}
 
--- behind More there is room for at least 4,096 of 8,192 bytes
+-- behind More there is room for at least ROOM - FRONT_LIMIT bytes
 abbrev pub LeavesRoom : Framing → Next → Type 0
 LeavesRoom f (Frame start end) = Unit {0}
-LeavesRoom f More = length f.rest < 4096
+LeavesRoom f More = length f.rest < FRONT_LIMIT
 LeavesRoom f (Bad offset) = Unit {0}

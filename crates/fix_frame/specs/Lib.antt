@@ -2,3 +2,8 @@ pub mod Grammar
 pub mod Stream
 pub mod Scans
 pub mod Framing
+pub mod HeadLaws
+pub mod FrameLaws
+pub mod FrontLaws
+pub mod StreamLaws
+pub mod FramingLaws

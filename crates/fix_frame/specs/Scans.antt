@@ -1,10 +1,11 @@
 -- What is known of the bytes that a scan has passed, by the place that it has come to.
-use Rattle.std.specs.Prelude.{◌≡◌, ℕ, ◌+◌, ◌-◌, ◌%◌, ◌<◌, ◌≤◌, true, List, ◌∷◌, ◌++◌, length, take, sum, slice_index, codes}
+use Rattle.std.specs.Prelude.{◌≡◌, ℕ, ◌+◌, ◌-◌, ◌<◌, ◌≤◌, true, List, ◌∷◌, ◌++◌, length, take, slice_index, codes}
 use Rattle.std.specs.Char.{is_ascii_digit}
 use Rattle.std.specs.Str.Parse.{digits_value}
-use Rattle.gx_base.specs.Frames.{soh, field, head_of, trailer_of}
-use Rattle.gx_base.specs.Numbers.{fixed_digits}
-use Rattle.fix_frame.specs.Grammar.{IsFrame, IsUnfinished, IsRefused, longest_body}
+use Rattle.gx_base.specs.Frames.{soh, head_of, checksum_of, trailer_of}
+use Rattle.fix_frame.specs.Grammar.{IsFrame, IsUnfinished, IsRefused}
+use Rattle.fix_frame.specs.declared.place.TheConstants.{MOST_LENGTH_DIGITS, LONGEST_BODY}
+use Rattle.gx_base.specs.declared.trailer.TheConstants.{TRAILER_LENGTH}
 use Rattle.fix_frame.specs.declared.place.Place.{Place}
 use Rattle.fix_frame.specs.declared.place.Place.TheVariants.{Begin, Length, Body, Trailer, Whole, Broken}
 use Rattle.fix_frame.specs.declared.scan.Scan.{Scan}
@@ -18,19 +19,19 @@ begin_text = codes "8=FIX.4.2" ++ soh ∷ codes "9="
 -- at most six digits, which write n, a length that a body may have or 0
 pub record IsLengthText (text : List ℕ) (n : ℕ) : Type 0 where
   pub each : (k : ℕ) → k < length text → is_ascii_digit (slice_index text k) ≡ true
-  pub few : length text ≤ 6
+  pub few : length text ≤ MOST_LENGTH_DIGITS
   pub value : digits_value 10 text ≡ n
-  pub most : n ≤ longest_body
+  pub most : n ≤ LONGEST_BODY
 
 -- so many digits that write this number are a length or go on to one: where they are zeros, another must follow
 abbrev pub MayBeLength : ℕ → ℕ → Type 0
-MayBeLength digits number = (digits ≤ 6) × (number ≤ longest_body) × (number ≡ 0 → digits < 6)
+MayBeLength digits number = (digits ≤ MOST_LENGTH_DIGITS) × (number ≤ LONGEST_BODY) × (number ≡ 0 → digits < MOST_LENGTH_DIGITS)
 
 -- the first bytes of `begin_text`, and their sum
 pub record InBegin (bytes : List ℕ) (count checksum : ℕ) : Type 0 where
   pub some_left : count < 12
   pub front : bytes ≡ take count begin_text
-  pub summed : checksum ≡ sum bytes % 256
+  pub summed : checksum ≡ checksum_of bytes
 
 -- `begin_text` and some digits of the length
 pub record InLength (bytes : List ℕ) (digits number checksum : ℕ) : Type 0 where
@@ -39,7 +40,7 @@ pub record InLength (bytes : List ℕ) (digits number checksum : ℕ) : Type 0 w
   pub count : length text ≡ digits
   pub is_text : IsLengthText text number
   pub may_be : MayBeLength digits number
-  pub summed : checksum ≡ sum bytes % 256
+  pub summed : checksum ≡ checksum_of bytes
 
 -- a head and the front of the body of which it speaks
 pub record InBody (bytes : List ℕ) (left checksum : ℕ) : Type 0 where
@@ -48,7 +49,7 @@ pub record InBody (bytes : List ℕ) (left checksum : ℕ) : Type 0 where
   pub front : bytes ≡ head_of text ++ part
   pub is_text : IsLengthText text (length part + left)
   pub some_left : 0 < left
-  pub summed : checksum ≡ sum bytes % 256
+  pub summed : checksum ≡ checksum_of bytes
 
 -- a head, its body, and the first bytes of their trailer
 pub record InTrailer (bytes : List ℕ) (count checksum : ℕ) : Type 0 where
@@ -58,8 +59,8 @@ pub record InTrailer (bytes : List ℕ) (count checksum : ℕ) : Type 0 where
   pub is_text : IsLengthText text (length body)
   pub some : 0 < length body
   pub last : slice_index body (length body - 1) ≡ soh
-  pub some_left : count < 7
-  pub summed : checksum ≡ sum (head_of text ++ body) % 256
+  pub some_left : count < TRAILER_LENGTH
+  pub summed : checksum ≡ checksum_of (head_of text ++ body)
 
 -- the bytes end at this place
 abbrev pub IsAt : List ℕ → Place → ℕ → Type 0
@@ -80,10 +81,6 @@ abbrev pub IsOpen : Place → Type 0
 IsOpen Whole = ⊥
 IsOpen Broken = ⊥
 IsOpen place = Unit {0}
-
--- the trailer with this checksum
-abbrev pub trailer_with : ℕ → List ℕ
-trailer_with checksum = field "10" (fixed_digits 3 checksum)
 
 -- what the bytes begin with
 abbrev pub GivesFront : List ℕ → Front → Type 0

@@ -8,7 +8,7 @@ use std::alloc::{AllocError, Global};
 use std::marker::Model;
 
 /// How many bytes a framer holds at most.
-const ROOM: usize = 8192;
+pub const ROOM: usize = 8192;
 
 /// Takes a stream in pieces and gives its frames. Contracts see the bytes taken since the last frame given, the offset
 /// of the first of them in the stream, and the frames given since the last `feed` or `clear`.
@@ -31,16 +31,17 @@ impl Model for Framer {
     ghost Value = { Framing };
 
     ghost use Rattle.std.specs.Prelude.{◌≡◌, ◌+◌, ◌-◌, ◌^◌, ◌<◌, ◌≤◌, [], take, vec_len, slice_range};
+    ghost use Rattle.fix_frame.specs.declared.framer.TheConstants.{ROOM};
     ghost use Rattle.fix_frame.specs.Stream.{messages_of, rest_of};
     ghost use Rattle.fix_frame.specs.Scans.{IsScanOf};
 
     ghost view = { λ f. record { given = messages_of (take f.start f.buffer.items); rest = slice_range f.buffer.items f.start f.end; offset = f.base + f.start } };
 
-    ghost invariant = { λ f. (vec_len f.buffer ≡ 8192) × (f.start ≤ f.end) × (f.end ≤ 8192) × (rest_of (take f.start f.buffer.items) ≡ []) × (f.base + f.end < 2 ^ 63) × IsScanOf f.scan (slice_range f.buffer.items f.start f.end) };
+    ghost invariant = { λ f. (vec_len f.buffer ≡ ROOM) × (f.start ≤ f.end) × (f.end ≤ ROOM) × (rest_of (take f.start f.buffer.items) ≡ []) × (f.base + f.end < 2 ^ 63) × IsScanOf f.scan (slice_range f.buffer.items f.start f.end) };
 }
 
 impl Framer {
-    /// An empty framer, with room for 8,192 bytes. An `Err` is want of memory.
+    /// An empty framer, with room for `ROOM` bytes. An `Err` is want of memory.
     pub fn new(alloc: Global) -> Result<Framer, AllocError>
         ensures { IfOk result (λ f. (f.given ≡ []) × (f.rest ≡ []) × (f.offset ≡ 0)) }
     {
@@ -54,10 +55,10 @@ impl Framer {
     }
 
     /// Takes bytes from the front, as many as there is room for, and answers how many. The frames given before are
-    /// dropped. After `More` at least 4,096 bytes fit.
+    /// dropped. After `More` at least `ROOM - FRONT_LIMIT` bytes fit.
     pub fn feed(&mut self, bytes: &[u8]) -> usize
         requires { self.old.offset + length self.old.rest + length bytes.now < 2 ^ 63 }
-        ensures count { result ≡ min (length bytes.now) (8192 - length self.old.rest) }
+        ensures count { result ≡ min (length bytes.now) (ROOM - length self.old.rest) }
         ensures rest { self.new.rest ≡ self.old.rest ++ take result bytes.now }
         ensures given { self.new.given ≡ [] }
         ensures offset { self.new.offset ≡ self.old.offset }
@@ -110,10 +111,10 @@ impl Framer {
         self.base + self.start as u64
     }
 
-    /// How many bytes were taken since the last frame given, at most 8,192.
+    /// How many bytes were taken since the last frame given, at most `ROOM`.
     pub fn rest(&self) -> usize
         ensures count { result ≡ length self.now.rest }
-        ensures fits { result ≤ 8192 }
+        ensures fits { result ≤ ROOM }
     {
         self.end - self.start
     }

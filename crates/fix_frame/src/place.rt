@@ -1,20 +1,21 @@
 //! How far some bytes have come in a frame, and where the next ones lead.
-ghost use Rattle.std.specs.Prelude.{◌≡◌, ◌↔◌, ℕ, ◌+◌, ◌%◌, ◌<◌, ◌≤◌, List, [], ◌∷◌, ◌++◌, length, sum, IsTrue};
+ghost use Rattle.std.specs.Prelude.{◌≡◌, ◌↔◌, ℕ, ◌+◌, ◌%◌, ◌<◌, ◌≤◌, List, [], ◌∷◌, ◌++◌, length, IsTrue};
+ghost use Rattle.gx_base.specs.Frames.{checksum_of};
 ghost use Rattle.fix_frame.specs.Scans.{MayBeLength, InBegin, InLength, InBody, InTrailer, IsAt};
 
-use crate::trailer::{TRAILER_LENGTH, trailer_with};
-
-/// The byte that ends a field.
-pub const SOH: u8 = 1;
+use gx_base::{SOH, TRAILER_LENGTH, trailer_with};
 
 /// What stands before the digits of the body's length.
 pub const BEGIN: &[u8; 12] = b"8=FIX.4.2\x019=";
 
 /// How many digits the body's length has at most.
-const MOST_DIGITS: usize = 6;
+pub const MOST_LENGTH_DIGITS: usize = 6;
 
 /// How many bytes a body has at most.
-const LONGEST_BODY: usize = 4000;
+pub const LONGEST_BODY: usize = 4000;
+
+/// The front of a frame, and not all of it, has fewer bytes than this.
+pub const FRONT_LIMIT: usize = 4096;
 
 /// What some bytes are, and so what may follow them.
 #[derive(Clone, Copy)]
@@ -52,7 +53,7 @@ pub fn after_begin(count: usize, byte: u8) -> Place
 
 /// The place behind one more byte of the body's length, a digit or the SOH that ends it.
 pub fn after_length(digits: usize, number: usize, byte: u8) -> Place
-    requires { (digits ≤ 6) × (number ≤ 4000) }
+    requires { (digits ≤ MOST_LENGTH_DIGITS) × (number ≤ LONGEST_BODY) }
     ensures { (before : List ℕ) (checksum : ℕ) → InLength before digits number checksum → IsAt (before ++ byte ∷ []) result ((checksum + byte) % 256) }
 {
     if byte == SOH && number > 0 {
@@ -74,14 +75,16 @@ pub fn after_length(digits: usize, number: usize, byte: u8) -> Place
 fn may_be_length(digits: usize, number: usize) -> bool
     ensures { IsTrue result ↔ MayBeLength digits number }
 {
-    digits <= MOST_DIGITS && number <= LONGEST_BODY && (number > 0 || digits < MOST_DIGITS)
+    digits <= MOST_LENGTH_DIGITS
+        && number <= LONGEST_BODY
+        && (number > 0 || digits < MOST_LENGTH_DIGITS)
 }
 
 /// The place behind more bytes of the body, of which so many were left.
 #[tactic(auto, using(crate::proofs::Places::body_to_body, crate::proofs::Places::body_to_trailer))]
 pub fn after_body(left: usize, part: &[u8]) -> Place
     requires { (0 < length part.now) × (length part.now ≤ left) }
-    ensures { (before : List ℕ) (checksum : ℕ) → InBody before left checksum → IsAt (before ++ part.now) result ((checksum + sum part.now % 256) % 256) }
+    ensures { (before : List ℕ) (checksum : ℕ) → InBody before left checksum → IsAt (before ++ part.now) result ((checksum + checksum_of part.now) % 256) }
 {
     if part.len() < left {
         Place::Body(left - part.len())
@@ -94,7 +97,7 @@ pub fn after_body(left: usize, part: &[u8]) -> Place
 
 /// The place behind one more byte of the trailer of bytes with this checksum.
 pub fn after_trailer(count: usize, checksum: u8, byte: u8) -> Place
-    requires { count < 7 }
+    requires { count < TRAILER_LENGTH }
     ensures { (before : List ℕ) → InTrailer before count checksum → IsAt (before ++ byte ∷ []) result checksum }
 {
     if byte != trailer_with(checksum)[count] {

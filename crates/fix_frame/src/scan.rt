@@ -3,7 +3,7 @@ ghost use Rattle.std.specs.Prelude.{◌≡◌, ◌+◌, ◌%◌, ◌^◌, ◌↔
 ghost use Rattle.fix_frame.specs.Scans.{InBody, IsAt, IsOpen, IsScanOf, GivesFront};
 
 use crate::place::{Place, after_begin, after_body, after_length, after_trailer};
-use crate::trailer::checksum;
+use gx_base::checksum;
 
 /// What some bytes begin with.
 pub enum Front {

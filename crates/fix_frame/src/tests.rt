@@ -71,22 +71,6 @@ fn lends_the_bodies_of_frames(rt: HostRuntime) -> Result<(), Fail> {
 }
 
 #[test]
-fn gives_frames_fed_byte_by_byte(rt: HostRuntime) -> Result<(), Fail> {
-    let mut framer = Framer::new(rt.alloc())?;
-    for frame in [FIRST, SECOND] {
-        for (i, byte) in frame.iter().enumerate() {
-            assert_eq!(rt; framer.rest(), i);
-            assert_eq!(rt; framer.next(), Next::More);
-            put(&rt, &mut framer, &[*byte]);
-        }
-        assert!(rt; gives(&mut framer, frame));
-    }
-    assert_eq!(rt; framer.next(), Next::More);
-    assert_eq!(rt; framer.rest(), 0);
-    Ok(())
-}
-
-#[test]
 fn stays_at_a_wrong_checksum(rt: HostRuntime) -> Result<(), Fail> {
     let mut framer = Framer::new(rt.alloc())?;
     put(&rt, &mut framer, FIRST);
@@ -127,63 +111,6 @@ fn refuses_at_the_first_wrong_byte(rt: HostRuntime) -> Result<(), Fail> {
     for (bytes, expected) in FRONTS {
         assert_eq!(rt; answer(&rt, rt.alloc(), bytes)?, expected);
     }
-    Ok(())
-}
-
-#[test]
-fn asks_for_more_before_the_end_of_a_frame(rt: HostRuntime) -> Result<(), Fail> {
-    for count in 0..FIRST.len() {
-        assert_eq!(rt; answer(&rt, rt.alloc(), &FIRST[..count])?, Next::More);
-    }
-    assert_eq!(rt; answer(&rt, rt.alloc(), FIRST)?, Next::Frame(0, 111));
-    Ok(())
-}
-
-#[test]
-fn refuses_a_wrong_trailer_byte_by_byte(rt: HostRuntime) -> Result<(), Fail> {
-    for place in FIRST.len() - 8..FIRST.len() {
-        let mut framer = Framer::new(rt.alloc())?;
-        put(&rt, &mut framer, &FIRST[..place]);
-        assert_eq!(rt; framer.next(), Next::More);
-        put(&rt, &mut framer, &[FIRST[place].wrapping_add(1)]);
-        assert_eq!(rt; framer.next(), Next::Bad(0));
-        put(&rt, &mut framer, SECOND);
-        assert_eq!(rt; framer.next(), Next::Bad(0));
-    }
-    Ok(())
-}
-
-/// The two frames in turn, eight in all, in pieces of these lengths.
-const CUTS: [usize; 12] = [1, 110, 7, 0, 220, 13, 99, 2, 180, 3, 37, 212];
-
-#[test]
-fn gives_all_frames_however_they_are_cut(rt: HostRuntime) -> Result<(), Fail> {
-    let mut stream: [u8; 884] = [0; 884];
-    for turn in 0..4 {
-        let start = turn * 221;
-        stream[start..start + 111].copy_from_slice(FIRST);
-        stream[start + 111..start + 221].copy_from_slice(SECOND);
-    }
-    let mut framer = Framer::new(rt.alloc())?;
-    let mut fed: usize = 0;
-    let mut given: usize = 0;
-    for cut in CUTS {
-        assert!(rt; fed <= 884 && cut <= 884 - fed);
-        put(&rt, &mut framer, &stream[fed..fed + cut]);
-        fed += cut;
-        for _ in 0..8 {
-            let expected = if given % 2 == 0 { FIRST } else { SECOND };
-            if gives(&mut framer, expected) {
-                assert!(rt; given < 8);
-                given += 1;
-            }
-        }
-        assert_eq!(rt; framer.next(), Next::More);
-        let whole = fed / 221 * 2 + (if fed % 221 < 111 { 0 } else { 1 });
-        assert_eq!(rt; given, whole);
-    }
-    assert_eq!(rt; fed, stream.len());
-    assert_eq!(rt; framer.rest(), 0);
     Ok(())
 }
 

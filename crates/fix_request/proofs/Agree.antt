@@ -9,7 +9,8 @@ use Rattle.std.specs.Str.Parse.{digits_value}
 use Rattle.gx_base.specs.Texts.{is_time_text}
 use Rattle.gx_base.specs.NameLists.{NameLists}
 use Rattle.fix_request.specs.Fields.{texts_of, has_tag, Field, fields_of, value_of}
-use Rattle.fix_request.specs.Faults.{fault, first_fault, if_missing, if_fails}
+use Rattle.gx_base.specs.FirstFault.{first_fault, unless_fault}
+use Rattle.fix_request.specs.Faults.{fault, if_missing, if_fails}
 use Rattle.fix_request.specs.MessageTable.{Item, Form, Allowed, Row, session_row, new_row, cancel_row, replace_row, row_of_type, row_of, is_needed, value_in, missing, ill_formed, not_allowed}
 use Rattle.fix_request.specs.SessionRules.{first_empty, first_tag_fault, bad_tag_fault, no_value_fault, is_firm, is_exchange, is_sequence_number, content_faults, faults_of}
 use Rattle.fix_request.specs.Asked.{sender_of, asked_for}
@@ -24,7 +25,7 @@ use Rattle.fix_request.specs.declared.request.Sender.{Sender}
 use Rattle.fix_request.specs.declared.request.Refusal.{Refusal}
 use Rattle.fix_request.specs.declared.request.Request.{Request}
 use Rattle.fix_request.specs.declared.request.Request.TheVariants as request
-use Rattle.fix_request.proofs.Giving.{unless, Gives, step, first-append, last, mapped, EachFault, of_first}
+use Rattle.fix_request.proofs.Giving.{Gives, step, first-append, last, mapped, EachFault, of_first}
 use Rattle.fix_request.proofs.Splits.{any_is_found}
 use Rattle.fix_request.proofs.AgreeOrders.{new_gives, cancel_gives, replace_gives}
 
@@ -33,7 +34,7 @@ use Rattle.fix_request.proofs.AgreeOrders.{new_gives, cancel_gives, replace_give
 abbrev form_faults : List ℕ → List (Option Fault)
 form_faults body = first_tag_fault body ∷ bad_tag_fault body ∷ no_value_fault (fields_of body) ∷ []
 
-by_form : (first tags : Bool) (empty : Option Field) (fields : List Field) → cond (not first) (Err (fault 1 11 35)) (cond (not tags) (Err (fault 2 0 0)) (no_value_in empty fields)) ≡ unless (first_fault (cond first None (Some (fault 1 11 35)) ∷ cond tags None (Some (fault 2 0 0)) ∷ option_map (λ (f : Field). fault 3 4 f.tag) empty ∷ [])) (values_of fields)
+by_form : (first tags : Bool) (empty : Option Field) (fields : List Field) → cond (not first) (Err (fault 1 11 35)) (cond (not tags) (Err (fault 2 0 0)) (no_value_in empty fields)) ≡ unless_fault (first_fault (cond first None (Some (fault 1 11 35)) ∷ cond tags None (Some (fault 2 0 0)) ∷ option_map (λ (f : Field). fault 3 4 f.tag) empty ∷ [])) (values_of fields)
 by_form false tags empty fields = refl
 by_form true false empty fields = refl
 by_form true true None fields = refl
@@ -45,21 +46,21 @@ values_give body =
 
 -- ---- rules 4 to 6
 
-missing_gives : (f : Fault) (value : Option (List ℕ)) → ok_or value f ≡ unless (if_missing f value) (unwrap_or value [])
+missing_gives : (f : Fault) (value : Option (List ℕ)) → ok_or value f ≡ unless_fault (if_missing f value) (unwrap_or value [])
 missing_gives f None = refl
 missing_gives f (Some text) = refl
 
-fails_gives : {A : Type 0} (test : List ℕ → Bool) (f g : Fault) (value : Option (List ℕ)) (r : List ℕ → Result A Fault) (a : List ℕ → A) → ((text : List ℕ) → r text ≡ unless (cond (test text) None (Some g)) (a text)) → if_missing f value ≡ None → r (unwrap_or value []) ≡ unless (if_fails test g value) (a (unwrap_or value []))
+fails_gives : {A : Type 0} (test : List ℕ → Bool) (f g : Fault) (value : Option (List ℕ)) (r : List ℕ → Result A Fault) (a : List ℕ → A) → ((text : List ℕ) → r text ≡ unless_fault (cond (test text) None (Some g)) (a text)) → if_missing f value ≡ None → r (unwrap_or value []) ≡ unless_fault (if_fails test g value) (a (unwrap_or value []))
 fails_gives test f g None r a is e = cc
 fails_gives test f g (Some text) r a is e = is text
 
 -- a value of the header that has to be there, and then to pass a test
-header_gives : {A : Type 0} (test : List ℕ → Bool) (f g : Fault) (value : Option (List ℕ)) (r : List ℕ → Result A Fault) (a : List ℕ → A) → ((text : List ℕ) → r text ≡ unless (cond (test text) None (Some g)) (a text)) → Gives (ok_or value f >>= r) (if_missing f value ∷ if_fails test g value ∷ []) (a (unwrap_or value []))
+header_gives : {A : Type 0} (test : List ℕ → Bool) (f g : Fault) (value : Option (List ℕ)) (r : List ℕ → Result A Fault) (a : List ℕ → A) → ((text : List ℕ) → r text ≡ unless_fault (cond (test text) None (Some g)) (a text)) → Gives (ok_or value f >>= r) (if_missing f value ∷ if_fails test g value ∷ []) (a (unwrap_or value []))
 header_gives test f g value r a is =
     step (ok_or value f) (unwrap_or value []) r (missing_gives f value) (λ here.
     last (r (unwrap_or value [])) (fails_gives test f g value r a is here))
 
-by_found : (b : Bool) (o : Option ℕ) (f : Fault) → b ≡ is_some o → ok_or o f ≡ unless (cond b None (Some f)) (unwrap_or o 0)
+by_found : (b : Bool) (o : Option ℕ) (f : Fault) → b ≡ is_some o → ok_or o f ≡ unless_fault (cond b None (Some f)) (unwrap_or o 0)
 by_found true None f e = cc
 by_found true (Some n) f e = refl
 by_found false None f e = refl
@@ -72,11 +73,11 @@ firm_gives names fields =
     header_gives (is_firm names) (fault 4 1 49) (fault 4 9 49) (value_of 49 fields) (λ text. ok_or (found text) (fault 4 9 49)) (λ text. unwrap_or (found text) 0)
     (λ text. by_found (is_firm names text) (found text) (fault 4 9 49) (any_is_found (λ firm. bytes_eq firm text) names.firms))
 
-by_test : {A : Type 0} (b : Bool) (f : Fault) (a : A) → ok_or (cond b (Some a) None) f ≡ unless (cond b None (Some f)) a
+by_test : {A : Type 0} (b : Bool) (f : Fault) (a : A) → ok_or (cond b (Some a) None) f ≡ unless_fault (cond b None (Some f)) a
 by_test true f a = refl
 by_test false f a = refl
 
-by_choice : {A : Type 0} (b : Bool) (f : Fault) (a : A) → cond b (Ok a) (Err f) ≡ unless (cond b None (Some f)) a
+by_choice : {A : Type 0} (b : Bool) (f : Fault) (a : A) → cond b (Ok a) (Err f) ≡ unless_fault (cond b None (Some f)) a
 by_choice true f a = refl
 by_choice false f a = refl
 
@@ -211,7 +212,7 @@ part {names = names} {fields = fields} {ps = ps} os r a next firm seq time given
           ∙ ap (request_by names fields) (first-append os ps);
     }
   where
-    by_first : (o p : Option Fault) → ((f : Fault) → o ≡ Some f → IsKnown names fields firm seq time f) → or_refused (next a) ≡ request_by names fields p → or_refused (known firm seq time (unless o a) >>= next) ≡ request_by names fields (option_or o p)
+    by_first : (o p : Option Fault) → ((f : Fault) → o ≡ Some f → IsKnown names fields firm seq time f) → or_refused (next a) ≡ request_by names fields p → or_refused (known firm seq time (unless_fault o a) >>= next) ≡ request_by names fields (option_or o p)
     by_first None p same others = others
     by_first (Some f) p same others = ap (λ r. request.Refused r) (same f refl)
 
@@ -223,7 +224,7 @@ last_part names fields os r firm seq time given each =
           ∙ by_first (first_fault os) (of_first (IsKnown names fields firm seq time) os each);
     }
   where
-    by_first : (o : Option Fault) → ((f : Fault) → o ≡ Some f → IsKnown names fields firm seq time f) → or_refused (known firm seq time (unless o (asked_for names fields (row_of fields)))) ≡ request_by names fields o
+    by_first : (o : Option Fault) → ((f : Fault) → o ≡ Some f → IsKnown names fields firm seq time f) → or_refused (known firm seq time (unless_fault o (asked_for names fields (row_of fields)))) ≡ request_by names fields o
     by_first None same = refl
     by_first (Some f) same = ap (λ r. request.Refused r) (same f refl)
 

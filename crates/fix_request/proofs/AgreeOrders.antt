@@ -11,7 +11,8 @@ use Rattle.gx_base.specs.declared.order.Side.TheVariants.{Buy, Sell}
 use Rattle.gx_base.specs.declared.order.Kind.TheVariants.{Limit, Market, StopLimit}
 use Rattle.gx_base.specs.declared.order.Life.TheVariants.{Day, Gtc, Fak, Fok}
 use Rattle.fix_request.specs.Fields.{Field, value_of}
-use Rattle.fix_request.specs.Faults.{fault, first_fault, if_missing, if_fails}
+use Rattle.gx_base.specs.FirstFault.{first_fault, unless_fault}
+use Rattle.fix_request.specs.Faults.{fault, if_missing, if_fails}
 use Rattle.fix_request.specs.MessageTable as table
 use Rattle.fix_request.specs.MessageTable.{Item, sides, kinds, lives, texts_in, limit, stop, is_one_of, symbol_of, symbol_tag, is_40_among, value_in, instrument_in, is_range_fault, is_in_range, missing, ill_formed, not_allowed}
 use Rattle.fix_request.specs.SessionRules.{content_faults}
@@ -26,23 +27,23 @@ use Rattle.fix_request.specs.declared.request.Px.{Px}
 use Rattle.fix_request.specs.declared.request.Px.TheVariants.{Absent, Between}
 use Rattle.fix_request.specs.declared.request.Named.{Named}
 use Rattle.fix_request.specs.declared.request.Named.TheVariants.{Known, Unknown}
-use Rattle.fix_request.proofs.Giving.{unless, Gives, step, steps, none_of}
+use Rattle.fix_request.proofs.Giving.{Gives, step, steps, none_of}
 
 -- ---- rule 8
 
 abbrev text_or_empty : Option (List ℕ) → List ℕ
 text_or_empty value = unwrap_or value []
 
-needed_gives : (tag : ℕ) (value : Option (List ℕ)) → needed tag value ≡ unless (if_missing (fault 8 1 tag) value) (text_or_empty value)
+needed_gives : (tag : ℕ) (value : Option (List ℕ)) → needed tag value ≡ unless_fault (if_missing (fault 8 1 tag) value) (text_or_empty value)
 needed_gives tag None = refl
 needed_gives tag (Some text) = refl
 
-needed_where_gives : (b : Bool) (tag : ℕ) (value : Option (List ℕ)) → needed_where b tag value ≡ unless (cond b (if_missing (fault 8 1 tag) (cond b value None)) None) (cond b value None)
+needed_where_gives : (b : Bool) (tag : ℕ) (value : Option (List ℕ)) → needed_where b tag value ≡ unless_fault (cond b (if_missing (fault 8 1 tag) (cond b value None)) None) (cond b value None)
 needed_where_gives false tag value = refl
 needed_where_gives true tag None = refl
 needed_where_gives true tag (Some text) = refl
 
-symbol_gives : (description symbol : Option (List ℕ)) → needed 55 (cond (is_some description) description symbol) ≡ unless (if_missing (fault 8 1 (cond (is_some description) 107 55)) (option_or description symbol)) (text_or_empty (option_or description symbol))
+symbol_gives : (description symbol : Option (List ℕ)) → needed 55 (cond (is_some description) description symbol) ≡ unless_fault (if_missing (fault 8 1 (cond (is_some description) 107 55)) (option_or description symbol)) (text_or_empty (option_or description symbol))
 symbol_gives None None = refl
 symbol_gives None (Some text) = refl
 symbol_gives (Some text) symbol = refl
@@ -56,7 +57,7 @@ or_false true = refl
 or_false false = refl
 
 -- 44 and 99, where they are read
-limit_gives : (fields : List Field) → missing fields (table.tag 40) ≡ None → needed_where (inner.has_price (text_of 40 fields)) 44 (value_of 44 fields) ≡ unless (missing fields limit) (value_in fields limit)
+limit_gives : (fields : List Field) → missing fields (table.tag 40) ≡ None → needed_where (inner.has_price (text_of 40 fields)) 44 (value_of 44 fields) ≡ unless_fault (missing fields limit) (value_in fields limit)
 limit_gives fields there =
     let kind = text_of 40 fields in
     let texts = codes "2" ∷ codes "4" ∷ [] in
@@ -64,7 +65,7 @@ limit_gives fields there =
     ∙ ap (λ b. needed_where b 44 (value_of 44 fields)) (among_is (fault 8 1 40) texts (value_of 40 fields) there)
     ∙ needed_where_gives (is_40_among texts fields) 44 (value_of 44 fields)
 
-stop_gives : (fields : List Field) → missing fields (table.tag 40) ≡ None → needed_where (inner.has_trigger (text_of 40 fields)) 99 (value_of 99 fields) ≡ unless (missing fields stop) (value_in fields stop)
+stop_gives : (fields : List Field) → missing fields (table.tag 40) ≡ None → needed_where (inner.has_trigger (text_of 40 fields)) 99 (value_of 99 fields) ≡ unless_fault (missing fields stop) (value_in fields stop)
 stop_gives fields there =
     let kind = text_of 40 fields in
     let texts = codes "4" ∷ [] in
@@ -100,26 +101,26 @@ texts_give fields =
 
 -- ---- rule 9
 
-by_test : {A : Type 0} (b : Bool) (f : Fault) (a : A) → ok_or (cond b (Some a) None) f ≡ unless (cond b None (Some f)) a
+by_test : {A : Type 0} (b : Bool) (f : Fault) (a : A) → ok_or (cond b (Some a) None) f ≡ unless_fault (cond b None (Some f)) a
 by_test true f a = refl
 by_test false f a = refl
 
-name_gives : (f : Fault) (tag : ℕ) (value : Option (List ℕ)) → if_missing f value ≡ None → formed tag (where_passes is_name (text_or_empty value)) ≡ unless (if_fails is_name (fault 9 6 tag) value) (text_or_empty value)
+name_gives : (f : Fault) (tag : ℕ) (value : Option (List ℕ)) → if_missing f value ≡ None → formed tag (where_passes is_name (text_or_empty value)) ≡ unless_fault (if_fails is_name (fault 9 6 tag) value) (text_or_empty value)
 name_gives f tag None e = cc
 name_gives f tag (Some text) e = by_test (is_name text) (fault 9 6 tag) text
 
-by_quantity : (b : Bool) (f : Fault) (n : ℕ) → ok_or (cond b (Some n) None) f ≡ unless (cond b None (Some f)) (unwrap_or (cond b (Some n) None) 0)
+by_quantity : (b : Bool) (f : Fault) (n : ℕ) → ok_or (cond b (Some n) None) f ≡ unless_fault (cond b None (Some f)) (unwrap_or (cond b (Some n) None) 0)
 by_quantity true f n = refl
 by_quantity false f n = refl
 
-quantity_text_gives : (tag : ℕ) (text : List ℕ) → formed tag (quantity_of text) ≡ unless (if_fails is_quantity_text (fault 9 6 tag) (Some text)) (unwrap_or (quantity_of text) 0)
+quantity_text_gives : (tag : ℕ) (text : List ℕ) → formed tag (quantity_of text) ≡ unless_fault (if_fails is_quantity_text (fault 9 6 tag) (Some text)) (unwrap_or (quantity_of text) 0)
 quantity_text_gives tag text = by_quantity (is_quantity_text text) (fault 9 6 tag) _
 
-quantity_gives : (f : Fault) (tag : ℕ) (value : Option (List ℕ)) → if_missing f value ≡ None → formed tag (quantity_of (text_or_empty value)) ≡ unless (if_fails is_quantity_text (fault 9 6 tag) value) (unwrap_or (option_and_then quantity_of value) 0)
+quantity_gives : (f : Fault) (tag : ℕ) (value : Option (List ℕ)) → if_missing f value ≡ None → formed tag (quantity_of (text_or_empty value)) ≡ unless_fault (if_fails is_quantity_text (fault 9 6 tag) value) (unwrap_or (option_and_then quantity_of value) 0)
 quantity_gives f tag None e = cc
 quantity_gives f tag (Some text) e = quantity_text_gives tag text
 
-zero_gives : (tag : ℕ) (value : Option (List ℕ)) → inner.quantity_or_zero tag value ≡ unless (if_fails is_quantity_text (fault 9 6 tag) value) (unwrap_or (option_and_then quantity_of value) 0)
+zero_gives : (tag : ℕ) (value : Option (List ℕ)) → inner.quantity_or_zero tag value ≡ unless_fault (if_fails is_quantity_text (fault 9 6 tag) value) (unwrap_or (option_and_then quantity_of value) 0)
 zero_gives tag None = refl
 zero_gives tag (Some text) = quantity_text_gives tag text
 
@@ -128,17 +129,17 @@ abbrev if_allowed : {A : Type 0} → Option Fault → A → Option A
 if_allowed None a = Some a
 if_allowed (Some f) a = None
 
-by_price : (tag : ℕ) (f : Fault) (form zeros above : Bool) (p : Price) → inner.px_of tag (cond (not form) (Err Format) (cond (not zeros) (Err Scale) (cond above (Err Range) (Ok p)))) ≡ unless (cond form None (Some (fault 9 6 tag))) (if_allowed (cond (not (is_range_fault (cond (not form) (Err Format) (cond (not zeros) (Err Scale) (cond above (Err Range) (Ok p)))))) None (Some f)) (px_of (cond (not form) (Err Format) (cond (not zeros) (Err Scale) (cond above (Err Range) (Ok p))))))
+by_price : (tag : ℕ) (f : Fault) (form zeros above : Bool) (p : Price) → inner.px_of tag (cond (not form) (Err Format) (cond (not zeros) (Err Scale) (cond above (Err Range) (Ok p)))) ≡ unless_fault (cond form None (Some (fault 9 6 tag))) (if_allowed (cond (not (is_range_fault (cond (not form) (Err Format) (cond (not zeros) (Err Scale) (cond above (Err Range) (Ok p)))))) None (Some f)) (px_of (cond (not form) (Err Format) (cond (not zeros) (Err Scale) (cond above (Err Range) (Ok p))))))
 by_price tag f false zeros above p = refl
 by_price tag f true false above p = refl
 by_price tag f true true false p = refl
 by_price tag f true true true p = refl
 
-by_between : (tag : ℕ) (form : Bool) → formed tag (cond form (Some (Some Between)) None) ≡ unless (cond form None (Some (fault 9 6 tag))) (Some Between)
+by_between : (tag : ℕ) (form : Bool) → formed tag (cond form (Some (Some Between)) None) ≡ unless_fault (cond form None (Some (fault 9 6 tag))) (Some Between)
 by_between tag true = refl
 by_between tag false = refl
 
-price_gives : (names : NameLists) (named : Named) (tag : ℕ) (f : Fault) (value : Option (List ℕ)) → inner.price_if_read names named tag value ≡ unless (if_fails is_price_text (fault 9 6 tag) value) (if_allowed (if_fails (is_in_range names named) f value) (option_map_or (px_at names named) value Absent))
+price_gives : (names : NameLists) (named : Named) (tag : ℕ) (f : Fault) (value : Option (List ℕ)) → inner.price_if_read names named tag value ≡ unless_fault (if_fails is_price_text (fault 9 6 tag) value) (if_allowed (if_fails (is_in_range names named) f value) (option_map_or (px_at names named) value Absent))
 price_gives names (Known number) tag f None = refl
 price_gives names Unknown tag f None = refl
 price_gives names (Known number) tag f (Some text) = by_price tag f (is_price_text text) _ _ _
@@ -174,11 +175,11 @@ forms_give names fields has_symbol has_quantity =
 
 -- ---- rule 10
 
-by_entry : {A : Type 0} (b : Bool) (tag : ℕ) (default : A) (text : List ℕ) (entry : List ℕ × A) (list : List (List ℕ × A)) → listed tag (meaning_in list text) ≡ unless (cond (is_one_of (texts_in list) text) None (Some (fault 10 5 tag))) (unwrap_or (meaning_in list text) default) → listed tag (option_map (λ (e : List ℕ × A). e.1) (cond b (Some entry) (find (λ (e : List ℕ × A). bytes_eq text e.0) list))) ≡ unless (cond (b || is_one_of (texts_in list) text) None (Some (fault 10 5 tag))) (unwrap_or (option_map (λ (e : List ℕ × A). e.1) (cond b (Some entry) (find (λ (e : List ℕ × A). bytes_eq text e.0) list))) default)
+by_entry : {A : Type 0} (b : Bool) (tag : ℕ) (default : A) (text : List ℕ) (entry : List ℕ × A) (list : List (List ℕ × A)) → listed tag (meaning_in list text) ≡ unless_fault (cond (is_one_of (texts_in list) text) None (Some (fault 10 5 tag))) (unwrap_or (meaning_in list text) default) → listed tag (option_map (λ (e : List ℕ × A). e.1) (cond b (Some entry) (find (λ (e : List ℕ × A). bytes_eq text e.0) list))) ≡ unless_fault (cond (b || is_one_of (texts_in list) text) None (Some (fault 10 5 tag))) (unwrap_or (option_map (λ (e : List ℕ × A). e.1) (cond b (Some entry) (find (λ (e : List ℕ × A). bytes_eq text e.0) list))) default)
 by_entry true tag default text entry list others = refl
 by_entry false tag default text entry list others = others
 
-meaning_gives : {A : Type 0} (tag : ℕ) (default : A) (text : List ℕ) (list : List (List ℕ × A)) → listed tag (meaning_in list text) ≡ unless (cond (is_one_of (texts_in list) text) None (Some (fault 10 5 tag))) (unwrap_or (meaning_in list text) default)
+meaning_gives : {A : Type 0} (tag : ℕ) (default : A) (text : List ℕ) (list : List (List ℕ × A)) → listed tag (meaning_in list text) ≡ unless_fault (cond (is_one_of (texts_in list) text) None (Some (fault 10 5 tag))) (unwrap_or (meaning_in list text) default)
 meaning_gives tag default text [] = refl
 meaning_gives tag default text (entry ∷ list) = by_entry (bytes_eq text entry.0) tag default text entry list (meaning_gives tag default text list)
 
@@ -195,23 +196,23 @@ kind_is text = meaning_more _ _ Market _ _ (meaning_more _ _ Limit _ _ (meaning_
 life_is : (text : List ℕ) → inner.life_of_text text ≡ meaning_in lives text
 life_is text = meaning_more _ _ Day _ _ (meaning_more _ _ Gtc _ _ (meaning_more _ _ Fak _ _ (meaning_more _ _ Fok _ None refl)))
 
-side_gives : (f : Fault) (value : Option (List ℕ)) → if_missing f value ≡ None → listed 54 (inner.side_of (text_or_empty value)) ≡ unless (if_fails (is_one_of (texts_in sides)) (fault 10 5 54) value) (unwrap_or (meaning_in sides (text_or_empty value)) Buy)
+side_gives : (f : Fault) (value : Option (List ℕ)) → if_missing f value ≡ None → listed 54 (inner.side_of (text_or_empty value)) ≡ unless_fault (if_fails (is_one_of (texts_in sides)) (fault 10 5 54) value) (unwrap_or (meaning_in sides (text_or_empty value)) Buy)
 side_gives f None e = cc
 side_gives f (Some text) e = ap (listed 54) (side_is text) ∙ meaning_gives 54 Buy text sides
 
-kind_gives : (f : Fault) (value : Option (List ℕ)) → if_missing f value ≡ None → listed 40 (inner.kind_of (text_or_empty value)) ≡ unless (if_fails (is_one_of (texts_in kinds)) (fault 10 5 40) value) (unwrap_or (meaning_in kinds (text_or_empty value)) Market)
+kind_gives : (f : Fault) (value : Option (List ℕ)) → if_missing f value ≡ None → listed 40 (inner.kind_of (text_or_empty value)) ≡ unless_fault (if_fails (is_one_of (texts_in kinds)) (fault 10 5 40) value) (unwrap_or (meaning_in kinds (text_or_empty value)) Market)
 kind_gives f None e = cc
 kind_gives f (Some text) e = ap (listed 40) (kind_is text) ∙ meaning_gives 40 Market text kinds
 
-life_gives : (value : Option (List ℕ)) → listed 59 (inner.life_of value) ≡ unless (if_fails (is_one_of (texts_in lives)) (fault 10 5 59) value) (unwrap_or (option_and_then (meaning_in lives) value) Day)
+life_gives : (value : Option (List ℕ)) → listed 59 (inner.life_of value) ≡ unless_fault (if_fails (is_one_of (texts_in lives)) (fault 10 5 59) value) (unwrap_or (option_and_then (meaning_in lives) value) Day)
 life_gives None = refl
 life_gives (Some text) = ap (listed 59) (life_is text) ∙ meaning_gives 59 Day text lives
 
-by_allowed : (b : Bool) (tag : ℕ) (px : Px) → listed tag (if_allowed (cond b None (Some (fault 10 5 tag))) px) ≡ unless (cond b None (Some (fault 10 5 tag))) px
+by_allowed : (b : Bool) (tag : ℕ) (px : Px) → listed tag (if_allowed (cond b None (Some (fault 10 5 tag))) px) ≡ unless_fault (cond b None (Some (fault 10 5 tag))) px
 by_allowed true tag px = refl
 by_allowed false tag px = refl
 
-range_gives : (test : List ℕ → Bool) (tag : ℕ) (value : Option (List ℕ)) (px : Px) → listed tag (if_allowed (if_fails test (fault 10 5 tag) value) px) ≡ unless (if_fails test (fault 10 5 tag) value) px
+range_gives : (test : List ℕ → Bool) (tag : ℕ) (value : Option (List ℕ)) (px : Px) → listed tag (if_allowed (if_fails test (fault 10 5 tag) value) px) ≡ unless_fault (if_fails test (fault 10 5 tag) value) px
 range_gives test tag None px = refl
 range_gives test tag (Some text) px = by_allowed (test text) tag px
 

@@ -1,10 +1,10 @@
-pub mod Agree
-pub mod AgreeOrders
-pub mod ValidOrders
-pub mod ValidRequests
-pub mod Giving
-pub mod Holding
-pub mod Noting
-pub mod Numbers
-pub mod Prices
-pub mod Splits
+mod Agree
+mod AgreeOrders
+mod ValidOrders
+mod ValidRequests
+mod Giving
+mod Holding
+mod Noting
+mod Numbers
+mod Prices
+mod Splits

@@ -1,10 +1,10 @@
 -- The values of the fields so far, and the faults in their form.
-use Rattle.std.proofs.Common.{◌≡◌, ℕ, ◌≤◌, Bool, true, false, not, cond, ◌&&◌, ◌==◌, List, [], ◌∷◌, length, map, Option, Some, None, Ok, Err, refl, sym, ap, ◌∙◌}
+use Rattle.std.proofs.Common.{◌≡◌, ℕ, ◌≤◌, Bool, true, false, not, cond, ◌&&◌, ◌==◌, List, [], ◌∷◌, length, map, Option, Some, None, Err, refl, sym, ap, ◌∙◌}
 use Rattle.std.specs.Prelude.{find, option_map}
 use Rattle.std.specs.Bool.{then_some}
 use Rattle.std.specs.List.{before_first, after_first, list_all}
 use Rattle.std.specs.Option.{option_or}
-use Rattle.std.proofs.lemmas.Bool.{cond-true, cond-false}
+use Rattle.std.proofs.lemmas.Bool.{cond-true}
 use Rattle.fix_request.specs.Fields.{is_soh, texts_of, has_tag, Field, field_of, fields_of, value_of}
 use Rattle.fix_request.specs.Inner.Values.{Values, values_of}
 use Rattle.fix_request.specs.SessionRules.{first_empty}
@@ -120,23 +120,3 @@ stops_there bytes rest values without_value some read so_far =
     let split : texts_of rest ≡ text ∷ texts_of behind = texts-first rest some in
     let bad : list_all has_tag (texts_of bytes) ≡ false = so_far.tags ∙ ap (list_all has_tag) split ∙ ap (λ (b : Bool). b && list_all has_tag (texts_of behind)) (no_field text (has_tag text) read) in
     sym (cond-true (not (list_all has_tag (texts_of bytes))) (Err (fault 2 0 0)) (no_value_in (first_empty (fields_of bytes)) (fields_of bytes)) (ap not bad))
-
--- each text has a tag
-well_formed : (bytes : List ℕ) (values : Values) (without_value : Option ℕ) → IsNotedTo bytes [] values without_value → well_formed_values bytes ≡ no_value_in (first_empty (fields_of bytes)) (fields_of bytes)
-well_formed bytes values without_value so_far = cond-false (not (list_all has_tag (texts_of bytes))) (Err (fault 2 0 0)) (no_value_in (first_empty (fields_of bytes)) (fields_of bytes)) (ap not so_far.tags)
-
-none_empty : (first : Option Field) (fields : List Field) → None ≡ option_map (λ (f : Field). f.tag) first → Ok (values_of fields) ≡ no_value_in first fields
-none_empty None fields e = refl
-none_empty (Some field) fields e = cc
-
-one_empty : (first : Option Field) (fields : List Field) (tag : ℕ) → Some tag ≡ option_map (λ (f : Field). f.tag) first → Err (fault 3 4 tag) ≡ no_value_in first fields
-one_empty None fields tag e = cc
-one_empty (Some field) fields tag e = let same : tag ≡ field.tag = cc in ap (λ (t : ℕ). Err (fault 3 4 t)) same
-
-pub all_read : (bytes : List ℕ) (values : Values) → IsNotedTo bytes [] values None → Ok values ≡ well_formed_values bytes
-all_read bytes values so_far =
-    ap (λ (v : Values). Ok v) so_far.noting ∙ none_empty (first_empty (fields_of bytes)) (fields_of bytes) so_far.empty ∙ sym (well_formed bytes values None so_far)
-
-pub one_without : (bytes : List ℕ) (values : Values) (tag : ℕ) → IsNotedTo bytes [] values (Some tag) → Err (fault 3 4 tag) ≡ well_formed_values bytes
-one_without bytes values tag so_far =
-    one_empty (first_empty (fields_of bytes)) (fields_of bytes) tag so_far.empty ∙ sym (well_formed bytes values (Some tag) so_far)

@@ -7,6 +7,7 @@ use Rattle.std.proofs.lemmas.List.Quantifiers.{position-Some}
 use Rattle.std.proofs.lemmas.Option.{cond_some}
 use Rattle.std.specs.List.{list_all, starts_with}
 use Rattle.std.specs.Str.Parse.{digits_value}
+use Rattle.gx_base.specs.declared.digits.TheConstants.{MOST_DIGITS}
 use Rattle.gx_base.specs.Numbers.{are_digits}
 use Rattle.gx_base.specs.Texts.{is_time_text}
 use Rattle.gx_base.specs.NameLists.{NameLists}
@@ -72,16 +73,16 @@ target_holds names values =
 
 pub record IsSequence (seq : ℕ) : Type 0 where
   pub some : 1 ≤ seq
-  pub short : seq < 10 ^ 9
+  pub short : seq < 10 ^ MOST_DIGITS
 
 sequence_is : (text : List ℕ) (seq : ℕ) → cond (is_sequence_number text) (Some (digits_value 10 text)) None ≡ Some seq → IsSequence seq
 sequence_is text seq read =
     let n = digits_value 10 text in
     let is = cond_some (is_sequence_number text) n seq read in
-    let c = and_parts (nat_le 1 (length text) && nat_le (length text) 9 && are_digits text) (nat_le 1 n) is.0 in
-    let b = and_parts (nat_le 1 (length text) && nat_le (length text) 9) (are_digits text) c.0 in
-    let a = and_parts (nat_le 1 (length text)) (nat_le (length text) 9) b.0 in
-    let below = short_below text b.1 (leb-true (length text) 9 a.1) in
+    let c = and_parts (nat_le 1 (length text) && nat_le (length text) MOST_DIGITS && are_digits text) (nat_le 1 n) is.0 in
+    let b = and_parts (nat_le 1 (length text) && nat_le (length text) MOST_DIGITS) (are_digits text) c.0 in
+    let a = and_parts (nat_le 1 (length text)) (nat_le (length text) MOST_DIGITS) b.0 in
+    let below = short_below text b.1 (leb-true (length text) MOST_DIGITS a.1) in
     let least : 1 ≤ n = leb-true 1 n c.1 in
     let same : n ≡ seq = is.1 in
     record { some = omega arith; short = omega arith }

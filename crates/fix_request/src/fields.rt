@@ -1,13 +1,9 @@
 //! The fields of a body.
 ghost use Rattle.std.specs.Prelude.{◌≡◌, Some, None, option_map, position, if◌then◌else◌};
-ghost use Rattle.std.specs.List.{before_first, after_first};
-ghost use Rattle.fix_request.specs.Fields.{is_soh, is_equals_sign, has_tag, field_of};
+ghost use Rattle.fix_request.specs.Fields.{is_equals_sign, has_tag, field_of};
 ghost use Rattle.fix_request.specs.Inner.Views.{field_view, split_at_equals_sign};
 
 use crate::digits::read_tag;
-
-/// The byte that ends a field.
-const SOH: u8 = 1;
 
 /// A field: its tag and its value.
 #[derive(Clone, Copy, Debug)]
@@ -34,24 +30,6 @@ fn split_at_equals_sign(text: &[u8]) -> Option<(&[u8], &[u8])>
         Some(at) => Some((&text[..at], &text[at + 1..])),
         None => None,
     }
-}
-
-/// What stands before the first SOH of some bytes and what stands behind it, which is nothing where there is no SOH.
-pub fn split_at_soh(bytes: &[u8]) -> (&[u8], &[u8])
-    ensures before { result.0.now ≡ before_first is_soh bytes.now }
-    ensures behind { result.1.now ≡ after_first is_soh bytes.now }
-{
-    match find_soh(bytes) {
-        Some(at) => (&bytes[..at], &bytes[at + 1..]),
-        None => (bytes, &[]),
-    }
-}
-
-/// The index of the first SOH.
-fn find_soh(bytes: &[u8]) -> Option<usize>
-    ensures { result ≡ position is_soh bytes.now }
-{
-    bytes.iter().position(|c| *c == SOH)
 }
 
 /// The index of the first `=`.

@@ -6,7 +6,8 @@ ghost use Rattle.fix_request.specs.Inner.Requests.{checked_values, well_formed_v
 ghost use Rattle.fix_request.specs.Inner.Views.{values_view, noted};
 
 use crate::fault::Fault;
-use crate::fields::{read_field, split_at_soh};
+use crate::fields::read_field;
+use gx_base::{SOH, split_at_byte};
 
 /// The values of the tags that rules name, each that of the first field with its tag.
 #[derive(Clone, Copy, Debug)]
@@ -66,7 +67,7 @@ fn read_fields(bytes: &[u8]) -> Result<Values<'_>, Fault>
     let mut without_value = None;
     let mut rest = bytes;
     while !rest.is_empty() {
-        let (text, behind) = split_at_soh(rest);
+        let (text, behind) = split_at_byte(rest, SOH);
         let Some(field) = read_field(text) else {
             return Err(Fault::bad_tag());
         };

@@ -8,7 +8,7 @@ use Rattle.gx_station.specs.Sources.{and_left, IsAtEnd}
 use Rattle.gx_base.specs.Frames.{frame_of}
 use Rattle.fix_frame.specs.Grammar.{is_frame, IsFrame, IsFrameFront, BeginsWithNone}
 use Rattle.fix_frame.specs.Stream.{messages_from, rest_from, messages_of, rest_of}
-use Rattle.fix_frame.proofs.Streams.{messages_from-append, rest_from-append, concat-messages_from, concat-messages_of, messages_of-frame-append, rest_of-frame-append, none_from_messages_of}
+use Rattle.fix_frame.specs.StreamLaws.{messages_from-append, rest_from-append, concat-messages_from, concat-messages_of, messages_of-frame-append, rest_of-frame-append, none_from_messages_of}
 use Rattle.product_file.specs.Products.{ProductLists}
 use Rattle.globex_run.specs.Outside.{Streams}
 use Rattle.globex_run.specs.ServedRequests.{is_served_frame, AreServed, AreServedFrames}

@@ -2,7 +2,7 @@
 use Rattle.std.proofs.Common.{ℕ, zero, suc, ◌+◌, ◌≤◌, List, [], ◌∷◌, slice_index, slice_set, arith}
 use Rattle.gx_base.specs.declared.order.Desk.{Desk}
 use Rattle.plain_book.specs.Match.{report_counted}
-use Rattle.plain_book.specs.Keeping.{KeepsRoom}
+use Rattle.plain_book.specs.Matches.{KeepsRoom}
 use Rattle.globex_run.specs.Inner.EngineInvariant.{HasRoom}
 
 -- a count of one place raises no place by more than one

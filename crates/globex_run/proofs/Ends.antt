@@ -11,8 +11,8 @@ use Rattle.fix_frame.specs.Framing.{Framing, GivesFrame, given_bytes}
 use Rattle.fix_frame.specs.Stream.{messages_of, rest_of}
 use Rattle.product_file.specs.Products.{ProductLists}
 use Rattle.globex_run.specs.State.{State}
-use Rattle.fix_frame.proofs.Streams.{concat-messages_of}
-use Rattle.fix_frame.proofs.Framings.{message_given, bytes_given}
+use Rattle.fix_frame.specs.StreamLaws.{concat-messages_of}
+use Rattle.fix_frame.specs.FramingLaws.{message_given, bytes_given}
 use Rattle.globex_run.specs.Step.{step_of, reports_of, lines_of}
 use Rattle.globex_run.specs.Outside.{SourceAt, StationAt, Streams}
 use Rattle.globex_run.specs.ServedRequests.{is_served_frame, AreServed}
@@ -24,7 +24,7 @@ use Rattle.globex_run.specs.declared.serve.Ending.{Ending}
 use Rattle.globex_run.specs.declared.serve.Ending.TheVariants.{Done, ReadFault, SendFault, BadFrame, Truncated, Full}
 use Rattle.globex_run.proofs.Fronts.{front-none, front-other}
 use Rattle.globex_run.proofs.Running.{reports-push, served-push, and_left-none}
-use Rattle.exec_report.proofs.Sent.{sent_and-append}
+use Rattle.gx_station.specs.SendLaws.{sent_and-append}
 
 module _ {I S : Type 0} (product : ProductLists) (before now : Streams I S) (framing : Framing) (state : State) (run : IsServed product before now framing state) (few : state.desk.messages ≤ 10000) where
   abbrev Result : SourceAt I → StationAt S → Ending → ℕ → Type 0

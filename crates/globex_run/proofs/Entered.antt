@@ -1,4 +1,4 @@
--- A new order is accepted and entered: the moment after all of it.
+-- A new order is accepted and entered: the state after all of it.
 use Rattle.std.proofs.Common.{◌≡◌, ℕ, ◌+◌, ◌<◌, false, List, [], ◌∷◌, None, sym, ap, subst, ◌∙◌, arith}
 use Rattle.gx_base.specs.declared.order.Order.{Order}
 use Rattle.gx_base.specs.declared.order.Desk.{Desk}
@@ -9,11 +9,12 @@ use Rattle.step_config.specs.declared.step.Step.{Step}
 use Rattle.fix_request.specs.declared.request.NewOrder.{NewOrder}
 use Rattle.plain_book.specs.Orders.{is_live}
 use Rattle.plain_book.specs.Book.{Book, live_orders}
-use Rattle.plain_book.specs.Match.{MatchState, match_start, next_head, report_counted, IsNow, CanTrade}
+use Rattle.plain_book.specs.Match.{MatchState, match_start, next_head, report_counted}
+use Rattle.plain_book.specs.Matches.{IsNow, CanTrade}
 use Rattle.plain_book.specs.Numbers.{book_numbered}
-use Rattle.plain_book.proofs.Steps.{with_events}
+use Rattle.plain_book.proofs.TradedShares.{with_events}
 use Rattle.level_sweep.specs.Sweep.{sweep}
-use Rattle.level_sweep.proofs.Blind.{sweep-blind}
+use Rattle.level_sweep.proofs.Events.{sweep-ignores}
 use Rattle.globex_run.specs.NewOrders.{order_asked, taker_of, with_rest, new_of, state_in}
 use Rattle.globex_run.specs.Inner.EngineInvariant.{IsState, IsOrder, HasRoom, state_of, filled_as, counter_limit}
 use Rattle.globex_run.proofs.Counters.{room-report_counted, counted_line}
@@ -59,7 +60,7 @@ pub accepted-number : (new : NewOrder) (old desk : Desk) (order swept : Order) (
 accepted-number new old desk order swept head is same = ap (λ (o : Order). o.number) same ∙ ap (λ (o : Order). o.number) is.is_order
 
 module _ (steps : List Step) (new : NewOrder) (b : Book) (old desk : Desk) (order : Order) (head : Head) (is : IsAccepted new old desk order head) where
-  -- the moment after the sweep
+  -- the state of the match after the sweep
   abbrev pub swept : MatchState
   swept = sweep steps order.price (match_start (book_numbered b) desk (taker_with new order))
 
@@ -78,7 +79,7 @@ module _ (steps : List Step) (new : NewOrder) (b : Book) (old desk : Desk) (orde
       ap (λ (x : Head). entered_by x order desk) is.is_head
       ∙ ap (λ (x : Order). entered_by h x desk) is.is_order
       ∙ ap (λ (x : Desk). entered_by h o x) is.is_desk
-      ∙ ap finish (sym (sweep-blind steps o.price (Accepted h o ∷ []) (match_start (book_numbered b) d (taker_of new n))))
+      ∙ ap finish (sym (sweep-ignores steps o.price (Accepted h o ∷ []) (match_start (book_numbered b) d (taker_of new n))))
 
   pub entered-events : Accepted head order ∷ swept.events ≡ (new_of steps new (state_of b old)).events
   entered-events = ap (λ (m : MatchState). m.events) entered-as

@@ -1,15 +1,15 @@
-pub mod Counters
-pub mod Numbers
-pub mod Sweeping
-pub mod Resting
-pub mod Entered
-pub mod Cancelling
-pub mod Invariant
-pub mod ServedFrames
-pub mod Running
-pub mod Fronts
-pub mod Ends
-pub mod Complete
-pub mod Runs
-pub mod ProductReads
-pub mod Faults
+mod Counters
+mod Numbers
+mod Sweeping
+mod Resting
+mod Entered
+mod Cancelling
+mod Invariant
+mod ServedFrames
+mod Running
+mod Fronts
+mod Ends
+mod Complete
+mod Runs
+mod ProductReads
+mod Faults

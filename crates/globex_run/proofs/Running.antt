@@ -9,14 +9,14 @@ use Rattle.gx_station.specs.Sources.{and_left}
 use Rattle.gx_station.specs.Stations.{sent_and}
 use Rattle.fix_frame.specs.Framing.{Framing, GivesFrame, given_bytes}
 use Rattle.fix_frame.specs.Stream.{messages_of, rest_of}
-use Rattle.fix_frame.proofs.Framings.{message_given, rest_given, bytes_given}
+use Rattle.fix_frame.specs.FramingLaws.{message_given, rest_given, bytes_given}
 use Rattle.product_file.specs.Products.{ProductLists}
 use Rattle.globex_run.specs.State.{State, empty_state}
 use Rattle.globex_run.specs.Step.{step_of, state_after, events_from, reports_of, lines_of}
 use Rattle.globex_run.specs.Outside.{SourceAt, StationAt, Streams}
 use Rattle.globex_run.specs.Inner.Serving.{TakesMore, ServesFrame, IsEmptyFramer, IsServed}
 use Rattle.globex_run.specs.ServedRequests.{is_served_frame, AreServed}
-use Rattle.exec_report.proofs.Sent.{sent_and-append, sent_and_none}
+use Rattle.gx_station.specs.SendLaws.{sent_and-append, sent_and_none}
 
 -- ---- lists of frames
 

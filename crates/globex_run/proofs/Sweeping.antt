@@ -7,7 +7,8 @@ use Rattle.gx_base.specs.declared.order.Taker.{Taker}
 use Rattle.step_config.specs.declared.step.Step.{Step}
 use Rattle.plain_book.specs.declared.entry.Entry.{Entry}
 use Rattle.plain_book.specs.Book.{Book, AllDiffer, live_orders}
-use Rattle.plain_book.specs.Match.{MatchState, match_start, IsNow}
+use Rattle.plain_book.specs.Match.{MatchState, match_start}
+use Rattle.plain_book.specs.Matches.{IsNow}
 use Rattle.plain_book.specs.Numbers.{book_numbered}
 use Rattle.plain_book.proofs.Pairs.{all-append, all-front, all-back}
 use Rattle.level_sweep.specs.Sweep.{sweep, with_resting}

@@ -1,5 +1,6 @@
 -- Cancels, and messages that a session rule refuses.
 use Rattle.std.specs.Prelude.{ℕ, ◌+◌, false, List, [], ◌∷◌, slice_index, slice_set, Option, Some, None}
+use Rattle.gx_base.specs.declared.limits.TheConstants.{MOST_FIRMS}
 use Rattle.gx_base.specs.declared.order.Order.{Order}
 use Rattle.gx_base.specs.declared.order.Desk.{Desk}
 use Rattle.gx_base.specs.declared.event.Head.{Head}
@@ -18,7 +19,7 @@ use Rattle.globex_run.specs.State.{State}
 
 -- the place of an addressee's count of lines; the last is of those to nobody known
 abbrev pub line_place : Option ℕ → ℕ
-line_place None = 64
+line_place None = MOST_FIRMS
 line_place (Some firm) = firm
 
 abbrev pub line_head : Desk → Option ℕ → List ℕ → Head

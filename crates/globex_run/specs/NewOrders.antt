@@ -1,5 +1,7 @@
 -- New orders: which are refused, and what an accepted one does.
 use Rattle.std.specs.Prelude.{ℕ, ◌+◌, Bool, true, false, not, ◌&&◌, ◌||◌, ◌==◌, nat_le, if◌then◌else◌, List, [], ◌∷◌, length, Option, Some, None, pos, slice_get, option_map, unwrap_or}
+use Rattle.gx_base.specs.FirstFault.{fault_if, first_fault}
+use Rattle.gx_base.specs.declared.limits.TheConstants.{MOST_LOTS}
 use Rattle.gx_base.specs.declared.price.Price.{Price}
 use Rattle.gx_base.specs.declared.order.Order.{Order}
 use Rattle.gx_base.specs.declared.order.Desk.{Desk}
@@ -28,14 +30,6 @@ use Rattle.globex_run.specs.Ticks.{tick_of, is_off_tick}
 
 -- ---- refusals: the first of the rules that holds (our own order and words)
 
-abbrev pub first_fault : List (Option NewFault) → Option NewFault
-first_fault [] = None
-first_fault (None ∷ rest) = first_fault rest
-first_fault (Some f ∷ rest) = Some f
-
-abbrev pub fault_if : Bool → NewFault → Option NewFault
-fault_if holds f = if holds then Some f else None
-
 abbrev pub is_unknown : Named → Bool
 is_unknown Unknown = true
 is_unknown (Known number) = false
@@ -47,7 +41,7 @@ instrument_number Unknown = 0
 
 -- 1 to 999,999 lots
 abbrev pub is_quantity : ℕ → Bool
-is_quantity lots = nat_le 1 lots && nat_le lots 999999
+is_quantity lots = nat_le 1 lots && nat_le lots MOST_LOTS
 
 -- a price or a stop price that the instrument does not have
 abbrev pub has_off_tick : ProductLists → NewOrder → Bool

@@ -7,13 +7,15 @@ use Rattle.gx_station.specs.Sources.{and_left, IsAtEnd}
 use Rattle.gx_station.specs.Stations.{sent_and}
 use Rattle.fix_frame.specs.Grammar.{IsFrame, IsFrameFront}
 use Rattle.fix_frame.specs.Stream.{messages_of, rest_of, IsBroken, IsCut}
+use Rattle.product_file.specs.declared.limits.TheConstants.{LONGEST_TEXT}
 use Rattle.product_file.specs.Products.{ProductLists}
 use Rattle.product_file.specs.ProductTexts.{product_of}
 use Rattle.globex_run.specs.Outside.{Streams, Outside}
-use Rattle.globex_run.specs.ProductTexts.{longest_text, TakesAtMost, IsProductText, IsRefusedAt}
+use Rattle.globex_run.specs.ProductTexts.{TakesAtMost, IsProductText, IsRefusedAt}
 use Rattle.globex_run.specs.Step.{reports_of}
 use Rattle.globex_run.specs.ServedRequests.{is_served_frame, AreServed, AreServedFrames}
 use Rattle.globex_run.specs.Outcomes.{outcome_of}
+use Rattle.globex_run.specs.declared.engine.TheConstants.{MESSAGE_LIMIT}
 use Rattle.globex_run.specs.declared.outcome.Outcome.{Outcome}
 use Rattle.globex_run.specs.declared.serve.Ending.{Ending}
 use Rattle.globex_run.specs.declared.serve.Ending.TheVariants.{Done, ReadFault, SendFault, BadFrame, Truncated, Full}
@@ -71,7 +73,7 @@ EndsAs product (Truncated place) count taken left =
     IsAtEnd left × (place ≡ end_of_messages count taken) × AreAll count taken × IsCut taken
 -- as many messages as there may be were applied, and one more that is served follows
 EndsAs product (Full place) count taken left =
-    (count ≡ 10000)
+    (count ≡ MESSAGE_LIMIT)
     × (place ≡ end_of_messages count taken)
     × BeginsWith (λ frame. IsTrue (is_served_frame product frame)) (bytes_at place taken)
 
@@ -86,7 +88,7 @@ pub record ServingResult {I S : Type 0} (product : ProductLists) (before after :
   pub taken : List ℕ
   pub took : before.input.left ≡ and_left taken after.input.left
   pub some : count ≤ length (messages_of taken)
-  pub few : count ≤ 10000
+  pub few : count ≤ MESSAGE_LIMIT
   pub are_served : AreServed product (first_messages count taken)
   pub sent : AreReported product ending before.station.sent after.station.sent (first_messages count taken)
   pub ends : EndsAs product ending count taken after.input.left
@@ -98,7 +100,7 @@ pub record ProductUnread {P I S : Type 0} (before after : Outside P I S) (outcom
   pub status : outcome.status ≡ 4
   pub nowhere : outcome.at ≡ 0
   pub none : outcome.messages ≡ 0
-  pub taken : TakesAtMost longest_text before.product after.product
+  pub taken : TakesAtMost LONGEST_TEXT before.product after.product
   pub rose : Rose before.product.faults after.product.faults
   pub untouched : after.streams ≡ before.streams
 
@@ -137,4 +139,4 @@ pub record CanBeServed {P I S : Type 0} (before : Outside P I S) : Type 0 where
   pub frames : List (List ℕ)
   pub input_known : before.streams.input.left ≡ Some (concat frames)
   pub are_served : AreServedFrames product frames
-  pub few : length frames ≤ 10000
+  pub few : length frames ≤ MESSAGE_LIMIT

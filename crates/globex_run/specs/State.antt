@@ -1,5 +1,6 @@
 -- The state of the engine: the live orders, each by its number, and the counters.
 use Rattle.std.specs.Prelude.{length, replicate}
+use Rattle.gx_base.specs.declared.limits.TheConstants.{ADDRESSEES}
 use Rattle.gx_base.specs.declared.order.Desk.{Desk}
 use Rattle.plain_book.specs.Book.{Book, empty_book}
 use Rattle.product_file.specs.Products.{ProductLists}
@@ -10,7 +11,7 @@ pub record State : Type 0 where
   pub desk : Desk
 
 abbrev pub empty_desk : Desk
-empty_desk = record { messages = 0; orders = 0; reports = 0; trades = 0; lines = replicate 65 0 }
+empty_desk = record { messages = 0; orders = 0; reports = 0; trades = 0; lines = replicate ADDRESSEES 0 }
 
 -- no order, room for as many as the product allows, and all counters 0
 abbrev pub empty_state : ProductLists → State

@@ -8,20 +8,17 @@ ghost use Rattle.globex_run.specs.Cancels.{line_head, line_counted, closed, unkn
 ghost use Rattle.globex_run.specs.Inner.EngineInvariant.{HasRoom, IsState, IsCounting, IsServing, IsSameSize, state_of, counter_limit};
 
 use fix_request::{CancelOrder, Refusal};
-use gx_base::{Cause, ChangeFault, Desk, Emit, Event, Head, Order, Slot, Stamp};
+use gx_base::{Cause, ChangeFault, Desk, Emit, Event, Head, MOST_FIRMS, Order, Slot, Stamp};
 use plain_book::{Book, count_report};
-
-/// The place of the lines to nobody known, behind those of the firms.
-const UNKNOWN: usize = 64;
 
 /// Counts a line that is no execution report, and gives its head.
 fn count_line(desk: &mut Desk, firm: Option<u8>, time: Stamp) -> Head
-    requires firm { IfSome firm (λ number. number < 64) }
+    requires firm { IfSome firm (λ number. number < MOST_FIRMS) }
     requires room { HasRoom desk.old 1 counter_limit }
     ensures head { result ≡ line_head desk.old firm time }
     ensures desk { desk.new ≡ line_counted desk.old firm }
 {
-    let place = firm.map_or(UNKNOWN, usize::from);
+    let place = firm.map_or(MOST_FIRMS, usize::from);
     desk.lines[place] += 1;
     Head {
         firm,
@@ -50,7 +47,7 @@ fn cancel_order<B: Book, E: Emit>(
     out: &mut E,
 )
     requires live { HasSlot slot.0 (live_orders (B.book book.old)) }
-    requires firm { request.now.sender.firm < 64 }
+    requires firm { request.now.sender.firm < MOST_FIRMS }
     requires room { HasRoom desk.old 1 counter_limit }
     ensures left { B.book book.new ≡ book_without slot.0 (B.book book.old) }
     ensures desk { desk.new ≡ report_counted desk.old request.now.sender.firm }
@@ -69,7 +66,7 @@ fn cancel_order<B: Book, E: Emit>(
 
 /// A cancel of an order that is not live is refused.
 fn refuse_cancel<E: Emit>(desk: &mut Desk, request: &CancelOrder, out: &mut E)
-    requires firm { request.now.sender.firm < 64 }
+    requires firm { request.now.sender.firm < MOST_FIRMS }
     requires room { HasRoom desk.old 1 counter_limit }
     ensures desk { desk.new ≡ line_counted desk.old (Some request.now.sender.firm) }
     ensures emits { Emits E.meanings out.old out.new (unknown_order request.now desk.old ∷ []) }
@@ -95,7 +92,7 @@ pub fn apply_cancel<B: Book, E: Emit>(
     out: &mut E,
 )
     requires counting { IsCounting (B.book book.old) desk.old }
-    requires firm { request.now.sender.firm < 64 }
+    requires firm { request.now.sender.firm < MOST_FIRMS }
     ensures now { IsState (cancel_step request.now (state_of (B.book book.old) desk.old)).0 (B.book book.new) desk.new }
     ensures emits { Emits E.meanings out.old out.new (cancel_step request.now (state_of (B.book book.old) desk.old)).1 }
     ensures serving { IsServing (B.book book.new) desk.new }
@@ -111,7 +108,7 @@ pub fn apply_cancel<B: Book, E: Emit>(
 
 /// A message that a session rule refuses is reported, and changes nothing.
 pub fn refuse_message<E: Emit>(desk: &mut Desk, refusal: &Refusal, out: &mut E)
-    requires firm { IfSome refusal.now.firm (λ number. number < 64) }
+    requires firm { IfSome refusal.now.firm (λ number. number < MOST_FIRMS) }
     requires room { HasRoom desk.old 1 counter_limit }
     ensures desk { desk.new ≡ line_counted desk.old refusal.now.firm }
     ensures emits { Emits E.meanings out.old out.new (rejected refusal.now desk.old ∷ []) }

@@ -10,7 +10,7 @@ ghost use Rattle.globex_run.specs.Inner.EngineInvariant.{IsState, IsCounting, Is
 use crate::cancel::{apply_cancel, refuse_message};
 use crate::entry::apply_new;
 use fix_request::Request;
-use gx_base::{Desk, Emit};
+use gx_base::{ADDRESSEES, Desk, Emit};
 use plain_book::{Book, PlainBook};
 use product_file::Product;
 use std::alloc::{AllocError, Global};
@@ -51,7 +51,7 @@ impl Engine {
                 orders: 0,
                 reports: 0,
                 trades: 0,
-                lines: [0; 65],
+                lines: [0; ADDRESSEES],
             },
         })
     }
@@ -59,14 +59,14 @@ impl Engine {
     /// How many messages were applied, at most `MESSAGE_LIMIT`.
     pub fn messages(&self) -> u64
         ensures count { result ≡ self.now.desk.messages }
-        ensures few { result ≤ 10000 }
+        ensures few { result ≤ MESSAGE_LIMIT }
     {
         self.desk.messages
     }
 
     /// Applies a message that is served, and puts its events.
     pub fn apply<E: Emit>(&mut self, product: &Product, request: &Request, out: &mut E)
-        requires few { self.old.desk.messages < 10000 }
+        requires few { self.old.desk.messages < MESSAGE_LIMIT }
         requires given { IsValidRequest product.now request.now }
         requires served { IsTrue (is_served request.now) }
         requires fits { FitsProduct product.now self.old.book }

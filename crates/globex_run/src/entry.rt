@@ -11,13 +11,12 @@ ghost use Rattle.globex_run.specs.Inner.EngineInvariant.{AreNumbered, HasRoom, I
 use crate::matching::{match_order, rest_order};
 use crate::ticks::{is_off_tick, tick_of};
 use fix_request::{Named, NewOrder, Px};
-use gx_base::{Desk, Emit, Event, NewFault, NewRefused, Order, Price, Taker};
+use gx_base::{
+    Desk, Emit, Event, MOST_FIRMS, MOST_LOTS, NewFault, NewRefused, Order, Price, Taker,
+};
 use plain_book::{Book, count_report};
 use product_file::Product;
 use step_config::Steps;
-
-/// The greatest quantity of an order, in lots.
-const MOST_LOTS: u32 = 999_999;
 
 /// Whether this is a quantity that an order may have: 1 to 999,999 lots.
 fn is_quantity(lots: u32) -> bool
@@ -164,7 +163,7 @@ fn new_refused(new: &NewOrder) -> NewRefused
 
 /// A new order is refused. Only its report is counted.
 pub fn refuse_new<E: Emit>(desk: &mut Desk, new: &NewOrder, fault: NewFault, out: &mut E)
-    requires firm { new.now.sender.firm < 64 }
+    requires firm { new.now.sender.firm < MOST_FIRMS }
     requires room { HasRoom desk.old 1 counter_limit }
     ensures desk { desk.new ≡ report_counted desk.old new.now.sender.firm }
     ensures emits { Emits E.meanings out.old out.new (refusal fault new.now desk.old ∷ []) }

@@ -3,8 +3,8 @@ ghost use Rattle.std.specs.Prelude.{◌≡◌, ◌-◌, ◌<◌, ◌≤◌, ℕ,
 ghost use Rattle.gx_base.specs.Emits.{Emits};
 ghost use Rattle.plain_book.specs.Orders.{is_live};
 ghost use Rattle.plain_book.specs.Book.{AllDiffer, IsFitToRest, live_orders};
-ghost use Rattle.plain_book.specs.Match.{match_start, IsNow, CanTrade};
-ghost use Rattle.plain_book.specs.Keeping.{KeepsRoom};
+ghost use Rattle.plain_book.specs.Match.{match_start};
+ghost use Rattle.plain_book.specs.Matches.{IsNow, CanTrade, KeepsRoom};
 ghost use Rattle.plain_book.specs.Numbers.{book_numbered};
 ghost use Rattle.level_sweep.specs.Sweep.{sweep};
 ghost use Rattle.globex_run.specs.NewOrders.{top_min_of, with_rest};

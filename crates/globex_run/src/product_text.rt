@@ -3,15 +3,12 @@ ghost use Rattle.std.specs.Prelude.{◌≡◌, ◌≤◌, length, vec_len};
 ghost use Rattle.globex_run.specs.Outside.{source_at};
 ghost use Rattle.globex_run.specs.Inner.ProductReading.{TakesText, TakesProduct, IsAnswerFor};
 
-use gx_station::{Failed, Source};
-use product_file::{Product, ProductFault, read_product};
+use gx_station::{Failed, LEAST_READ, Source};
+use product_file::{LONGEST_TEXT, Product, ProductFault, read_product};
 use std::alloc::Global;
 
-/// How many bytes the text of a product may have.
-const MOST_BYTES: usize = 65_536;
-
-/// Room for them, and for one more read.
-const ROOM: usize = MOST_BYTES + 4096;
+/// How many bytes are taken of a product at most: those of the longest text, and of one read more.
+pub const MOST_TAKEN: usize = LONGEST_TEXT + LEAST_READ;
 
 /// Why no product was taken.
 #[derive(Clone, Copy, Debug, PartialEq, Eq)]
@@ -24,13 +21,13 @@ pub enum NoProduct {
     Refused(u8),
 }
 
-/// Reads the source to its end, or until more than `MOST_BYTES` were taken, and answers how many.
+/// Reads the source to its end, or until more than `LONGEST_TEXT` were taken, and answers how many.
 fn read_text<P: Source>(room: &mut Vec<u8>, source: &mut P) -> Result<usize, Failed>
-    requires { vec_len room.old ≡ 69632 }
+    requires { vec_len room.old ≡ MOST_TAKEN }
     ensures { TakesText (source_at P.meanings source.old) (source_at P.meanings source.new) room.new.items result }
 {
     let mut len = 0;
-    while len <= MOST_BYTES {
+    while len <= LONGEST_TEXT {
         let n = source.read(&mut room.as_mut_slice()[len..])?;
         if n == 0 {
             return Ok(len);
@@ -44,7 +41,7 @@ fn read_text<P: Source>(room: &mut Vec<u8>, source: &mut P) -> Result<usize, Fai
 pub fn take_product<P: Source>(alloc: Global, source: &mut P) -> Result<Product, NoProduct>
     ensures { TakesProduct (source_at P.meanings source.old) (source_at P.meanings source.new) result }
 {
-    let Ok(mut room) = vec![in alloc; 0; ROOM] else {
+    let Ok(mut room) = vec![in alloc; 0; MOST_TAKEN] else {
         return Err(NoProduct::NoMemory);
     };
     let Ok(len) = read_text(&mut room, source) else {

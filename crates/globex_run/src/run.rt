@@ -4,7 +4,7 @@ ghost use Rattle.gx_station.specs.Counts.{Rose};
 ghost use Rattle.globex_run.specs.Words.{is_run};
 ghost use Rattle.globex_run.specs.Outside.{source_at, outside_at, IsQuiet};
 ghost use Rattle.globex_run.specs.Outcomes.{outcome_of, is_outcome};
-ghost use Rattle.globex_run.specs.ProductTexts.{longest_text, TakesAtMost};
+ghost use Rattle.globex_run.specs.ProductTexts.{TakesAtMost};
 ghost use Rattle.globex_run.specs.RunResult.{RunResult, CanBeServed};
 ghost use Rattle.globex_run.specs.Inner.Statuses.{outcome_without};
 
@@ -15,12 +15,9 @@ use crate::serve::{Ending, serve};
 use crate::words::is_run;
 use exec_report::ReportBuffer;
 use fix_frame::Framer;
-use gx_station::{Source, Station};
-use product_file::Product;
+use gx_station::{LEAST_READ, Source, Station};
+use product_file::{LONGEST_TEXT, Product};
 use std::alloc::{AllocError, Global};
-
-/// How many bytes of the input are read at once.
-const CHUNK: usize = 4096;
 
 /// All the memory of a run.
 #[derive(Drop)]
@@ -41,7 +38,7 @@ impl Buffers {
         Ok(Buffers {
             engine: Engine::new(alloc, product)?,
             framer: Framer::new(alloc)?,
-            chunk: vec![in alloc; 0; CHUNK]?,
+            chunk: vec![in alloc; 0; LEAST_READ]?,
             reports: ReportBuffer::new(alloc)?,
         })
     }
@@ -102,7 +99,7 @@ pub fn globex<P: Source, I: Source, S: Station>(
     // Want of memory, words that are no command, or a product that is refused, leave the input and the station untouched.
     // At want of memory no more was taken of the product than its text may have.
     ensures none { (result.status ≡ 1) ⊎ ((result.status ≡ 2) ⊎ (result.status ≡ 3)) → result.messages ≡ 0 }
-    ensures no_memory { result.status ≡ 1 → (input.new ≡ input.old) × (station.new ≡ station.old) × TakesAtMost longest_text (source_at P.meanings product.old) (source_at P.meanings product.new) }
+    ensures no_memory { result.status ≡ 1 → (input.new ≡ input.old) × (station.new ≡ station.old) × TakesAtMost LONGEST_TEXT (source_at P.meanings product.old) (source_at P.meanings product.new) }
     ensures bad_words { result.status ≡ 2 → (product.new ≡ product.old) × (input.new ≡ input.old) × (station.new ≡ station.old) }
     ensures bad_product { result.status ≡ 3 → (input.new ≡ input.old) × (station.new ≡ station.old) }
 

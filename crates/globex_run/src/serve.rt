@@ -14,9 +14,9 @@ ghost use Rattle.globex_run.specs.Inner.Serving.{TakesMore, CausedBy, ServesFram
 use crate::engine::{Engine, MESSAGE_LIMIT};
 use crate::served::is_served;
 use exec_report::{Outgoing, ReportBuffer, SendFault};
-use fix_frame::{Framer, Next};
+use fix_frame::{FRONT_LIMIT, Framer, Next};
 use fix_request::{Request, read_request};
-use gx_station::{Failed, Source, Station};
+use gx_station::{Failed, LEAST_READ, Source, Station};
 use product_file::Product;
 
 /// How serving ended, at which place: behind so many bytes of the input.
@@ -70,7 +70,7 @@ fn serve_request<S: Station>(
     station: &mut S,
     request: &Request,
 ) -> Result<(), SendFault>
-    requires few { engine.old.desk.messages < 10000 }
+    requires few { engine.old.desk.messages < MESSAGE_LIMIT }
     requires given { IsValidRequest product.now request.now }
     requires served { IsTrue (is_served request.now) }
     requires fits { FitsProduct product.now engine.old.book }
@@ -93,11 +93,11 @@ fn take_more<I: Source>(
     chunk: &mut Vec<u8>,
     input: &mut I,
 ) -> Result<usize, Failed>
-    requires chunk { vec_len chunk.old ≡ 4096 }
-    requires room { length framer.old.rest < 4096 }
+    requires chunk { vec_len chunk.old ≡ LEAST_READ }
+    requires room { length framer.old.rest < FRONT_LIMIT }
     requires offset { framer.old.offset < 2 ^ 62 }
     ensures takes { TakesMore (source_at I.meanings input.old) (source_at I.meanings input.new) framer.old framer.new result }
-    ensures chunk { vec_len chunk.new ≡ 4096 }
+    ensures chunk { vec_len chunk.new ≡ LEAST_READ }
 {
     let n = input.read(chunk.as_mut_slice())?;
     let _ = framer.feed(&chunk.as_slice()[..n]);
@@ -146,7 +146,7 @@ pub fn serve<I: Source, S: Station>(
 ) -> Ending
     requires start { engine.old ≡ empty_state product.now }
     requires framer { IsEmptyFramer framer.old }
-    requires chunk { vec_len chunk.old ≡ 4096 }
+    requires chunk { vec_len chunk.old ≡ LEAST_READ }
     requires buffer { buffer.old ≡ [] }
     ensures cause { CausedBy result (streams_at I.meanings S.meanings input.old station.old) (streams_at I.meanings S.meanings input.new station.new) }
     ensures serves { ServingResult product.now (streams_at I.meanings S.meanings input.old station.old) (streams_at I.meanings S.meanings input.new station.new) result engine.new.desk.messages }

@@ -9,6 +9,7 @@ use Rattle.std.proofs.Math.Nat.{pow-le-pow_right}
 use Rattle.std.specs.Char.{digit_value, is_ascii_digit}
 use Rattle.std.specs.Str.Parse.{digits_value, digits_value_after, AllDigits}
 use Rattle.gx_base.specs.Numbers.{are_digits}
+use Rattle.gx_base.specs.declared.digits.TheConstants.{MOST_DIGITS}
 
 -- a digit, and what it is worth
 pub digit_is : (c : ℕ) → is_ascii_digit c ≡ true → (48 ≤ c) × (c ≤ 57) × (digit_value c + 48 ≡ c)
@@ -25,11 +26,11 @@ AllDigits-from_are_digits (c ∷ cs) h =
     let digit = digit_is c both.0 in
     (omega arith, AllDigits-from_are_digits cs both.1)
 
--- at most nine digits are below 10 ^ 9
-pub short_below : (ds : List ℕ) → are_digits ds ≡ true → length ds ≤ 9 → digits_value 10 ds < 10 ^ 9
+-- at most `MOST_DIGITS` digits are below 10 ^ MOST_DIGITS
+pub short_below : (ds : List ℕ) → are_digits ds ≡ true → length ds ≤ MOST_DIGITS → digits_value 10 ds < 10 ^ MOST_DIGITS
 short_below ds h short =
     let below = digits_value-lt 10 ds (AllDigits-from_are_digits ds h) in
-    let power : 10 ^ length ds ≤ 10 ^ 9 = pow-le-pow_right (omega arith) short in
+    let power : 10 ^ length ds ≤ 10 ^ MOST_DIGITS = pow-le-pow_right (omega arith) short in
     omega arith
 
 -- a number grows with the digits behind it

@@ -5,6 +5,7 @@ use Rattle.std.proofs.lemmas.List.Edits.{take-paste}
 use Rattle.std.proofs.lemmas.Fmt.{length-decimal-le}
 use Rattle.std.proofs.Math.Seq.{take-add, paste}
 use Rattle.gx_base.specs.Frames.{head_of, trailer_of, frame_of}
+use Rattle.gx_base.specs.declared.fields.TheConstants.{GAP}
 
 -- the length of a body has at most three digits
 pub few_digits : (n : ℕ) → n < 1000 → length (decimal n) ≤ 3
@@ -20,37 +21,37 @@ same_further a b xs ys le same =
     ap (λ k. drop k xs) (sym sum) ∙ sym (drop-drop n a xs) ∙ ap (drop n) same ∙ drop-drop n a ys ∙ ap (λ k. drop k ys) sum
 
 -- the body behind the gap
-body_behind : (old : List ℕ) (end : ℕ) → 16 ≤ end → take (end - 16) (drop 16 old) ≡ drop 16 (take end old)
+body_behind : (old : List ℕ) (end : ℕ) → GAP ≤ end → take (end - GAP) (drop GAP old) ≡ drop GAP (take end old)
 body_behind old end gap =
-    let sum : 16 + (end - 16) ≡ end = omega arith in
-    sym (drop-take 16 (end - 16) old) ∙ ap (λ k. drop 16 (take k old)) sum
+    let sum : GAP + (end - GAP) ≡ end = omega arith in
+    sym (drop-take GAP (end - GAP) old) ∙ ap (λ k. drop GAP (take k old)) sum
 
 -- a head as long as the gap stands right before the body
-pub head_fills : (old new head : List ℕ) (at end : ℕ) → 16 ≤ end → at ≡ 16 → take at new ≡ head → drop at new ≡ drop at old
-    → take (at + (end - 16)) new ≡ head ++ drop 16 (take end old)
+pub head_fills : (old new head : List ℕ) (at end : ℕ) → GAP ≤ end → at ≡ GAP → take at new ≡ head → drop at new ≡ drop at old
+    → take (at + (end - GAP)) new ≡ head ++ drop GAP (take end old)
 head_fills old new head at end gap full front same =
-    take-add at (end - 16) new
-    ∙ ap (λ (l : List ℕ). l ++ take (end - 16) (drop at new)) front
-    ∙ ap (λ (l : List ℕ). head ++ take (end - 16) l) (same ∙ ap (λ k. drop k old) full)
+    take-add at (end - GAP) new
+    ∙ ap (λ (l : List ℕ). l ++ take (end - GAP) (drop at new)) front
+    ∙ ap (λ (l : List ℕ). head ++ take (end - GAP) l) (same ∙ ap (λ k. drop k old) full)
     ∙ ap (λ (l : List ℕ). head ++ l) (body_behind old end gap)
 
 -- the body is moved to a shorter head
-pub body_moved : (old new head : List ℕ) (at end : ℕ) → 16 ≤ end → at ≤ 16 → end ≤ length new → take at new ≡ head → drop at new ≡ drop at old
-    → take (at + (end - 16)) (paste new at (drop 16 new) (end - 16)) ≡ head ++ drop 16 (take end old)
+pub body_moved : (old new head : List ℕ) (at end : ℕ) → GAP ≤ end → at ≤ GAP → end ≤ length new → take at new ≡ head → drop at new ≡ drop at old
+    → take (at + (end - GAP)) (paste new at (drop GAP new) (end - GAP)) ≡ head ++ drop GAP (take end old)
 body_moved old new head at end gap short room front same =
-    take-paste new at (drop 16 new) (end - 16) (omega arith) (omega (arith, length-drop 16 new))
-    ∙ ap (λ (l : List ℕ). l ++ take (end - 16) (drop 16 new)) front
-    ∙ ap (λ (l : List ℕ). head ++ take (end - 16) l) (same_further at 16 new old short same)
+    take-paste new at (drop GAP new) (end - GAP) (omega arith) (omega (arith, length-drop GAP new))
+    ∙ ap (λ (l : List ℕ). l ++ take (end - GAP) (drop GAP new)) front
+    ∙ ap (λ (l : List ℕ). head ++ take (end - GAP) l) (same_further at GAP new old short same)
     ∙ ap (λ (l : List ℕ). head ++ l) (body_behind old end gap)
 
 -- the frame of a body that stands behind the gap
-pub framed : (room gap body all front whole : List ℕ) (end : ℕ) → end ≤ length room → length gap ≡ 16 → all ≡ gap ++ body → length all ≡ end
-    → front ≡ head_of (decimal (end - 16)) ++ drop 16 all → whole ≡ front ++ trailer_of front
+pub framed : (room gap body all front whole : List ℕ) (end : ℕ) → end ≤ length room → length gap ≡ GAP → all ≡ gap ++ body → length all ≡ end
+    → front ≡ head_of (decimal (end - GAP)) ++ drop GAP all → whole ≡ front ++ trailer_of front
     → whole ≡ frame_of (decimal (length body)) body
 framed room gap body all front whole end fits gap_is all_is end_is front_is whole_is =
-    let size : length all ≡ 16 + length body = ap length all_is ∙ length-append gap body ∙ ap (λ n. n + length body) gap_is in
-    let count : end - 16 ≡ length body = omega arith in
-    let rest : drop 16 all ≡ body = ap (drop 16) all_is ∙ drop_at gap body 16 gap_is in
+    let size : length all ≡ GAP + length body = ap length all_is ∙ length-append gap body ∙ ap (λ n. n + length body) gap_is in
+    let count : end - GAP ≡ length body = omega arith in
+    let rest : drop GAP all ≡ body = ap (drop GAP) all_is ∙ drop_at gap body GAP gap_is in
     let here : front ≡ head_of (decimal (length body)) ++ body =
-    front_is ∙ ap (λ n. head_of (decimal n) ++ drop 16 all) count ∙ ap (λ (l : List ℕ). head_of (decimal (length body)) ++ l) rest in
+    front_is ∙ ap (λ n. head_of (decimal n) ++ drop GAP all) count ∙ ap (λ (l : List ℕ). head_of (decimal (length body)) ++ l) rest in
     whole_is ∙ ap (λ (l : List ℕ). l ++ trailer_of l) here

@@ -1,9 +1,7 @@
-pub mod Capped
-pub mod Places
-pub mod PriceTexts
-pub mod Times
-pub mod Putting
-pub mod Lines
+mod Capped
+mod Places
+mod PriceTexts
+mod Times
 mod Logs
 mod Framing
 mod Rows

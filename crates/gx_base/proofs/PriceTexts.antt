@@ -10,6 +10,9 @@ use Rattle.std.specs.Char.{is_ascii_digit}
 use Rattle.std.specs.Str.Parse.{digits_value, digits_value_after}
 use Rattle.gx_base.proofs.Capped.{capped_append}
 use Rattle.gx_base.specs.Numbers.{are_digits, are_zeros, is_point, unsigned_text, is_price_text, whole_digits, fraction_digits, units_of, price_limit, price_of, fixed_digits, fraction_text}
+use Rattle.gx_base.specs.declared.digits.TheConstants.{CEILING}
+use Rattle.gx_base.specs.declared.limits.TheConstants.{MOST_DECIMALS}
+use Rattle.gx_base.specs.declared.price.TheConstants.{LONGEST_PRICE}
 use Rattle.gx_base.specs.declared.price.PriceFault.TheVariants.{Range}
 
 pub are_digits-take : (n : ℕ) (ds : List ℕ) → are_digits ds ≡ true → are_digits (take n ds) ≡ true
@@ -40,21 +43,21 @@ are_price_digits whole fraction = nat_le 1 (length whole + length fraction) && a
 abbrev units_from : ℕ → List ℕ → List ℕ → ℕ
 units_from decimals whole fraction = digits_value 10 (whole ++ take decimals (fraction ++ replicate decimals 48))
 
-is_price_text-from : (text : List ℕ) → length text ≤ 32 → are_price_digits (whole_digits text) (fraction_digits text) ≡ true → is_price_text text ≡ true
+is_price_text-from : (text : List ℕ) → length text ≤ LONGEST_PRICE → are_price_digits (whole_digits text) (fraction_digits text) ≡ true → is_price_text text ≡ true
 is_price_text-from text short h =
     let both = and_parts _ _ h in
     let two = and_parts _ _ both.0 in
-    and_from _ _ (and_from _ _ (and_from _ _ (le-leb (length text) 32 short) two.0) two.1) both.1
+    and_from _ _ (and_from _ _ (and_from _ _ (le-leb (length text) LONGEST_PRICE short) two.0) two.1) both.1
 
 -- what `read_price` finds on its way
 pub record IsRead (text : List ℕ) (decimals : ℕ) (rest whole fraction : List ℕ) (units : ℕ) : Type 0 where
   pub rest_is : rest ≡ unsigned_text text
   pub whole_is : whole ≡ before_first is_point rest
   pub fraction_is : fraction ≡ after_first is_point rest
-  pub short : length text ≤ 32
+  pub short : length text ≤ LONGEST_PRICE
   pub digits : true ≡ are_price_digits whole fraction
   pub zeros : true ≡ are_zeros (drop decimals fraction)
-  pub units_is : units ≡ min 1000000000000 (units_from decimals whole fraction)
+  pub units_is : units ≡ min CEILING (units_from decimals whole fraction)
 
 module _ {text : List ℕ} {decimals : ℕ} {rest whole fraction : List ℕ} {units : ℕ} (read : IsRead text decimals rest whole fraction units) where
   whole_same : whole ≡ whole_digits text
@@ -72,8 +75,8 @@ module _ {text : List ℕ} {decimals : ℕ} {rest whole fraction : List ℕ} {un
   fits : not (are_zeros (drop decimals (fraction_digits text))) ≡ false
   fits = not_from_true _ (sym (read.zeros ∙ ap (λ fs. are_zeros (drop decimals fs)) fraction_same))
 
-  capped : units ≡ min 1000000000000 (units_of text decimals)
-  capped = read.units_is ∙ ap (λ ws. min 1000000000000 (units_from decimals ws fraction)) whole_same ∙ ap (λ fs. min 1000000000000 (units_from decimals (whole_digits text) fs)) fraction_same
+  capped : units ≡ min CEILING (units_of text decimals)
+  capped = read.units_is ∙ ap (λ ws. min CEILING (units_from decimals ws fraction)) whole_same ∙ ap (λ fs. min CEILING (units_from decimals (whole_digits text) fs)) fraction_same
 
   pub price_of-range : price_limit < units → Err Range ≡ price_of text decimals
   price_of-range above =
@@ -90,7 +93,7 @@ pub length-fraction_text : (decimals n : ℕ) → length (fraction_text decimals
 length-fraction_text zero n = omega arith
 length-fraction_text (suc k) n = omega (arith, length-fixed_digits (suc k) n)
 
-pub length-whole : (decimals n : ℕ) → decimals ≤ 8 → n < 10 ^ 19 → length (decimal (n / 10 ^ decimals)) + decimals ≤ 19
+pub length-whole : (decimals n : ℕ) → decimals ≤ MOST_DECIMALS → n < 10 ^ 19 → length (decimal (n / 10 ^ decimals)) + decimals ≤ 19
 length-whole decimals n few small =
     let some : 0 < 10 ^ decimals = one-le-pow decimals 10 (omega arith) in
     let all : 19 - decimals + decimals ≡ 19 = omega arith in

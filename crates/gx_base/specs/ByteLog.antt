@@ -1,7 +1,7 @@
 -- What a `ByteEmit` and a `NullEmit` stand for.
-use Rattle.std.specs.Prelude.{◌≡◌, ◌⊎◌, ℕ, ◌+◌, ◌<◌, Bool, true, false, List, [], ◌++◌, length, Some, refl}
+use Rattle.std.specs.Prelude.{◌≡◌, ℕ, ◌+◌, ◌<◌, Bool, true, false, List, [], ◌++◌, length, Some, refl}
 use Rattle.std.proofs.Common.{inl, inr, sym, ◌∙◌, ap, subst}
-use Rattle.std.proofs.lemmas.Bool.{true≢false}
+use Rattle.std.proofs.lemmas.Bool.{cases_Bool, true≢false}
 use Rattle.gx_base.specs.NameLists.{NameLists}
 use Rattle.gx_base.specs.Line.{line_of}
 use Rattle.gx_base.specs.KnownBytes.{IsPrefix, prefix_itself, prefix_then}
@@ -19,10 +19,6 @@ pub record ByteLog : Type 0 where
 -- these bytes, and then the line of an event
 abbrev pub with_line : NameLists → List ℕ → Event → List ℕ
 with_line names bytes event = bytes ++ line_of names event
-
-true_or_false : (b : Bool) → (b ≡ true) ⊎ (b ≡ false)
-true_or_false true = inl refl
-true_or_false false = inr refl
 
 abbrev pub null_meanings : EmitMeanings NullEmit
 null_meanings = record {
@@ -63,7 +59,7 @@ log_then a b c first second = record {
   same_names = second.same_names ∙ first.same_names;
   same_room = second.same_room ∙ first.same_room;
   grows = prefix_then a.bytes b.bytes c.bytes first.grows second.grows;
-  overflows = λ no yes. elim (true_or_false b.full) [
+  overflows = λ no yes. elim (cases_Bool b.full) [
     | inl was ↦ subst Overflows (sym (second.stays was)) (first.overflows no was)
     | inr was_not ↦ second.overflows was_not yes
   ];

@@ -1,8 +1,11 @@
 pub mod Numbers
 pub mod Texts
+pub mod FirstFault
 pub mod NameLists
 pub mod Frames
 pub mod Line
 pub mod KnownBytes
 pub mod Emits
+pub mod EmitLaws
 pub mod ByteLog
+pub mod LineLaws

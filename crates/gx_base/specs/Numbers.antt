@@ -4,6 +4,9 @@ use Rattle.std.specs.Char.{is_ascii_digit}
 use Rattle.std.specs.Int.{is_negative}
 use Rattle.std.specs.List.{before_first, after_first, list_all}
 use Rattle.std.specs.Str.Parse.{digits_value}
+use Rattle.gx_base.specs.declared.digits.TheConstants.{MOST_DIGITS}
+use Rattle.gx_base.specs.declared.limits.TheConstants.{MOST_PRICE_UNITS}
+use Rattle.gx_base.specs.declared.price.TheConstants.{LONGEST_PRICE}
 use Rattle.gx_base.specs.declared.price.Price.{Price}
 use Rattle.gx_base.specs.declared.price.PriceFault.{PriceFault}
 use Rattle.gx_base.specs.declared.price.PriceFault.TheVariants.{Format, Scale, Range}
@@ -27,14 +30,14 @@ fixed_digits (suc width) n = fixed_digits width (n / 10) ++ (48 + n % 10) ∷ []
 abbrev pub is_quantity_text : List ℕ → Bool
 is_quantity_text text =
     let digits = before_first is_point text in
-    nat_le 1 (length digits) && nat_le (length digits) 9 && are_digits digits && are_zeros (after_first is_point text)
+    nat_le 1 (length digits) && nat_le (length digits) MOST_DIGITS && are_digits digits && are_zeros (after_first is_point text)
 
 -- the number of a quantity text
 abbrev pub quantity_of : List ℕ → Option ℕ
 quantity_of text = if is_quantity_text text then Some (digits_value 10 (before_first is_point text)) else None
 
 -- ---- prices: an optional minus sign, digits, and optionally a point and digits, with at least one digit in all and at
--- most 32 bytes (our own rule, within the float format of FIX 4.2)
+-- most `LONGEST_PRICE` bytes (our own rule, within the float format of FIX 4.2)
 
 abbrev pub has_minus : List ℕ → Bool
 has_minus [] = false
@@ -52,7 +55,7 @@ fraction_digits text = after_first is_point (unsigned_text text)
 
 abbrev pub is_price_text : List ℕ → Bool
 is_price_text text =
-    nat_le (length text) 32
+    nat_le (length text) LONGEST_PRICE
     && nat_le 1 (length (whole_digits text) + length (fraction_digits text))
     && are_digits (whole_digits text)
     && are_digits (fraction_digits text)
@@ -66,7 +69,7 @@ signed_units negative n = if negative then neg_ℤ (pos n) else pos n
 
 -- the greatest price in units, either way
 abbrev pub price_limit : ℕ
-price_limit = 999999999999
+price_limit = MOST_PRICE_UNITS
 
 -- the price of a text in units of 10 ^ -decimals, or the first of the three faults
 abbrev pub price_of : List ℕ → ℕ → Result Price PriceFault

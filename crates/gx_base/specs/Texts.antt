@@ -3,14 +3,15 @@ use Rattle.std.specs.Prelude.{ℕ, Bool, ◌&&◌, ◌||◌, ◌==◌, nat_le, L
 use Rattle.std.specs.List.{list_all}
 use Rattle.std.specs.Str.Parse.{digits_value}
 use Rattle.gx_base.specs.Numbers.{are_digits}
+use Rattle.gx_base.specs.declared.limits.TheConstants.{LONGEST_NAME}
 
--- ---- names: 1 to 24 bytes, each of them 32 to 126 (our own rule)
+-- ---- names: 1 to `LONGEST_NAME` bytes, each of them 32 to 126 (our own rule)
 
 abbrev pub is_name_byte : ℕ → Bool
 is_name_byte c = nat_le 32 c && nat_le c 126
 
 abbrev pub is_name : List ℕ → Bool
-is_name text = nat_le 1 (length text) && nat_le (length text) 24 && list_all is_name_byte text
+is_name text = nat_le 1 (length text) && nat_le (length text) LONGEST_NAME && list_all is_name_byte text
 
 -- ---- times: the UTC timestamp of FIX 4.2, without or with milliseconds
 

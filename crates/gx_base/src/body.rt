@@ -1,12 +1,13 @@
 //! The bodies of report lines, field by field. As in `fields`, each call writes behind the first `at` bytes, and answers
-//! where what it wrote ends. A field takes at most 30 bytes.
-ghost use Rattle.std.specs.Prelude.{◌≡◌, ◌+◌, ◌≤◌, ◌++◌, ◌==◌, if◌then◌else◌, Some, None, codes, decimal, length, take};
+//! where what it wrote ends. A field takes at most `LONGEST_FIELD` bytes.
+ghost use Rattle.std.specs.Prelude.{◌≡◌, ◌+◌, ◌*◌, ◌≤◌, ◌++◌, ◌==◌, if◌then◌else◌, Some, None, codes, decimal, length, take};
 ghost use Rattle.gx_base.specs.Frames.{field};
 ghost use Rattle.gx_base.specs.Line.{field_if, cause_text, number_text, cancel_id, cancelled_id, line_head, id_fields, report_fields, price_fields, order_fields, order_front, state_fields, trade_fields, refused_fields, wanted_fields, nothing_fields, fault_fields, request_fields, change_fields, session_fields, body_of};
 
 use crate::event::{Cause, ChangeFault, Event, Head, NewFault, NewRefused};
-use crate::fields::{field, number, price};
+use crate::fields::{LONGEST_FIELD, field, number, price};
 use crate::id::ShortId;
+use crate::limits::{LONGEST_VALUE, MOST_DECIMALS};
 use crate::names::Names;
 use crate::order::{Kind, Order};
 use crate::price::Price;
@@ -26,9 +27,9 @@ struct Ids {
 
 /// Writes the body of an event: at most 28 fields.
 pub(crate) fn write_body(into: &mut [u8], at: usize, event: &Event, names: &Names) -> usize
-    requires { at + 840 ≤ length into.old }
+    requires { at + 28 * LONGEST_FIELD ≤ length into.old }
     ensures body { take result into.new ≡ take at into.old ++ body_of names.now event.now }
-    ensures short { result ≤ at + 840 }
+    ensures short { result ≤ at + 28 * LONGEST_FIELD }
 {
     match event {
         Event::Accepted { head, order } => {
@@ -120,10 +121,10 @@ pub(crate) fn write_body(into: &mut [u8], at: usize, event: &Event, names: &Name
 
 /// Message type, line, sender, time and addressee.
 fn line_head(into: &mut [u8], at: usize, names: &Names, message_type: &[u8], head: &Head) -> usize
-    requires room { at + 150 ≤ length into.old }
-    requires short_type { length message_type.now ≤ 24 }
+    requires room { at + 5 * LONGEST_FIELD ≤ length into.old }
+    requires short_type { length message_type.now ≤ LONGEST_VALUE }
     ensures fields { take result into.new ≡ take at into.old ++ line_head names.now message_type.now head.now }
-    ensures short { result ≤ at + 150 }
+    ensures short { result ≤ at + 5 * LONGEST_FIELD }
 {
     let exchange = names.exchange();
     let firm = addressee(names, head.firm);
@@ -144,10 +145,10 @@ fn order_front(
     ids: Ids,
     status: &[u8],
 ) -> usize
-    requires room { at + 570 ≤ length into.old }
-    requires short_status { length status.now ≤ 24 }
+    requires room { at + 19 * LONGEST_FIELD ≤ length into.old }
+    requires short_status { length status.now ≤ LONGEST_VALUE }
     ensures fields { take result into.new ≡ take at into.old ++ order_front names.now head.now order.now ids.id ids.old status.now }
-    ensures short { result ≤ at + 570 }
+    ensures short { result ≤ at + 19 * LONGEST_FIELD }
 {
     let at = line_head(into, at, names, b"8", head);
     let at = id_fields(into, at, order.number, ids);
@@ -157,9 +158,9 @@ fn order_front(
 
 /// Which order, under which id, and in the place of which id.
 fn id_fields(into: &mut [u8], at: usize, order_number: u64, ids: Ids) -> usize
-    requires { at + 90 ≤ length into.old }
+    requires { at + 3 * LONGEST_FIELD ≤ length into.old }
     ensures fields { take result into.new ≡ take at into.old ++ id_fields order_number ids.id ids.old }
-    ensures short { result ≤ at + 90 }
+    ensures short { result ≤ at + 3 * LONGEST_FIELD }
 {
     let at = number(into, at, b"37=", order_number);
     let at = field(into, at, b"11=", ids.id.bytes());
@@ -168,9 +169,9 @@ fn id_fields(into: &mut [u8], at: usize, order_number: u64, ids: Ids) -> usize
 
 /// The id in whose place this one stands, if there is one.
 fn old_field(into: &mut [u8], at: usize, old: Option<ShortId>) -> usize
-    requires { at + 30 ≤ length into.old }
+    requires { at + LONGEST_FIELD ≤ length into.old }
     ensures fields { take result into.new ≡ take at into.old ++ field_if "41" old }
-    ensures short { result ≤ at + 30 }
+    ensures short { result ≤ at + LONGEST_FIELD }
 {
     match old {
         Some(old) => field(into, at, b"41=", old.bytes()),
@@ -205,10 +206,10 @@ fn cancel_ids(order: &Order, by: Option<ShortId>) -> Ids
 
 /// Which execution report, and what it tells.
 fn report_fields(into: &mut [u8], at: usize, head: &Head, status: &[u8]) -> usize
-    requires room { at + 120 ≤ length into.old }
-    requires short_status { length status.now ≤ 24 }
+    requires room { at + 4 * LONGEST_FIELD ≤ length into.old }
+    requires short_status { length status.now ≤ LONGEST_VALUE }
     ensures fields { take result into.new ≡ take at into.old ++ report_fields head.now status.now }
-    ensures short { result ≤ at + 120 }
+    ensures short { result ≤ at + 4 * LONGEST_FIELD }
 {
     let at = number(into, at, b"17=", head.report);
     let at = field(into, at, b"20=", b"0");
@@ -218,9 +219,9 @@ fn report_fields(into: &mut [u8], at: usize, head: &Head, status: &[u8]) -> usiz
 
 /// What was ordered.
 fn order_fields(into: &mut [u8], at: usize, names: &Names, order: &Order) -> usize
-    requires { at + 210 ≤ length into.old }
+    requires { at + 7 * LONGEST_FIELD ≤ length into.old }
     ensures fields { take result into.new ≡ take at into.old ++ order_fields names.now order.now }
-    ensures short { result ≤ at + 210 }
+    ensures short { result ≤ at + 7 * LONGEST_FIELD }
 {
     let instrument = listed(names, order.instrument);
     let at = field(into, at, b"55=", instrument.name.bytes());
@@ -233,10 +234,10 @@ fn order_fields(into: &mut [u8], at: usize, names: &Names, order: &Order) -> usi
 
 /// The price and the stop price, as far as the kind of the order has them.
 fn price_fields(into: &mut [u8], at: usize, order: &Order, decimals: u8) -> usize
-    requires room { at + 60 ≤ length into.old }
-    requires decimals { decimals ≤ 8 }
+    requires room { at + 2 * LONGEST_FIELD ≤ length into.old }
+    requires decimals { decimals ≤ MOST_DECIMALS }
     ensures fields { take result into.new ≡ take at into.old ++ price_fields order.now.kind order.now.price order.now.trigger decimals }
-    ensures short { result ≤ at + 60 }
+    ensures short { result ≤ at + 2 * LONGEST_FIELD }
 {
     match order.kind {
         Kind::Market => at,
@@ -250,10 +251,10 @@ fn price_fields(into: &mut [u8], at: usize, order: &Order, decimals: u8) -> usiz
 
 /// A trade: how much, and at which price.
 fn trade_fields(into: &mut [u8], at: usize, lots: u32, trade_price: Price, decimals: u8) -> usize
-    requires room { at + 60 ≤ length into.old }
-    requires decimals { decimals ≤ 8 }
+    requires room { at + 2 * LONGEST_FIELD ≤ length into.old }
+    requires decimals { decimals ≤ MOST_DECIMALS }
     ensures fields { take result into.new ≡ take at into.old ++ trade_fields lots trade_price decimals }
-    ensures short { result ≤ at + 60 }
+    ensures short { result ≤ at + 2 * LONGEST_FIELD }
 {
     let at = number(into, at, b"32=", u64::from(lots));
     price(into, at, b"31=", trade_price, decimals)
@@ -261,9 +262,9 @@ fn trade_fields(into: &mut [u8], at: usize, lots: u32, trade_price: Price, decim
 
 /// What is open and filled of an order now.
 fn state_fields(into: &mut [u8], at: usize, head: &Head, order: &Order) -> usize
-    requires { at + 120 ≤ length into.old }
+    requires { at + 4 * LONGEST_FIELD ≤ length into.old }
     ensures fields { take result into.new ≡ take at into.old ++ state_fields head.now order.now }
-    ensures short { result ≤ at + 120 }
+    ensures short { result ≤ at + 4 * LONGEST_FIELD }
 {
     let at = number(into, at, b"151=", u64::from(order.leaves));
     let at = number(into, at, b"14=", u64::from(order.filled));
@@ -273,9 +274,9 @@ fn state_fields(into: &mut [u8], at: usize, head: &Head, order: &Order) -> usize
 
 /// Why an order is cancelled, in our own words, where the client did not ask for it.
 fn cause_field(into: &mut [u8], at: usize, cause: Cause) -> usize
-    requires { at + 30 ≤ length into.old }
+    requires { at + LONGEST_FIELD ≤ length into.old }
     ensures fields { take result into.new ≡ take at into.old ++ field_if "58" (cause_text cause) }
-    ensures short { result ≤ at + 30 }
+    ensures short { result ≤ at + LONGEST_FIELD }
 {
     match cause {
         Cause::Asked => at,
@@ -292,9 +293,9 @@ fn refused_fields(
     order: &NewRefused,
     fault: NewFault,
 ) -> usize
-    requires { at + 240 ≤ length into.old }
+    requires { at + 8 * LONGEST_FIELD ≤ length into.old }
     ensures fields { take result into.new ≡ take at into.old ++ refused_fields head.now order.now fault }
-    ensures short { result ≤ at + 240 }
+    ensures short { result ≤ at + 8 * LONGEST_FIELD }
 {
     let ids = Ids {
         id: order.id,
@@ -307,9 +308,9 @@ fn refused_fields(
 
 /// What a refused new order wanted, without its prices.
 fn wanted_fields(into: &mut [u8], at: usize, order: &NewRefused) -> usize
-    requires { at + 150 ≤ length into.old }
+    requires { at + 5 * LONGEST_FIELD ≤ length into.old }
     ensures fields { take result into.new ≡ take at into.old ++ wanted_fields order.now }
-    ensures short { result ≤ at + 150 }
+    ensures short { result ≤ at + 5 * LONGEST_FIELD }
 {
     let at = field(into, at, b"55=", order.symbol.bytes());
     let at = field(into, at, b"54=", side_text(order.side));
@@ -320,9 +321,9 @@ fn wanted_fields(into: &mut [u8], at: usize, order: &NewRefused) -> usize
 
 /// Nothing is open or filled.
 fn nothing_fields(into: &mut [u8], at: usize, head: &Head) -> usize
-    requires { at + 120 ≤ length into.old }
+    requires { at + 4 * LONGEST_FIELD ≤ length into.old }
     ensures fields { take result into.new ≡ take at into.old ++ nothing_fields head.now }
-    ensures short { result ≤ at + 120 }
+    ensures short { result ≤ at + 4 * LONGEST_FIELD }
 {
     let at = field(into, at, b"151=", b"0");
     let at = field(into, at, b"14=", b"0");
@@ -332,9 +333,9 @@ fn nothing_fields(into: &mut [u8], at: usize, head: &Head) -> usize
 
 /// Why a new order is refused, and how much of it ends with that.
 fn fault_fields(into: &mut [u8], at: usize, order: &NewRefused, fault: NewFault) -> usize
-    requires { at + 60 ≤ length into.old }
+    requires { at + 2 * LONGEST_FIELD ≤ length into.old }
     ensures fields { take result into.new ≡ take at into.old ++ fault_fields order.now fault }
-    ensures short { result ≤ at + 60 }
+    ensures short { result ≤ at + 2 * LONGEST_FIELD }
 {
     let at = field(into, at, b"58=", fault_text(fault));
     number(into, at, b"9003=", u64::from(order.quantity))
@@ -348,9 +349,9 @@ fn request_fields(
     id: &ShortId,
     old: &ShortId,
 ) -> usize
-    requires { at + 90 ≤ length into.old }
+    requires { at + 3 * LONGEST_FIELD ≤ length into.old }
     ensures fields { take result into.new ≡ take at into.old ++ request_fields order_number id.now old.now }
-    ensures short { result ≤ at + 90 }
+    ensures short { result ≤ at + 3 * LONGEST_FIELD }
 {
     let at = number_field(into, at, order_number);
     let at = field(into, at, b"11=", id.bytes());
@@ -359,9 +360,9 @@ fn request_fields(
 
 /// The number of an order, or `NONE` where there is none.
 fn number_field(into: &mut [u8], at: usize, order_number: u64) -> usize
-    requires { at + 30 ≤ length into.old }
+    requires { at + LONGEST_FIELD ≤ length into.old }
     ensures field { take result into.new ≡ take at into.old ++ field "37" (number_text order_number) }
-    ensures short { result ≤ at + 30 }
+    ensures short { result ≤ at + LONGEST_FIELD }
 {
     if order_number == 0 {
         field(into, at, b"37=", b"NONE")
@@ -379,9 +380,9 @@ fn change_fields(
     replace: bool,
     fault: ChangeFault,
 ) -> usize
-    requires { at + 150 ≤ length into.old }
+    requires { at + 5 * LONGEST_FIELD ≤ length into.old }
     ensures fields { take result into.new ≡ take at into.old ++ change_fields head.now filled replace fault }
-    ensures short { result ≤ at + 150 }
+    ensures short { result ≤ at + 5 * LONGEST_FIELD }
 {
     let at = field(into, at, b"39=", change_status(fault, filled));
     let at = field(into, at, b"434=", response_text(replace));
@@ -392,9 +393,9 @@ fn change_fields(
 
 /// Which message is rejected, at which tag where it is one, and why.
 fn session_fields(into: &mut [u8], at: usize, seq: u32, tag: u32, reason: u8, rule: u8) -> usize
-    requires { at + 120 ≤ length into.old }
+    requires { at + 4 * LONGEST_FIELD ≤ length into.old }
     ensures fields { take result into.new ≡ take at into.old ++ session_fields seq tag reason rule }
-    ensures short { result ≤ at + 120 }
+    ensures short { result ≤ at + 4 * LONGEST_FIELD }
 {
     let at = number(into, at, b"45=", u64::from(seq));
     let at = tag_field(into, at, tag);
@@ -404,9 +405,9 @@ fn session_fields(into: &mut [u8], at: usize, seq: u32, tag: u32, reason: u8, ru
 
 /// The tag that breaks a session rule, if it is one.
 fn tag_field(into: &mut [u8], at: usize, tag: u32) -> usize
-    requires { at + 30 ≤ length into.old }
+    requires { at + LONGEST_FIELD ≤ length into.old }
     ensures field { take result into.new ≡ take at into.old ++ field_if "371" (if tag == 0 then None else Some (decimal tag)) }
-    ensures short { result ≤ at + 30 }
+    ensures short { result ≤ at + LONGEST_FIELD }
 {
     if tag == 0 {
         at

@@ -4,6 +4,7 @@ ghost use Rattle.gx_base.specs.Line.{line_of};
 ghost use Rattle.gx_base.specs.Emits.{EmitMeanings, Puts};
 
 use crate::event::Event;
+use crate::limits::LONGEST_LINE;
 use crate::line::write_line;
 use crate::names::Names;
 use std::alloc::{AllocError, Global};
@@ -45,7 +46,7 @@ impl Emit for NullEmit {
 pub struct ByteEmit<'a> {
     names: &'a Names,
     /// Room for the line that is put.
-    line: [u8; 1024],
+    line: [u8; LONGEST_LINE],
     lines: Vec<u8>,
     room: usize,
     full: bool,
@@ -71,7 +72,7 @@ impl<'a> ByteEmit<'a> {
         let lines = Vec::with_capacity(alloc, room)?;
         Ok(ByteEmit {
             names,
-            line: [0; 1024],
+            line: [0; LONGEST_LINE],
             lines,
             room,
             full: false,

@@ -42,7 +42,7 @@ pub enum NewFault {
     Symbol,
     /// A live order of the firm has this ClOrdID (11).
     Duplicate,
-    /// The quantity is 0 or above 999,999.
+    /// The quantity is 0 or above `MOST_LOTS`.
     Quantity,
     /// A price has a non-zero digit below the decimals, or is no multiple of the tick.
     Tick,
@@ -94,7 +94,7 @@ pub enum ChangeFault {
     Mismatch,
     /// A live order of the firm has the new ClOrdID (11).
     Duplicate,
-    /// The new quantity is 0 or above 999,999.
+    /// The new quantity is 0 or above `MOST_LOTS`.
     Quantity,
     /// The new quantity is no more than what is filled already.
     Filled,

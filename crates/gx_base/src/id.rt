@@ -3,13 +3,14 @@ ghost use Rattle.std.specs.Prelude.{◌≡◌, SomeIff, IsTrue, codes};
 ghost use Rattle.std.specs.List.{list_all};
 ghost use Rattle.gx_base.specs.Texts.{is_name, is_name_byte};
 
+use crate::limits::LONGEST_NAME;
 use crate::text::Text;
 use std::marker::Model;
 
-/// A name of 1 to 24 bytes, each of them 32 to 126 (our own rule). Contracts see it as its bytes.
+/// A name of 1 to `LONGEST_NAME` bytes, each of them 32 to 126 (our own rule). Contracts see it as its bytes.
 #[derive(Clone, Copy, Debug, PartialEq, Eq)]
 pub struct ShortId {
-    text: Text<24>,
+    text: Text<LONGEST_NAME>,
 }
 
 impl Model for ShortId {
@@ -28,7 +29,7 @@ impl Model for ShortId {
 }
 
 impl ShortId {
-    /// The name with these bytes. `None` exactly where there are not 1 to 24 of them, or one is outside 32..=126.
+    /// The name with these bytes. `None` exactly where there are not 1 to `LONGEST_NAME` of them, or one is outside 32..=126.
     pub fn new(bytes: &[u8]) -> Option<ShortId>
         ensures { SomeIff result (IsTrue (is_name bytes.now)) bytes.now }
     {
@@ -49,11 +50,11 @@ impl ShortId {
     }
 }
 
-/// Whether there are 1 to 24 bytes, each of them printable ASCII.
+/// Whether there are 1 to `LONGEST_NAME` bytes, each of them printable ASCII.
 fn is_name(bytes: &[u8]) -> bool
     ensures { result ≡ is_name bytes.now }
 {
-    !bytes.is_empty() && bytes.len() <= 24 && are_name_bytes(bytes)
+    !bytes.is_empty() && bytes.len() <= LONGEST_NAME && are_name_bytes(bytes)
 }
 
 /// Whether each byte is printable ASCII.

@@ -1,15 +1,15 @@
-//! Report lines byte by byte, one of every event, and a log that is full.
+//! Report lines byte by byte, one of every event.
 ghost use Rattle.std.specs.Prelude.{◌≡◌};
 
 use crate::emit::{ByteEmit, Emit};
 use crate::event::{Cause, ChangeFault, Event, Head, NewFault, NewRefused, StepName};
 use crate::id::ShortId;
+use crate::limits::{LONGEST_LINE, SOH};
 use crate::line::write_line;
 use crate::names::{Listed, Names};
 use crate::order::{Kind, Life, Order, Side};
 use crate::price::Price;
 use crate::stamp::Stamp;
-use std::alloc::{AllocError, Global};
 use std::process::Abort;
 use std::test::Fail;
 
@@ -77,13 +77,9 @@ fn stamp(rt: &impl Abort, text: &[u8]) -> Stamp {
     Stamp::new(text).expect(rt, "a time")
 }
 
-fn product_names(rt: &impl Abort) -> Names {
-    let firms = [
-        name(rt, b"AAA"),
-        name(rt, b"BBB"),
-        name(rt, b"CCC"),
-        name(rt, b"DDD"),
-    ];
+/// Two firms and an instrument.
+pub(crate) fn product_names(rt: &impl Abort) -> Names {
+    let firms = [name(rt, b"AAA"), name(rt, b"BBB")];
     let instruments = [Listed {
         name: name(rt, b"ESZ4"),
         decimals: 2,
@@ -112,13 +108,21 @@ fn order(rt: &impl Abort) -> Order {
     }
 }
 
+/// The head of a report to the first firm.
+fn head(rt: &impl Abort, line: u64, report: u64) -> Head {
+    Head {
+        firm: Some(0),
+        line,
+        report,
+        time: stamp(rt, b"20240102-09:30:02"),
+    }
+}
+
 fn accepted(rt: &impl Abort) -> Event {
     Event::Accepted {
         head: Head {
-            firm: Some(0),
-            line: 1,
-            report: 1,
             time: stamp(rt, b"20240102-09:30:00"),
+            ..head(rt, 1, 1)
         },
         order: order(rt),
     }
@@ -127,10 +131,8 @@ fn accepted(rt: &impl Abort) -> Event {
 fn filled(rt: &impl Abort) -> Event {
     Event::Fill {
         head: Head {
-            firm: Some(0),
-            line: 2,
-            report: 3,
             time: stamp(rt, b"20240102-09:30:01"),
+            ..head(rt, 2, 3)
         },
         order: Order {
             filled: 4,
@@ -147,10 +149,8 @@ fn filled(rt: &impl Abort) -> Event {
 fn refused(rt: &impl Abort) -> Event {
     Event::RefusedNew {
         head: Head {
-            firm: Some(0),
-            line: 2,
-            report: 2,
             time: stamp(rt, b"20240102-09:30:00"),
+            ..head(rt, 2, 2)
         },
         order: NewRefused {
             id: name(rt, b"a1"),
@@ -161,16 +161,6 @@ fn refused(rt: &impl Abort) -> Event {
             life: Life::Day,
         },
         fault: NewFault::Duplicate,
-    }
-}
-
-/// The head of a report to the first firm.
-fn head(rt: &impl Abort, line: u64, report: u64) -> Head {
-    Head {
-        firm: Some(0),
-        line,
-        report,
-        time: stamp(rt, b"20240102-09:30:02"),
     }
 }
 
@@ -218,54 +208,35 @@ fn refused_session(head: Head, seq: u32, tag: u32, reason: u8, rule: u8) -> Even
     }
 }
 
-/// The line of an event is this one, in which a bar stands for each SOH.
-fn assert_line(rt: &impl Abort, names: &Names, event: &Event, want: &[u8]) {
-    let mut room = [0; 1024];
-    let count = write_line(event, names, &mut room);
-    for byte in room.iter_mut() {
-        if *byte == 1 {
+/// Puts a bar for each SOH.
+fn put_bars(lines: &mut [u8]) {
+    for byte in lines.iter_mut() {
+        if *byte == SOH {
             *byte = b'|';
         }
     }
-    assert_eq!(rt; &room[..count], want);
 }
 
-/// The lines with a bar for each SOH.
-fn with_bars(alloc: Global, lines: &[u8]) -> Result<Vec<u8>, AllocError> {
-    lines
-        .iter()
-        .map(|byte| if *byte == 1 { b'|' } else { *byte })
-        .collect(alloc)
+/// The line of an event is this one, in which a bar stands for each SOH.
+fn assert_line(rt: &impl Abort, names: &Names, event: &Event, want: &[u8]) {
+    let mut room = [0; LONGEST_LINE];
+    let count = write_line(event, names, &mut room);
+    put_bars(&mut room);
+    assert_eq!(rt; &room[..count], want);
 }
 
 #[test]
 fn writes_the_lines_of_an_order(rt: HostRuntime) -> Result<(), Fail> {
     let names = product_names(&rt);
-    let room = ACCEPTED.len() + FILLED.len();
-    let mut lines = ByteEmit::new(rt.alloc(), &names, room)?;
-    lines.put(&accepted(&rt));
-    assert_eq!(rt; with_bars(rt.alloc(), lines.bytes())?.as_slice(), ACCEPTED);
-    lines.put(&filled(&rt));
-    assert!(rt; !lines.failed());
+    let mut emit = ByteEmit::new(rt.alloc(), &names, ACCEPTED.len() + FILLED.len())?;
+    emit.put(&accepted(&rt));
+    emit.put(&filled(&rt));
+    assert!(rt; !emit.failed());
+    let mut lines = Vec::from_slice(rt.alloc(), emit.bytes())?;
+    put_bars(lines.as_mut_slice());
     let mut both = Vec::from_slice(rt.alloc(), ACCEPTED)?;
     both.extend_from_slice(FILLED)?;
-    assert_eq!(rt;
-        with_bars(rt.alloc(), lines.bytes())?.as_slice(),
-        both.as_slice()
-    );
-    Ok(())
-}
-
-#[test]
-fn keeps_the_lines_before_one_that_does_not_fit(rt: HostRuntime) -> Result<(), Fail> {
-    let names = product_names(&rt);
-    let room = ACCEPTED.len() + FILLED.len() - 1;
-    let mut lines = ByteEmit::new(rt.alloc(), &names, room)?;
-    lines.put(&accepted(&rt));
-    assert!(rt; !lines.failed());
-    lines.put(&filled(&rt));
-    assert!(rt; lines.failed());
-    assert_eq!(rt; with_bars(rt.alloc(), lines.bytes())?.as_slice(), ACCEPTED);
+    assert_eq!(rt; lines.as_slice(), both.as_slice());
     Ok(())
 }
 

@@ -3,6 +3,7 @@ ghost use Rattle.std.specs.Prelude.{◌≡◌, ◌<◌, ◌≤◌, Some, length,
 ghost use Rattle.gx_base.specs.NameLists.{AreRight, instrument_names};
 
 use crate::id::ShortId;
+use crate::limits::{MOST_DECIMALS, MOST_FIRMS, MOST_INSTRUMENTS};
 use arrayvec::ArrayVec;
 use std::marker::Model;
 
@@ -15,13 +16,13 @@ pub struct Listed {
 }
 
 /// The exchange's name, the firms and the instruments, each numbered from 0 on in the order of its list. There are at
-/// most 64 firms and 16 instruments, no two firms and no two instruments have one name, and an instrument has at most
-/// 8 decimals (our own limits). Contracts see it as the name and the two lists.
+/// most `MOST_FIRMS` firms and `MOST_INSTRUMENTS` instruments, no two firms and no two instruments have one name, and
+/// an instrument has at most `MOST_DECIMALS` decimals. Contracts see it as the name and the two lists.
 #[derive(Drop)]
 pub struct Names {
     exchange: ShortId,
-    firms: ArrayVec<ShortId, 64>,
-    instruments: ArrayVec<Listed, 16>,
+    firms: ArrayVec<ShortId, MOST_FIRMS>,
+    instruments: ArrayVec<Listed, MOST_INSTRUMENTS>,
 }
 
 impl Model for Names {
@@ -64,18 +65,18 @@ impl Names {
         self.exchange
     }
 
-    /// How many firms are listed, at most 64.
+    /// How many firms are listed, at most `MOST_FIRMS`.
     pub fn firm_count(&self) -> usize
         ensures count { result ≡ length self.now.firms }
-        ensures few { result ≤ 64 }
+        ensures few { result ≤ MOST_FIRMS }
     {
         self.firms.len()
     }
 
-    /// How many instruments are listed, at most 16.
+    /// How many instruments are listed, at most `MOST_INSTRUMENTS`.
     pub fn instrument_count(&self) -> usize
         ensures count { result ≡ length self.now.instruments }
-        ensures few { result ≤ 16 }
+        ensures few { result ≤ MOST_INSTRUMENTS }
     {
         self.instruments.len()
     }
@@ -88,11 +89,12 @@ impl Names {
         self.firms[number as usize]
     }
 
-    /// The instrument with this number, which is below `instrument_count`. Its prices have at most 8 decimals.
+    /// The instrument with this number, which is below `instrument_count`. Its prices have at most
+    /// `MOST_DECIMALS` decimals.
     pub fn listed(&self, number: u8) -> Listed
         requires { number < length self.now.instruments }
         ensures listed { slice_get self.now.instruments number ≡ Some result }
-        ensures decimals { result.decimals ≤ 8 }
+        ensures decimals { result.decimals ≤ MOST_DECIMALS }
     {
         self.instruments[number as usize]
     }

@@ -1,5 +1,6 @@
 //! Orders, and the counters of the engine.
 use crate::id::ShortId;
+use crate::limits::ADDRESSEES;
 use crate::price::Price;
 use crate::stamp::Stamp;
 
@@ -83,7 +84,7 @@ pub struct Desk {
     /// Trades, which is the number of the last one.
     pub trades: u64,
     /// Report lines, by the number of the firm that they go to. The last one counts those to nobody known.
-    pub lines: [u64; 65],
+    pub lines: [u64; ADDRESSEES],
 }
 
 /// The incoming order while it matches. Its `leaves` is what it still wants.

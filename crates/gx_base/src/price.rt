@@ -3,10 +3,15 @@ ghost use Rattle.std.specs.Prelude.{◌≡◌, ◌+◌, ◌-◌, ◌≤◌, ◌+
 ghost use Rattle.std.specs.Str.Parse.{digits_value};
 ghost use Rattle.gx_base.specs.Numbers.{are_digits, are_zeros, has_minus, signed_units, unsigned_text, fraction_text, price_of, price_text};
 
-use crate::digits::{CEILING, are_digits, are_zeros, read_on, split_at_point, write_fixed_digits};
+use crate::bytes::{append, split_at_byte};
+use crate::digits::{CEILING, are_digits, are_zeros, read_on, write_fixed_digits};
+use crate::limits::{LONGEST_VALUE, MOST_DECIMALS, MOST_PRICE_UNITS};
 use itoa::Buffer;
 use std::cmp;
 use thiserror::Error;
+
+/// How many bytes a price has at most in a message (our own rule, within the float format of FIX 4.2).
+const LONGEST_PRICE: usize = 32;
 
 /// A price in units, which are 10 to the power of minus the instrument's decimals.
 #[derive(Clone, Copy, Debug, PartialEq, Eq)]
@@ -15,35 +20,33 @@ pub struct Price(pub i64);
 /// Why a text is no price of an instrument. The faults are tried in this order.
 #[derive(Clone, Copy, Debug, Error, PartialEq, Eq)]
 pub enum PriceFault {
-    /// Not an optional minus sign, digits, and optionally a point and digits, in at most 32 bytes.
+    /// Not an optional minus sign, digits, and optionally a point and digits, in at most `LONGEST_PRICE` bytes.
     #[error("the price is not written as a number in at most 32 bytes")]
     Format,
     /// A digit behind the instrument's decimals is not 0.
     #[error("the price has more decimals than the instrument")]
     Scale,
-    /// Beyond 999,999,999,999 units, either way.
+    /// Beyond `MOST_PRICE_UNITS` units, either way.
     #[error("the price is beyond 999999999999 units")]
     Range,
 }
 
-/// The greatest price in units, either way.
-const LIMIT: u64 = CEILING - 1;
-
-/// The price that a text writes, in units of 10 to the power of minus `decimals`, of which there are at most 8; or the
+/// The price that a text writes, in units of 10 to the power of minus `decimals`, of which there are at most
+/// `MOST_DECIMALS`; or the
 /// first fault in the order of `PriceFault`. Our own rule, within the float format of FIX 4.2.
 pub fn read_price(text: &[u8], decimals: u8) -> Result<Price, PriceFault>
-    requires { decimals ≤ 8 }
+    requires { decimals ≤ MOST_DECIMALS }
     ensures { result ≡ price_of text.now decimals }
 {
-    let (whole, fraction) = split_at_point(without_minus(text));
-    if text.len() > 32 || !are_price_digits(whole, fraction) {
+    let (whole, fraction) = split_at_byte(without_minus(text), b'.');
+    if text.len() > LONGEST_PRICE || !are_price_digits(whole, fraction) {
         return Err(PriceFault::Format);
     }
     if !are_zeros_behind(fraction, decimals) {
         return Err(PriceFault::Scale);
     }
     let units = read_units(whole, fraction, decimals);
-    if units > LIMIT {
+    if units > MOST_PRICE_UNITS {
         return Err(PriceFault::Range);
     }
     Ok(Price(with_sign(units, has_minus(text))))
@@ -81,34 +84,34 @@ fn are_zeros_behind(fraction: &[u8], decimals: u8) -> bool
 /// The number whose digits are those of `whole` and the first `decimals` of `fraction`, filled up with zeros, or
 /// `CEILING` where that is less.
 fn read_units(whole: &[u8], fraction: &[u8], decimals: u8) -> u64
-    requires few { decimals ≤ 8 }
+    requires few { decimals ≤ MOST_DECIMALS }
     requires whole_digits { IsTrue (are_digits whole.now) }
     requires fraction_digits { IsTrue (are_digits fraction.now) }
     ensures { result ≡ min CEILING (digits_value 10 (whole.now ++ take decimals (fraction.now ++ replicate decimals 48))) }
 {
     let kept = cmp::min(fraction.len(), decimals as usize);
-    let zeros = [b'0'; 8];
+    let zeros = [b'0'; MOST_DECIMALS as usize];
     let units = read_on(read_on(0, whole), &fraction[..kept]);
     read_on(units, &zeros[..decimals as usize - kept])
 }
 
 /// So many units, or as many below zero.
 fn with_sign(units: u64, negative: bool) -> i64
-    requires { units ≤ LIMIT }
+    requires { units ≤ MOST_PRICE_UNITS }
     ensures { result ≡ signed_units negative units }
 {
     let units = units as i64;
     if negative { -units } else { units }
 }
 
-/// Writes a price with exactly `decimals` digits behind the point, at most 8, into the front of `into`, and answers how
+/// Writes a price with exactly `decimals` digits behind the point, at most `MOST_DECIMALS`, into the front of `into`, and answers how
 /// many bytes that takes; what stands behind them is left open. There is at least one digit before the point, and no
 /// point where `decimals` is 0. It takes every `i64`, also those that `read_price` refuses.
-pub fn write_price(price: Price, decimals: u8, into: &mut [u8; 24]) -> usize
-    requires { decimals ≤ 8 }
+pub fn write_price(price: Price, decimals: u8, into: &mut [u8; LONGEST_VALUE]) -> usize
+    requires { decimals ≤ MOST_DECIMALS }
     ensures text { take result into.new ≡ price_text price decimals }
     ensures count { result ≡ length (price_text price decimals) }
-    ensures short { result ≤ 24 }
+    ensures short { result ≤ LONGEST_VALUE }
 {
     let units = price.0.unsigned_abs();
     let sign: &[u8] = if price.0 < 0 { b"-" } else { b"" };
@@ -118,28 +121,18 @@ pub fn write_price(price: Price, decimals: u8, into: &mut [u8; 24]) -> usize
     append_fraction(into, end, units, decimals)
 }
 
-/// Writes these bytes behind the first `end` of `into`, and answers where they end.
-fn append(into: &mut [u8; 24], end: usize, bytes: &[u8]) -> usize
-    requires { end + length bytes.now ≤ 24 }
-    ensures text { take result into.new ≡ take end into.old ++ bytes.now }
-    ensures end { result ≡ end + length bytes.now }
-{
-    into[end..end + bytes.len()].copy_from_slice(bytes);
-    end + bytes.len()
-}
-
 /// Writes a point and the last `decimals` digits of a number behind the first `end` bytes of `into`, or nothing where
 /// `decimals` is 0. Answers where they end.
-fn append_fraction(into: &mut [u8; 24], end: usize, units: u64, decimals: u8) -> usize
-    requires few { decimals ≤ 8 }
-    requires room { end + length (fraction_text decimals units) ≤ 24 }
+fn append_fraction(into: &mut [u8; LONGEST_VALUE], end: usize, units: u64, decimals: u8) -> usize
+    requires few { decimals ≤ MOST_DECIMALS }
+    requires room { end + length (fraction_text decimals units) ≤ LONGEST_VALUE }
     ensures text { take result into.new ≡ take end into.old ++ fraction_text decimals units }
     ensures end { result ≡ end + length (fraction_text decimals units) }
 {
     if decimals == 0 {
         return end;
     }
-    let mut text = [b'.'; 9];
+    let mut text = [b'.'; 1 + MOST_DECIMALS as usize];
     let len = 1 + decimals as usize;
     write_fixed_digits(units, &mut text[1..len]);
     append(into, end, &text[..len])

@@ -2,7 +2,7 @@
 ghost use Rattle.std.specs.Prelude.{◌≡◌, ◌+◌, ◌≤◌, SomeIff, IsTrue, length, codes};
 ghost use Rattle.gx_base.specs.Texts.{is_time_text, is_time_of_seconds, has_two_digits, is_stamp};
 
-use crate::digits::{are_digits, read_short};
+use crate::digits::{are_digits, read_digits};
 use crate::text::Text;
 use std::marker::Model;
 
@@ -96,6 +96,6 @@ fn has_two_digits(text: &[u8], start: usize, low: u32, high: u32) -> bool
     if !are_digits(part) {
         return false;
     }
-    let value = read_short(part);
+    let value = read_digits(part);
     low <= value && value <= high
 }

@@ -2,38 +2,45 @@
 ghost use Rattle.std.specs.Prelude.{◌≤◌};
 
 use super::*;
+use crate::line_tests::product_names;
 use std::process::Abort;
 use std::test::Fail;
 
 #[test]
 fn quantities(rt: HostRuntime) {
-    assert_eq!(rt; read_quantity(b"999999"), Some(999_999));
-    assert_eq!(rt; read_quantity(b"1000000"), Some(1_000_000));
-    assert_eq!(rt; read_quantity(b"5.00"), Some(5));
-    assert_eq!(rt; read_quantity(b"5."), Some(5));
-    assert_eq!(rt; read_quantity(b""), None);
-    assert_eq!(rt; read_quantity(b"5.1"), None);
-    assert_eq!(rt; read_quantity(b"12345678901"), None);
+    let texts = [
+        ("999999", Some(MOST_LOTS)),
+        ("1000000", Some(1_000_000)),
+        ("5.00", Some(5)),
+        ("5.", Some(5)),
+        ("", None),
+        ("5.1", None),
+        ("12345678901", None),
+    ];
+    for (text, want) in texts {
+        assert_eq!(rt; read_quantity(text.as_bytes()), want);
+    }
 }
 
 #[test]
 fn prices(rt: HostRuntime) {
-    assert_eq!(rt; read_price(b"-37.63", 2), Ok(Price(-3763)));
-    assert_eq!(rt; read_price(b"97.5000", 2), Ok(Price(9750)));
-    assert_eq!(rt; read_price(b"5.", 2), Ok(Price(500)));
-    assert_eq!(rt; read_price(b".5", 2), Ok(Price(50)));
-    assert_eq!(rt; read_price(b"-.5", 2), Ok(Price(-50)));
-    assert_eq!(rt; read_price(b"9999999999.99", 2), Ok(Price(999_999_999_999)));
-    assert_eq!(rt; read_price(b"10000000000.00", 2), Err(PriceFault::Range));
-    assert_eq!(rt; read_price(b"97.501", 2), Err(PriceFault::Scale));
-}
-
-#[test]
-fn faulty_prices(rt: HostRuntime) {
-    assert_eq!(rt; read_price(b"9x", 2), Err(PriceFault::Format));
-    assert_eq!(rt; read_price(b".", 2), Err(PriceFault::Format));
-    assert_eq!(rt; read_price(b"-", 2), Err(PriceFault::Format));
-    assert_eq!(rt; read_price(b"", 2), Err(PriceFault::Format));
+    let texts = [
+        ("-37.63", Ok(Price(-3763))),
+        ("97.5000", Ok(Price(9750))),
+        ("5.", Ok(Price(500))),
+        (".5", Ok(Price(50))),
+        ("-.5", Ok(Price(-50))),
+        ("9999999999.99", Ok(Price(999_999_999_999))),
+        ("10000000000.00", Err(PriceFault::Range)),
+        ("97.501", Err(PriceFault::Scale)),
+        ("9x", Err(PriceFault::Format)),
+        (".", Err(PriceFault::Format)),
+        ("-", Err(PriceFault::Format)),
+        ("", Err(PriceFault::Format)),
+    ];
+    for (text, want) in texts {
+        assert_eq!(rt; read_price(text.as_bytes(), 2), want);
+    }
 }
 
 #[test]
@@ -48,7 +55,7 @@ fn written_prices(rt: HostRuntime) {
 fn assert_writes(rt: &impl Abort, units: i64, decimals: u8, text: &[u8])
     requires { decimals ≤ 8 }
 {
-    let mut room = [0; 24];
+    let mut room = [0; LONGEST_VALUE];
     let len = write_price(Price(units), decimals, &mut room);
     assert_eq!(rt; &room[..len], text);
 }
@@ -66,19 +73,12 @@ fn names_and_times(rt: HostRuntime) -> Result<(), Fail> {
 }
 
 #[test]
-fn places_of_names(rt: HostRuntime) -> Result<(), Fail> {
-    let one = ShortId::new(b"ONE").ok_or("a name")?;
-    let two = ShortId::new(b"TWO").ok_or("a name")?;
-    let listed = Listed {
-        name: one,
-        decimals: 2,
-    };
-    let names = Names::new(ShortId::default(), &[one, two], &[listed]);
-    assert_eq!(rt; names.find_firm(b"TWO"), Some(1));
+fn places_of_names(rt: HostRuntime) {
+    let names = product_names(&rt);
+    assert_eq!(rt; names.find_firm(b"BBB"), Some(1));
     assert_eq!(rt; names.find_firm(b"UNKNOWN"), None);
-    assert_eq!(rt; names.find_instrument(b"ONE"), Some(0));
-    assert_eq!(rt; names.find_instrument(b"TWO"), None);
-    Ok(())
+    assert_eq!(rt; names.find_instrument(b"ESZ4"), Some(0));
+    assert_eq!(rt; names.find_instrument(b"BBB"), None);
 }
 
 #[test]

@@ -4,6 +4,7 @@ ghost use Rattle.gx_base.specs.Line.{addressee, instrument_name, decimals_of, si
 
 use crate::event::{ChangeFault, NewFault, StepName};
 use crate::id::ShortId;
+use crate::limits::{LONGEST_VALUE, MOST_DECIMALS};
 use crate::names::{Listed, Names};
 use crate::order::{Kind, Life, Side};
 
@@ -21,7 +22,7 @@ pub(crate) fn addressee(names: &Names, firm: Option<u8>) -> ShortId
 pub(crate) fn listed(names: &Names, instrument: u8) -> Listed
     ensures name { result.name ≡ instrument_name names.now instrument }
     ensures decimals { result.decimals ≡ decimals_of names.now instrument }
-    ensures few { result.decimals ≤ 8 }
+    ensures few { result.decimals ≤ MOST_DECIMALS }
 {
     if (instrument as usize) < names.instrument_count() {
         names.listed(instrument)
@@ -33,7 +34,7 @@ pub(crate) fn listed(names: &Names, instrument: u8) -> Listed
 /// The value of tag 54 in FIX 4.2.
 pub(crate) fn side_text(side: Side) -> &'static [u8]
     ensures text { result.now ≡ side_text side }
-    ensures short { length result.now ≤ 24 }
+    ensures short { length result.now ≤ LONGEST_VALUE }
 {
     match side {
         Side::Buy => b"1",
@@ -44,7 +45,7 @@ pub(crate) fn side_text(side: Side) -> &'static [u8]
 /// The value of tag 40 in FIX 4.2.
 pub(crate) fn kind_text(kind: Kind) -> &'static [u8]
     ensures text { result.now ≡ kind_text kind }
-    ensures short { length result.now ≤ 24 }
+    ensures short { length result.now ≤ LONGEST_VALUE }
 {
     match kind {
         Kind::Market => b"1",
@@ -56,7 +57,7 @@ pub(crate) fn kind_text(kind: Kind) -> &'static [u8]
 /// The value of tag 59 in FIX 4.2.
 pub(crate) fn life_text(life: Life) -> &'static [u8]
     ensures text { result.now ≡ life_text life }
-    ensures short { length result.now ≤ 24 }
+    ensures short { length result.now ≤ LONGEST_VALUE }
 {
     match life {
         Life::Day => b"0",
@@ -69,7 +70,7 @@ pub(crate) fn life_text(life: Life) -> &'static [u8]
 /// The value of our tag 9001.
 pub(crate) fn step_text(step: StepName) -> &'static [u8]
     ensures text { result.now ≡ step_text step }
-    ensures short { length result.now ≤ 24 }
+    ensures short { length result.now ≤ LONGEST_VALUE }
 {
     match step {
         StepName::Top => b"TOP",
@@ -84,7 +85,7 @@ pub(crate) fn step_text(step: StepName) -> &'static [u8]
 /// The value of tag 58 for a refused new order, in our own words.
 pub(crate) fn fault_text(fault: NewFault) -> &'static [u8]
     ensures text { result.now ≡ fault_text fault }
-    ensures short { length result.now ≤ 24 }
+    ensures short { length result.now ≤ LONGEST_VALUE }
 {
     match fault {
         NewFault::Symbol => b"SYMBOL",
@@ -103,7 +104,7 @@ pub(crate) fn fault_text(fault: NewFault) -> &'static [u8]
 /// The value of tag 103 in FIX 4.2 for a refused new order. Which fault has which reason is our own rule.
 pub(crate) fn reject_reason(fault: NewFault) -> &'static [u8]
     ensures text { result.now ≡ reject_reason fault }
-    ensures short { length result.now ≤ 24 }
+    ensures short { length result.now ≤ LONGEST_VALUE }
 {
     match fault {
         NewFault::Symbol => b"1",
@@ -121,7 +122,7 @@ pub(crate) fn reject_reason(fault: NewFault) -> &'static [u8]
 /// The value of tags 39 and 150 in FIX 4.2 for a fill: partly filled, or filled where nothing is open.
 pub(crate) fn fill_status(leaves: u32) -> &'static [u8]
     ensures text { result.now ≡ fill_status leaves }
-    ensures short { length result.now ≤ 24 }
+    ensures short { length result.now ≤ LONGEST_VALUE }
 {
     if leaves == 0 { b"2" } else { b"1" }
 }
@@ -129,7 +130,7 @@ pub(crate) fn fill_status(leaves: u32) -> &'static [u8]
 /// The value of tag 58 for a refused cancel or replace, in our own words.
 pub(crate) fn change_text(fault: ChangeFault) -> &'static [u8]
     ensures text { result.now ≡ change_text fault }
-    ensures short { length result.now ≤ 24 }
+    ensures short { length result.now ≤ LONGEST_VALUE }
 {
     match fault {
         ChangeFault::Unknown => b"UNKNOWN",
@@ -147,7 +148,7 @@ pub(crate) fn change_text(fault: ChangeFault) -> &'static [u8]
 /// The value of tag 102 in FIX 4.2 for a refused cancel or replace. Which fault has which reason is our own rule.
 pub(crate) fn change_reason(fault: ChangeFault) -> &'static [u8]
     ensures text { result.now ≡ change_reason fault }
-    ensures short { length result.now ≤ 24 }
+    ensures short { length result.now ≤ LONGEST_VALUE }
 {
     match fault {
         ChangeFault::Unknown => b"1",
@@ -166,7 +167,7 @@ pub(crate) fn change_reason(fault: ChangeFault) -> &'static [u8]
 /// the order is unknown, else new or partly filled.
 pub(crate) fn change_status(fault: ChangeFault, filled: u32) -> &'static [u8]
     ensures text { result.now ≡ change_status fault filled }
-    ensures short { length result.now ≤ 24 }
+    ensures short { length result.now ≤ LONGEST_VALUE }
 {
     match fault {
         ChangeFault::Unknown => b"8",
@@ -184,7 +185,7 @@ pub(crate) fn change_status(fault: ChangeFault, filled: u32) -> &'static [u8]
 /// The value of tag 39 in FIX 4.2 for an order that is open: new, or partly filled.
 fn open_status(filled: u32) -> &'static [u8]
     ensures text { result.now ≡ (if filled == 0 then codes "0" else codes "1") }
-    ensures short { length result.now ≤ 24 }
+    ensures short { length result.now ≤ LONGEST_VALUE }
 {
     if filled == 0 { b"0" } else { b"1" }
 }
@@ -192,7 +193,7 @@ fn open_status(filled: u32) -> &'static [u8]
 /// The value of tag 434 in FIX 4.2: what was refused.
 pub(crate) fn response_text(replace: bool) -> &'static [u8]
     ensures text { result.now ≡ response_text replace }
-    ensures short { length result.now ≤ 24 }
+    ensures short { length result.now ≤ LONGEST_VALUE }
 {
     if replace { b"2" } else { b"1" }
 }
@@ -200,7 +201,7 @@ pub(crate) fn response_text(replace: bool) -> &'static [u8]
 /// The value of tag 58 for a message that breaks a session rule, in our own words.
 pub(crate) fn rule_text(rule: u8) -> &'static [u8]
     ensures text { result.now ≡ rule_text rule }
-    ensures short { length result.now ≤ 24 }
+    ensures short { length result.now ≤ LONGEST_VALUE }
 {
     match rule {
         1 => b"FIRST TAG",

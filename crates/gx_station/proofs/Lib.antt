@@ -1,4 +1,4 @@
-pub mod Entries
-pub mod Memory
-pub mod Replayed
-pub mod Written
+mod Entries
+mod Memory
+mod Replayed
+mod Written

@@ -4,7 +4,8 @@ use Rattle.std.proofs.lemmas.List.{take_all, take_at, take-append-le, length_pus
 use Rattle.std.proofs.lemmas.Bool.{cases_lt}
 use Rattle.std.proofs.lemmas.Grind.{fold-append}
 use Rattle.gx_base.specs.KnownBytes.{IsPrefix, prefix_itself}
-use Rattle.gx_station.specs.Counts.{counted, last_count, HasCause}
+use Rattle.gx_station.specs.Counts.{counted, HasCause}
+use Rattle.gx_station.specs.declared.count.TheConstants.{LAST_COUNT}
 use Rattle.gx_station.specs.Disk.{Disk, Torn, written}
 use Rattle.gx_station.specs.Moments.{AddsOnly}
 use Rattle.gx_station.specs.Honest.{KeepsImage, PassesOutputs}
@@ -169,9 +170,9 @@ read_more done call = fold-append read_step 0 done (call ∷ [])
 
 -- the count of store faults rose
 abbrev Counts : MemoryStation → Type 0
-Counts s = (s.store_faults ≤ last_count) × (s.send_faults ≤ last_count)
+Counts s = (s.store_faults ≤ LAST_COUNT) × (s.send_faults ≤ LAST_COUNT)
 
-stopped : {T F : Type 0} (before : ℕ) (e : F) → before ≤ last_count → HasCause {T = T} {F = F} before (counted before) (Err e)
+stopped : {T F : Type 0} (before : ℕ) (e : F) → before ≤ LAST_COUNT → HasCause {T = T} {F = F} before (counted before) (Err e)
 stopped before e le = record { never_falls = omega (arith, le); ok = tt; failed = omega arith }
 
 went : {T F : Type 0} (count : ℕ) (x : T) → HasCause {T = T} {F = F} count count (Ok x)
@@ -200,7 +201,7 @@ module _ (old new : MemoryStation) (call : Call) (first : new.first ≡ old.firs
 on_store : {T F : Type 0} (old new : MemoryStation) (result : Result T F) → new.sent ≡ old.sent → new.send_faults ≡ old.send_faults → HasCause old.store_faults new.store_faults result → OnStore memory_meanings old new result
 on_store old new result sent send_faults cause = record { sent = ap Some sent; send_faults = send_faults; cause = cause }
 
-pub memory_measures : {F : Type 0} (old new : MemoryStation) (fits : Bool) (result : Result ℕ F) → old.store_faults ≤ last_count → Answers old new fits (was_measured old) (store_failed old (Looked 0)) (store_refused old) result → IfOk result (λ len. len ≡ length old.image) → Measures memory_meanings old new result
+pub memory_measures : {F : Type 0} (old new : MemoryStation) (fits : Bool) (result : Result ℕ F) → old.store_faults ≤ LAST_COUNT → Answers old new fits (was_measured old) (store_failed old (Looked 0)) (store_refused old) result → IfOk result (λ len. len ≡ length old.image) → Measures memory_meanings old new result
 memory_measures {F} old new fits (Ok len) few (room, goes, is) value = subst (λ n. Measures memory_meanings {F = F} old n (Ok len)) (sym is) record {
   on_store = on_store old (was_measured old) (Ok len) refl refl (went old.store_faults len);
   keeps = keeps_looked old (was_measured old) (Looked 0) refl refl refl refl (λ h. omega (arith, h.reach)) refl refl (λ image leaves. leaves);
@@ -228,7 +229,7 @@ memory_measures {F} old new fits (Err e) few why value = ⊎_elim
     })
     why
 
-pub memory_reads : {T F : Type 0} (old new : MemoryStation) (at : ℕ) (into : List ℕ) (fits : Bool) (result : Result T F) → old.store_faults ≤ last_count → Answers old new fits (listed old (Looked (length into))) (store_failed old (Looked 0)) (store_refused old) result → OnOk result (into ≡ take (length into) (drop at old.image)) → Reads memory_meanings old new at into result
+pub memory_reads : {T F : Type 0} (old new : MemoryStation) (at : ℕ) (into : List ℕ) (fits : Bool) (result : Result T F) → old.store_faults ≤ LAST_COUNT → Answers old new fits (listed old (Looked (length into))) (store_failed old (Looked 0)) (store_refused old) result → OnOk result (into ≡ take (length into) (drop at old.image)) → Reads memory_meanings old new at into result
 memory_reads {T} {F} old new at into fits (Ok x) few (room, goes, is) value = subst (λ n. Reads memory_meanings {T = T} {F = F} old n at into (Ok x)) (sym is) record {
   on_store = on_store old (listed old (Looked (length into))) (Ok x) refl refl (went old.store_faults x);
   keeps = keeps_looked old (listed old (Looked (length into))) (Looked (length into)) refl refl refl refl (λ h. h.reach) refl refl (λ image leaves. leaves);
@@ -256,7 +257,7 @@ memory_reads {T} {F} old new at into fits (Err e) few why value = ⊎_elim
     })
     why
 
-pub memory_syncs : {T F : Type 0} (old new : MemoryStation) (fits : Bool) (result : Result T F) → old.store_faults ≤ last_count → Answers old new fits (listed old (Synced true)) (store_failed old (Synced false)) (store_refused old) result → Syncs memory_meanings old new result
+pub memory_syncs : {T F : Type 0} (old new : MemoryStation) (fits : Bool) (result : Result T F) → old.store_faults ≤ LAST_COUNT → Answers old new fits (listed old (Synced true)) (store_failed old (Synced false)) (store_refused old) result → Syncs memory_meanings old new result
 memory_syncs {T} {F} old new fits (Ok x) few (room, goes, is) = subst (λ n. Syncs memory_meanings {T = T} {F = F} old n (Ok x)) (sym is) record {
   on_store = on_store old (listed old (Synced true)) (Ok x) refl refl (went old.store_faults x);
   keeps = keeps_looked old (listed old (Synced true)) (Synced true) refl refl refl refl (λ h. h.reach) refl refl (sync_leaves (disk_after old.first old.done) true (leaves_holds old.done (first_disk old.first) refl));
@@ -295,7 +296,7 @@ wrote_adds old new at bytes ok first done sound = adds_listed old new (Wrote at 
     (λ behind. inr (subst (λ d. Leaves d image) (sym (disk_more old.first old.done (Wrote at bytes ok))) behind.leaves, ap Some (h.sent ∙ sym behind.is)))
     here)
 
-pub memory_writes : {T F : Type 0} (old new : MemoryStation) (at : ℕ) (bytes : List ℕ) (fits : Bool) (result : Result T F) → old.store_faults ≤ last_count → at ≤ old.reach
+pub memory_writes : {T F : Type 0} (old new : MemoryStation) (at : ℕ) (bytes : List ℕ) (fits : Bool) (result : Result T F) → old.store_faults ≤ LAST_COUNT → at ≤ old.reach
     → Answers old new fits (was_written old at bytes) (write_failed old at bytes) (store_refused old) result → Writes memory_meanings old new at bytes result
 memory_writes {T} {F} old new at bytes fits (Ok x) few within (room, goes, is) = subst (λ n. Writes memory_meanings {T = T} {F = F} old n at bytes (Ok x)) (sym is) record {
   on_store = on_store old (was_written old at bytes) (Ok x) refl refl (went old.store_faults x);
@@ -391,7 +392,7 @@ module _ (old new : MemoryStation) (bytes : List ℕ) (first : new.first ≡ old
         }));
   }
 
-quiet_refused : (old : MemoryStation) → old.send_faults ≤ last_count → Quiet memory_meanings old (send_refused old)
+quiet_refused : (old : MemoryStation) → old.send_faults ≤ LAST_COUNT → Quiet memory_meanings old (send_refused old)
 quiet_refused old few = record {
   sent = prefix_itself old.sent;
   send_faults = omega (arith, few);
@@ -407,7 +408,7 @@ quiet_refused old few = record {
 passes_refused : (old : MemoryStation) → PassesOutputs memory_meanings old (send_refused old)
 passes_refused old = record { passes = λ h t left out le leaves between. left_now old.first old.done t left out le leaves (same_prefix old.sent out between.low between.high ∙ h.sent) }
 
-pub memory_sends : {T F : Type 0} (old new : MemoryStation) (bytes : List ℕ) (fits : Bool) (result : Result T F) → old.send_faults ≤ last_count
+pub memory_sends : {T F : Type 0} (old new : MemoryStation) (bytes : List ℕ) (fits : Bool) (result : Result T F) → old.send_faults ≤ LAST_COUNT
     → Answers old new fits (was_sent old bytes) (send_failed old) (send_refused old) result → Sends memory_meanings old new bytes result
 memory_sends {T} {F} old new bytes fits (Ok x) few (room, goes, is) = subst (λ n. Sends memory_meanings {T = T} {F = F} old n bytes (Ok x)) (sym is) record {
   quiet = quiet_sent old (was_sent old bytes) bytes refl refl refl refl refl refl (omega arith);
@@ -433,7 +434,7 @@ memory_sends {T} {F} old new bytes fits (Err e) few why = ⊎_elim
 pub memory_passes : (old new : MemoryStation) (bytes : List ℕ) → new ≡ was_sent old bytes → PassesOutputs memory_meanings old new
 memory_passes old new bytes is = subst (λ n. PassesOutputs memory_meanings old n) (sym is) (passes_sent old (was_sent old bytes) bytes refl refl refl refl refl refl (omega arith))
 
-pub memory_passes_err : {A B C : Type 0} (old new : MemoryStation) → old.send_faults ≤ last_count → (A × (new ≡ send_refused old)) ⊎ (B × C × (new ≡ send_failed old)) → PassesOutputs memory_meanings old new
+pub memory_passes_err : {A B C : Type 0} (old new : MemoryStation) → old.send_faults ≤ LAST_COUNT → (A × (new ≡ send_refused old)) ⊎ (B × C × (new ≡ send_failed old)) → PassesOutputs memory_meanings old new
 memory_passes_err old new few why = ⊎_elim
     (λ refused. subst (λ n. PassesOutputs memory_meanings old n) (sym refused.1) (passes_refused old))
     (λ failed. subst (λ n. PassesOutputs memory_meanings old n) (sym failed.2) (passes_sent old (send_failed old) [] refl refl refl (sym (append-nil old.sent)) refl refl (omega (arith, few))))

@@ -6,6 +6,7 @@ pub mod Stations
 pub mod Moments
 pub mod Honest
 pub mod Quiet
+pub mod SendLaws
 pub mod StoreCalls
 pub mod MemorySource
 pub mod MemoryStation

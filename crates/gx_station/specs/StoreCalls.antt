@@ -1,16 +1,10 @@
 -- What the calls on the image of a station do to it.
-use Rattle.std.specs.Prelude.{◌≡◌, ℕ, ◌+◌, max, List, length, take, drop, Option, Some, None, option_map, Result, IfOk, OnOk, OnErr, IfSome}
+use Rattle.std.specs.Prelude.{◌≡◌, ℕ, ◌+◌, max, List, length, take, drop, option_map, Result, IfOk, OnOk, OnErr, IfSome}
+use Rattle.gx_base.specs.KnownBytes.{WhereKnown}
 use Rattle.gx_station.specs.Counts.{HasCause}
 use Rattle.gx_station.specs.Disk.{Torn, written}
 use Rattle.gx_station.specs.Stations.{StationMeanings}
 use Rattle.gx_station.specs.Honest.{KeepsImage, TearsImage, IsSettled}
-
--- the same, where both are told; or neither is
-abbrev pub WhereKnown : (List ℕ → List ℕ → Type 0) → Option (List ℕ) → Option (List ℕ) → Type 0
-WhereKnown P None None = Unit {0}
-WhereKnown P None (Some b) = ⊥
-WhereKnown P (Some a) None = ⊥
-WhereKnown P (Some a) (Some b) = P a b
 
 module _ {S : Type 0} (m : StationMeanings S) where
   -- a call on the image sends nothing, and fails only where the count of store faults rose

@@ -3,7 +3,7 @@ ghost use Rattle.std.specs.Prelude.{◌≡◌, ◌+◌, ◌≤◌, ◌^◌, leng
 ghost use Rattle.std.specs.Io.KnownBytes.{Appends, WriteAppends};
 ghost use Rattle.gx_station.specs.FileStations.{file_of, writer_of, reach_of, send_faults_of, store_faults_of, AppendsFront};
 
-use crate::count::count_up;
+use crate::count::count_fault;
 use crate::station::{Failed, Station};
 use std::fs::File;
 use std::io;
@@ -59,8 +59,7 @@ impl<W: Write> Station for FileStation<W> {
         ensures file { file_of self.new ≡ file_of self.old }
     {
         let Ok(length) = file_length(&self.file) else {
-            self.store_faults = count_up(self.store_faults);
-            return Err(Failed);
+            return Err(count_fault(&mut self.store_faults));
         };
         self.reach = self.reach.max(length);
         Ok(length)
@@ -73,8 +72,7 @@ impl<W: Write> Station for FileStation<W> {
         ensures file { file_of self.new ≡ file_of self.old }
     {
         if read_at(&self.file, at, into).is_err() {
-            self.store_faults = count_up(self.store_faults);
-            return Err(Failed);
+            return Err(count_fault(&mut self.store_faults));
         }
         Ok(())
     }
@@ -88,8 +86,7 @@ impl<W: Write> Station for FileStation<W> {
         ensures file { file_of self.new ≡ file_of self.old }
     {
         if write_at(&self.file, at, bytes).is_err() {
-            self.store_faults = count_up(self.store_faults);
-            return Err(Failed);
+            return Err(count_fault(&mut self.store_faults));
         }
         self.reach = self.reach.max(at + bytes.len() as u64);
         Ok(())
@@ -102,8 +99,7 @@ impl<W: Write> Station for FileStation<W> {
         ensures file { file_of self.new ≡ file_of self.old }
     {
         if sync_file(&self.file).is_err() {
-            self.store_faults = count_up(self.store_faults);
-            return Err(Failed);
+            return Err(count_fault(&mut self.store_faults));
         }
         Ok(())
     }
@@ -118,8 +114,7 @@ impl<W: Write> Station for FileStation<W> {
         ensures file { file_of self.new ≡ file_of self.old }
     {
         if write_out(&mut self.out, bytes).is_err() {
-            self.send_faults = count_up(self.send_faults);
-            return Err(Failed);
+            return Err(count_fault(&mut self.send_faults));
         }
         Ok(())
     }

@@ -7,7 +7,7 @@ ghost use Rattle.gx_station.specs.CrashImages.{filled_image};
 ghost use Rattle.gx_station.specs.StoreCalls.{Measures, Reads, Writes, Syncs};
 ghost use Rattle.gx_station.specs.MemoryStation.{MemoryStation, memory_meanings, IsSound, Leaves, disk_after, Looked, Synced, Answers, has_turn, fits_write, fits_send, listed, store_refused, send_refused, store_failed, send_failed, was_measured, was_written, write_failed, was_sent};
 
-use crate::count::{count_up, is_to_fail};
+use crate::count::{count_call, count_fault};
 use crate::replay::replayed;
 use crate::station::{Failed, Station};
 use std::alloc::{AllocError, Global};
@@ -176,20 +176,18 @@ impl Station for MemStation {
     ghost honest = { memory_honest };
 
     /// As the trait says, and exactly by the room and the list that `new` was given.
+    #[tactic(auto, using(crate::proofs::Entries::one_more))]
     fn length(&mut self) -> Result<u64, Failed>
         ensures measures { Measures memory_meanings self.old self.new result }
         ensures exactly { Answers self.old self.new (has_turn self.old) (was_measured self.old) (store_failed self.old (Looked 0)) (store_refused self.old) result }
     {
-        let fails = is_to_fail(self.fail.as_slice(), self.calls);
-        self.calls = count_up(self.calls);
+        let fails = count_call(&mut self.calls, self.fail.as_slice());
         if self.entries.len() >= self.most {
-            self.store_faults = count_up(self.store_faults);
-            return Err(Failed);
+            return Err(count_fault(&mut self.store_faults));
         }
         self.entries.push_reserved(Entry::Look(0));
         if fails {
-            self.store_faults = count_up(self.store_faults);
-            return Err(Failed);
+            return Err(count_fault(&mut self.store_faults));
         }
         let len = self.image.len() as u64;
         self.reach = self.reach.max(len);
@@ -197,21 +195,19 @@ impl Station for MemStation {
     }
 
     /// As the trait says, and exactly by the room and the list that `new` was given.
+    #[tactic(auto, using(crate::proofs::Entries::one_more))]
     fn read(&mut self, at: u64, into: &mut [u8]) -> Result<(), Failed>
         requires { at + length into.old ≤ self.old.reach }
         ensures reads { Reads memory_meanings self.old self.new at into.new result }
         ensures exactly { Answers self.old self.new (has_turn self.old) (listed self.old (Looked (length into.new))) (store_failed self.old (Looked 0)) (store_refused self.old) result }
     {
-        let fails = is_to_fail(self.fail.as_slice(), self.calls);
-        self.calls = count_up(self.calls);
+        let fails = count_call(&mut self.calls, self.fail.as_slice());
         if self.entries.len() >= self.most {
-            self.store_faults = count_up(self.store_faults);
-            return Err(Failed);
+            return Err(count_fault(&mut self.store_faults));
         }
         if fails {
             self.entries.push_reserved(Entry::Look(0));
-            self.store_faults = count_up(self.store_faults);
-            return Err(Failed);
+            return Err(count_fault(&mut self.store_faults));
         }
         self.entries.push_reserved(Entry::Look(into.len()));
         let at = at as usize;
@@ -220,29 +216,27 @@ impl Station for MemStation {
     }
 
     /// As the trait says, and exactly by the room and the list that `new` was given.
+    #[tactic(auto, using(crate::proofs::Entries::one_more))]
     fn write(&mut self, at: u64, bytes: &[u8]) -> Result<(), Failed>
         requires within { at ≤ self.old.reach }
         requires small { at + length bytes.now ≤ 2 ^ 62 }
         ensures writes { Writes memory_meanings self.old self.new at bytes.now result }
         ensures exactly { Answers self.old self.new (fits_write self.old at (length bytes.now)) (was_written self.old at bytes.now) (write_failed self.old at bytes.now) (store_refused self.old) result }
     {
-        let fails = is_to_fail(self.fail.as_slice(), self.calls);
-        self.calls = count_up(self.calls);
+        let fails = count_call(&mut self.calls, self.fail.as_slice());
         let at = at as usize;
         let end = at + bytes.len();
         if self.pieces.len() + bytes.len() > self.room
             || end > self.room
             || self.entries.len() >= self.most
         {
-            self.store_faults = count_up(self.store_faults);
-            return Err(Failed);
+            return Err(count_fault(&mut self.store_faults));
         }
         append(&mut self.pieces, bytes);
         if fails {
             self.entries
                 .push_reserved(Entry::Write(at, bytes.len(), false));
-            self.store_faults = count_up(self.store_faults);
-            return Err(Failed);
+            return Err(count_fault(&mut self.store_faults));
         }
         self.entries
             .push_reserved(Entry::Write(at, bytes.len(), true));
@@ -252,41 +246,37 @@ impl Station for MemStation {
     }
 
     /// As the trait says, and exactly by the room and the list that `new` was given.
+    #[tactic(auto, using(crate::proofs::Entries::one_more))]
     fn sync(&mut self) -> Result<(), Failed>
         ensures syncs { Syncs memory_meanings self.old self.new result }
         ensures exactly { Answers self.old self.new (has_turn self.old) (listed self.old (Synced true)) (store_failed self.old (Synced false)) (store_refused self.old) result }
     {
-        let fails = is_to_fail(self.fail.as_slice(), self.calls);
-        self.calls = count_up(self.calls);
+        let fails = count_call(&mut self.calls, self.fail.as_slice());
         if self.entries.len() >= self.most {
-            self.store_faults = count_up(self.store_faults);
-            return Err(Failed);
+            return Err(count_fault(&mut self.store_faults));
         }
         if fails {
             self.entries.push_reserved(Entry::Sync(false));
-            self.store_faults = count_up(self.store_faults);
-            return Err(Failed);
+            return Err(count_fault(&mut self.store_faults));
         }
         self.entries.push_reserved(Entry::Sync(true));
         Ok(())
     }
 
     /// As the trait says, and exactly by the room and the list that `new` was given.
+    #[tactic(auto, using(crate::proofs::Entries::one_more))]
     fn send(&mut self, bytes: &[u8]) -> Result<(), Failed>
         ensures sends { Sends memory_meanings self.old self.new bytes.now result }
         ensures passes { PassesOutputs memory_meanings self.old self.new }
         ensures exactly { Answers self.old self.new (fits_send self.old (length bytes.now)) (was_sent self.old bytes.now) (send_failed self.old) (send_refused self.old) result }
     {
-        let fails = is_to_fail(self.fail.as_slice(), self.calls);
-        self.calls = count_up(self.calls);
+        let fails = count_call(&mut self.calls, self.fail.as_slice());
         if self.output.len() + bytes.len() > self.sends || self.entries.len() >= self.most {
-            self.send_faults = count_up(self.send_faults);
-            return Err(Failed);
+            return Err(count_fault(&mut self.send_faults));
         }
         if fails {
             self.entries.push_reserved(Entry::Send(0));
-            self.send_faults = count_up(self.send_faults);
-            return Err(Failed);
+            return Err(count_fault(&mut self.send_faults));
         }
         self.entries.push_reserved(Entry::Send(bytes.len()));
         append(&mut self.output, bytes);

@@ -1,16 +1,13 @@
-pub mod Blind
-pub mod Going
-pub mod Moves
-pub mod Ends
-pub mod Each
-pub mod Only
+-- Offered to the crates above: what they may cite.
+pub mod EachTrade
+pub mod EachOrder
+pub mod Events
+pub mod Advance
+pub mod Done
+pub mod Rounds
 pub mod Names
-pub mod Swept
 pub mod Numbered
 pub mod Renamed
-pub mod Lots
-pub mod Showing
-pub mod Ended
-pub mod Marked
-pub mod Standing
-pub mod Uncrossed
+pub mod Swept
+-- What the proofs of this crate alone cite.
+mod Resting

@@ -1,5 +1,5 @@
 -- The slot and the number of each order go together, and stay together while orders trade.
-use Rattle.std.proofs.Common.{◌≡◌, ◌≢◌, ℕ, ◌-◌, Bool, true, false, cond, not, List, [], ◌∷◌, filter, refl, sym, ap, subst, ◌∙◌, arith, inl, inr, ◌⊎◌}
+use Rattle.std.proofs.Common.{◌≡◌, ◌≢◌, ℕ, false, List, [], ◌∷◌, sym, subst, ◌∙◌, inl, inr, ◌⊎◌}
 use Rattle.std.specs.Prelude.{◌==◌}
 use Rattle.std.specs.List.{AllByRecursion}
 use Rattle.std.proofs.lemmas.Bool.Decides.{eqb_tells}
@@ -8,15 +8,15 @@ use Rattle.gx_base.specs.declared.order.Order.{Order}
 use Rattle.gx_base.specs.declared.event.StepName.{StepName}
 use Rattle.step_config.specs.declared.step.Step.{Step}
 use Rattle.plain_book.specs.declared.entry.Entry.{Entry}
-use Rattle.plain_book.specs.Orders.{HasSlot, order_of, no_order, without, with_order, placed, settled, traded, refreshed, filled_by, is_at_earlier_level}
+use Rattle.plain_book.specs.Orders.{HasSlot, order_of, no_order}
 use Rattle.plain_book.specs.Book.{AllDiffer}
-use Rattle.plain_book.specs.Match.{MatchState, give}
-use Rattle.plain_book.specs.Steps.{give_marked, head_gives}
-use Rattle.plain_book.proofs.Levels.{same, renewed, with_order-none}
-use Rattle.plain_book.proofs.Pairs.{all-filter, all-append, all-with, all-both}
-use Rattle.plain_book.proofs.Steps.{marked}
-use Rattle.level_sweep.specs.Sweep.{wanted_step, match_best, sweep}
-use Rattle.level_sweep.proofs.Each.{Relation, IsKept, each-give, each-give_marked, each-head, each-wanted, each-best, each-sweep}
+use Rattle.plain_book.specs.Match.{MatchState, marked, trade_share}
+use Rattle.plain_book.specs.Steps.{trade_head}
+use Rattle.plain_book.proofs.Levels.{same}
+use Rattle.plain_book.proofs.Pairs.{all-with, all-both}
+use Rattle.level_sweep.specs.Sweep.{wanted_step, level_match, sweep}
+use Rattle.level_sweep.proofs.EachOrder.{StaysTrue, AllStay, all-kept, found}
+use Rattle.level_sweep.proofs.EachTrade.{Relation, IsKept, each-marked, each-share, each-head, each-wanted, each-match, each-sweep}
 use Rattle.plain_book.specs.Numbers.{numbered}
 
 -- P holds of the slot and the number of each order
@@ -34,64 +34,23 @@ Agree s k es = Names (GoesWith s k) es
 abbrev pub Matched : List Entry → Type 0
 Matched es = Names (λ s k. Agree s k es) es
 
--- ---- what a trade keeps
+abbrev NamesHold : (ℕ → ℕ → Type 0) → Entry → Type 0
+NamesHold P e = P e.slot e.order.number
 
-abbrev pub Found : (ℕ → ℕ → Type 0) → ℕ → List Entry → Type 0
-Found P s es = ((HasSlot s es → ⊥) × (order_of s es ≡ no_order)) ⊎ P s (order_of s es).number
+-- no trade gives an order another name
+names : (P : ℕ → ℕ → Type 0) → StaysTrue (NamesHold P)
+names P = record {
+  fills = λ n e x p q is some. subst (λ (s : ℕ). P s e.order.number) (sym is) p;
+  refreshes = λ n e p some none. p;
+  marks = λ n e x p q is. subst (λ (s : ℕ). P s e.order.number) (sym is) p;
+}
 
-pub found : (P : ℕ → ℕ → Type 0) (s : ℕ) (es : List Entry) → Names P es → Found P s es
-found P s [] h = inl ((λ k. k), refl)
-found P s (e ∷ es) h = elim (eqb_tells e.slot s) [
-  | inl t ↦ inr (subst (λ (b : Bool). P s (cond b e.order (order_of s es)).number) (sym t.0) (subst (λ (x : ℕ). P x e.order.number) t.1 h.0))
-  | inr t ↦ elim (found P s es h.1) [
-    | inl g ↦ inl ((λ k. elim k [ inl a ↦ t.1 a | inr a ↦ g.0 a ]), ap (λ (b : Bool). cond b e.order (order_of s es)) t.0 ∙ g.1)
-    | inr p ↦ inr (subst (λ (b : Bool). P s (cond b e.order (order_of s es)).number) (sym t.0) p)
-  ]
+-- there is no order, or P holds of its name
+pub found-name : (P : ℕ → ℕ → Type 0) (s : ℕ) (es : List Entry) → Names P es → ((HasSlot s es → ⊥) × (order_of s es ≡ no_order)) ⊎ P s (order_of s es).number
+found-name P s es h = elim (found (NamesHold P) s es h) [
+  | inl g ↦ inl g
+  | inr f ↦ inr (subst (λ (o : Order). P s o.number) f.order (subst (λ (k : ℕ). P k f.entry.order.number) f.slot f.holds))
 ]
-
--- where there is no order, nothing is traded
-pub none-traded : (s t n : ℕ) (es xs : List Entry) → order_of s es ≡ no_order → settled t (filled_by n (order_of s es)) xs ≡ without t xs
-none-traded s t n es xs h =
-    let o : Order = filled_by n (order_of s es) in
-    let z : o.leaves ≡ 0 = ap (λ (x : Order). x.leaves - n) h ∙ omega arith in
-    ap (λ (k : ℕ). cond (k == 0) (without t xs) (cond (o.shown == 0) (placed (record { slot = t; order = refreshed o; is_top = false }) (without t xs)) (with_order t o xs))) z
-
-module _ (P : ℕ → ℕ → Type 0) where
-  abbrev Q : Entry → Type 0
-  Q e = P e.slot e.order.number
-
-  names-with_order : (s : ℕ) (o : Order) (es : List Entry) → P s o.number → Names P es → Names P (with_order s o es)
-  names-with_order s o [] p a = tt
-  names-with_order s o (e ∷ es) p a = (
-    elim (eqb_tells e.slot s) [
-      | inl t ↦ subst (λ (b : Bool). Q (cond b (renewed e o) e)) (sym t.0) (subst (λ (x : ℕ). P x o.number) (sym t.1) p)
-      | inr t ↦ subst (λ (b : Bool). Q (cond b (renewed e o) e)) (sym t.0) a.0
-    ],
-    names-with_order s o es p a.1,
-  )
-
-  names-settled : (s : ℕ) (o : Order) (es : List Entry) → P s o.number → Names P es → Names P (settled s o es)
-  names-settled s o es p a =
-      let n : Entry = record { slot = s; order = refreshed o; is_top = false } in
-      let left = without s es in
-      let gone : Names P left = all-filter Q (λ e. not (e.slot == s)) es a in
-      let back : Names P (placed n left) = all-append Q (filter (λ e. not (is_at_earlier_level n e)) left) (n ∷ filter (is_at_earlier_level n) left) (all-filter Q (λ e. not (is_at_earlier_level n e)) left gone) (p, all-filter Q (is_at_earlier_level n) left gone) in
-      let go : (x y : Bool) → Names P (cond x left (cond y (placed n left) (with_order s o es))) = elim [
-        | true ↦ λ y. gone
-        | false ↦ elim [ true ↦ back | false ↦ names-with_order s o es p a ]
-      ] in go (o.leaves == 0) (o.shown == 0)
-
-  names-traded : (s n : ℕ) (es : List Entry) → Names P es → Names P (traded s n es)
-  names-traded s n es a = elim (found P s es a) [
-    | inl g ↦ subst (Names P) (sym (none-traded s s n es es g.1)) (all-filter Q (λ e. not (e.slot == s)) es a)
-    | inr p ↦ names-settled s (filled_by n (order_of s es)) es p a
-  ]
-
-  names-marked : (s n : ℕ) (es : List Entry) → Names P es → Names P (with_order s (record (order_of s es) { prorated = n }) es)
-  names-marked s n es a = elim (found P s es a) [
-    | inl g ↦ subst (Names P) (sym (with_order-none s (record (order_of s es) { prorated = n }) es g.0)) a
-    | inr p ↦ names-with_order s (record (order_of s es) { prorated = n }) es p a
-  ]
 
 -- ---- what the steps keep
 
@@ -100,36 +59,28 @@ abbrev pub KeepsNames : (MatchState → MatchState) → Type 1
 KeepsNames f = (P : ℕ → ℕ → Type 0) (m : MatchState) → Names P m.book.resting → Names P (f m).book.resting
 
 abbrev NamesStay : (ℕ → ℕ → Type 0) → Relation
-NamesStay P a b = Names P a.book.resting → Names P b.book.resting
+NamesStay P = AllStay (NamesHold P) (names P)
 
-names : (P : ℕ → ℕ → Type 0) → IsKept (NamesStay P)
-names P = record {
-  same = λ m a. a;
-  both = λ a b c h k x. k (h x);
-  trades = λ step s n m a. names-traded P s n m.book.resting a;
-  marks = λ s n m a. names-marked P s n m.book.resting a;
-}
+names-kept : (P : ℕ → ℕ → Type 0) → IsKept (NamesStay P)
+names-kept P = all-kept (NamesHold P) (names P)
 
-pub keeps-give : (step : StepName) (s n : ℕ) → KeepsNames (give step s n)
-keeps-give step s n P m a = each-give (NamesStay P) (names P) step s n m a
+pub keeps-marked : (step : StepName) (s n : ℕ) → KeepsNames (marked step s n)
+keeps-marked step s n P m a = each-marked (NamesStay P) (names-kept P) step s n m a
 
-pub keeps-mark : (s n : ℕ) → KeepsNames (λ m. record m { book = marked s n m.book })
-keeps-mark s n P m a = names-marked P s n m.book.resting a
+pub keeps-share : (step : StepName) (s n : ℕ) → KeepsNames (trade_share step s n)
+keeps-share step s n P m a = each-share (NamesStay P) (names-kept P) step s n m a
 
-pub keeps-give_marked : (s n : ℕ) → KeepsNames (give_marked s n)
-keeps-give_marked s n P m a = each-give_marked (NamesStay P) (names P) s n m a
-
-pub keeps-head : (es : List Entry) → KeepsNames (head_gives es)
-keeps-head es P m a = each-head (NamesStay P) (names P) es m a
+pub keeps-head : (es : List Entry) → KeepsNames (trade_head es)
+keeps-head es P m a = each-head (NamesStay P) (names-kept P) es m a
 
 pub keeps-wanted : (s : Step) (price : Price) → KeepsNames (wanted_step s price)
-keeps-wanted s price P m a = each-wanted (NamesStay P) (names P) s price m a
+keeps-wanted s price P m a = each-wanted (NamesStay P) (names-kept P) s price m a
 
-pub keeps-best : (steps : List Step) (limit : Price) → KeepsNames (match_best steps limit)
-keeps-best steps limit P m a = each-best (NamesStay P) (names P) steps limit m a
+pub keeps-match : (steps : List Step) (price : Price) → KeepsNames (level_match steps price)
+keeps-match steps price P m a = each-match (NamesStay P) (names-kept P) steps price m a
 
 pub keeps-sweep : (steps : List Step) (limit : Price) → KeepsNames (sweep steps limit)
-keeps-sweep steps limit P m a = each-sweep (NamesStay P) (names P) steps limit m a
+keeps-sweep steps limit P m a = each-sweep (NamesStay P) (names-kept P) steps limit m a
 
 -- ---- slots and numbers that go together
 

@@ -8,17 +8,16 @@ use Rattle.gx_base.specs.declared.price.Price.{Price}
 use Rattle.gx_base.specs.declared.order.Order.{Order}
 use Rattle.gx_base.specs.declared.order.Side.{Side}
 use Rattle.gx_base.specs.declared.event.StepName.{StepName}
-use Rattle.gx_base.specs.declared.event.StepName.TheVariants as name
 use Rattle.plain_book.specs.declared.entry.Entry.{Entry}
 use Rattle.plain_book.specs.Orders.{HasSlot, is_at, is_on, is_at_earlier_level, order_of, without, with_order, reordered, placed, settled, traded, refreshed, filled_by, side_of, price_of, best_of}
 use Rattle.plain_book.specs.Book.{Book}
-use Rattle.plain_book.specs.Match.{MatchState, Share, trade, report, fill, taken_by, lengthened, give, gives}
-use Rattle.plain_book.specs.Steps.{facing, level_now, give_marked, gives_marked}
+use Rattle.plain_book.specs.Match.{MatchState, Share, trade, trade_if_any, report, fill, taken_by, lengthened, is_prorata, book_marked, marked, trade_share, trade_shares}
+use Rattle.plain_book.specs.Steps.{facing, level_now}
 use Rattle.plain_book.proofs.Levels.{same, renewed}
 use Rattle.plain_book.proofs.Pairs.{all-from, all-with}
-use Rattle.plain_book.proofs.Steps.{marked}
 use Rattle.plain_book.specs.Numbers.{by_number, numbered, book_numbered, match_numbered}
-use Rattle.level_sweep.proofs.Names.{GoesWith, Agree, KeepsNames, found, none-traded, keeps-give, keeps-mark, keeps-give_marked}
+use Rattle.level_sweep.proofs.EachOrder.{none-traded}
+use Rattle.level_sweep.proofs.Names.{GoesWith, Agree, KeepsNames, found-name, keeps-marked, keeps-share}
 
 -- ---- lists
 
@@ -106,15 +105,15 @@ module _ (s k : ℕ) where
   traded-numbered n es a =
       let o : Order = filled_by n (order_of s es) in
       ap (λ (x : Order). settled k (filled_by n x) (numbered es)) (order-numbered es a)
-      ∙ elim (found (GoesWith s k) s es a) [
+      ∙ elim (found-name (GoesWith s k) s es a) [
         | inl g ↦ none-traded s k n es (numbered es) g.1 ∙ without-numbered es a ∙ ap numbered (sym (none-traded s s n es es g.1))
         | inr p ↦ settled-numbered o es (test-is (order_of s es).number k (sym p ∙ same s)) a
       ]
 
-  marked-numbered : (n : ℕ) (es : List Entry) → Agree s k es → with_order k (record (order_of k (numbered es)) { prorated = n }) (numbered es) ≡ numbered (with_order s (record (order_of s es) { prorated = n }) es)
-  marked-numbered n es a =
+  with_mark-numbered : (n : ℕ) (es : List Entry) → Agree s k es → with_order k (record (order_of k (numbered es)) { prorated = n }) (numbered es) ≡ numbered (with_order s (record (order_of s es) { prorated = n }) es)
+  with_mark-numbered n es a =
       ap (λ (x : Order). with_order k (record x { prorated = n }) (numbered es)) (order-numbered es a)
-      ∙ elim (found (GoesWith s k) s es a) [
+      ∙ elim (found-name (GoesWith s k) s es a) [
         | inl g ↦ none-marked (record (order_of s es) { prorated = n }) es a g.0
         | inr p ↦ with_order-numbered (record (order_of s es) { prorated = n }) es (test-is (order_of s es).number k (sym p ∙ same s)) a
       ]
@@ -127,7 +126,7 @@ module _ (s k : ℕ) where
           ∙ ap (λ (q : List Entry). by_number e ∷ q) (none-marked o es a.1 (λ x. h (inr x)))
           ∙ ap (λ (b : Bool). by_number (cond b (renewed e o) e) ∷ numbered (with_order s o es)) (sym no)
 
-  -- ---- one gift
+  -- ---- one share
 
   abbrev traded_as : StepName → ℕ → Order → Book → MatchState → MatchState
   traded_as step lots resting b m =
@@ -146,16 +145,23 @@ module _ (s k : ℕ) where
       ap (λ (o : Order). traded_as step n o (b (traded k n (numbered es))) m) (order-numbered es a)
       ∙ ap (λ (x : List Entry). traded_as step n (order_of s es) (b x) m) (traded-numbered n es a)
 
-  pub give-numbered : (step : StepName) (n : ℕ) (m : MatchState) → Agree s k m.book.resting → give step k n (match_numbered m) ≡ match_numbered (give step s n m)
-  give-numbered step n m a =
+  any-numbered : (step : StepName) (n : ℕ) (m : MatchState) → Agree s k m.book.resting → trade_if_any step k n (match_numbered m) ≡ match_numbered (trade_if_any step s n m)
+  any-numbered step n m a =
       let go : (c : Bool) → cond c (match_numbered m) (trade step k n (match_numbered m)) ≡ match_numbered (cond c m (trade step s n m)) = elim [ true ↦ refl | false ↦ trade-numbered step n m a ] in
       go (n == 0)
 
-  pub give_marked-numbered : (n : ℕ) (m : MatchState) → Agree s k m.book.resting → give_marked k n (match_numbered m) ≡ match_numbered (give_marked s n m)
-  give_marked-numbered n m a =
+  marked-numbered : (step : StepName) (n : ℕ) (m : MatchState) → Agree s k m.book.resting → marked step k n (match_numbered m) ≡ match_numbered (marked step s n m)
+  marked-numbered step n m a =
       let b : List Entry → Book = λ x. record (book_numbered m.book) { resting = x } in
-      ap (λ (x : List Entry). give name.ProRata k n (record m { book = b x })) (marked-numbered n m.book.resting a)
-      ∙ give-numbered name.ProRata n (record m { book = marked s n m.book }) (keeps-mark s n (GoesWith s k) m a)
+      let go : (c : Bool) → record (match_numbered m) { book = cond c (book_marked k n (book_numbered m.book)) (book_numbered m.book) } ≡ match_numbered (record m { book = cond c (book_marked s n m.book) m.book }) = elim [
+        | true ↦ ap (λ (x : List Entry). record m { book = b x }) (with_mark-numbered n m.book.resting a)
+        | false ↦ refl
+      ] in go (is_prorata step)
+
+  pub share-numbered : (step : StepName) (n : ℕ) (m : MatchState) → Agree s k m.book.resting → trade_share step k n (match_numbered m) ≡ match_numbered (trade_share step s n m)
+  share-numbered step n m a =
+      ap (trade_if_any step k n) (marked-numbered step n m a)
+      ∙ any-numbered step n (marked step s n m) (keeps-marked step s n (GoesWith s k) m a)
 
 -- ---- shares
 
@@ -172,20 +178,11 @@ shares-kept f k m [] (y ∷ ys) h = absurd h
 shares-kept f k m (x ∷ xs) [] h = absurd h
 shares-kept f k m (x ∷ xs) (y ∷ ys) h = (h.0, k (GoesWith x.0 y.0) m h.1, shares-kept f k m xs ys h.2)
 
-pub gives-numbered : (step : StepName) (xs ys : List Share) (m : MatchState) → SameShares m.book.resting xs ys → gives step ys (match_numbered m) ≡ match_numbered (gives step xs m)
-gives-numbered step [] [] m h = refl
-gives-numbered step [] (y ∷ ys) m h = absurd h
-gives-numbered step (x ∷ xs) [] m h = absurd h
-gives-numbered step (x ∷ xs) (y ∷ ys) m h =
-    ap (λ (n : ℕ). gives step ys (give step y.0 n (match_numbered m))) (sym h.0)
-    ∙ ap (gives step ys) (give-numbered x.0 y.0 step x.1 m h.1)
-    ∙ gives-numbered step xs ys (give step x.0 x.1 m) (shares-kept (give step x.0 x.1) (keeps-give step x.0 x.1) m xs ys h.2)
-
-pub gives_marked-numbered : (xs ys : List Share) (m : MatchState) → SameShares m.book.resting xs ys → gives_marked ys (match_numbered m) ≡ match_numbered (gives_marked xs m)
-gives_marked-numbered [] [] m h = refl
-gives_marked-numbered [] (y ∷ ys) m h = absurd h
-gives_marked-numbered (x ∷ xs) [] m h = absurd h
-gives_marked-numbered (x ∷ xs) (y ∷ ys) m h =
-    ap (λ (n : ℕ). gives_marked ys (give_marked y.0 n (match_numbered m))) (sym h.0)
-    ∙ ap (gives_marked ys) (give_marked-numbered x.0 y.0 x.1 m h.1)
-    ∙ gives_marked-numbered xs ys (give_marked x.0 x.1 m) (shares-kept (give_marked x.0 x.1) (keeps-give_marked x.0 x.1) m xs ys h.2)
+pub shares-numbered : (step : StepName) (xs ys : List Share) (m : MatchState) → SameShares m.book.resting xs ys → trade_shares step ys (match_numbered m) ≡ match_numbered (trade_shares step xs m)
+shares-numbered step [] [] m h = refl
+shares-numbered step [] (y ∷ ys) m h = absurd h
+shares-numbered step (x ∷ xs) [] m h = absurd h
+shares-numbered step (x ∷ xs) (y ∷ ys) m h =
+    ap (λ (n : ℕ). trade_shares step ys (trade_share step y.0 n (match_numbered m))) (sym h.0)
+    ∙ ap (trade_shares step ys) (share-numbered x.0 y.0 step x.1 m h.1)
+    ∙ shares-numbered step xs ys (trade_share step x.0 x.1 m) (shares-kept (trade_share step x.0 x.1) (keeps-share step x.0 x.1) m xs ys h.2)

@@ -13,17 +13,17 @@ use Rattle.gx_base.specs.declared.event.StepName.TheVariants as name
 use Rattle.step_config.specs.declared.step.Step.{Step}
 use Rattle.step_config.specs.declared.step.Step.TheVariants.{Top, Lmm, Split, ProRata, Leveling, Fifo}
 use Rattle.plain_book.specs.declared.entry.Entry.{Entry}
-use Rattle.plain_book.specs.Orders.{HasSlot, order_of, without, is_at, is_on, is_slot, is_within, opposite, side_of, slot_of, top_of, topped, with_top, is_best_price, is_new_best, placed, is_of_earlier_instrument}
+use Rattle.plain_book.specs.Orders.{HasSlot, order_of, without, is_at, is_on, is_slot, opposite, side_of, slot_of, top_of, topped, with_top, is_best_price, is_new_best, placed, is_of_earlier_instrument}
 use Rattle.plain_book.specs.Book.{Book, AllDiffer, live_orders, first_shown, is_enough, book_placed, book_waited, book_without}
-use Rattle.plain_book.specs.Match.{MatchState, Share, gives}
-use Rattle.plain_book.specs.Steps.{facing, level_now, gives_marked, head_gives, fifo_rounds, spent, ones, top_shares, lmm_shares, split_shares, leveling_shares, prorata_shares, prorata_share}
+use Rattle.plain_book.specs.Match.{MatchState, Share, trade_shares}
+use Rattle.plain_book.specs.Steps.{facing, level_now, trade_head, fifo_rounds, spent, ones, top_shares, lmm_shares, split_shares, leveling_shares, prorata_shares, prorata_share}
 use Rattle.plain_book.proofs.Levels.{same, AllDiffer-front}
 use Rattle.plain_book.proofs.Pairs.{all-filter, all-with, all-append, all-front, all-back}
-use Rattle.level_sweep.specs.Sweep.{step_of, wanted_step, level_match, match_within, match_best, facing_best, sweep_rounds, sweep}
+use Rattle.level_sweep.specs.Sweep.{step_of, wanted_step, level_match, within_limit, next_price, match_next, sweep_rounds, sweep}
 use Rattle.plain_book.specs.Numbers.{by_number, numbered, book_numbered, match_numbered}
-use Rattle.level_sweep.proofs.Names.{Names, found, GoesWith, Agree, Matched, matched-from, matched-kept, keeps-head, keeps-wanted, keeps-best, keeps-sweep}
-use Rattle.level_sweep.proofs.Only.{rest-sweep}
-use Rattle.level_sweep.proofs.Numbered.{SameShares, test-is, filter-numbered, filter-order, level-numbered, side-numbered, best-numbered, placed-numbered, without-numbered, give-numbered, gives-numbered, gives_marked-numbered}
+use Rattle.level_sweep.proofs.Names.{Names, found-name, GoesWith, Agree, Matched, matched-from, matched-kept, keeps-head, keeps-wanted, keeps-match, keeps-sweep}
+use Rattle.level_sweep.proofs.Resting.{rest-sweep}
+use Rattle.level_sweep.proofs.Numbered.{SameShares, test-is, filter-numbered, filter-order, level-numbered, side-numbered, best-numbered, placed-numbered, without-numbered, share-numbered, shares-numbered}
 
 -- ---- the shares of each step
 
@@ -105,14 +105,14 @@ choice true f g m h p q = p m h
 choice false f g m h p q = q m h
 
 by-level : (step : StepName) (price : Price) (F : List Entry → List Share) (m : MatchState) → SameShares m.book.resting (F (level_now price m)) (F (numbered (level_now price m)))
-    → gives step (F (level_now price (match_numbered m))) (match_numbered m) ≡ match_numbered (gives step (F (level_now price m)) m)
+    → trade_shares step (F (level_now price (match_numbered m))) (match_numbered m) ≡ match_numbered (trade_shares step (F (level_now price m)) m)
 by-level step price F m h =
-    ap (λ (l : List Entry). gives step (F l) (match_numbered m)) (level-numbered price m)
-    ∙ gives-numbered step (F (level_now price m)) (F (numbered (level_now price m))) m h
+    ap (λ (l : List Entry). trade_shares step (F l) (match_numbered m)) (level-numbered price m)
+    ∙ shares-numbered step (F (level_now price m)) (F (numbered (level_now price m))) m h
 
 top-step : (most : ℕ) (price : Price) (m : MatchState) → Matched m.book.resting
-    → gives name.Top (top_shares most (top_of m.taker.order.instrument (opposite m.taker.order.side) (numbered m.book.resting)) m.taker.order.leaves (level_now price (match_numbered m))) (match_numbered m)
-    ≡ match_numbered (gives name.Top (top_shares most (top_of m.taker.order.instrument (opposite m.taker.order.side) m.book.resting) m.taker.order.leaves (level_now price m)) m)
+    → trade_shares name.Top (top_shares most (top_of m.taker.order.instrument (opposite m.taker.order.side) (numbered m.book.resting)) m.taker.order.leaves (level_now price (match_numbered m))) (match_numbered m)
+    ≡ match_numbered (trade_shares name.Top (top_shares most (top_of m.taker.order.instrument (opposite m.taker.order.side) m.book.resting) m.taker.order.leaves (level_now price m)) m)
 top-step most price m h =
     let i = m.taker.order.instrument in
     let d = opposite m.taker.order.side in
@@ -121,38 +121,38 @@ top-step most price m h =
     let p : Entry → Bool = λ e. e.is_top in
     let tops = filter p (side_of i d es) in
     let same : top_of i d (numbered es) ≡ slot_of (numbered tops) = ap (λ (l : List Entry). slot_of (filter p l)) (side-numbered i d es) ∙ ap slot_of (filter-order p (λ e. refl) (side_of i d es)) in
-    ap (λ (t : Option ℕ). gives name.Top (top_shares most t q (level_now price (match_numbered m))) (match_numbered m)) same
-    ∙ ap (λ (l : List Entry). gives name.Top (top_shares most (slot_of (numbered tops)) q l) (match_numbered m)) (level-numbered price m)
-    ∙ gives-numbered name.Top (top_shares most (slot_of tops) q (level_now price m)) (top_shares most (slot_of (numbered tops)) q (numbered (level_now price m))) m
+    ap (λ (t : Option ℕ). trade_shares name.Top (top_shares most t q (level_now price (match_numbered m))) (match_numbered m)) same
+    ∙ ap (λ (l : List Entry). trade_shares name.Top (top_shares most (slot_of (numbered tops)) q l) (match_numbered m)) (level-numbered price m)
+    ∙ shares-numbered name.Top (top_shares most (slot_of tops) q (level_now price m)) (top_shares most (slot_of (numbered tops)) q (numbered (level_now price m))) m
     (top-same es most q tops (level_now price m) (only-in es p (side_of i d es) (only-in es (is_on i d) es h)) (in-level price m h)
     (λ s k a. all-filter (λ (e : Entry). GoesWith s k e.slot e.order.number) (is_at (facing price m.taker)) es a))
 
-head-same : (xs : List Entry) (m : MatchState) → AllIn m.book.resting xs → head_gives (numbered xs) (match_numbered m) ≡ match_numbered (head_gives xs m)
+head-same : (xs : List Entry) (m : MatchState) → AllIn m.book.resting xs → trade_head (numbered xs) (match_numbered m) ≡ match_numbered (trade_head xs m)
 head-same [] m h = refl
-head-same (x ∷ xs) m h = give-numbered x.slot x.order.number name.Fifo (min m.taker.order.leaves x.order.shown) m h.0
+head-same (x ∷ xs) m h = share-numbered x.slot x.order.number name.Fifo (min m.taker.order.leaves x.order.shown) m h.0
 
 fifo-same : (price : Price) (n : ℕ) → IsSame (fifo_rounds n price)
 fifo-same price zero m h = refl
 fifo-same price (suc n) m h =
     let level = level_now price m in
-    ap (λ (l : List Entry). fifo_rounds n price (head_gives l (match_numbered m))) (level-numbered price m)
+    ap (λ (l : List Entry). fifo_rounds n price (trade_head l (match_numbered m))) (level-numbered price m)
     ∙ ap (fifo_rounds n price) (head-same level m (in-level price m h))
-    ∙ fifo-same price n (head_gives level m) (matched-kept (head_gives level) (keeps-head level) m h)
+    ∙ fifo-same price n (trade_head level m) (matched-kept (trade_head level) (keeps-head level) m h)
 
 prorata-step : (least : ℕ) (price : Price) (m : MatchState) → Matched m.book.resting
-    → gives_marked (prorata_shares least m.taker.order.leaves (level_now price (match_numbered m))) (match_numbered m) ≡ match_numbered (gives_marked (prorata_shares least m.taker.order.leaves (level_now price m)) m)
+    → trade_shares name.ProRata (prorata_shares least m.taker.order.leaves (level_now price (match_numbered m))) (match_numbered m) ≡ match_numbered (trade_shares name.ProRata (prorata_shares least m.taker.order.leaves (level_now price m)) m)
 prorata-step least price m h =
     let q = m.taker.order.leaves in
     let level = level_now price m in
-    ap (λ (l : List Entry). gives_marked (prorata_shares least q l) (match_numbered m)) (level-numbered price m)
-    ∙ gives_marked-numbered (prorata_shares least q level) (prorata_shares least q (numbered level)) m (prorata-same m.book.resting least q level (in-level price m h))
+    ap (λ (l : List Entry). trade_shares name.ProRata (prorata_shares least q l) (match_numbered m)) (level-numbered price m)
+    ∙ shares-numbered name.ProRata (prorata_shares least q level) (prorata_shares least q (numbered level)) m (prorata-same m.book.resting least q level (in-level price m h))
 
 step-same : (s : Step) (price : Price) → IsSame (step_of s price)
 step-same (Top rule) price m h = top-step rule.max price m h
 step-same (Lmm shares) price m h = by-level name.Lmm price (lmm_shares shares.items m.taker.order.leaves) m (lmm-same m.book.resting shares.items m.taker.order.leaves (level_now price m) (in-level price m h))
 step-same (Split percent) price m h = by-level name.Split price (split_shares percent m.taker.order.leaves) m (spent-same m.book.resting (m.taker.order.leaves * percent / 100) (level_now price m) (in-level price m h))
 step-same (ProRata least) price m h =
-    let go : (b : Bool) → cond b (match_numbered m) (gives_marked (prorata_shares least m.taker.order.leaves (level_now price (match_numbered m))) (match_numbered m)) ≡ match_numbered (cond b m (gives_marked (prorata_shares least m.taker.order.leaves (level_now price m)) m)) = elim [
+    let go : (b : Bool) → cond b (match_numbered m) (trade_shares name.ProRata (prorata_shares least m.taker.order.leaves (level_now price (match_numbered m))) (match_numbered m)) ≡ match_numbered (cond b m (trade_shares name.ProRata (prorata_shares least m.taker.order.leaves (level_now price m)) m)) = elim [
       | true ↦ refl
       | false ↦ prorata-step least price m h
     ] in go (m.taker.order.leaves == 0)
@@ -170,20 +170,19 @@ match-same (s ∷ ss) price m h =
     ap (level_match ss price) (wanted-same s price m h)
     ∙ match-same ss price (wanted_step s price m) (matched-kept (wanted_step s price) (keeps-wanted s price) m h)
 
-within-same : (steps : List Step) (limit : Price) (best : Option Price) → IsSame (match_within steps limit best)
-within-same steps limit None m h = refl
-within-same steps limit (Some price) m h = choice (is_within (opposite m.taker.order.side) limit.0 price.0) (level_match steps price) (λ x. x) m h (match-same steps price) (λ n k. refl)
-
-best-same : (steps : List Step) (limit : Price) → IsSame (match_best steps limit)
-best-same steps limit m h =
-    ap (λ (p : Option Price). cond (m.taker.order.leaves == 0) (match_numbered m) (match_within steps limit p (match_numbered m))) (best-numbered m.taker.order.instrument (opposite m.taker.order.side) m.book.resting)
-    ∙ choice (m.taker.order.leaves == 0) (λ x. x) (match_within steps limit (facing_best m)) m h (λ n k. refl) (within-same steps limit (facing_best m))
+next-same : (limit : Price) (m : MatchState) → next_price limit (book_numbered m.book) m.taker ≡ next_price limit m.book m.taker
+next-same limit m =
+    let d = opposite m.taker.order.side in
+    ap (λ (best : Option Price). cond (m.taker.order.leaves == 0) None (within_limit d limit best)) (best-numbered m.taker.order.instrument d m.book.resting)
 
 rounds-same : (n : ℕ) (steps : List Step) (limit : Price) → IsSame (sweep_rounds n steps limit)
 rounds-same zero steps limit m h = refl
 rounds-same (suc n) steps limit m h =
-    ap (sweep_rounds n steps limit) (best-same steps limit m h)
-    ∙ rounds-same n steps limit (match_best steps limit m) (matched-kept (match_best steps limit) (keeps-best steps limit) m h)
+    let at : (next : Option Price) → sweep_rounds n steps limit (match_next steps next (match_numbered m)) ≡ match_numbered (sweep_rounds n steps limit (match_next steps next m)) = elim [
+      | None ↦ rounds-same n steps limit m h
+      | Some price ↦ ap (sweep_rounds n steps limit) (match-same steps price m h) ∙ rounds-same n steps limit (level_match steps price m) (matched-kept (level_match steps price) (keeps-match steps price) m h)
+    ] in
+    ap (λ (next : Option Price). sweep_rounds n steps limit (match_next steps next (match_numbered m))) (next-same limit m) ∙ at (next_price limit m.book m.taker)
 
 sweep-same : (steps : List Step) (limit : Price) → IsSame (sweep steps limit)
 sweep-same steps limit m h = rounds-same m.taker.order.leaves steps limit m h
@@ -199,10 +198,7 @@ matched-live b d n = matched-from (live_orders b) d (subst AllDiffer (live-numbe
 matched-resting : (b : Book) → AllDiffer (live_orders b) → AllDiffer (live_orders (book_numbered b)) → Matched b.resting
 matched-resting b d n = matched-from b.resting (AllDiffer-front b.resting b.waiting d) (AllDiffer-front (numbered b.resting) (numbered b.waiting) n)
 
--- a level match and a sweep do the same by number as by slot
-pub match-numbered : (steps : List Step) (price : Price) (m : MatchState) → AllDiffer (live_orders m.book) → AllDiffer (live_orders (book_numbered m.book)) → level_match steps price (match_numbered m) ≡ match_numbered (level_match steps price m)
-match-numbered steps price m d n = match-same steps price m (matched-resting m.book d n)
-
+-- a sweep does the same by number as by slot
 pub sweep-numbered : (steps : List Step) (limit : Price) (m : MatchState) → AllDiffer (live_orders m.book) → AllDiffer (live_orders (book_numbered m.book)) → sweep steps limit (match_numbered m) ≡ match_numbered (sweep steps limit m)
 sweep-numbered steps limit m d n = sweep-same steps limit m (matched-resting m.book d n)
 
@@ -272,7 +268,7 @@ waited-same slot o b =
 pub named-live : (s : ℕ) (b : Book) → AllDiffer (live_orders b) → AllDiffer (live_orders (book_numbered b)) → HasSlot s (live_orders b) → Agree s (order_of s (live_orders b)).number (live_orders b)
 named-live s b d n has =
     let es = live_orders b in
-    elim (found (λ s k. Agree s k es) s es (matched-live b d n)) [ inl g ↦ absurd (g.0 has) | inr a ↦ a ]
+    elim (found-name (λ s k. Agree s k es) s es (matched-live b d n)) [ inl g ↦ absurd (g.0 has) | inr a ↦ a ]
 
 -- an order is removed by its number as by its slot
 pub removed-same : (s : ℕ) (b : Book) → AllDiffer (live_orders b) → AllDiffer (live_orders (book_numbered b)) → HasSlot s (live_orders b)

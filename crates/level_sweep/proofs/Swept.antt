@@ -10,8 +10,8 @@ use Rattle.plain_book.specs.declared.entry.Entry.{Entry}
 use Rattle.plain_book.specs.Orders.{HasSlot, order_of, no_order, without, with_order, placed, settled, traded, refreshed, filled_by, is_at_earlier_level}
 use Rattle.plain_book.specs.Match.{MatchState}
 use Rattle.level_sweep.specs.Sweep.{sweep}
-use Rattle.level_sweep.proofs.Each.{Relation, IsKept, each-sweep}
-use Rattle.level_sweep.proofs.Names.{none-traded}
+use Rattle.level_sweep.proofs.EachTrade.{Relation, IsKept, each-sweep}
+use Rattle.level_sweep.proofs.EachOrder.{none-traded}
 
 -- ---- the number of orders
 

@@ -1,7 +1,8 @@
 -- Level matches and sweeps: our own rule, after the exchange's published outline.
-use Rattle.std.specs.Prelude.{◌≡◌, ℕ, ◌==◌, if◌then◌else◌, List, [], ◌∷◌, Option, Some, None, IsTrue, ◌⊎◌}
+use Rattle.std.specs.Prelude.{◌≡◌, ℕ, ◌==◌, if◌then◌else◌, List, [], ◌∷◌, Option, Some, None}
 use Prim.Native.Nat.{zero, suc}
 use Rattle.gx_base.specs.declared.price.Price.{Price}
+use Rattle.gx_base.specs.declared.order.Side.{Side}
 use Rattle.gx_base.specs.declared.order.Taker.{Taker}
 use Rattle.step_config.specs.declared.step.Step.{Step}
 use Rattle.step_config.specs.declared.step.Step.TheVariants.{Top, Lmm, Split, ProRata, Leveling, Fifo}
@@ -9,7 +10,7 @@ use Rattle.plain_book.specs.declared.entry.Entry.{Entry}
 use Rattle.plain_book.specs.Orders.{best_of, is_within, opposite}
 use Rattle.plain_book.specs.Book.{Book}
 use Rattle.plain_book.specs.Match.{MatchState}
-use Rattle.plain_book.specs.Steps.{top, lmm, split, prorata, leveling, fifo, IsLevelDone}
+use Rattle.plain_book.specs.Steps.{top, lmm, split, prorata, leveling, fifo}
 
 -- ---- a level match
 
@@ -34,44 +35,38 @@ level_match (step ∷ steps) price m = level_match steps price (wanted_step step
 -- ---- a sweep
 
 -- the best price that the incoming order meets
-abbrev pub facing_best : MatchState → Option Price
-facing_best m = best_of m.taker.order.instrument (opposite m.taker.order.side) m.book.resting
+abbrev pub facing_best : Book → Taker → Option Price
+facing_best b t = best_of t.order.instrument (opposite t.order.side) b.resting
 
--- a level match at this price, if it is within the limit
-abbrev pub match_within : List Step → Price → Option Price → MatchState → MatchState
-match_within steps limit None m = m
-match_within steps limit (Some price) m = if is_within (opposite m.taker.order.side) limit.0 price.0 then level_match steps price m else m
+-- a price of a side, if a limit allows it
+abbrev pub within_limit : Side → Price → Option Price → Option Price
+within_limit side limit None = None
+within_limit side limit (Some price) = if is_within side limit.0 price.0 then Some price else None
 
--- a level match at the best price, if it is within the limit and anything is wanted
-abbrev pub match_best : List Step → Price → MatchState → MatchState
-match_best steps limit m = if m.taker.order.leaves == 0 then m else match_within steps limit (facing_best m) m
+-- the price of the next level match: the best opposite price, while lots are wanted and the limit allows it
+abbrev pub next_price : Price → Book → Taker → Option Price
+next_price limit b t = if t.order.leaves == 0 then None else within_limit (opposite t.order.side) limit (facing_best b t)
+
+-- a level match there
+abbrev pub match_next : List Step → Option Price → MatchState → MatchState
+match_next steps None m = m
+match_next steps (Some price) m = level_match steps price m
 
 -- the same again, so many times
 abbrev pub sweep_rounds : ℕ → List Step → Price → MatchState → MatchState
 sweep_rounds zero steps limit m = m
-sweep_rounds (suc n) steps limit m = sweep_rounds n steps limit (match_best steps limit m)
+sweep_rounds (suc n) steps limit m = sweep_rounds n steps limit (match_next steps (next_price limit m.book m.taker) m)
 
--- While lots are wanted and the best price is within the limit, a level match at that price. Where FIFO stands last, each
--- takes at least one lot, so as many rounds as lots are wanted are enough.
+-- While lots are wanted and there is a best opposite price within the limit, a level match there: the law
+-- `sweeps_go_on` says it so. Where FIFO stands last, each level match takes at least one lot, so as many rounds as
+-- lots are wanted are enough.
 abbrev pub sweep : List Step → Price → MatchState → MatchState
 sweep steps limit m = sweep_rounds m.taker.order.leaves steps limit m
 
--- ---- what the functions say of their arguments
+-- nothing more is wanted, or no price within the limit is left
+abbrev pub IsSweepDone : Price → Book → Taker → Type 0
+IsSweepDone limit b t = next_price limit b t ≡ None
 
 -- a book with these resting orders, and else as it was
 abbrev pub with_resting : List Entry → Book → Book
 with_resting es b = record b { resting = es }
-
--- there is a price, and it is within the limit of the incoming order
-abbrev pub IsMet : Price → Taker → Option Price → Type 0
-IsMet limit t None = ⊥
-IsMet limit t (Some price) = IsTrue (is_within (opposite t.order.side) limit.0 price.0)
-
--- nothing more is wanted, or no price within the limit is left
-abbrev pub IsSweepDone : Price → Book → Taker → Type 0
-IsSweepDone limit b t = (t.order.leaves ≡ 0) ⊎ (IsMet limit t (best_of t.order.instrument (opposite t.order.side) b.resting) → ⊥)
-
--- where the best price was met, its level is worked off
-abbrev pub IsWorkedOff : Price → Taker → Option Price → Book → Taker → Type 0
-IsWorkedOff limit t None b u = Unit {0}
-IsWorkedOff limit t (Some price) b u = IsTrue (is_within (opposite t.order.side) limit.0 price.0) → IsLevelDone price b u

@@ -1,11 +1,9 @@
 //! The steps of a list, one after the other, at one price.
 ghost use Rattle.std.specs.Prelude.{◌≡◌, true};
-ghost use Rattle.gx_base.specs.Emits.{Emits};
 ghost use Rattle.step_config.specs.Rules.{is_fifo};
 ghost use Rattle.step_config.specs.RightSteps.{IsRightStep};
-ghost use Rattle.plain_book.specs.Match.{match_start, IsNow, CanTrade};
+ghost use Rattle.plain_book.specs.Matches.{match_at, Matches, CanTrade};
 ghost use Rattle.plain_book.specs.Steps.{IsLevelDone};
-ghost use Rattle.plain_book.specs.Keeping.{KeepsRoom};
 ghost use Rattle.level_sweep.specs.Sweep.{step_of, wanted_step, level_match, with_resting};
 
 use gx_base::{Desk, Emit, Price, Taker};
@@ -28,11 +26,10 @@ fn run_step<B: Book, E: Emit>(
 )
     requires right { IsRightStep step.now }
     requires can { CanTrade (B.book book.old) desk.old taker.old }
-    ensures now { IsNow (step_of step.now price (match_start (B.book book.old) desk.old taker.old)) (B.book book.new) desk.new taker.new }
-    ensures emits { Emits E.meanings out.old out.new (step_of step.now price (match_start (B.book book.old) desk.old taker.old)).events }
-    ensures can { CanTrade (B.book book.new) desk.new taker.new }
-    ensures room { KeepsRoom desk.old taker.old.order.leaves desk.new taker.new.order.leaves }
-    ensures over { is_fifo step.now ≡ true → IsLevelDone price (B.book book.new) taker.new }
+    ensures matches { let before = match_at (B.book book.old) desk.old taker.old out.old in
+        let after = match_at (B.book book.new) desk.new taker.new out.new in
+        Matches E.meanings (step_of step.now price) before after }
+    ensures done { is_fifo step.now ≡ true → IsLevelDone price (B.book book.new) taker.new }
 {
     match step {
         Step::Top(rule) => top_pass(book, desk, taker, price, rule, out),
@@ -55,11 +52,10 @@ fn run_if_wanted<B: Book, E: Emit>(
 )
     requires right { IsRightStep step.now }
     requires can { CanTrade (B.book book.old) desk.old taker.old }
-    ensures now { IsNow (wanted_step step.now price (match_start (B.book book.old) desk.old taker.old)) (B.book book.new) desk.new taker.new }
-    ensures emits { Emits E.meanings out.old out.new (wanted_step step.now price (match_start (B.book book.old) desk.old taker.old)).events }
-    ensures can { CanTrade (B.book book.new) desk.new taker.new }
-    ensures room { KeepsRoom desk.old taker.old.order.leaves desk.new taker.new.order.leaves }
-    ensures over { is_fifo step.now ≡ true → IsLevelDone price (B.book book.new) taker.new }
+    ensures matches { let before = match_at (B.book book.old) desk.old taker.old out.old in
+        let after = match_at (B.book book.new) desk.new taker.new out.new in
+        Matches E.meanings (wanted_step step.now price) before after }
+    ensures done { is_fifo step.now ≡ true → IsLevelDone price (B.book book.new) taker.new }
 {
     if taker.order.leaves > 0 {
         run_step(book, desk, taker, price, step, out);
@@ -78,11 +74,10 @@ pub fn match_level<B: Book, E: Emit>(
     out: &mut E,
 )
     requires can { CanTrade (B.book book.old) desk.old taker.old }
-    ensures now { IsNow (level_match steps.now price (match_start (B.book book.old) desk.old taker.old)) (B.book book.new) desk.new taker.new }
-    ensures emits { Emits E.meanings out.old out.new (level_match steps.now price (match_start (B.book book.old) desk.old taker.old)).events }
-    ensures can { CanTrade (B.book book.new) desk.new taker.new }
-    ensures room { KeepsRoom desk.old taker.old.order.leaves desk.new taker.new.order.leaves }
-    ensures over { IsLevelDone price (B.book book.new) taker.new }
+    ensures matches { let before = match_at (B.book book.old) desk.old taker.old out.old in
+        let after = match_at (B.book book.new) desk.new taker.new out.new in
+        Matches E.meanings (level_match steps.now price) before after }
+    ensures done { IsLevelDone price (B.book book.new) taker.new }
     ensures stays { B.book book.new ≡ with_resting (B.book book.new).resting (B.book book.old) }
 {
     let steps = steps.list();

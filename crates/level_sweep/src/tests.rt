@@ -1,7 +1,7 @@
 //! Books, steps and sweeps worked by hand: what each order gives, in which step, and what is left of it.
 ghost use Rattle.std.specs.Prelude.{◌≡◌, ◌<◌};
 ghost use Rattle.plain_book.specs.Book.{IsFitToRest};
-ghost use Rattle.plain_book.specs.Match.{CanTrade};
+ghost use Rattle.plain_book.specs.Matches.{CanTrade};
 
 mod books;
 mod leveling;

@@ -1,1 +1,1 @@
-pub mod Ones
+mod Ones

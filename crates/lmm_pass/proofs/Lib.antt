@@ -1,4 +1,6 @@
-pub mod Others
-pub mod Parts
-pub mod Unmoved
-pub mod Going
+mod Others
+mod Parts
+mod Slots
+mod Spends
+mod UnderWay
+mod Unmoved

@@ -4,9 +4,8 @@ use Rattle.std.proofs.Math.Seq.{drop-cons}
 use Rattle.std.specs.List.{IsDistinct, AllByRecursion}
 use Rattle.gx_base.specs.declared.order.LmmShare.{LmmShare}
 use Rattle.plain_book.specs.declared.entry.Entry.{Entry}
-use Rattle.plain_book.specs.Orders.{Level, orders_at}
 use Rattle.plain_book.proofs.Pairs.{all-from}
-use Rattle.lmm_pass.specs.Firms.{orders_of, KeepsOthers}
+use Rattle.lmm_pass.proofs.Spends.{orders_of}
 
 abbrev pub firm_of : LmmShare → ℕ
 firm_of s = s.firm
@@ -28,16 +27,20 @@ AreAsBefore ss old new = AllByRecursion (λ (s : LmmShare). orders_of s.firm new
 pub unmoved-start : (ss : List LmmShare) (es : List Entry) → AreAsBefore ss es es
 unmoved-start ss es = all-from (λ (s : LmmShare). orders_of s.firm es ≡ orders_of s.firm es) (λ s. refl) ss
 
-others-unmoved : (firm : ℕ) (ss : List LmmShare) (k : Level) (old now next : List Entry) → AllByRecursion (λ y. (firm == y) ≡ false) (map firm_of ss) → KeepsOthers firm k now next
-    → AreAsBefore ss old (orders_at k now) → AreAsBefore ss old (orders_at k next)
-others-unmoved firm [] k old now next apart keeps h = tt
-others-unmoved firm (s ∷ ss) k old now next apart keeps h = (keeps s.firm apart.0 ∙ h.0, others-unmoved firm ss k old now next apart.1 keeps h.1)
+-- the orders of every other firm stand at a level as they stood
+abbrev pub KeepsOthers : ℕ → List Entry → List Entry → Type 0
+KeepsOthers firm old new = (f : ℕ) → (firm == f) ≡ false → orders_of f new ≡ orders_of f old
+
+others-unmoved : (firm : ℕ) (ss : List LmmShare) (old now next : List Entry) → AllByRecursion (λ y. (firm == y) ≡ false) (map firm_of ss) → KeepsOthers firm now next
+    → AreAsBefore ss old now → AreAsBefore ss old next
+others-unmoved firm [] old now next apart keeps h = tt
+others-unmoved firm (s ∷ ss) old now next apart keeps h = (keeps s.firm apart.0 ∙ h.0, others-unmoved firm ss old now next apart.1 keeps h.1)
 
 -- after the turn of the first firm
-pub unmoved-more : (s : LmmShare) (ss : List LmmShare) (k : Level) (old now next : List Entry) → IsDistinct (λ a b. a == b) (map firm_of (s ∷ ss)) → KeepsOthers s.firm k now next
-    → AreAsBefore (s ∷ ss) old (orders_at k now) → AreAsBefore ss old (orders_at k next)
+pub unmoved-more : (s : LmmShare) (ss : List LmmShare) (old now next : List Entry) → IsDistinct (λ a b. a == b) (map firm_of (s ∷ ss)) → KeepsOthers s.firm now next
+    → AreAsBefore (s ∷ ss) old now → AreAsBefore ss old next
 unfolding IsDistinct
-unmoved-more s ss k old now next differ keeps h = others-unmoved s.firm ss k old now next differ.0 keeps h.1
+unmoved-more s ss old now next differ keeps h = others-unmoved s.firm ss old now next differ.0 keeps h.1
 
 pub distinct-more : (s : LmmShare) (ss : List LmmShare) → IsDistinct (λ a b. a == b) (map firm_of (s ∷ ss)) → IsDistinct (λ a b. a == b) (map firm_of ss)
 unfolding IsDistinct

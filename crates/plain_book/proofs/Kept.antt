@@ -10,7 +10,7 @@ use Rattle.gx_base.specs.declared.order.Side.{Side}
 use Rattle.plain_book.specs.declared.entry.Entry.{Entry}
 use Rattle.plain_book.specs.Orders.{level_of, HasSlot, order_of, is_live, is_named, is_on, is_at_earlier_level, is_new_best, without, with_order, reordered, placed, lined_up, settled, refreshed, filled_by, with_top, topped}
 use Rattle.plain_book.specs.Book.{Book, live_orders, IsRight, IsResting, IsWaiting, IsFitToRest, IsFitToWait, CanBeTop, first_shown, is_enough, book_placed, book_waited, book_traded, book_with_order, book_without, book_changed, book_with_top, book_cleared, changed_to}
-use Rattle.plain_book.specs.Keeping.{IsAmong, AreFree, IsKept, IsFreeList, freed}
+use Rattle.plain_book.specs.Inner.FreeSlots.{IsAmong, AreFree, IsKept, IsFreeList, freed}
 use Rattle.plain_book.proofs.Levels.{HasSlot-filter, HasSlot-left, slots-apart, order_of-left, order_of-right, without-none}
 use Rattle.plain_book.proofs.Walks.{HasSlot-before}
 use Rattle.plain_book.proofs.Pairs.{all-from, all-filter, all-map, all-with, none-any}

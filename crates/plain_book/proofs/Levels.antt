@@ -37,7 +37,7 @@ HasSlot-middle (x ∷ xs) ys e = inr (HasSlot-middle xs ys e)
 pub same : (n : ℕ) → eqb n n ≡ true
 same n = elim (eqb_tells n n) [ inl t ↦ t.0 | inr t ↦ absurd (t.1 refl) ]
 
-other : (x e : Entry) (xs ys : List Entry) → AllDiffer (x ∷ (xs ++ e ∷ ys)) → eqb x.slot e.slot ≡ false
+pub other : (x e : Entry) (xs ys : List Entry) → AllDiffer (x ∷ (xs ++ e ∷ ys)) → eqb x.slot e.slot ≡ false
 other x e xs ys d = elim (eqb_tells x.slot e.slot) [
   | inl t ↦ absurd (d.0 (subst (λ (n : ℕ). HasSlot n (xs ++ e ∷ ys)) (sym t.1) (HasSlot-middle xs ys e)))
   | inr t ↦ t.0

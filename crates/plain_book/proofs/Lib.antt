@@ -1,19 +1,22 @@
+-- Offered to the crates above: what they may cite.
 pub mod Filters
 pub mod Levels
 pub mod Pairs
 pub mod Live
 pub mod Walks
-pub mod Steps
-pub mod Turns
+pub mod TradedShares
+pub mod Matching
 pub mod Found
-pub mod Going
-pub mod Trading
-pub mod Before
 pub mod Sorted
-pub mod Mapped
 pub mod Tops
-pub mod Named
 pub mod Right
-pub mod Settled
-pub mod Kept
-pub mod Numbers
+-- What the proofs of this crate alone cite.
+mod Before
+mod Mapped
+mod Named
+mod Settled
+mod Kept
+mod Trading
+mod Marks
+mod WalkSteps
+mod WalkLevel

@@ -9,11 +9,11 @@ use Rattle.gx_base.specs.declared.event.StepName.{StepName}
 use Rattle.gx_base.specs.declared.event.Event.{Event}
 use Rattle.gx_base.specs.declared.event.Event.TheVariants.{Fill}
 use Rattle.gx_base.specs.Emits.{EmitMeanings, Puts, Emits}
-use Rattle.gx_base.proofs.Putting.{emits_joined, emits_one}
+use Rattle.gx_base.specs.EmitLaws.{emits_joined, emits_one}
 use Rattle.plain_book.specs.Orders.{HasSlot, order_of, filled_by}
-use Rattle.plain_book.specs.Book.{Book, book_traded, book_with_order}
-use Rattle.plain_book.specs.Match.{next_head, report_counted, fill, taken_by, CanTrade}
-use Rattle.plain_book.specs.Keeping.{KeepsRoom}
+use Rattle.plain_book.specs.Book.{Book, book_traded}
+use Rattle.plain_book.specs.Match.{next_head, report_counted, fill, taken_by, book_marked}
+use Rattle.plain_book.specs.Matches.{CanTrade, KeepsRoom}
 use Rattle.plain_book.proofs.Live.{unnamed-traded, unnamed-with_order}
 
 -- a count of one place raises no place by more than one
@@ -39,19 +39,6 @@ keeps-traded desk a b wanted lots some le =
       reports = omega arith;
       lines = λ i. omega (arith, counted_line desk.lines a i, counted_line once b i);
     }
-
-pub keeps-same : (desk : Desk) (wanted : ℕ) → KeepsRoom desk wanted desk wanted
-keeps-same desk wanted = record { messages = refl; orders = refl; fewer = omega arith; trades = omega arith; reports = omega arith; lines = λ i. omega arith }
-
-pub keeps-then : (a b c : Desk) (i j k : ℕ) → KeepsRoom a i b j → KeepsRoom b j c k → KeepsRoom a i c k
-keeps-then a b c i j k f g = record {
-  messages = g.messages ∙ f.messages;
-  orders = g.orders ∙ f.orders;
-  fewer = omega (arith, f.fewer, g.fewer);
-  trades = omega (arith, f.trades, g.trades);
-  reports = omega (arith, f.reports, g.reports);
-  lines = λ n. omega (arith, f.lines n, g.lines n);
-}
 
 -- the two reports of a trade
 pub two_fills : (step : StepName) (lots number n1 n2 : ℕ) (desk desk' : Desk) (time : List ℕ) (resting given taken : Order) (h1 h2 : Head) (e1 e2 : Event)
@@ -95,7 +82,7 @@ can-traded s n a b d t range has some le can =
     }
 
 -- nor does the mark of a share matter
-pub can-marked : (s n : ℕ) (b : Book) (d : Desk) (t : Taker) → HasSlot s b.resting → CanTrade b d t → CanTrade (book_with_order s (record (order_of s b.resting) { prorated = n }) b) d t
+pub can-marked : (s n : ℕ) (b : Book) (d : Desk) (t : Taker) → HasSlot s b.resting → CanTrade b d t → CanTrade (book_marked s n b) d t
 can-marked s n b d t has can = record {
   listed = can.listed;
   firm = can.firm;

@@ -1,10 +1,10 @@
 -- A walk along a level while its orders trade: what is still to come stays in its place.
-use Rattle.std.proofs.Common.{◌≡◌, ℕ, Bool, true, false, cond, not, List, [], ◌∷◌, ◌++◌, filter, refl, sym, ap, subst, ◌∙◌, inl, inr, append_assoc}
+use Rattle.std.proofs.Common.{◌≡◌, ℕ, Option, Bool, true, false, cond, not, List, [], ◌∷◌, ◌++◌, filter, refl, sym, ap, subst, ◌∙◌, inl, inr}
 use Rattle.std.proofs.lemmas.Bool.Decides.{eqb_tells}
 use Rattle.std.specs.Prelude.{◌==◌}
 use Rattle.gx_base.specs.declared.order.Order.{Order}
 use Rattle.plain_book.specs.declared.entry.Entry.{Entry}
-use Rattle.plain_book.specs.Orders.{Level, level_of, is_at, orders_at, HasSlot, order_of, slot_of, slot_after, without, with_order, reordered, placed, settled, refreshed}
+use Rattle.plain_book.specs.Orders.{Level, level_of, is_at, orders_at, HasSlot, order_of, slot_of, slot_after, without, with_order, reordered, placed}
 use Rattle.plain_book.specs.Book.{AllDiffer}
 use Rattle.plain_book.proofs.Filters.{filter-comm}
 use Rattle.plain_book.proofs.Levels.{HasSlot-filter, AllDiffer-filter, HasSlot-middle, order_of-middle, order_of-filter, slot_after-middle, without-middle, with_order-middle, with_order-level, placed-level, is_level-same, renewed}
@@ -14,11 +14,13 @@ pub record Stands (k : Level) (es xs : List Entry) (e : Entry) (ys : List Entry)
   pub differ : AllDiffer es
   pub is : orders_at k es ≡ xs ++ e ∷ ys
 
--- what is left of a walk stands in the level
-pub record Remains (k : Level) (es rest : List Entry) : Type 0 where
+-- the orders that a walk has still to meet stand in the level before those that it refreshed, of which the first has this
+-- slot
+pub record Remains (k : Level) (es rest : List Entry) (end : Option ℕ) : Type 0 where
   pub before : List Entry
   pub behind : List Entry
   pub is : orders_at k es ≡ before ++ (rest ++ behind)
+  pub ends : end ≡ slot_of behind
 
 abbrev Passes : (Entry → Bool) → List Entry → Type 0
 Passes p [] = Unit {0}
@@ -56,28 +58,16 @@ module _ {k : Level} {es xs : List Entry} {e : Entry} {ys : List Entry} (s : Sta
   pub stands-with_order : (o : Order) → level_of o ≡ level_of e.order → orders_at k (with_order e.slot o es) ≡ xs ++ renewed e o ∷ ys
   stands-with_order o l = with_order-level k e.slot o es s.differ (l ∙ ap level_of (sym stands-order)) ∙ ap (with_order e.slot o) s.is ∙ with_order-middle xs ys e o stands-differ
 
-  stands-without : orders_at k (without e.slot es) ≡ xs ++ ys
+  pub stands-without : orders_at k (without e.slot es) ≡ xs ++ ys
   stands-without = filter-comm (is_at k) (λ x. not (x.slot == e.slot)) es ∙ ap (without e.slot) s.is ∙ without-middle xs ys e stands-differ
 
   -- the order comes to stand last
-  stands-last : (n : Entry) → level_of n.order ≡ level_of e.order → orders_at k (placed n (without e.slot es)) ≡ (xs ++ ys) ++ n ∷ []
+  pub stands-last : (n : Entry) → level_of n.order ≡ level_of e.order → orders_at k (placed n (without e.slot es)) ≡ (xs ++ ys) ++ n ∷ []
   stands-last n l =
       ap (λ (q : Level). orders_at q (placed n (without e.slot es))) (sym (l ∙ stands-level))
       ∙ placed-level n (without e.slot es)
       ∙ ap (λ (q : Level). orders_at q (without e.slot es) ++ n ∷ []) (l ∙ stands-level)
       ∙ ap (λ (q : List Entry). q ++ n ∷ []) stands-without
-
--- after the trade of an order, what is left of the walk stands in the level
-pub settled-remains : (k : Level) (es xs : List Entry) (e : Entry) (rest behind : List Entry) → Stands k es xs e (rest ++ behind) → (o : Order) → level_of o ≡ level_of e.order → Remains k (settled e.slot o es) rest
-settled-remains k es xs e rest behind s o l =
-    let n : Entry = record { slot = e.slot; order = refreshed o; is_top = false } in
-    let go : (a b : Bool) → Remains k (cond a (without e.slot es) (cond b (placed n (without e.slot es)) (with_order e.slot o es))) rest = elim [
-      | true ↦ λ b. record { before = xs; behind = behind; is = stands-without s }
-      | false ↦ elim [
-        | true ↦ record { before = xs; behind = behind ++ n ∷ []; is = stands-last s n l ∙ append_assoc xs (rest ++ behind) (n ∷ []) ∙ ap (λ (q : List Entry). xs ++ q) (append_assoc rest behind (n ∷ [])) }
-        | false ↦ record { before = xs ++ renewed e o ∷ []; behind = behind; is = stands-with_order s o l ∙ sym (append_assoc xs (renewed e o ∷ []) (rest ++ behind)) }
-      ]
-    ] in go (o.leaves == 0) (o.shown == 0)
 
 -- ---- an order that is marked
 

@@ -1,6 +1,7 @@
 -- The content of a book, what its calls make of it, and what is true of it at every moment.
 use Rattle.std.specs.Prelude.{◌≡◌, ℕ, ◌+◌, ◌-◌, ◌^◌, ◌<◌, ◌≤◌, min, Bool, true, false, ◌&&◌, ◌==◌, nat_le, if◌then◌else◌, List, [], ◌∷◌, ◌++◌, length, Option, Some, None, ◌⊎◌, pos}
 use Rattle.std.specs.List.{AllByRecursion}
+use Rattle.gx_base.specs.declared.limits.TheConstants.{MOST_FIRMS, MOST_LOTS}
 use Rattle.gx_base.specs.declared.order.Side.{Side}
 use Rattle.gx_base.specs.declared.order.Kind.TheVariants.{Limit, StopLimit}
 use Rattle.gx_base.specs.declared.order.Life.TheVariants.{Day, Gtc}
@@ -90,7 +91,7 @@ book_cleared b = empty_book b.capacity b.instruments
 -- an order that can come to rest
 pub record IsFitToRest (instruments : ℕ) (o : Order) : Type 0 where
   pub listed : o.instrument < instruments
-  pub firm : o.firm < 64
+  pub firm : o.firm < MOST_FIRMS
   pub kind : o.kind ≡ Limit
   pub life : (o.life ≡ Day) ⊎ (o.life ≡ Gtc)
   pub no_trigger : o.trigger ≡ record { 0 = pos 0 }
@@ -98,7 +99,7 @@ pub record IsFitToRest (instruments : ℕ) (o : Order) : Type 0 where
   pub whole : o.filled + o.leaves ≡ o.quantity
   pub some : 1 ≤ o.leaves
   pub show : o.show ≤ o.quantity
-  pub small : o.quantity ≤ 999999
+  pub small : o.quantity ≤ MOST_LOTS
 
 -- an order that rests: some of what is open is shown, at most what it shows at a time, and all of it where that is 0
 pub record IsResting (instruments : ℕ) (o : Order) : Type 0 where
@@ -111,14 +112,14 @@ pub record IsResting (instruments : ℕ) (o : Order) : Type 0 where
 -- a stop that can wait
 pub record IsFitToWait (instruments : ℕ) (o : Order) : Type 0 where
   pub listed : o.instrument < instruments
-  pub firm : o.firm < 64
+  pub firm : o.firm < MOST_FIRMS
   pub kind : o.kind ≡ StopLimit
   pub unfilled : o.filled ≡ 0
   pub no_share : o.prorated ≡ 0
   pub whole : o.leaves ≡ o.quantity
   pub some : 1 ≤ o.quantity
   pub show : o.show ≤ o.quantity
-  pub small : o.quantity ≤ 999999
+  pub small : o.quantity ≤ MOST_LOTS
 
 -- a stop that waits: nothing of it is shown
 pub record IsWaiting (instruments : ℕ) (o : Order) : Type 0 where

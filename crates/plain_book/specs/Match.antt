@@ -1,23 +1,25 @@
 -- One trade of a resting order and the incoming one, with its reports: our own rule, after the exchange's published outline.
-use Rattle.std.specs.Prelude.{◌≡◌, ℕ, ◌+◌, ◌-◌, ◌*◌, ◌^◌, ◌<◌, ◌≤◌, ◌==◌, int_lt, if◌then◌else◌, List, [], ◌∷◌, ◌++◌, slice_index, slice_set, Option, Some, None, false}
+use Rattle.std.specs.Prelude.{ℕ, ◌+◌, ◌-◌, ◌==◌, int_lt, Bool, true, false, if◌then◌else◌, List, [], ◌∷◌, ◌++◌, slice_index, slice_set, Option, Some, None}
 use Rattle.gx_base.specs.declared.price.Price.{Price}
 use Rattle.gx_base.specs.declared.order.Order.{Order}
 use Rattle.gx_base.specs.declared.order.Desk.{Desk}
 use Rattle.gx_base.specs.declared.order.Taker.{Taker}
 use Rattle.gx_base.specs.declared.event.Head.{Head}
 use Rattle.gx_base.specs.declared.event.StepName.{StepName}
+use Rattle.gx_base.specs.declared.event.StepName.TheVariants.{Top, Lmm, Split, ProRata, Leveling, Fifo}
 use Rattle.gx_base.specs.declared.event.Event.{Event}
 use Rattle.gx_base.specs.declared.event.Event.TheVariants.{Fill}
-use Rattle.plain_book.specs.Orders.{order_of, filled_by, is_live}
-use Rattle.plain_book.specs.Book.{Book, live_orders, book_traded}
+use Rattle.plain_book.specs.Orders.{order_of, filled_by}
+use Rattle.plain_book.specs.Book.{Book, book_traded, book_with_order}
 
--- a moment of a match, with the events from its start on
+-- the state of a match, with the events from its start on
 pub record MatchState : Type 0 where
   pub book : Book
   pub desk : Desk
   pub taker : Taker
   pub events : List Event
 
+-- the state of a match that starts
 abbrev pub match_start : Book → Desk → Taker → MatchState
 match_start book desk taker = record { book = book; desk = desk; taker = taker; events = [] }
 
@@ -73,36 +75,37 @@ trade step slot lots m =
     } in
     report (fill lots resting.price step number) taken (report (fill lots resting.price step number) given traded)
 
--- a share of 0 gives no trade
-abbrev pub give : StepName → ℕ → ℕ → MatchState → MatchState
-give step slot lots m = if lots == 0 then m else trade step slot lots m
+-- ---- the shares of a step
 
--- a slot, and the lots that its order gives
+-- a share of 0 gives no trade
+abbrev pub trade_if_any : StepName → ℕ → ℕ → MatchState → MatchState
+trade_if_any step slot lots m = if lots == 0 then m else trade step slot lots m
+
+abbrev pub is_prorata : StepName → Bool
+is_prorata ProRata = true
+is_prorata Top = false
+is_prorata Lmm = false
+is_prorata Split = false
+is_prorata Leveling = false
+is_prorata Fifo = false
+
+-- the order of a slot is marked with a share
+abbrev pub book_marked : ℕ → ℕ → Book → Book
+book_marked slot lots b = book_with_order slot (record (order_of slot b.resting) { prorated = lots }) b
+
+-- the pro rata step marks an order with its share
+abbrev pub marked : StepName → ℕ → ℕ → MatchState → MatchState
+marked step slot lots m = record m { book = if is_prorata step then book_marked slot lots m.book else m.book }
+
+-- the order of a slot trades its share in a step
+abbrev pub trade_share : StepName → ℕ → ℕ → MatchState → MatchState
+trade_share step slot lots m = trade_if_any step slot lots (marked step slot lots m)
+
+-- a slot, and the lots that its order trades
 abbrev pub Share : Type 0
 Share = ℕ × ℕ
 
 -- one share after the other
-abbrev pub gives : StepName → List Share → MatchState → MatchState
-gives step [] m = m
-gives step (share ∷ shares) m = gives step shares (give step share.0 share.1 m)
-
--- ---- what a function that takes part in a match says of its arguments
-
--- the book, the counters and the incoming order are those of a moment
-pub record IsNow (m : MatchState) (b : Book) (d : Desk) (t : Taker) : Type 0 where
-  pub book : b ≡ m.book
-  pub desk : d ≡ m.desk
-  pub taker : t ≡ m.taker
-
--- the incoming order fits the book, its quantities add up, and each counter has room for what it can still trade
-pub record CanTrade (b : Book) (d : Desk) (t : Taker) : Type 0 where
-  pub listed : t.order.instrument < b.instruments
-  pub firm : t.order.firm < 64
-  pub unnamed : is_live t.order.firm t.order.id (live_orders b) ≡ false
-  pub whole : t.order.filled + t.order.leaves ≡ t.order.quantity
-  pub small : t.order.quantity ≤ 999999
-  pub messages : d.messages + 2 * t.order.leaves < 2 ^ 63
-  pub orders : d.orders + 2 * t.order.leaves < 2 ^ 63
-  pub trades : d.trades + 2 * t.order.leaves < 2 ^ 63
-  pub reports : d.reports + 2 * t.order.leaves < 2 ^ 63
-  pub lines : (firm : ℕ) → slice_index d.lines firm + 2 * t.order.leaves < 2 ^ 63
+abbrev pub trade_shares : StepName → List Share → MatchState → MatchState
+trade_shares step [] m = m
+trade_shares step (share ∷ shares) m = trade_shares step shares (trade_share step share.0 share.1 m)

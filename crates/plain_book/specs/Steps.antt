@@ -10,9 +10,9 @@ use Rattle.gx_base.specs.declared.order.TopRule.{TopRule}
 use Rattle.gx_base.specs.declared.order.LmmShare.{LmmShare}
 use Rattle.gx_base.specs.declared.event.StepName.TheVariants.{Top, Lmm, Split, ProRata, Leveling, Fifo}
 use Rattle.plain_book.specs.declared.entry.Entry.{Entry}
-use Rattle.plain_book.specs.Orders.{Level, orders_at, order_of, opposite, top_of, is_slot}
-use Rattle.plain_book.specs.Book.{Book, book_with_order}
-use Rattle.plain_book.specs.Match.{MatchState, Share, give, gives}
+use Rattle.plain_book.specs.Orders.{Level, orders_at, opposite, top_of, is_slot}
+use Rattle.plain_book.specs.Book.{Book}
+use Rattle.plain_book.specs.Match.{MatchState, Share, trade_share, trade_shares}
 
 -- the level at a price that the incoming order meets
 abbrev pub facing : Price → Taker → Level
@@ -64,43 +64,34 @@ leveling_shares q es = ones q (filter (λ e. e.order.prorated == 0) es)
 -- ---- the steps, at one price
 
 abbrev pub split : ℕ → Price → MatchState → MatchState
-split percent price m = gives Split (split_shares percent m.taker.order.leaves (level_now price m)) m
+split percent price m = trade_shares Split (split_shares percent m.taker.order.leaves (level_now price m)) m
 
 abbrev pub top : TopRule → Price → MatchState → MatchState
 top rule price m =
-    gives Top (top_shares rule.max (top_of m.taker.order.instrument (opposite m.taker.order.side) m.book.resting) m.taker.order.leaves (level_now price m)) m
+    trade_shares Top (top_shares rule.max (top_of m.taker.order.instrument (opposite m.taker.order.side) m.book.resting) m.taker.order.leaves (level_now price m)) m
 
 abbrev pub lmm : List LmmShare → Price → MatchState → MatchState
-lmm shares price m = gives Lmm (lmm_shares shares m.taker.order.leaves (level_now price m)) m
+lmm shares price m = trade_shares Lmm (lmm_shares shares m.taker.order.leaves (level_now price m)) m
 
 abbrev pub leveling : Price → MatchState → MatchState
-leveling price m = gives Leveling (leveling_shares m.taker.order.leaves (level_now price m)) m
-
--- the order of a slot is marked with its share, and gives it
-abbrev pub give_marked : ℕ → ℕ → MatchState → MatchState
-give_marked slot lots m =
-    give ProRata slot lots (record m { book = book_with_order slot (record (order_of slot m.book.resting) { prorated = lots }) m.book })
-
-abbrev pub gives_marked : List Share → MatchState → MatchState
-gives_marked [] m = m
-gives_marked (share ∷ shares) m = gives_marked shares (give_marked share.0 share.1 m)
+leveling price m = trade_shares Leveling (leveling_shares m.taker.order.leaves (level_now price m)) m
 
 -- where nothing is wanted, no order is marked
 abbrev pub prorata : ℕ → Price → MatchState → MatchState
 prorata least price m =
     if m.taker.order.leaves == 0 then m
-    else gives_marked (prorata_shares least m.taker.order.leaves (level_now price m)) m
+    else trade_shares ProRata (prorata_shares least m.taker.order.leaves (level_now price m)) m
 
--- the head of the queue gives what is wanted of it, as far as it is shown
-abbrev pub head_gives : List Entry → MatchState → MatchState
-head_gives [] m = m
-head_gives (e ∷ es) m = give Fifo e.slot (min m.taker.order.leaves e.order.shown) m
+-- the head of the queue trades what is wanted of it, as far as it is shown
+abbrev pub trade_head : List Entry → MatchState → MatchState
+trade_head [] m = m
+trade_head (e ∷ es) m = trade_share Fifo e.slot (min m.taker.order.leaves e.order.shown) m
 
 -- again and again with the queue as it then stands, until nothing is wanted or no order is left. Each trade takes at
 -- least one lot, so as many rounds as lots are wanted are enough.
 abbrev pub fifo_rounds : ℕ → Price → MatchState → MatchState
 fifo_rounds zero price m = m
-fifo_rounds (suc n) price m = fifo_rounds n price (head_gives (level_now price m) m)
+fifo_rounds (suc n) price m = fifo_rounds n price (trade_head (level_now price m) m)
 
 abbrev pub fifo : Price → MatchState → MatchState
 fifo price m = fifo_rounds m.taker.order.leaves price m

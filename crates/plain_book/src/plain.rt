@@ -2,7 +2,7 @@
 ghost use Rattle.std.specs.Prelude.{◌≡◌, ◌<◌, ◌≤◌, ◌+◌, false, IfOk, [], ◌∷◌, ◌++◌, length, vec_len, vec_capacity};
 ghost use Rattle.plain_book.specs.Orders.{HasSlot, order_of, traded, filled_by, refreshed, placed, without};
 ghost use Rattle.plain_book.specs.Book.{EachPair, AreInBookOrder, empty_book, resting_placed};
-ghost use Rattle.plain_book.specs.Keeping.{freed, IsFreeList};
+ghost use Rattle.plain_book.specs.Inner.FreeSlots.{freed, IsFreeList};
 
 use crate::book::Book;
 use crate::edits::{
@@ -13,7 +13,7 @@ use crate::scan::{
     best_price, count_at, find_in, first_at, first_stop, next_at, next_stop, open_lots, order_at,
     order_in, shown_at_price, top_slot, worse_price,
 };
-use gx_base::{Order, Price, ShortId, Side, Slot};
+use gx_base::{MOST_LOTS, Order, Price, ShortId, Side, Slot};
 use std::alloc::{AllocError, Global};
 use std::marker::Model;
 
@@ -30,7 +30,7 @@ pub struct PlainBook {
 
 impl Model for PlainBook {
     ghost use Rattle.plain_book.specs.Book.{Book};
-    ghost use Rattle.plain_book.specs.Keeping.{book_of, IsKept};
+    ghost use Rattle.plain_book.specs.Inner.FreeSlots.{book_of, IsKept};
     ghost use Rattle.std.specs.Prelude.{vec_capacity};
 
     ghost Value = { Book };
@@ -264,7 +264,7 @@ fn trade_order(
     requires some { 1 ≤ lots }
     requires shown { lots ≤ order.now.shown }
     requires within { order.now.shown ≤ order.now.leaves }
-    requires whole { order.now.filled + order.now.leaves ≤ 999999 }
+    requires whole { order.now.filled + order.now.leaves ≤ MOST_LOTS }
     requires free_room { vec_len free.old < vec_capacity free.old }
     requires room { length (without slot entries.old.items) < vec_capacity entries.old }
     ensures order { result ≡ filled_by lots order.now }

@@ -1,14 +1,14 @@
 //! One trade of a resting order and the incoming one, over any book.
-ghost use Rattle.std.specs.Prelude.{◌≡◌, ◌≤◌, ◌<◌, ◌+◌, ◌^◌, [], ◌∷◌, slice_index, length, option_map};
+ghost use Rattle.std.specs.Prelude.{◌≡◌, ◌≤◌, ◌<◌, ◌+◌, ◌^◌, [], ◌∷◌, slice_index, if◌then◌else◌};
 ghost use Rattle.gx_base.specs.Emits.{Emits};
-ghost use Rattle.plain_book.specs.Orders.{HasSlot, order_of, orders_at, slot_of, opposite};
-ghost use Rattle.plain_book.specs.Book.{slot_number};
-ghost use Rattle.plain_book.specs.Match.{match_start, trade, give, lower, higher, lengthened, next_head, report_counted, taken_by, IsNow, CanTrade};
-ghost use Rattle.plain_book.specs.Steps.{facing, give_marked};
-ghost use Rattle.plain_book.specs.Keeping.{KeepsRoom};
+ghost use Rattle.plain_book.specs.Orders.{HasSlot, order_of, opposite};
+ghost use Rattle.plain_book.specs.Match.{trade, trade_if_any, trade_share, lower, higher, lengthened, next_head, report_counted, is_prorata, book_marked};
+ghost use Rattle.plain_book.specs.Matches.{match_at, Matches, CanTrade};
 
 use crate::book::Book;
-use gx_base::{Desk, Emit, Event, Head, Order, Price, Side, Slot, Stamp, StepName, Taker};
+use gx_base::{
+    Desk, Emit, Event, Head, MOST_FIRMS, Order, Price, Side, Slot, Stamp, StepName, Taker,
+};
 
 /// The side that an order of this side meets.
 pub fn opposite_side(side: Side) -> Side
@@ -20,20 +20,9 @@ pub fn opposite_side(side: Side) -> Side
     }
 }
 
-/// The first order at a price that the incoming one meets, and how many there are.
-pub fn queue_at<B: Book>(book: &B, taker: &Taker, price: Price) -> (Option<Slot>, u32)
-    requires listed { taker.now.order.instrument < (B.book book.now).instruments }
-    ensures first { option_map slot_number result.0 ≡ slot_of (orders_at (facing price taker.now) (B.book book.now).resting) }
-    ensures count { result.1 ≡ length (orders_at (facing price taker.now) (B.book book.now).resting) }
-{
-    let side = opposite_side(taker.order.side);
-    let first = book.first(taker.order.instrument, side, price);
-    (first, book.count(taker.order.instrument, side, price))
-}
-
 /// Counts an execution report to a firm, and gives its head.
 pub fn count_report(desk: &mut Desk, firm: u8, time: Stamp) -> Head
-    requires firm { firm < 64 }
+    requires firm { firm < MOST_FIRMS }
     requires reports { desk.old.reports < 2 ^ 63 }
     requires lines { slice_index desk.old.lines firm < 2 ^ 63 }
     ensures head { result ≡ next_head desk.old firm time }
@@ -94,7 +83,7 @@ fn put_both<E: Emit>(out: &mut E, first: &Event, second: &Event)
     out.put(second);
 }
 
-/// A resting order gives lots to the incoming one, at its own price. Its report comes first.
+/// A resting order trades lots with the incoming one, at its own price. Its report comes first.
 pub fn trade_lots<B: Book, E: Emit>(
     book: &mut B,
     desk: &mut Desk,
@@ -109,10 +98,9 @@ pub fn trade_lots<B: Book, E: Emit>(
     requires shown { lots ≤ (order_of slot.0 (B.book book.old).resting).shown }
     requires wanted { lots ≤ taker.old.order.leaves }
     requires can { CanTrade (B.book book.old) desk.old taker.old }
-    ensures now { IsNow (trade step slot.0 lots (match_start (B.book book.old) desk.old taker.old)) (B.book book.new) desk.new taker.new }
-    ensures emits { Emits E.meanings out.old out.new (trade step slot.0 lots (match_start (B.book book.old) desk.old taker.old)).events }
-    ensures can { CanTrade (B.book book.new) desk.new taker.new }
-    ensures keeps { KeepsRoom desk.old taker.old.order.leaves desk.new taker.new.order.leaves }
+    ensures { let before = match_at (B.book book.old) desk.old taker.old out.old in
+        let after = match_at (B.book book.new) desk.new taker.new out.new in
+        Matches E.meanings (trade step slot.0 lots) before after }
 {
     book.rules();
     let given = book.trade(slot, lots);
@@ -128,8 +116,7 @@ pub fn trade_lots<B: Book, E: Emit>(
     put_both(out, &first, &second);
 }
 
-/// A resting order gives its share, which may be none.
-pub fn give_lots<B: Book, E: Emit>(
+fn trade_if_any<B: Book, E: Emit>(
     book: &mut B,
     desk: &mut Desk,
     taker: &mut Taker,
@@ -142,34 +129,49 @@ pub fn give_lots<B: Book, E: Emit>(
     requires shown { lots ≤ (order_of slot.0 (B.book book.old).resting).shown }
     requires wanted { lots ≤ taker.old.order.leaves }
     requires can { CanTrade (B.book book.old) desk.old taker.old }
-    ensures now { IsNow (give step slot.0 lots (match_start (B.book book.old) desk.old taker.old)) (B.book book.new) desk.new taker.new }
-    ensures emits { Emits E.meanings out.old out.new (give step slot.0 lots (match_start (B.book book.old) desk.old taker.old)).events }
-    ensures can { CanTrade (B.book book.new) desk.new taker.new }
-    ensures keeps { KeepsRoom desk.old taker.old.order.leaves desk.new taker.new.order.leaves }
+    ensures { let before = match_at (B.book book.old) desk.old taker.old out.old in
+        let after = match_at (B.book book.new) desk.new taker.new out.new in
+        Matches E.meanings (trade_if_any step slot.0 lots) before after }
 {
     if lots > 0 {
         trade_lots(book, desk, taker, slot, lots, step, out);
     }
 }
 
-/// A resting order is marked with its share of a pro rata step, which may be none, and gives it.
-pub fn give_marked<B: Book, E: Emit>(
+fn is_prorata(step: StepName) -> bool
+    ensures { result ≡ is_prorata step }
+{
+    matches!(step, StepName::ProRata)
+}
+
+/// The pro rata step marks an order with its share.
+fn mark<B: Book>(book: &mut B, slot: Slot, lots: u32, step: StepName)
+    requires { HasSlot slot.0 (B.book book.old).resting }
+    ensures { B.book book.new ≡ (if is_prorata step then book_marked slot.0 lots (B.book book.old) else B.book book.old) }
+{
+    if is_prorata(step) {
+        book.set_prorated(slot, lots);
+    }
+}
+
+/// A resting order trades its share in a step, which may be none. The pro rata step marks it with the share first.
+pub fn trade_share<B: Book, E: Emit>(
     book: &mut B,
     desk: &mut Desk,
     taker: &mut Taker,
     slot: Slot,
     lots: u32,
+    step: StepName,
     out: &mut E,
 )
     requires rests { HasSlot slot.0 (B.book book.old).resting }
     requires shown { lots ≤ (order_of slot.0 (B.book book.old).resting).shown }
     requires wanted { lots ≤ taker.old.order.leaves }
     requires can { CanTrade (B.book book.old) desk.old taker.old }
-    ensures now { IsNow (give_marked slot.0 lots (match_start (B.book book.old) desk.old taker.old)) (B.book book.new) desk.new taker.new }
-    ensures emits { Emits E.meanings out.old out.new (give_marked slot.0 lots (match_start (B.book book.old) desk.old taker.old)).events }
-    ensures can { CanTrade (B.book book.new) desk.new taker.new }
-    ensures keeps { KeepsRoom desk.old taker.old.order.leaves desk.new taker.new.order.leaves }
+    ensures { let before = match_at (B.book book.old) desk.old taker.old out.old in
+        let after = match_at (B.book book.new) desk.new taker.new out.new in
+        Matches E.meanings (trade_share step slot.0 lots) before after }
 {
-    book.set_prorated(slot, lots);
-    give_lots(book, desk, taker, slot, lots, StepName::ProRata, out);
+    mark(book, slot, lots, step);
+    trade_if_any(book, desk, taker, slot, lots, step, out);
 }

@@ -3,7 +3,8 @@ use Rattle.std.proofs.Common.{◌≡◌, ℕ, ◌+◌, List, [], ◌∷◌, ◌+
 use Rattle.std.specs.List.{enumerate_from}
 use Rattle.std.specs.Option.{option_or}
 use Rattle.product_file.specs.declared.faults.ProductFault.{ProductFault}
-use Rattle.product_file.specs.Rows.{first_fault, first_of_each}
+use Rattle.gx_base.specs.FirstFault.{first_fault}
+use Rattle.product_file.specs.Rows.{first_of_each}
 
 take-front : {X : Type 0} (front back : List X) → take (length front) (front ++ back) ≡ front
 take-front [] back = refl

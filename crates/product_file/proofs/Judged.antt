@@ -5,7 +5,8 @@ use Rattle.toml.specs.Data.{Data}
 use Rattle.product_file.specs.declared.faults.Key.{Key}
 use Rattle.product_file.specs.declared.faults.ProductFault.{ProductFault}
 use Rattle.product_file.specs.declared.faults.ProductFault.TheVariants.{Missing, Kind, Range}
-use Rattle.product_file.specs.Rows.{Need, ValueKind, row, fault_if, first_fault, unless_fault, is_of, value_fault}
+use Rattle.gx_base.specs.FirstFault.{fault_if, first_fault, unless_fault}
+use Rattle.product_file.specs.Rows.{Need, ValueKind, row, is_of, value_fault}
 use Rattle.product_file.specs.Inner.Keys.{◌>>=◌, map_ok, read_or_none}
 
 -- a step, and then one that goes on from its value

@@ -1,22 +1,21 @@
-pub mod Mapped
-pub mod Repeats
-pub mod Numbered
-pub mod Given
-pub mod Lists
-pub mod RightFirms
-pub mod RightShares
-pub mod RightRules
-pub mod RightInstruments
-pub mod Seven
-pub mod SharesAfter
-pub mod InstrumentsAfter
-pub mod RightProduct
-pub mod Judged
-pub mod FaultsInOrder
-pub mod RowValues
-pub mod RowFirms
-pub mod RowShares
-pub mod RowRules
-pub mod RowInstruments
-pub mod RowProduct
-pub mod ReadTexts
+mod Mapped
+mod Numbered
+mod Given
+mod Lists
+mod RightFirms
+mod RightShares
+mod RightRules
+mod RightInstruments
+mod Seven
+mod SharesAfter
+mod InstrumentsAfter
+mod RightProduct
+mod Judged
+mod FaultsInOrder
+mod RowValues
+mod RowFirms
+mod RowShares
+mod RowRules
+mod RowInstruments
+mod RowProduct
+mod ReadTexts

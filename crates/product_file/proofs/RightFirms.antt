@@ -3,8 +3,9 @@ use Rattle.std.proofs.Common.{◌≡◌, ℕ, ◌≤◌, true, ◌&&◌, nat_le,
 use Rattle.std.specs.List.{IsDistinct, list_all}
 use Rattle.std.proofs.lemmas.Bool.{and_parts}
 use Rattle.std.proofs.lemmas.Bool.Decides.{nat_tests}
-use Rattle.step_config.proofs.Right.{distinct}
+use Rattle.step_config.specs.RepeatLaws.{distinct}
 use Rattle.toml.specs.Data.{Data}
+use Rattle.gx_base.specs.declared.limits.TheConstants.{MOST_FIRMS}
 use Rattle.product_file.specs.declared.faults.ProductFault.TheVariants.{Range}
 use Rattle.product_file.specs.declared.faults.Key.TheVariants.{Firms}
 use Rattle.product_file.specs.Values.{text_in}
@@ -16,7 +17,7 @@ use Rattle.product_file.proofs.Given.{both_gave, test_passed}
 
 pub record AreRightFirms (firms : List (List ℕ)) : Type 0 where
   pub some : 1 ≤ length firms
-  pub few : length firms ≤ 64
+  pub few : length firms ≤ MOST_FIRMS
   pub differ : IsDistinct bytes_eq firms
 
 none_twice : (names firms : List (List ℕ)) (twice : Option (List ℕ)) → unless_twice names twice ≡ Ok firms → (names ≡ firms) × (twice ≡ None)
@@ -29,8 +30,8 @@ map-itself {X} (x ∷ xs) = ap (λ (rest : List X). x ∷ rest) (map-itself xs)
 
 right_names : (names : List (List ℕ)) → are_firm_names names ≡ true → first_name_twice names ≡ None → AreRightFirms names
 right_names names test once =
-    let (lengths, each) = and_parts (nat_le 1 (length names) && nat_le (length names) 64) (list_all is_firm_name names) test in
-    let (some, few) = and_parts (nat_le 1 (length names)) (nat_le (length names) 64) lengths in
+    let (lengths, each) = and_parts (nat_le 1 (length names) && nat_le (length names) MOST_FIRMS) (list_all is_firm_name names) test in
+    let (some, few) = and_parts (nat_le 1 (length names)) (nat_le (length names) MOST_FIRMS) lengths in
     record {
       some = grind (arith, nat_tests);
       few = grind (arith, nat_tests);

@@ -6,6 +6,7 @@ use Rattle.std.proofs.lemmas.Bool.Decides.{nat_tests}
 use Rattle.gx_base.specs.declared.names.Listed.{Listed}
 use Rattle.gx_base.specs.NameLists.{instrument_names}
 use Rattle.toml.specs.Data.{Data}
+use Rattle.gx_base.specs.declared.limits.TheConstants.{MOST_INSTRUMENTS, MOST_DECIMALS}
 use Rattle.product_file.specs.declared.product.InstrumentRule.{InstrumentRule}
 use Rattle.product_file.specs.declared.faults.ProductFault.{ProductFault}
 use Rattle.product_file.specs.declared.faults.ProductFault.TheVariants.{Range, Twice}
@@ -34,22 +35,22 @@ new_name earlier fields name e =
 
 pub record IsNew (earlier : List Listed) (listed : Listed) : Type 0 where
   pub new : list_any (λ (l : Listed). bytes_eq l.name listed.name) earlier ≡ false
-  pub few_decimals : listed.decimals ≤ 8
+  pub few_decimals : listed.decimals ≤ MOST_DECIMALS
 
 new_listed : (earlier : List Listed) (fields : Data) (listed : Listed) → listed_of earlier fields ≡ Ok listed → IsNew earlier listed
 unfolding listed_of
 new_listed earlier fields listed e =
     let (name, named, e1) = both_gave (new_name_of earlier fields) _ listed e in
-    let (decimals, few, e2) = both_gave (needed_number Decimals 0 8 fields) _ listed e1 in
+    let (decimals, few, e2) = both_gave (needed_number Decimals 0 MOST_DECIMALS fields) _ listed e1 in
     let same : ◌≡◌ {A = Listed} (record { name = name; decimals = decimals }) listed = cc in
-    subst (IsNew earlier) same (record { new = new_name earlier fields name named; few_decimals = (needed_within Decimals 0 8 fields decimals few).1 })
+    subst (IsNew earlier) same (record { new = new_name earlier fields name named; few_decimals = (needed_within Decimals 0 MOST_DECIMALS fields decimals few).1 })
 
 -- ---- all of them
 
 pub record AreRightSoFar (firms : List (List ℕ)) (so_far : InstrumentLists) : Type 0 where
   pub a_rule_each : length so_far.rules ≡ length so_far.listed
   pub differ : IsDistinct bytes_eq (instrument_names so_far.listed)
-  pub few_decimals : AllByRecursion (λ (l : Listed). l.decimals ≤ 8) so_far.listed
+  pub few_decimals : AllByRecursion (λ (l : Listed). l.decimals ≤ MOST_DECIMALS) so_far.listed
   pub each : AllByRecursion (IsRightInstrument (length firms)) so_far.rules
 
 one_more : (firms : List (List ℕ)) (so_far : InstrumentLists) (listed : Listed) (rule : InstrumentRule) → AreRightSoFar firms so_far → IsNew so_far.listed listed → IsRightInstrument (length firms) rule
@@ -57,7 +58,7 @@ one_more : (firms : List (List ℕ)) (so_far : InstrumentLists) (listed : Listed
 one_more firms so_far listed rule right new is_right = record {
   a_rule_each = omega (arith, length-append so_far.rules (rule ∷ []), length-append so_far.listed (listed ∷ []), right.a_rule_each);
   differ = distinct_push bytes_eq (λ (l : Listed). l.name) so_far.listed listed right.differ new.new;
-  few_decimals = all_push (λ (l : Listed). l.decimals ≤ 8) so_far.listed listed right.few_decimals new.few_decimals;
+  few_decimals = all_push (λ (l : Listed). l.decimals ≤ MOST_DECIMALS) so_far.listed listed right.few_decimals new.few_decimals;
   each = all_push (IsRightInstrument (length firms)) so_far.rules rule right.each is_right;
 }
 
@@ -81,17 +82,17 @@ count_after firms so_far (fields ∷ rest) all e =
     let more = count_after firms (record { listed = so_far.listed ++ listed ∷ []; rules = so_far.rules ++ rule ∷ [] }) rest all e2 in
     omega (arith, more, length-append so_far.listed (listed ∷ []))
 
-pub few_tables : (document : Data) (tables : List Data) → tables_of document ≡ Ok tables → (1 ≤ length tables) × (length tables ≤ 16)
+pub few_tables : (document : Data) (tables : List Data) → tables_of document ≡ Ok tables → (1 ≤ length tables) × (length tables ≤ MOST_INSTRUMENTS)
 unfolding tables_of
 few_tables document tables e =
     let (found, _, e1) = both_gave (needed Instrument (array_of is_table) document) _ tables e in
-    let (test, same) = test_passed (nat_le 1 (length found) && nat_le (length found) 16) found (Range Instrument) tables e1 in
-    let (some, few) = and_parts (nat_le 1 (length found)) (nat_le (length found) 16) test in
-    subst (λ (ts : List Data). (1 ≤ length ts) × (length ts ≤ 16)) same (grind (arith, nat_tests), grind (arith, nat_tests))
+    let (test, same) = test_passed (nat_le 1 (length found) && nat_le (length found) MOST_INSTRUMENTS) found (Range Instrument) tables e1 in
+    let (some, few) = and_parts (nat_le 1 (length found)) (nat_le (length found) MOST_INSTRUMENTS) test in
+    subst (λ (ts : List Data). (1 ≤ length ts) × (length ts ≤ MOST_INSTRUMENTS)) same (grind (arith, nat_tests), grind (arith, nat_tests))
 
 pub record AreRightInstruments (firms : List (List ℕ)) (all : InstrumentLists) : Type 0 where
   pub some : 1 ≤ length all.listed
-  pub few : length all.listed ≤ 16
+  pub few : length all.listed ≤ MOST_INSTRUMENTS
   pub right : AreRightSoFar firms all
 
 pub right_instruments : (firms : List (List ℕ)) (document : Data) (all : InstrumentLists) → instruments_of firms document ≡ Ok all → AreRightInstruments firms all

@@ -8,8 +8,11 @@ use Rattle.step_config.specs.declared.step.StepFault.{StepFault}
 use Rattle.step_config.specs.declared.presets.Letter.{Letter}
 use Rattle.step_config.specs.declared.presets.Letter.TheVariants.{F, C, A, T, O, Q, K}
 use Rattle.step_config.specs.declared.presets.Params.{Params}
-use Rattle.step_config.specs.Rules.{or_fault, fault_of}
+use Rattle.gx_base.specs.FirstFault.{unless_fault}
+use Rattle.step_config.specs.Rules.{fault_of}
 use Rattle.toml.specs.Data.{Data}
+use Rattle.gx_base.specs.declared.limits.TheConstants.{MOST_LOTS}
+use Rattle.product_file.specs.declared.limits.TheConstants.{MOST_TICK, MOST_PROTECTION}
 use Rattle.product_file.specs.declared.algorithms.Parameters.{Parameters}
 use Rattle.product_file.specs.declared.product.InstrumentRule.{InstrumentRule}
 use Rattle.product_file.specs.declared.faults.ProductFault.{ProductFault}
@@ -62,7 +65,7 @@ module _ (firms : List (List ℕ)) (parameters : Parameters) (given : HasListedS
   listed_steps Q names = (tt, (given.listed, (tt, (tt, tt))))
   listed_steps K names = own_steps names
 
-steps_kept : (steps given : List Step) (fault : Option StepFault) → or_steps_fault (or_fault steps fault) ≡ Ok given → steps ≡ given
+steps_kept : (steps given : List Step) (fault : Option StepFault) → or_steps_fault (unless_fault fault steps) ≡ Ok given → steps ≡ given
 steps_kept steps given None e = cc
 steps_kept steps given (Some fault) e = cc
 
@@ -71,13 +74,13 @@ steps_kept steps given (Some fault) e = cc
 right_parameters : (firms : List (List ℕ)) (letter : Letter) (fields : Data) (parameters : Parameters) → parameters_of firms letter fields ≡ Ok parameters → HasListedShares firms parameters
 unfolding parameters_of
 right_parameters firms letter fields parameters e =
-    let (min, _, e1) = both_gave (number_if false TopMin 1 999999 fields) _ parameters e in
-    let (max, _, e2) = both_gave (number_if false TopMax 1 999999 fields) _ parameters e1 in
-    let (least, _, e3) = both_gave (number_if false Least 1 999999 fields) _ parameters e2 in
+    let (min, _, e1) = both_gave (number_if false TopMin 1 MOST_LOTS fields) _ parameters e in
+    let (max, _, e2) = both_gave (number_if false TopMax 1 MOST_LOTS fields) _ parameters e1 in
+    let (least, _, e3) = both_gave (number_if false Least 1 MOST_LOTS fields) _ parameters e2 in
     let (split, _, e4) = both_gave (number_if (needs_split letter fields) key.Split 1 100 fields) _ parameters e3 in
     let (shares, given, e5) = both_gave (shares_of firms fields) _ parameters e4 in
     made_of firms
-    (record { top = record { min = unwrap_or min 1; max = unwrap_or max 999999 }; least = unwrap_or least (usual_least letter); lmm = shares })
+    (record { top = record { min = unwrap_or min 1; max = unwrap_or max MOST_LOTS }; least = unwrap_or least (usual_least letter); lmm = shares })
     (unwrap_or split 0) parameters (listed_shares firms fields shares given) e5
 
 right_steps : (firms : List (List ℕ)) (letter : Letter) (parameters : Parameters) (names : List (List ℕ)) (steps : List Step) → HasListedShares firms parameters → letter_steps letter parameters names ≡ Ok steps → AllByRecursion (HasListedFirms (length firms)) steps
@@ -85,7 +88,7 @@ right_steps firms letter parameters names steps given e =
     let kept = steps_kept (written_steps letter parameters names) steps (fault_of (written_steps letter parameters names)) e in
     subst (AllByRecursion (HasListedFirms (length firms))) kept (listed_steps firms parameters given letter names)
 
-made_rule : (firms : List (List ℕ)) (tick protection : ℕ) (letter : Letter) (steps : List Step) (rule : InstrumentRule) → (1 ≤ tick) × (tick ≤ 1000000) → protection ≤ 10000 → AllByRecursion (HasListedFirms (length firms)) steps
+made_rule : (firms : List (List ℕ)) (tick protection : ℕ) (letter : Letter) (steps : List Step) (rule : InstrumentRule) → (1 ≤ tick) × (tick ≤ MOST_TICK) → protection ≤ MOST_PROTECTION → AllByRecursion (HasListedFirms (length firms)) steps
     → ◌≡◌ {A = Result InstrumentRule ProductFault} (Ok (record { tick = pos tick; protection = protection; letter = letter; steps = steps })) (Ok rule) → IsRightInstrument (length firms) rule
 made_rule firms tick protection letter steps rule ticks few listed e =
     let same : ◌≡◌ {A = InstrumentRule} (record { tick = pos tick; protection = protection; letter = letter; steps = steps }) rule = cc in
@@ -99,14 +102,14 @@ made_rule firms tick protection letter steps rule ticks few listed e =
 pub right_rule : (firms : List (List ℕ)) (fields : Data) (rule : InstrumentRule) → rule_of firms fields ≡ Ok rule → IsRightInstrument (length firms) rule
 unfolding rule_of
 right_rule firms fields rule e =
-    let (tick, ticks, e1) = both_gave (needed_number Tick 1 1000000 fields) _ rule e in
-    let (protection, few, e2) = both_gave (needed_number Protection 0 10000 fields) _ rule e1 in
+    let (tick, ticks, e1) = both_gave (needed_number Tick 1 MOST_TICK fields) _ rule e in
+    let (protection, few, e2) = both_gave (needed_number Protection 0 MOST_PROTECTION fields) _ rule e1 in
     let (letter, _, e3) = both_gave (algorithm_of fields) _ rule e2 in
     let (parameters, given, e4) = both_gave (parameters_of firms letter fields) _ rule e3 in
     let (names, _, e5) = both_gave (step_names_of letter fields) _ rule e4 in
     let (steps, kept, e6) = both_gave (letter_steps letter parameters names) _ rule e5 in
     made_rule firms tick protection letter steps rule
-    (needed_within Tick 1 1000000 fields tick ticks)
-    (needed_within Protection 0 10000 fields protection few).1
+    (needed_within Tick 1 MOST_TICK fields tick ticks)
+    (needed_within Protection 0 MOST_PROTECTION fields protection few).1
     (right_steps firms letter parameters names steps (right_parameters firms letter fields parameters given) kept)
     e6

@@ -7,6 +7,7 @@ use Rattle.arrayvec.specs.ArrayVec.{ArrayVec}
 use Rattle.gx_base.specs.declared.order.LmmShare.{LmmShare}
 use Rattle.step_config.specs.Rules.{has_firm}
 use Rattle.toml.specs.Data.{Data, get, as_integer}
+use Rattle.step_config.specs.declared.step.TheConstants.{MOST_SHARES}
 use Rattle.product_file.specs.declared.faults.ProductFault.{ProductFault}
 use Rattle.product_file.specs.declared.faults.ProductFault.TheVariants.{Missing, Kind, Range, Twice, UnknownFirm}
 use Rattle.product_file.specs.declared.faults.Key.{Key}
@@ -77,7 +78,7 @@ listed_after firms earlier (entry ∷ rest) shares e all =
 pub listed_shares : (firms : List (List ℕ)) (fields : Data) (shares : ArrayVec LmmShare) → shares_of firms fields ≡ Ok shares → AllByRecursion (IsListed firms) shares.items
 unfolding shares_of
 listed_shares firms fields shares e =
-    let few = λ (entries : List Data). where_passes (λ (es : List Data). nat_le (length es) 8) (Range Lmm) entries in
+    let few = λ (entries : List Data). where_passes (λ (es : List Data). nat_le (length es) MOST_SHARES) (Range Lmm) entries in
     let (entries, _, rest) = both_gave (array_if false is_table Lmm fields) (λ entries. few entries >>= shares_after firms []) shares e in
     let (kept, _, after) = both_gave (few entries) (shares_after firms []) shares rest in
     listed_after firms [] kept shares after tt

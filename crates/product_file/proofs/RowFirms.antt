@@ -5,12 +5,14 @@ use Rattle.std.specs.Option.{option_or}
 use Rattle.std.proofs.lemmas.List.{length-map}
 use Rattle.step_config.specs.Rules.{first_twice_after}
 use Rattle.toml.specs.Data.{Data, get}
+use Rattle.gx_base.specs.declared.limits.TheConstants.{MOST_FIRMS}
 use Rattle.product_file.specs.declared.faults.ProductFault.{ProductFault}
 use Rattle.product_file.specs.declared.faults.ProductFault.TheVariants.{Range, Twice}
 use Rattle.product_file.specs.declared.faults.Key.TheVariants.{Firms}
 use Rattle.product_file.specs.Keys.{word_of}
 use Rattle.product_file.specs.Values.{text_in, entries_in, texts_in, texts_at}
-use Rattle.product_file.specs.Rows.{always, texts, row, fault_if, first_fault, first_of_each, unless_fault, is_text, row_fault}
+use Rattle.gx_base.specs.FirstFault.{fault_if, first_fault, unless_fault}
+use Rattle.product_file.specs.Rows.{always, texts, row, first_of_each, is_text, row_fault}
 use Rattle.product_file.specs.Ranges.{is_firm_name, firm_names}
 use Rattle.product_file.specs.ProductRows.{unless_new, each_once}
 use Rattle.product_file.specs.Inner.Keys.{◌>>=◌, array_of}
@@ -36,7 +38,7 @@ once : (names : List (List ℕ)) → inner_each_once names ≡ unless_fault (fir
 once names = twice_or names (first_name_twice names) ∙ ap (λ (fault : Option ProductFault). unless_fault fault names) (first_twice [] names ∙ sym (each_after unless_new names))
 
 same_test : (value : Data) → are_firm_names (texts_in value) ≡ firm_names value
-same_test value = ap (λ (n : ℕ). nat_le 1 n && nat_le n 64 && list_all is_firm_name (texts_in value)) (length-map (entries_in value) text_in)
+same_test value = ap (λ (n : ℕ). nat_le 1 n && nat_le n MOST_FIRMS && list_all is_firm_name (texts_in value)) (length-map (entries_in value) text_in)
 
 named : (value : Data) → inner_firm_names (entries_in value) ≡ unless_fault (fault_if (not (firm_names value)) (Range Firms)) (texts_in value)
 named value = passes (are_firm_names (texts_in value)) (Range Firms) (texts_in value) ∙ ap (λ (test : Bool). unless_fault (fault_if (not test) (Range Firms)) (texts_in value)) (same_test value)

@@ -6,12 +6,16 @@ use Rattle.std.proofs.lemmas.List.{map-append}
 use Rattle.gx_base.specs.Texts.{is_name}
 use Rattle.gx_base.specs.declared.names.Listed.{Listed}
 use Rattle.toml.specs.Data.{Data, get}
+use Rattle.gx_base.specs.declared.limits.TheConstants.{MOST_LOTS, MOST_INSTRUMENTS, MOST_DECIMALS}
+use Rattle.step_config.specs.declared.step.TheConstants.{MOST_SHARES}
+use Rattle.product_file.specs.declared.limits.TheConstants.{MOST_TICK, MOST_PROTECTION}
 use Rattle.product_file.specs.declared.faults.ProductFault.{ProductFault}
 use Rattle.product_file.specs.declared.faults.ProductFault.TheVariants.{Range, Twice}
 use Rattle.product_file.specs.declared.faults.Key.TheVariants.{Instrument, Name, Decimals, Tick, Protection, Algorithm, TopMin, TopMax, Least, Split, Lmm, Steps}
 use Rattle.product_file.specs.Keys.{word_of}
 use Rattle.product_file.specs.Values.{text_in, entries_in, text_at, entries_at}
-use Rattle.product_file.specs.Rows.{always, optional, only_where, a_text, an_integer, texts, tables, Row, row, fault_if, first_fault, unless_fault, is_table, row_fault}
+use Rattle.gx_base.specs.FirstFault.{fault_if, first_fault, unless_fault}
+use Rattle.product_file.specs.Rows.{always, optional, only_where, a_text, an_integer, texts, tables, Row, row, is_table, row_fault}
 use Rattle.product_file.specs.Ranges.{any, from, a_name, has_entries, at_most}
 use Rattle.product_file.specs.ProductRows.{nothing, unless_new, a_new_name, a_letter, step_names, shares_of_firms, has_configured_list, lists_split, steps_fault, instrument_fault, instruments_of_firms}
 use Rattle.product_file.specs.ProductValues.{listed_in, rule_in}
@@ -53,14 +57,14 @@ module _ (front : List Data) where
   listed_fault fields =
       first_fault
       (row_fault fields (row Name always a_text a_name (a_new_name (map (text_at Name) front)))
-      ∷ row_fault fields (row Decimals always an_integer (from 0 8) nothing)
+      ∷ row_fault fields (row Decimals always an_integer (from 0 MOST_DECIMALS) nothing)
       ∷ [])
 
   listed_row : (fields : Data) → listed_of (map listed_in front) fields ≡ unless_fault (listed_fault fields) (listed_in fields)
   unfolding listed_of
   listed_row fields =
       in_turn (new_name_of (map listed_in front) fields) _ _ _ _ (listed_in fields) (name_row fields) (λ _.
-      in_turn (needed_number Decimals 0 8 fields) _ _ _ None (listed_in fields) (number_needed Decimals 0 8 fields) (λ _. refl))
+      in_turn (needed_number Decimals 0 MOST_DECIMALS fields) _ _ _ None (listed_in fields) (number_needed Decimals 0 MOST_DECIMALS fields) (λ _. refl))
 
 -- ---- all of them
 
@@ -76,15 +80,15 @@ module _ (firms : List (List ℕ)) where
       let fault = λ (key_row : Row). row_fault fields key_row in
       flat
       (fault (row Name always a_text a_name (a_new_name (map (text_at Name) front))))
-      (fault (row Decimals always an_integer (from 0 8) nothing))
-      (fault (row Tick always an_integer (from 1 1000000) nothing))
-      (fault (row Protection always an_integer (from 0 10000) nothing))
+      (fault (row Decimals always an_integer (from 0 MOST_DECIMALS) nothing))
+      (fault (row Tick always an_integer (from 1 MOST_TICK) nothing))
+      (fault (row Protection always an_integer (from 0 MOST_PROTECTION) nothing))
       (fault (row Algorithm always a_text any a_letter))
-      (fault (row TopMin optional an_integer (from 1 999999) nothing))
-      (fault (row TopMax optional an_integer (from 1 999999) nothing))
-      (fault (row Least optional an_integer (from 1 999999) nothing))
+      (fault (row TopMin optional an_integer (from 1 MOST_LOTS) nothing))
+      (fault (row TopMax optional an_integer (from 1 MOST_LOTS) nothing))
+      (fault (row Least optional an_integer (from 1 MOST_LOTS) nothing))
       (fault (row Split (only_where lists_split) an_integer (from 1 100) nothing))
-      (fault (row Lmm optional tables (at_most 8) (shares_of_firms firms)))
+      (fault (row Lmm optional tables (at_most MOST_SHARES) (shares_of_firms firms)))
       (fault (row Steps (only_where has_configured_list) texts any step_names))
       (steps_fault firms fields)
 
@@ -114,13 +118,13 @@ module _ (firms : List (List ℕ)) where
       instruments_from [] (entries_in v)
       ∙ ap (λ (fault : Option ProductFault). unless_fault fault (lists_in (entries_in v))) (sym (each_after (instrument_fault firms) (entries_in v)) ∙ sym (or_none (instruments_of_firms firms v)))
 
-  pub instruments_row : (document : Data) → instruments_of firms document ≡ unless_fault (row_fault document (row Instrument always tables (has_entries 1 16) (instruments_of_firms firms))) (lists_in (entries_at Instrument document))
+  pub instruments_row : (document : Data) → instruments_of firms document ≡ unless_fault (row_fault document (row Instrument always tables (has_entries 1 MOST_INSTRUMENTS) (instruments_of_firms firms))) (lists_in (entries_at Instrument document))
   unfolding instruments_of tables_of
   instruments_row document =
-      let few = λ (entries : List Data). where_passes (λ (ts : List Data). nat_le 1 (length ts) && nat_le (length ts) 16) (Range Instrument) entries in
+      let few = λ (entries : List Data). where_passes (λ (ts : List Data). nat_le 1 (length ts) && nat_le (length ts) MOST_INSTRUMENTS) (Range Instrument) entries in
       bind_assoc (needed Instrument (array_of is_table) document) few (instruments_after firms (lists_in []))
-      ∙ at_needed_checked Instrument always tables (has_entries 1 16) (instruments_of_firms firms) (array_of is_table) entries_in (tables_kind Instrument)
+      ∙ at_needed_checked Instrument always tables (has_entries 1 MOST_INSTRUMENTS) (instruments_of_firms firms) (array_of is_table) entries_in (tables_kind Instrument)
       (λ entries. few entries >>= instruments_after firms (lists_in [])) (λ o. lists_in (unwrap_or (option_map entries_in o) []))
-      (λ v. in_turn (few (entries_in v)) (fault_if (not (has_entries 1 16 v)) (Range Instrument)) (entries_in v) (instruments_after firms (lists_in [])) (first_fault (instruments_of_firms firms v ∷ [])) (lists_in (entries_in v))
-      (passes (has_entries 1 16 v) (Range Instrument) (entries_in v)) (λ _. in_order v))
+      (λ v. in_turn (few (entries_in v)) (fault_if (not (has_entries 1 MOST_INSTRUMENTS v)) (Range Instrument)) (entries_in v) (instruments_after firms (lists_in [])) (first_fault (instruments_of_firms firms v ∷ [])) (lists_in (entries_in v))
+      (passes (has_entries 1 MOST_INSTRUMENTS v) (Range Instrument) (entries_in v)) (λ _. in_order v))
       (get (word_of Instrument) document)

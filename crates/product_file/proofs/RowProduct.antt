@@ -1,9 +1,10 @@
 -- What the private functions compute of a document is what the rows say.
 use Rattle.std.proofs.Common.{◌≡◌, false, None, refl}
 use Rattle.toml.specs.Data.{Data}
+use Rattle.product_file.specs.declared.limits.TheConstants.{MOST_ORDERS, LEAST_JOURNAL, MOST_JOURNAL}
 use Rattle.product_file.specs.declared.faults.Key.TheVariants.{Exchange, Firms, MaxOrders, JournalLimit}
 use Rattle.product_file.specs.Values.{texts_at}
-use Rattle.product_file.specs.Rows.{unless_fault}
+use Rattle.gx_base.specs.FirstFault.{unless_fault}
 use Rattle.product_file.specs.ProductRows.{document_fault}
 use Rattle.product_file.specs.ProductValues.{product_in}
 use Rattle.product_file.specs.Inner.Keys.{needed_name, number_if}
@@ -22,6 +23,6 @@ by_rows document =
     let product = product_in document in
     in_turn (needed_name Exchange document) _ _ _ _ product (name_needed Exchange document) (λ _.
     in_turn (firms_of document) _ _ _ _ product (firms_row document) (λ _.
-    in_turn (number_if false MaxOrders 1 100000 document) _ _ _ _ product (number_optional MaxOrders 1 100000 document) (λ _.
-    in_turn (number_if false JournalLimit 131072 268435456 document) _ _ _ _ product (number_optional JournalLimit 131072 268435456 document) (λ _.
+    in_turn (number_if false MaxOrders 1 MOST_ORDERS document) _ _ _ _ product (number_optional MaxOrders 1 MOST_ORDERS document) (λ _.
+    in_turn (number_if false JournalLimit LEAST_JOURNAL MOST_JOURNAL document) _ _ _ _ product (number_optional JournalLimit LEAST_JOURNAL MOST_JOURNAL document) (λ _.
     in_turn (instruments_of firms document) _ _ _ None product (instruments_row firms document) (λ _. refl)))))

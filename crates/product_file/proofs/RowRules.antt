@@ -5,8 +5,11 @@ use Rattle.step_config.specs.declared.step.Step.{Step}
 use Rattle.step_config.specs.declared.step.StepFault.{StepFault}
 use Rattle.step_config.specs.declared.presets.Letter.{Letter}
 use Rattle.step_config.specs.declared.presets.Letter.TheVariants.{F, C, A, T, O, Q, K}
-use Rattle.step_config.specs.Rules.{fault_of, or_fault}
+use Rattle.step_config.specs.Rules.{fault_of}
 use Rattle.toml.specs.Data.{Data, get}
+use Rattle.gx_base.specs.declared.limits.TheConstants.{MOST_LOTS}
+use Rattle.step_config.specs.declared.step.TheConstants.{MOST_SHARES}
+use Rattle.product_file.specs.declared.limits.TheConstants.{MOST_TICK, MOST_PROTECTION}
 use Rattle.product_file.specs.declared.algorithms.Parameters.{Parameters}
 use Rattle.product_file.specs.declared.faults.ProductFault.{ProductFault}
 use Rattle.product_file.specs.declared.faults.ProductFault.TheVariants.{UnknownLetter}
@@ -14,7 +17,8 @@ use Rattle.product_file.specs.declared.faults.ProductFault.TheVariants as fault
 use Rattle.product_file.specs.declared.faults.Key.TheVariants.{Tick, Protection, Algorithm, TopMin, TopMax, Least, Split, Lmm, Steps}
 use Rattle.product_file.specs.Keys.{word_of}
 use Rattle.product_file.specs.Values.{text_in, texts_in, number_in, entries_in, texts_at, number_at}
-use Rattle.product_file.specs.Rows.{always, optional, only_where, a_text, an_integer, texts, tables, row, fault_if, first_fault, unless_fault, is_text, row_fault}
+use Rattle.gx_base.specs.FirstFault.{fault_if, first_fault, unless_fault}
+use Rattle.product_file.specs.Rows.{always, optional, only_where, a_text, an_integer, texts, tables, row, is_text, row_fault}
 use Rattle.product_file.specs.Ranges.{any, from, at_most}
 use Rattle.product_file.specs.Letters.{letter_of, is_configurable, is_step_name}
 use Rattle.product_file.specs.ProductRows.{nothing, a_letter, step_names, shares_of_firms, has_configured_list, lists_split, steps_fault}
@@ -64,19 +68,19 @@ parameters_in firms fields = record {
 abbrev pub parameters_fault : List (List ℕ) → Data → Option ProductFault
 parameters_fault firms fields =
     first_fault
-    (row_fault fields (row TopMin optional an_integer (from 1 999999) nothing)
-    ∷ row_fault fields (row TopMax optional an_integer (from 1 999999) nothing)
-    ∷ row_fault fields (row Least optional an_integer (from 1 999999) nothing)
+    (row_fault fields (row TopMin optional an_integer (from 1 MOST_LOTS) nothing)
+    ∷ row_fault fields (row TopMax optional an_integer (from 1 MOST_LOTS) nothing)
+    ∷ row_fault fields (row Least optional an_integer (from 1 MOST_LOTS) nothing)
     ∷ row_fault fields (row Split (only_where lists_split) an_integer (from 1 100) nothing)
-    ∷ row_fault fields (row Lmm optional tables (at_most 8) (shares_of_firms firms))
+    ∷ row_fault fields (row Lmm optional tables (at_most MOST_SHARES) (shares_of_firms firms))
     ∷ [])
 
 parameters_row : (firms : List (List ℕ)) (fields : Data) → parameters_of firms (letter_in fields) fields ≡ unless_fault (parameters_fault firms fields) (parameters_in firms fields)
 unfolding parameters_of
 parameters_row firms fields =
-    in_turn (number_if false TopMin 1 999999 fields) _ _ _ _ (parameters_in firms fields) (number_optional TopMin 1 999999 fields) (λ _.
-    in_turn (number_if false TopMax 1 999999 fields) _ _ _ _ (parameters_in firms fields) (number_optional TopMax 1 999999 fields) (λ _.
-    in_turn (number_if false Least 1 999999 fields) _ _ _ _ (parameters_in firms fields) (number_optional Least 1 999999 fields) (λ _.
+    in_turn (number_if false TopMin 1 MOST_LOTS fields) _ _ _ _ (parameters_in firms fields) (number_optional TopMin 1 MOST_LOTS fields) (λ _.
+    in_turn (number_if false TopMax 1 MOST_LOTS fields) _ _ _ _ (parameters_in firms fields) (number_optional TopMax 1 MOST_LOTS fields) (λ _.
+    in_turn (number_if false Least 1 MOST_LOTS fields) _ _ _ _ (parameters_in firms fields) (number_optional Least 1 MOST_LOTS fields) (λ _.
     in_turn (number_if (needs_split (letter_in fields) fields) Split 1 100 fields) _ _ _ _ (parameters_in firms fields) (split_row fields) (λ _.
     in_turn (shares_of firms fields) _ _ _ None (parameters_in firms fields) (shares_row firms fields) (λ _. refl)))))
 
@@ -93,7 +97,7 @@ names_row fields =
     (λ entries. where_passes (list_all is_step_name) UnknownLetter (map text_in entries)) (λ o. unwrap_or (option_map texts_in o) [])
     (λ v. all_named (list_all is_step_name (texts_in v)) (texts_in v)) refl (is_configurable (letter_in fields)) (get (word_of Steps) fields)
 
-right_or_fault : (steps : List Step) (o : Option StepFault) → or_steps_fault (or_fault steps o) ≡ unless_fault (option_map fault.Steps o) steps
+right_or_fault : (steps : List Step) (o : Option StepFault) → or_steps_fault (unless_fault o steps) ≡ unless_fault (option_map fault.Steps o) steps
 right_or_fault steps None = refl
 right_or_fault steps (Some f) = refl
 
@@ -108,7 +112,7 @@ same_steps K firms fields = refl
 
 list_row : (firms : List (List ℕ)) (fields : Data) → letter_steps (letter_in fields) (parameters_in firms fields) (texts_at Steps fields) ≡ unless_fault (steps_fault firms fields) (steps_in firms fields)
 list_row firms fields =
-    ap (λ (steps : List Step). or_steps_fault (or_fault steps (fault_of steps))) (same_steps (letter_in fields) firms fields)
+    ap (λ (steps : List Step). or_steps_fault (unless_fault (fault_of steps) steps)) (same_steps (letter_in fields) firms fields)
     ∙ right_or_fault (steps_in firms fields) (fault_of (steps_in firms fields))
 
 -- ---- the rule
@@ -117,8 +121,8 @@ list_row firms fields =
 abbrev pub rule_fault : List (List ℕ) → Data → Option ProductFault
 rule_fault firms fields =
     first_fault
-    (row_fault fields (row Tick always an_integer (from 1 1000000) nothing)
-    ∷ row_fault fields (row Protection always an_integer (from 0 10000) nothing)
+    (row_fault fields (row Tick always an_integer (from 1 MOST_TICK) nothing)
+    ∷ row_fault fields (row Protection always an_integer (from 0 MOST_PROTECTION) nothing)
     ∷ row_fault fields (row Algorithm always a_text any a_letter)
     ∷ parameters_fault firms fields
     ∷ row_fault fields (row Steps (only_where has_configured_list) texts any step_names)
@@ -128,8 +132,8 @@ rule_fault firms fields =
 pub rule_row : (firms : List (List ℕ)) (fields : Data) → rule_of firms fields ≡ unless_fault (rule_fault firms fields) (rule_in firms fields)
 unfolding rule_of
 rule_row firms fields =
-    in_turn (needed_number Tick 1 1000000 fields) _ _ _ _ (rule_in firms fields) (number_needed Tick 1 1000000 fields) (λ _.
-    in_turn (needed_number Protection 0 10000 fields) _ _ _ _ (rule_in firms fields) (number_needed Protection 0 10000 fields) (λ _.
+    in_turn (needed_number Tick 1 MOST_TICK fields) _ _ _ _ (rule_in firms fields) (number_needed Tick 1 MOST_TICK fields) (λ _.
+    in_turn (needed_number Protection 0 MOST_PROTECTION fields) _ _ _ _ (rule_in firms fields) (number_needed Protection 0 MOST_PROTECTION fields) (λ _.
     in_turn (algorithm_of fields) _ _ _ _ (rule_in firms fields) (letter_row fields) (λ _.
     in_turn (parameters_of firms (letter_in fields) fields) _ _ _ _ (rule_in firms fields) (parameters_row firms fields) (λ _.
     in_turn (step_names_of (letter_in fields) fields) _ _ _ _ (rule_in firms fields) (names_row fields) (λ _.

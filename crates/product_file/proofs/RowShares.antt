@@ -12,12 +12,14 @@ use Rattle.arrayvec.specs.ArrayVec.{ArrayVec}
 use Rattle.gx_base.specs.declared.order.LmmShare.{LmmShare}
 use Rattle.step_config.specs.Rules.{has_firm}
 use Rattle.toml.specs.Data.{Data, get}
+use Rattle.step_config.specs.declared.step.TheConstants.{MOST_SHARES}
 use Rattle.product_file.specs.declared.faults.ProductFault.{ProductFault}
 use Rattle.product_file.specs.declared.faults.ProductFault.TheVariants.{Missing, Range, Twice, UnknownFirm}
 use Rattle.product_file.specs.declared.faults.Key.TheVariants.{Lmm, LmmFirm, LmmPercent}
 use Rattle.product_file.specs.Keys.{word_of}
 use Rattle.product_file.specs.Values.{text_in, entries_in, text_at, number_at, value_at}
-use Rattle.product_file.specs.Rows.{always, optional, a_text, an_integer, tables, row, fault_if, first_fault, unless_fault, is_table, value_fault, row_fault}
+use Rattle.gx_base.specs.FirstFault.{fault_if, first_fault, unless_fault}
+use Rattle.product_file.specs.Rows.{always, optional, a_text, an_integer, tables, row, is_table, value_fault, row_fault}
 use Rattle.product_file.specs.Ranges.{any, from, at_most}
 use Rattle.product_file.specs.ProductRows.{nothing, a_new_name, a_new_firm, share_fault, shares_of_firms}
 use Rattle.product_file.specs.ProductValues.{number_of_firm, share_in, shares_in}
@@ -134,13 +136,13 @@ module _ (firms : List (List ℕ)) where
       shares_from [] (entries_in v) tt
       ∙ ap (λ (fault : Option ProductFault). unless_fault fault (record { items = map (share_in firms) (entries_in v) })) (sym (each_after (share_fault firms) (entries_in v)) ∙ sym (or_none (shares_of_firms firms v)))
 
-  pub shares_row : (fields : Data) → shares_of firms fields ≡ unless_fault (row_fault fields (row Lmm optional tables (at_most 8) (shares_of_firms firms))) (record { items = shares_in firms fields })
+  pub shares_row : (fields : Data) → shares_of firms fields ≡ unless_fault (row_fault fields (row Lmm optional tables (at_most MOST_SHARES) (shares_of_firms firms))) (record { items = shares_in firms fields })
   unfolding shares_of
   shares_row fields =
-      let few = λ (entries : List Data). where_passes (λ (es : List Data). nat_le (length es) 8) (Range Lmm) entries in
-      at_optional_checked Lmm optional tables (at_most 8) (shares_of_firms firms) (array_of is_table) entries_in (tables_kind Lmm)
+      let few = λ (entries : List Data). where_passes (λ (es : List Data). nat_le (length es) MOST_SHARES) (Range Lmm) entries in
+      at_optional_checked Lmm optional tables (at_most MOST_SHARES) (shares_of_firms firms) (array_of is_table) entries_in (tables_kind Lmm)
       (λ entries. few entries >>= shares_after firms [])
       (λ o. record { items = map (share_in firms) (unwrap_or (option_map entries_in o) []) })
-      (λ v. in_turn (few (entries_in v)) (fault_if (not (at_most 8 v)) (Range Lmm)) (entries_in v) (shares_after firms []) (first_fault (shares_of_firms firms v ∷ [])) (record { items = map (share_in firms) (entries_in v) })
-      (passes (at_most 8 v) (Range Lmm) (entries_in v)) (λ _. in_order v))
+      (λ v. in_turn (few (entries_in v)) (fault_if (not (at_most MOST_SHARES v)) (Range Lmm)) (entries_in v) (shares_after firms []) (first_fault (shares_of_firms firms v ∷ [])) (record { items = map (share_in firms) (entries_in v) })
+      (passes (at_most MOST_SHARES v) (Range Lmm) (entries_in v)) (λ _. in_order v))
       refl false (get (word_of Lmm) fields)

@@ -8,7 +8,8 @@ use Rattle.product_file.specs.declared.faults.ProductFault.{ProductFault}
 use Rattle.product_file.specs.declared.faults.ProductFault.TheVariants.{Kind, Range}
 use Rattle.product_file.specs.Keys.{word_of}
 use Rattle.product_file.specs.Values.{text_in, number_in, entries_of, entries_in, text_at, number_at}
-use Rattle.product_file.specs.Rows.{Need, always, optional, only_where, a_text, an_integer, texts, tables, row, fault_if, first_fault, unless_fault, is_text, is_table, is_array_of, is_of, value_fault, row_fault}
+use Rattle.gx_base.specs.FirstFault.{fault_if, first_fault, unless_fault}
+use Rattle.product_file.specs.Rows.{Need, always, optional, only_where, a_text, an_integer, texts, tables, row, is_text, is_table, is_array_of, is_of, value_fault, row_fault}
 use Rattle.product_file.specs.Ranges.{is_within, from, a_name}
 use Rattle.product_file.specs.ProductRows.{nothing}
 use Rattle.product_file.specs.Inner.Keys.{◌>>=◌, where_passes, text_of, number_of, array_of, needed_name, needed_number, number_if}

@@ -6,7 +6,9 @@ use Rattle.gx_base.specs.declared.event.StepName.{StepName}
 use Rattle.step_config.specs.declared.step.Step.{Step}
 use Rattle.step_config.specs.declared.step.StepFault.TheVariants.{Twice}
 use Rattle.step_config.specs.Rules.{name_of, is_same_name, is_empty, first_twice_after, first_twice, fault_of, steps_of}
-use Rattle.step_config.proofs.FewSteps.{few_once}
+use Rattle.step_config.specs.declared.step.TheConstants.{MOST_STEPS}
+use Rattle.step_config.specs.StepLaws.{few_once}
+use Rattle.product_file.specs.declared.step_lists.TheConstants.{TOO_MANY}
 
 still : {K : Type 0} (b : Bool) (key found : K) (rest longer : Option K) → cond b (Some key) rest ≡ Some found → (rest ≡ Some found → longer ≡ Some found) → cond b (Some key) longer ≡ Some found
 still true key found rest longer e more = e
@@ -25,13 +27,13 @@ repeated steps name e t = let fault : fault_of steps ≡ Some (Twice name) = rw 
 not_empty : (steps : List Step) → 0 < length steps → is_empty steps ≡ false
 not_empty steps h = grind (arith, nat_tests)
 
-both_repeated : (front back : List Step) (twice : Option StepName) → 6 < length front → first_twice front ≡ twice → steps_of front ≡ steps_of (front ++ back)
+both_repeated : (front back : List Step) (twice : Option StepName) → MOST_STEPS < length front → first_twice front ≡ twice → steps_of front ≡ steps_of (front ++ back)
 both_repeated front back None long e = absurd (let few = few_once front e in omega arith)
 both_repeated front back (Some name) long e =
     repeated front name (not_empty front (omega arith)) e
     ∙ sym (repeated (front ++ back) name (not_empty (front ++ back) (rw (length-append front back) (omega arith))) (twice-front is_same_name name_of [] front back name e))
 
-pub first_seven : (steps : List Step) → 7 < length steps → steps_of (take 7 steps) ≡ steps_of steps
+pub first_seven : (steps : List Step) → TOO_MANY < length steps → steps_of (take TOO_MANY steps) ≡ steps_of steps
 first_seven steps long =
-    both_repeated (take 7 steps) (drop 7 steps) (first_twice (take 7 steps)) (rw (length-take 7 steps) (omega arith)) refl
-    ∙ ap steps_of (take-append-drop 7 steps)
+    both_repeated (take TOO_MANY steps) (drop TOO_MANY steps) (first_twice (take TOO_MANY steps)) (rw (length-take TOO_MANY steps) (omega arith)) refl
+    ∙ ap steps_of (take-append-drop TOO_MANY steps)

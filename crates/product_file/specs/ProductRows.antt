@@ -4,12 +4,16 @@ use Rattle.std.specs.Prelude.{ℕ, Bool, not, ◌&&◌, List, [], ◌∷◌, map
 use Rattle.std.specs.List.{list_any, list_all}
 use Rattle.step_config.specs.Rules.{fault_of}
 use Rattle.toml.specs.Data.{Data}
+use Rattle.gx_base.specs.declared.limits.TheConstants.{MOST_LOTS, MOST_INSTRUMENTS, MOST_DECIMALS}
+use Rattle.step_config.specs.declared.step.TheConstants.{MOST_SHARES}
+use Rattle.product_file.specs.declared.limits.TheConstants.{MOST_ORDERS, LEAST_JOURNAL, MOST_JOURNAL, MOST_TICK, MOST_PROTECTION}
 use Rattle.product_file.specs.declared.faults.ProductFault.{ProductFault}
 use Rattle.product_file.specs.declared.faults.ProductFault.TheVariants.{Twice, UnknownFirm, UnknownLetter}
 use Rattle.product_file.specs.declared.faults.ProductFault.TheVariants as fault
 use Rattle.product_file.specs.declared.faults.Key.TheVariants.{Exchange, Firms, MaxOrders, JournalLimit, Instrument, Name, Decimals, Tick, Protection, Algorithm, TopMin, TopMax, Least, Split, Lmm, LmmFirm, LmmPercent, Steps}
 use Rattle.product_file.specs.Values.{text_in, texts_in, entries_in, text_at, texts_at}
-use Rattle.product_file.specs.Rows.{always, optional, only_where, a_text, an_integer, texts, tables, Row, row, fault_if, first_fault, first_of_each, table_fault}
+use Rattle.gx_base.specs.FirstFault.{fault_if, first_fault}
+use Rattle.product_file.specs.Rows.{always, optional, only_where, a_text, an_integer, texts, tables, Row, row, first_of_each, table_fault}
 use Rattle.product_file.specs.Ranges.{any, from, a_name, has_entries, at_most, firm_names}
 use Rattle.product_file.specs.Letters.{letter_of, is_configurable, is_step_name}
 use Rattle.product_file.specs.ProductValues.{letter_in, number_of_firm, steps_in}
@@ -78,15 +82,15 @@ lists_split fields = has_configured_list fields && list_any (λ name. bytes_eq n
 abbrev pub instrument_rows : List (List ℕ) → List (List ℕ) → List Row
 instrument_rows firms earlier =
     row Name always a_text a_name (a_new_name earlier)
-    ∷ row Decimals always an_integer (from 0 8) nothing
-    ∷ row Tick always an_integer (from 1 1000000) nothing
-    ∷ row Protection always an_integer (from 0 10000) nothing
+    ∷ row Decimals always an_integer (from 0 MOST_DECIMALS) nothing
+    ∷ row Tick always an_integer (from 1 MOST_TICK) nothing
+    ∷ row Protection always an_integer (from 0 MOST_PROTECTION) nothing
     ∷ row Algorithm always a_text any a_letter
-    ∷ row TopMin optional an_integer (from 1 999999) nothing
-    ∷ row TopMax optional an_integer (from 1 999999) nothing
-    ∷ row Least optional an_integer (from 1 999999) nothing
+    ∷ row TopMin optional an_integer (from 1 MOST_LOTS) nothing
+    ∷ row TopMax optional an_integer (from 1 MOST_LOTS) nothing
+    ∷ row Least optional an_integer (from 1 MOST_LOTS) nothing
     ∷ row Split (only_where lists_split) an_integer (from 1 100) nothing
-    ∷ row Lmm optional tables (at_most 8) (shares_of_firms firms)
+    ∷ row Lmm optional tables (at_most MOST_SHARES) (shares_of_firms firms)
     ∷ row Steps (only_where has_configured_list) texts any step_names
     ∷ []
 
@@ -113,9 +117,9 @@ abbrev pub document_rows : List (List ℕ) → List Row
 document_rows firms =
     row Exchange always a_text a_name nothing
     ∷ row Firms always texts firm_names each_once
-    ∷ row MaxOrders optional an_integer (from 1 100000) nothing
-    ∷ row JournalLimit optional an_integer (from 131072 268435456) nothing
-    ∷ row Instrument always tables (has_entries 1 16) (instruments_of_firms firms)
+    ∷ row MaxOrders optional an_integer (from 1 MOST_ORDERS) nothing
+    ∷ row JournalLimit optional an_integer (from LEAST_JOURNAL MOST_JOURNAL) nothing
+    ∷ row Instrument always tables (has_entries 1 MOST_INSTRUMENTS) (instruments_of_firms firms)
     ∷ []
 
 -- the first fault of a document

@@ -9,6 +9,8 @@ use Rattle.step_config.specs.declared.presets.Letter.{Letter}
 use Rattle.step_config.specs.declared.presets.Letter.TheVariants.{F, K}
 use Rattle.step_config.specs.Presets.{preset_steps}
 use Rattle.toml.specs.Data.{Data}
+use Rattle.gx_base.specs.declared.limits.TheConstants.{MOST_LOTS}
+use Rattle.product_file.specs.declared.limits.TheConstants.{USUAL_ORDERS, USUAL_JOURNAL}
 use Rattle.product_file.specs.declared.product.InstrumentRule.{InstrumentRule}
 use Rattle.product_file.specs.declared.faults.Key.TheVariants.{Exchange, Firms, MaxOrders, JournalLimit, Instrument, Name, Decimals, Tick, Protection, Algorithm, TopMin, TopMax, Least, LmmFirm, LmmPercent, Steps}
 use Rattle.product_file.specs.declared.faults.Key.TheVariants as key
@@ -34,9 +36,9 @@ share_in firms entry = record { firm = unwrap_or (number_of_firm firms (text_at 
 abbrev pub shares_in : List (List ℕ) → Data → List LmmShare
 shares_in firms fields = map (share_in firms) (entries_at key.Lmm fields)
 
--- the limits of TOP: 1 and 999,999 where the file gives none
+-- the limits of TOP: 1 and MOST_LOTS where the file gives none
 abbrev pub top_in : Data → TopRule
-top_in fields = record { min = number_or 1 TopMin fields; max = number_or 999999 TopMax fields }
+top_in fields = record { min = number_or 1 TopMin fields; max = number_or MOST_LOTS TopMax fields }
 
 -- the least part of PRORATA
 abbrev pub least_in : Data → ℕ
@@ -72,14 +74,14 @@ listed_in fields = record { name = text_at Name fields; decimals = number_at Dec
 abbrev pub rule_in : List (List ℕ) → Data → InstrumentRule
 rule_in firms fields = record { tick = pos (number_at Tick fields); protection = number_at Protection fields; letter = letter_in fields; steps = steps_in firms fields }
 
--- the product that a document without fault gives: 10,000 orders and 16,777,216 bytes where it says nothing of them
+-- the product that a document without fault gives: the usual orders and the usual limit of the journal where it says nothing of them
 abbrev pub product_in : Data → ProductLists
 product_in document =
     let firms = texts_at Firms document in
     let instruments = entries_at Instrument document in
     record {
       names = record { exchange = text_at Exchange document; firms = firms; instruments = map listed_in instruments };
-      max_orders = number_or 10000 MaxOrders document;
-      journal_limit = number_or 16777216 JournalLimit document;
+      max_orders = number_or USUAL_ORDERS MaxOrders document;
+      journal_limit = number_or USUAL_JOURNAL JournalLimit document;
       rules = map (rule_in firms) instruments;
     }

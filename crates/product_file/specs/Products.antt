@@ -5,6 +5,8 @@ use Rattle.gx_base.specs.NameLists.{NameLists}
 use Rattle.gx_base.specs.declared.order.LmmShare.{LmmShare}
 use Rattle.step_config.specs.declared.step.Step.{Step}
 use Rattle.step_config.specs.declared.step.Step.TheVariants.{Top, Lmm, Split, ProRata, Leveling, Fifo}
+use Rattle.gx_base.specs.declared.limits.TheConstants.{MOST_FIRMS, MOST_INSTRUMENTS}
+use Rattle.product_file.specs.declared.limits.TheConstants.{MOST_ORDERS, LEAST_JOURNAL, MOST_JOURNAL, MOST_TICK, MOST_PROTECTION}
 use Rattle.product_file.specs.declared.product.InstrumentRule.{InstrumentRule}
 
 pub record ProductLists : Type 0 where
@@ -27,18 +29,18 @@ HasListedFirms firms Fifo = Unit {0}
 
 pub record IsRightInstrument (firms : ℕ) (rule : InstrumentRule) : Type 0 where
   pub least_tick : pos 1 ≤ℤ rule.tick
-  pub most_tick : rule.tick ≤ℤ pos 1000000
-  pub protection : rule.protection ≤ 10000
+  pub most_tick : rule.tick ≤ℤ pos MOST_TICK
+  pub protection : rule.protection ≤ MOST_PROTECTION
   pub listed_firms : AllByRecursion (HasListedFirms firms) rule.steps
 
 pub record IsRightProduct (p : ProductLists) : Type 0 where
   pub some_firms : 1 ≤ length p.names.firms
-  pub few_firms : length p.names.firms ≤ 64
+  pub few_firms : length p.names.firms ≤ MOST_FIRMS
   pub some_instruments : 1 ≤ length p.names.instruments
-  pub few_instruments : length p.names.instruments ≤ 16
+  pub few_instruments : length p.names.instruments ≤ MOST_INSTRUMENTS
   pub a_rule_each : length p.rules ≡ length p.names.instruments
   pub some_orders : 1 ≤ p.max_orders
-  pub few_orders : p.max_orders ≤ 100000
-  pub least_limit : 131072 ≤ p.journal_limit
-  pub most_limit : p.journal_limit ≤ 268435456
+  pub few_orders : p.max_orders ≤ MOST_ORDERS
+  pub least_limit : LEAST_JOURNAL ≤ p.journal_limit
+  pub most_limit : p.journal_limit ≤ MOST_JOURNAL
   pub each : AllByRecursion (IsRightInstrument (length p.names.firms)) p.rules

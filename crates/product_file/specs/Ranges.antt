@@ -3,6 +3,7 @@ use Rattle.std.specs.Prelude.{ℕ, ℤ, pos, int_le, Bool, true, not, ◌&&◌, 
 use Rattle.std.specs.List.{list_all}
 use Rattle.gx_base.specs.Texts.{is_name}
 use Rattle.toml.specs.Data.{Data}
+use Rattle.gx_base.specs.declared.limits.TheConstants.{MOST_FIRMS}
 use Rattle.product_file.specs.Values.{text_in, integer_in, entries_in, texts_in}
 
 -- any value of its kind
@@ -33,6 +34,6 @@ at_most high value = nat_le (length (entries_in value)) high
 abbrev pub is_firm_name : List ℕ → Bool
 is_firm_name text = is_name text && not (bytes_eq text (codes "UNKNOWN"))
 
--- an array of 1 to 64 names that firms may have
+-- an array of 1 to MOST_FIRMS names that firms may have
 abbrev pub firm_names : Data → Bool
-firm_names value = has_entries 1 64 value && list_all is_firm_name (texts_in value)
+firm_names value = has_entries 1 MOST_FIRMS value && list_all is_firm_name (texts_in value)

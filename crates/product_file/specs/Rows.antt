@@ -1,7 +1,8 @@
 -- What a row says of a key, and the fault of a table by the rows of its keys (our own format).
-use Rattle.std.specs.Prelude.{ℕ, Bool, true, false, not, if◌then◌else◌, List, [], ◌∷◌, map, take, Option, Some, None, is_some, Result, Ok, Err}
+use Rattle.std.specs.Prelude.{ℕ, Bool, true, false, not, List, [], ◌∷◌, map, take, Option, is_some}
 use Rattle.std.specs.List.{list_all, enumerate_from}
-use Rattle.std.specs.Option.{option_map_or, option_or}
+use Rattle.std.specs.Option.{option_map_or}
+use Rattle.gx_base.specs.FirstFault.{fault_if, first_fault}
 use Rattle.toml.specs.Data.{Data, as_str, as_integer, as_array, as_table}
 use Rattle.product_file.specs.declared.faults.Key.{Key}
 use Rattle.product_file.specs.declared.faults.ProductFault.{ProductFault}
@@ -35,22 +36,6 @@ pub record Row : Type 0 where
 -- a row, in the order of a line of the table
 abbrev pub row : Key → Need → ValueKind → (Data → Bool) → (Data → Option ProductFault) → Row
 row key need kind range further = record { key = key; need = need; kind = kind; range = range; further = further }
-
--- ---- faults
-
--- a fault where this holds
-abbrev pub fault_if : Bool → ProductFault → Option ProductFault
-fault_if holds fault = if holds then Some fault else None
-
--- the first of these faults
-abbrev pub first_fault : List (Option ProductFault) → Option ProductFault
-first_fault [] = None
-first_fault (fault ∷ rest) = option_or fault (first_fault rest)
-
--- a value where there is no fault, or else the fault
-abbrev pub unless_fault : {A : Type 0} → Option ProductFault → A → Result A ProductFault
-unless_fault None a = Ok a
-unless_fault (Some fault) a = Err fault
 
 -- the first fault of entries that are tried one after the other, each by those that stand before it
 abbrev pub first_of_each : {X : Type 0} → (List X → X → Option ProductFault) → List X → Option ProductFault

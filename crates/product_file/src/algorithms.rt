@@ -11,12 +11,9 @@ ghost use Rattle.product_file.specs.Inner.Algorithms.{algorithm_of, is_split, ha
 use crate::faults::{Key, ProductFault};
 use crate::keys::{number_if, text_at, text_in};
 use crate::shares::shares_of;
-use gx_base::{ShortId, TopRule};
+use gx_base::{MOST_FIRMS, MOST_LOTS, ShortId, TopRule};
 use step_config::{Letter, Params};
 use toml::Value;
-
-/// The most lots of an order or of a rule.
-const MOST_LOTS: u32 = 999_999;
 
 /// What the steps of an instrument take.
 #[derive(Debug, Drop)]
@@ -69,7 +66,7 @@ pub(crate) fn parameters_of(
     letter: Letter,
     table: &Value,
 ) -> Result<Parameters, ProductFault>
-    requires { length firms.now ≤ 64 }
+    requires { length firms.now ≤ MOST_FIRMS }
     ensures { result ≡ parameters_of firms.now letter (view table.now) }
 {
     let min = number_if(false, table, Key::TopMin, 1, MOST_LOTS)?;

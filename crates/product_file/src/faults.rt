@@ -35,7 +35,7 @@ pub enum Key {
 /// Why a product file is refused: the first fault in the order of the keys, and of the rules of each key (our own).
 #[derive(Clone, Copy, Debug, Error, PartialEq, Eq)]
 pub enum ProductFault {
-    /// It has more than 65,536 bytes.
+    /// It has more than `LONGEST_TEXT` bytes.
     #[error("the product file has more than 65536 bytes")]
     TooLong,
     /// It is no TOML document.

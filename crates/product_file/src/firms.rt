@@ -11,20 +11,17 @@ ghost use Rattle.product_file.specs.Inner.FirmNames.{are_firm_names, first_name_
 use crate::faults::{Key, ProductFault};
 use crate::keys::{text_in, texts_at};
 use arrayvec::ArrayVec;
-use gx_base::ShortId;
+use gx_base::{MOST_FIRMS, ShortId};
 use indexmap::IndexSet;
 use std::alloc::Global;
 use toml::Value;
-
-/// The most firms of a product.
-const MOST_FIRMS: usize = 64;
 
 /// The firms that a document lists. Only `NoMemory` depends on anything but the document. Takes memory.
 #[tactic(auto, unfolding(crate::specs::Inner::FirmNames::firms_of))]
 pub(crate) fn firms_of(
     alloc: Global,
     document: &Value,
-) -> Result<ArrayVec<ShortId, 64>, ProductFault>
+) -> Result<ArrayVec<ShortId, MOST_FIRMS>, ProductFault>
     ensures read { IfOk result (λ firms. firms_of (view document.now) ≡ Ok firms.items) }
     ensures refused { IfErr result (λ fault. fault ≢ NoMemory → firms_of (view document.now) ≡ Err fault) }
 {
@@ -36,8 +33,8 @@ pub(crate) fn firms_of(
     }
 }
 
-/// The names of 1 to 64 firms, which these entries are.
-fn firm_names(entries: &[Value]) -> Result<ArrayVec<ShortId, 64>, ProductFault>
+/// The names of 1 to `MOST_FIRMS` firms, which these entries are.
+fn firm_names(entries: &[Value]) -> Result<ArrayVec<ShortId, MOST_FIRMS>, ProductFault>
     ensures { map_ok (λ names. names.items) result ≡ firm_names (map view entries.now) }
 {
     if entries.is_empty() || entries.len() > MOST_FIRMS {

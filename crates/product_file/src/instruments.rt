@@ -9,20 +9,18 @@ ghost use Rattle.product_file.specs.Inner.Instruments.{new_name_of, listed_of, r
 use crate::algorithms::{algorithm_of, parameters_of};
 use crate::faults::{Key, ProductFault};
 use crate::keys::{name_at, number_at, tables_at};
+use crate::limits::{MOST_PROTECTION, MOST_TICK};
 use crate::product::InstrumentRule;
 use crate::step_lists::{letter_steps, step_names_of};
 use arrayvec::ArrayVec;
-use gx_base::{Listed, ShortId};
+use gx_base::{Listed, MOST_DECIMALS, MOST_FIRMS, MOST_INSTRUMENTS, ShortId};
 use toml::Value;
-
-/// The most instruments of a product.
-const MOST_INSTRUMENTS: usize = 16;
 
 /// Instruments as a list of names with decimals, and a list of their rules.
 #[derive(Drop)]
 pub(crate) struct Instruments {
-    pub(crate) listed: ArrayVec<Listed, 16>,
-    pub(crate) rules: ArrayVec<InstrumentRule, 16>,
+    pub(crate) listed: ArrayVec<Listed, MOST_INSTRUMENTS>,
+    pub(crate) rules: ArrayVec<InstrumentRule, MOST_INSTRUMENTS>,
 }
 
 /// The instruments that a document lists.
@@ -31,7 +29,7 @@ pub(crate) fn instruments_of(
     firms: &[ShortId],
     document: &Value,
 ) -> Result<Instruments, ProductFault>
-    requires { length firms.now ≤ 64 }
+    requires { length firms.now ≤ MOST_FIRMS }
     ensures { map_ok lists_of result ≡ instruments_of firms.now (view document.now) }
 {
     let tables = tables_of(document)?;
@@ -46,11 +44,11 @@ pub(crate) fn instruments_of(
     Ok(Instruments { listed, rules })
 }
 
-/// The tables of the instruments, of which there are 1 to 16.
+/// The tables of the instruments, of which there are 1 to `MOST_INSTRUMENTS`.
 #[tactic(auto, unfolding(crate::specs::Inner::Instruments::tables_of))]
 fn tables_of(document: &Value) -> Result<&[Value], ProductFault>
     ensures value { map_ok (λ vs. map view vs.now) result ≡ tables_of (view document.now) }
-    ensures few { IfOk result (λ vs. length vs.now ≤ 16) }
+    ensures few { IfOk result (λ vs. length vs.now ≤ MOST_INSTRUMENTS) }
 {
     let tables = tables_at(document, Key::Instrument)?;
     if tables.is_empty() || tables.len() > MOST_INSTRUMENTS {
@@ -65,7 +63,7 @@ fn listed_of(earlier: &[Listed], table: &Value) -> Result<Listed, ProductFault>
     ensures { result ≡ listed_of earlier.now (view table.now) }
 {
     let name = new_name_of(earlier, table)?;
-    let decimals = number_at(table, Key::Decimals, 0, 8)?;
+    let decimals = number_at(table, Key::Decimals, 0, MOST_DECIMALS as u32)?;
     Ok(Listed {
         name,
         decimals: decimals as u8,
@@ -96,11 +94,11 @@ fn has_name(earlier: &[Listed], name: &ShortId) -> bool
 /// What an instrument's orders are held to: its tick, its protection, its algorithm, and last its list of steps.
 #[tactic(auto, unfolding(crate::specs::Inner::Instruments::rule_of))]
 fn rule_of(firms: &[ShortId], table: &Value) -> Result<InstrumentRule, ProductFault>
-    requires { length firms.now ≤ 64 }
+    requires { length firms.now ≤ MOST_FIRMS }
     ensures { result ≡ rule_of firms.now (view table.now) }
 {
-    let tick = number_at(table, Key::Tick, 1, 1_000_000)?;
-    let protection = number_at(table, Key::Protection, 0, 10_000)?;
+    let tick = number_at(table, Key::Tick, 1, MOST_TICK)?;
+    let protection = number_at(table, Key::Protection, 0, MOST_PROTECTION)?;
     let letter = algorithm_of(table)?;
     let parameters = parameters_of(firms, letter, table)?;
     let names = step_names_of(letter, table)?;

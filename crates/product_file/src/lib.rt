@@ -6,6 +6,7 @@ mod faults;
 mod firms;
 mod instruments;
 mod keys;
+mod limits;
 mod product;
 mod read;
 mod shares;
@@ -14,5 +15,9 @@ mod step_lists;
 mod tests;
 
 pub use faults::{Key, ProductFault};
+pub use limits::{
+    LEAST_JOURNAL, LONGEST_TEXT, MOST_JOURNAL, MOST_ORDERS, MOST_PROTECTION, MOST_TICK,
+    USUAL_JOURNAL, USUAL_ORDERS,
+};
 pub use product::{InstrumentRule, Product};
 pub use read::read_product;

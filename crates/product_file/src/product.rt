@@ -2,17 +2,18 @@
 ghost use Rattle.std.specs.Prelude.{◌≡◌, ◌<◌, ◌≤◌, Some, length, slice_get};
 ghost use Rattle.product_file.specs.Products.{IsRightProduct};
 
+use crate::limits::{LEAST_JOURNAL, MOST_JOURNAL, MOST_ORDERS};
 use arrayvec::ArrayVec;
-use gx_base::Names;
+use gx_base::{MOST_INSTRUMENTS, Names};
 use std::marker::Model;
 use step_config::{Letter, Steps};
 
 /// What the orders of one instrument are held to, and how they share an incoming order.
 #[derive(Debug, Default, Drop)]
 pub struct InstrumentRule {
-    /// The least step of its prices, in price units: 1 to 1,000,000.
+    /// The least step of its prices, in price units: 1 to `MOST_TICK`.
     pub tick: i64,
-    /// How far from the best opposite price a market order trades, in ticks: 0 to 10,000.
+    /// How far from the best opposite price a market order trades, in ticks: 0 to `MOST_PROTECTION`.
     pub protection: u32,
     /// The letter of its algorithm. The letters are named after the exchange's; what each stands for is our own, after
     /// the published outline.
@@ -29,7 +30,7 @@ pub struct Product {
     names: Names,
     max_orders: u32,
     journal_limit: u64,
-    rules: ArrayVec<InstrumentRule, 16>,
+    rules: ArrayVec<InstrumentRule, MOST_INSTRUMENTS>,
 }
 
 impl Model for Product {
@@ -50,7 +51,7 @@ impl Product {
         names: Names,
         max_orders: u32,
         journal_limit: u64,
-        rules: ArrayVec<InstrumentRule, 16>,
+        rules: ArrayVec<InstrumentRule, MOST_INSTRUMENTS>,
     ) -> Product
         requires { IsRightProduct (record { names = names; max_orders = max_orders; journal_limit = journal_limit; rules = rules.items }) }
         ensures { result ≡ record { names = names; max_orders = max_orders; journal_limit = journal_limit; rules = rules.items } }
@@ -70,20 +71,20 @@ impl Product {
         &self.names
     }
 
-    /// How many orders may be live at once, 1 to 100,000.
+    /// How many orders may be live at once, 1 to `MOST_ORDERS`.
     pub fn max_orders(&self) -> u32
         ensures most { result ≡ self.now.max_orders }
         ensures some { 1 ≤ result }
-        ensures few { result ≤ 100000 }
+        ensures few { result ≤ MOST_ORDERS }
     {
         self.max_orders
     }
 
-    /// How many bytes the journal may have, 131,072 to 268,435,456.
+    /// How many bytes the journal may have, `LEAST_JOURNAL` to `MOST_JOURNAL`.
     pub fn journal_limit(&self) -> u64
         ensures limit { result ≡ self.now.journal_limit }
-        ensures some { 131072 ≤ result }
-        ensures few { result ≤ 268435456 }
+        ensures some { LEAST_JOURNAL ≤ result }
+        ensures few { result ≤ MOST_JOURNAL }
     {
         self.journal_limit
     }

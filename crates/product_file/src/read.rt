@@ -11,38 +11,44 @@ use crate::faults::{Key, ProductFault};
 use crate::firms::firms_of;
 use crate::instruments::instruments_of;
 use crate::keys::{name_at, number_if};
+use crate::limits::{
+    LEAST_JOURNAL, LONGEST_TEXT, MOST_JOURNAL, MOST_ORDERS, USUAL_JOURNAL, USUAL_ORDERS,
+};
 use crate::product::Product;
 use gx_base::Names;
 use std::alloc::Global;
 use toml::Value;
 
-/// The most bytes of a product file.
-const MOST_BYTES: usize = 65_536;
-
 /// The product of a text (our own format), or its first fault in the order of the keys, and for each key of its rules:
 /// `ProductFault` says when each comes. Only `NoMemory` depends on anything but the text. It is never answered for a text
-/// of more than 65,536 bytes, for one that is not UTF-8, or for one of white space and comments alone. Takes memory.
+/// of more than `LONGEST_TEXT` bytes, for one that is not UTF-8, or for one of white space and comments alone. Takes memory.
 #[tactic(auto, unfolding(crate::specs::ProductTexts::product_of))]
 pub fn read_product(alloc: Global, text: &[u8]) -> Result<Product, ProductFault>
     ensures read { IfOk result (λ product. product_of text.now ≡ Ok product) }
     ensures refused { IfErr result (λ fault. fault ≢ NoMemory → product_of text.now ≡ Err fault) }
-    ensures too_long { 65536 < length text.now → result ≡ Err TooLong }
+    ensures too_long { LONGEST_TEXT < length text.now → result ≡ Err TooLong }
     ensures memory { result ≡ Err NoMemory → TakesMemory text.now }
 {
-    if text.len() > MOST_BYTES {
+    if text.len() > LONGEST_TEXT {
         return Err(ProductFault::TooLong);
     }
     let document = document_of(alloc, text)?;
     let exchange = name_at(&document, Key::Exchange)?;
     let firms = firms_of(alloc, &document)?;
-    let max_orders = number_if(false, &document, Key::MaxOrders, 1, 100_000)?;
-    let journal_limit = number_if(false, &document, Key::JournalLimit, 131_072, 268_435_456)?;
+    let max_orders = number_if(false, &document, Key::MaxOrders, 1, MOST_ORDERS)?;
+    let journal_limit = number_if(
+        false,
+        &document,
+        Key::JournalLimit,
+        LEAST_JOURNAL,
+        MOST_JOURNAL,
+    )?;
     let instruments = instruments_of(&firms, &document)?;
     let names = Names::new(exchange, &firms, &instruments.listed);
     Ok(Product::new(
         names,
-        max_orders.unwrap_or(10_000),
-        journal_limit.unwrap_or(16_777_216) as u64,
+        max_orders.unwrap_or(USUAL_ORDERS),
+        journal_limit.unwrap_or(USUAL_JOURNAL) as u64,
         instruments.rules,
     ))
 }

@@ -7,19 +7,17 @@ ghost use Rattle.product_file.specs.Inner.Shares.{share_firm, share_of, shares_a
 use crate::faults::{Key, ProductFault};
 use crate::keys::{number_at, tables_or_none, text_at};
 use arrayvec::ArrayVec;
-use gx_base::{LmmShare, ShortId};
+use gx_base::{LmmShare, MOST_FIRMS, ShortId};
+use step_config::MOST_SHARES;
 use toml::Value;
-
-/// The most shares of an instrument.
-const MOST_SHARES: usize = 8;
 
 /// The shares of an instrument, none where it has no `lmm`.
 #[tactic(auto, unfolding(crate::specs::Inner::Shares::shares_of))]
 pub(crate) fn shares_of(
     firms: &[ShortId],
     table: &Value,
-) -> Result<ArrayVec<LmmShare, 8>, ProductFault>
-    requires { length firms.now ≤ 64 }
+) -> Result<ArrayVec<LmmShare, MOST_SHARES>, ProductFault>
+    requires { length firms.now ≤ MOST_FIRMS }
     ensures { result ≡ shares_of firms.now (view table.now) }
 {
     let entries = tables_or_none(table, Key::Lmm)?;
@@ -41,7 +39,7 @@ fn share_of(
     earlier: &[LmmShare],
     entry: &Value,
 ) -> Result<LmmShare, ProductFault>
-    requires { length firms.now ≤ 64 }
+    requires { length firms.now ≤ MOST_FIRMS }
     ensures { result ≡ share_of firms.now earlier.now (view entry.now) }
 {
     let firm = share_firm(firms, earlier, entry)?;
@@ -55,7 +53,7 @@ fn share_of(
 /// The number of the firm that an entry names, which no earlier entry names.
 #[tactic(auto, unfolding(crate::specs::Inner::Shares::share_firm))]
 fn share_firm(firms: &[ShortId], earlier: &[LmmShare], entry: &Value) -> Result<u8, ProductFault>
-    requires { length firms.now ≤ 64 }
+    requires { length firms.now ≤ MOST_FIRMS }
     ensures { result ≡ share_firm firms.now earlier.now (view entry.now) }
 {
     let name = text_at(entry, Key::LmmFirm)?;

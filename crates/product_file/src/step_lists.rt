@@ -13,7 +13,7 @@ use crate::faults::{Key, ProductFault};
 use crate::keys::{text_in, texts_if};
 use arrayvec::ArrayVec;
 use gx_base::LmmShare;
-use step_config::{Letter, Step, StepFault, Steps, preset};
+use step_config::{Letter, MOST_SHARES, MOST_STEPS, Step, StepFault, Steps, preset};
 use toml::Value;
 
 /// The entries of the list of steps, each of them the name of a step. There are none where the file has no list.
@@ -67,7 +67,7 @@ pub(crate) fn letter_steps(
 }
 
 /// So many names of steps have one that stands twice among them.
-const TOO_MANY: usize = 7;
+const TOO_MANY: usize = MOST_STEPS + 1;
 
 /// The steps of these names, if they are right. Of more than six names one stands twice, and among the first seven
 /// already, so no more than these are looked at.
@@ -81,8 +81,8 @@ fn own_steps(parameters: &Parameters, names: &[Value]) -> Result<Steps, StepFaul
 }
 
 /// The steps of these names, of which there are at most seven.
-fn first_steps(parameters: &Parameters, names: &[Value]) -> ArrayVec<Step, 7>
-    requires { length names.now ≤ 7 }
+fn first_steps(parameters: &Parameters, names: &[Value]) -> ArrayVec<Step, TOO_MANY>
+    requires { length names.now ≤ TOO_MANY }
     ensures { result.items ≡ map (λ v. step_named parameters.now (text_in (view v))) names.now }
 {
     let mut steps = ArrayVec::new();
@@ -107,8 +107,8 @@ fn step_named(parameters: &Parameters, name: &str) -> Step
 }
 
 /// The same shares again. Takes no memory.
-fn copy_shares(shares: &[LmmShare]) -> ArrayVec<LmmShare, 8>
-    requires { length shares.now ≤ 8 }
+fn copy_shares(shares: &[LmmShare]) -> ArrayVec<LmmShare, MOST_SHARES>
+    requires { length shares.now ≤ MOST_SHARES }
     ensures { result.items ≡ shares.now }
 {
     let mut copy = ArrayVec::new();

@@ -2,7 +2,6 @@
 #![tactic(auto)]
 
 mod fifo;
-mod gift;
 mod split;
 
 pub use fifo::fifo_pass;

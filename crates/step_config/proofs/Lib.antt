@@ -1,5 +1,3 @@
-pub mod NoFault
-pub mod Repeats
-pub mod Places
-pub mod FewSteps
-pub mod Right
+mod NoFault
+mod Places
+mod Right

@@ -1,12 +1,15 @@
 -- Where no fault is found, none of those that were tried is there.
-use Rattle.std.proofs.Common.{◌≡◌, Bool, true, false, not, nat_lt, List, [], ◌∷◌, map, Option, Some, None, option_map, refl}
+use Rattle.std.proofs.Common.{◌≡◌, ◌≤◌, Bool, true, false, not, nat_lt, List, [], ◌∷◌, length, map, Option, Some, None, option_map, refl}
 use Rattle.gx_base.specs.declared.order.LmmShare.{LmmShare}
+use Rattle.step_config.specs.declared.step.TheConstants.{MOST_STEPS}
+use Rattle.step_config.specs.StepLaws.{few_once}
 use Rattle.step_config.specs.declared.step.Step.{Step}
 use Rattle.step_config.specs.declared.step.StepFault.{StepFault}
 use Rattle.step_config.specs.declared.step.StepFault.TheVariants.{Empty, Twice, NotLast, LevelingFirst, Firm, Percent}
-use Rattle.step_config.specs.Rules.{is_empty, first_twice, is_fifo_last, leveling_first, first_firm_twice, first_wrong_percent, percent_sum, fault_of_shares, fault_of_step, first_of, fault_if, fault_of}
+use Rattle.gx_base.specs.FirstFault.{first_fault, fault_if}
+use Rattle.step_config.specs.Rules.{is_empty, first_twice, is_fifo_last, leveling_first, first_firm_twice, first_wrong_percent, percent_sum, fault_of_shares, fault_of_step, fault_of}
 
-no_first : (first : Option StepFault) (rest : List (Option StepFault)) → first_of (first ∷ rest) ≡ None → (first ≡ None) × (first_of rest ≡ None)
+no_first : (first : Option StepFault) (rest : List (Option StepFault)) → first_fault (first ∷ rest) ≡ None → (first ≡ None) × (first_fault rest ≡ None)
 no_first None rest e = (refl, e)
 no_first (Some fault) rest e = cc
 
@@ -28,11 +31,11 @@ pub record NoFault (steps : List Step) : Type 0 where
   pub once : first_twice steps ≡ None
   pub last : is_fifo_last steps ≡ true
   pub later : leveling_first steps ≡ false
-  pub each : first_of (map fault_of_step steps) ≡ None
+  pub each : first_fault (map fault_of_step steps) ≡ None
 
 pub no_fault : (steps : List Step) → fault_of steps ≡ None → NoFault steps
 no_fault steps e =
-    let each = first_of (map fault_of_step steps) in
+    let each = first_fault (map fault_of_step steps) in
     let leveling = fault_if (leveling_first steps) LevelingFirst in
     let last = fault_if (not (is_fifo_last steps)) NotLast in
     let twice = option_map Twice (first_twice steps) in
@@ -67,5 +70,8 @@ no_share_fault shares e =
       whole = unless (nat_lt 100 (percent_sum shares)) (Percent (percent_sum shares)) (c.0);
     }
 
-pub no_first_step : (step : Step) (rest : List Step) → first_of (map fault_of_step (step ∷ rest)) ≡ None → (fault_of_step step ≡ None) × (first_of (map fault_of_step rest) ≡ None)
+pub no_first_step : (step : Step) (rest : List Step) → first_fault (map fault_of_step (step ∷ rest)) ≡ None → (fault_of_step step ≡ None) × (first_fault (map fault_of_step rest) ≡ None)
 no_first_step step rest e = no_first (fault_of_step step) (map fault_of_step rest) e
+
+pub few_steps : (steps : List Step) → fault_of steps ≡ None → length steps ≤ MOST_STEPS
+few_steps steps e = few_once steps (no_fault steps e).once

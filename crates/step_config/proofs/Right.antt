@@ -1,43 +1,18 @@
 -- A list of steps that has no fault is right.
-use Rattle.std.proofs.Common.{◌≡◌, ℕ, ◌≤◌, ◌==◌, Bool, true, false, not, ◌||◌, ◌&&◌, nat_le, List, [], ◌∷◌, ◌++◌, length, map, Option, Some, None, option_map, refl, append_assoc, append-nil, arith}
+use Rattle.std.proofs.Common.{◌≡◌, ℕ, ◌≤◌, ◌==◌, Bool, true, false, not, ◌&&◌, nat_le, List, [], ◌∷◌, length, map, Option, Some, None, option_map, refl, arith}
 use Rattle.std.proofs.lemmas.Bool.Decides.{nat_tests}
-use Rattle.std.proofs.lemmas.List.Folds.{list_any-append}
-use Rattle.std.specs.List.{IsDistinct, AllByRecursion, list_any, find}
+use Rattle.std.specs.List.{AllByRecursion, find}
+use Rattle.gx_base.specs.declared.limits.TheConstants.{MOST_LOTS}
 use Rattle.gx_base.specs.declared.order.LmmShare.{LmmShare}
 use Rattle.gx_base.specs.declared.order.TopRule.{TopRule}
 use Rattle.step_config.specs.declared.step.Step.{Step}
 use Rattle.step_config.specs.declared.step.Step.TheVariants.{Top, Lmm, Split, ProRata, Leveling, Fifo}
 use Rattle.step_config.specs.declared.step.StepFault.TheVariants.{Percent, Least, MinMax}
-use Rattle.step_config.specs.Rules.{name_of, is_same_name, is_empty, is_within, is_percent, is_top_rule, first_of, first_twice_after, fault_of_shares, fault_of_step, fault_of}
+use Rattle.gx_base.specs.FirstFault.{first_fault}
+use Rattle.step_config.specs.Rules.{name_of, is_same_name, is_empty, is_within, is_percent, is_top_rule, fault_of_shares, fault_of_step, fault_of}
 use Rattle.step_config.specs.RightSteps.{IsBetween, IsRightRule, AreRightShares, IsRightStep, AreRightSteps}
-use Rattle.step_config.proofs.NoFault.{no_fault, no_share_fault, no_first_step, passes}
-use Rattle.step_config.proofs.FewSteps.{few_steps, none_from_cond}
-
--- ---- what stands twice
-
-middle : (a b c : Bool) → ((a || (b || false)) || c) ≡ false → b ≡ false
-middle true b c e = cc
-middle false true c e = cc
-middle false false c e = refl
-
--- the key of one that stands before is none of these keys
-apart : {X K : Type 0} (same : K → K → Bool) (key : X → K) (front : List X) (x : X) (back items : List X) → first_twice_after same key ((front ++ x ∷ []) ++ back) items ≡ None → AllByRecursion (λ k. same (key x) k ≡ false) (map key items)
-apart {X} {K} same key front x back [] e = tt
-apart {X} {K} same key front x back (y ∷ rest) e =
-    let earlier = (front ++ x ∷ []) ++ back in
-    let passes = λ (s : X). same (key s) (key y) in
-    let parts = none_from_cond (list_any passes earlier) (key y) (first_twice_after same key (earlier ++ y ∷ []) rest) e in
-    let here = rw (list_any-append passes (front ++ x ∷ []) back, list_any-append passes front (x ∷ [])) at (parts.0) in (
-      middle (list_any passes front) (passes x) (list_any passes back) here,
-      apart same key front x (back ++ y ∷ []) rest (rw (append_assoc (front ++ x ∷ []) back (y ∷ [])) at (parts.1)),
-    )
-
-pub distinct : {X K : Type 0} (same : K → K → Bool) (key : X → K) (earlier items : List X) → first_twice_after same key earlier items ≡ None → IsDistinct same (map key items)
-unfolding IsDistinct
-distinct {X} {K} same key earlier [] e = tt
-distinct {X} {K} same key earlier (x ∷ rest) e =
-    let parts = none_from_cond (list_any (λ (s : X). same (key s) (key x)) earlier) (key x) (first_twice_after same key (earlier ++ x ∷ []) rest) e in
-    (apart same key earlier x [] rest (rw (append-nil (earlier ++ x ∷ [])) (parts.1)), distinct same key (earlier ++ x ∷ []) rest (parts.1))
+use Rattle.step_config.proofs.NoFault.{no_fault, few_steps, no_share_fault, no_first_step, passes}
+use Rattle.step_config.specs.RepeatLaws.{none_from_cond, distinct}
 
 -- ---- one step
 
@@ -56,7 +31,7 @@ between low high n e =
 
 right_rule : (rule : TopRule) → is_top_rule rule ≡ true → IsRightRule rule
 right_rule rule e =
-    let parts = both (nat_le 1 rule.min && nat_le rule.min rule.max) (nat_le rule.max 999999) e in
+    let parts = both (nat_le 1 rule.min && nat_le rule.min rule.max) (nat_le rule.max MOST_LOTS) e in
     let ends = both (nat_le 1 rule.min) (nat_le rule.min rule.max) (parts.0) in
     record { some = grind (arith, nat_tests, ends.0); ordered = grind (arith, nat_tests, ends.1); few = grind (arith, nat_tests, parts.1) }
 
@@ -84,11 +59,11 @@ right_step : (step : Step) → fault_of_step step ≡ None → IsRightStep step
 right_step (Top rule) e = right_rule rule (passes (is_top_rule rule) (MinMax rule.min rule.max) e)
 right_step (Lmm shares) e = right_shares shares.items e
 right_step (Split percent) e = between 1 100 percent (passes (is_percent percent) (Percent percent) e)
-right_step (ProRata least) e = between 1 999999 least (passes (is_within 1 999999 least) (Least least) e)
+right_step (ProRata least) e = between 1 MOST_LOTS least (passes (is_within 1 MOST_LOTS least) (Least least) e)
 right_step Leveling e = tt
 right_step Fifo e = tt
 
-right_each : (steps : List Step) → first_of (map fault_of_step steps) ≡ None → AllByRecursion IsRightStep steps
+right_each : (steps : List Step) → first_fault (map fault_of_step steps) ≡ None → AllByRecursion IsRightStep steps
 right_each [] e = tt
 right_each (step ∷ rest) e =
     let parts = no_first_step step rest e in

@@ -1,3 +1,5 @@
 pub mod Rules
 pub mod Presets
 pub mod RightSteps
+pub mod RepeatLaws
+pub mod StepLaws

@@ -1,6 +1,8 @@
 -- Which lists of steps are right, and what is wrong with another one (our own rule).
-use Rattle.std.specs.Prelude.{ℕ, ◌-◌, ◌==◌, Bool, true, false, not, ◌&&◌, nat_lt, nat_le, if◌then◌else◌, List, [], ◌∷◌, ◌++◌, length, map, slice_get, sum_by, find, option_map, Option, Some, None, Result, Ok, Err}
+use Rattle.std.specs.Prelude.{ℕ, ◌-◌, ◌==◌, Bool, true, false, not, ◌&&◌, nat_lt, nat_le, if◌then◌else◌, List, [], ◌∷◌, ◌++◌, length, map, slice_get, sum_by, find, option_map, Option, Some, None, Result}
 use Rattle.std.specs.List.{list_any, before_first}
+use Rattle.gx_base.specs.FirstFault.{fault_if, first_fault, unless_fault}
+use Rattle.gx_base.specs.declared.limits.TheConstants.{MOST_LOTS}
 use Rattle.gx_base.specs.declared.event.StepName.{StepName}
 use Rattle.gx_base.specs.declared.event.StepName.TheVariants as name
 use Rattle.gx_base.specs.declared.order.LmmShare.{LmmShare}
@@ -39,15 +41,6 @@ abbrev pub is_pro_rata : Step → Bool
 is_pro_rata step = is_same_name (name_of step) name.ProRata
 
 -- ---- faults of the list
-
--- the first fault of these, which are tried in this order
-abbrev pub first_of : List (Option StepFault) → Option StepFault
-first_of [] = None
-first_of (None ∷ rest) = first_of rest
-first_of (Some fault ∷ rest) = Some fault
-
-abbrev pub fault_if : Bool → StepFault → Option StepFault
-fault_if holds fault = if holds then Some fault else None
 
 abbrev pub is_empty : List Step → Bool
 is_empty steps = length steps == 0
@@ -103,24 +96,20 @@ percent_sum shares = sum_by (λ (s : LmmShare). s.percent) shares
 
 abbrev pub fault_of_shares : List LmmShare → Option StepFault
 fault_of_shares shares =
-    first_of
+    first_fault
     (option_map Firm (first_firm_twice shares)
     ∷ option_map Percent (first_wrong_percent shares)
     ∷ fault_if (nat_lt 100 (percent_sum shares)) (Percent (percent_sum shares))
     ∷ [])
 
--- the greatest number of lots, of an order or of a rule
-abbrev pub most_lots : ℕ
-most_lots = 999999
-
 abbrev pub is_top_rule : TopRule → Bool
-is_top_rule rule = nat_le 1 rule.min && nat_le rule.min rule.max && nat_le rule.max most_lots
+is_top_rule rule = nat_le 1 rule.min && nat_le rule.min rule.max && nat_le rule.max MOST_LOTS
 
 abbrev pub fault_of_step : Step → Option StepFault
 fault_of_step (Top rule) = fault_if (not (is_top_rule rule)) (MinMax rule.min rule.max)
 fault_of_step (Lmm shares) = fault_of_shares shares.items
 fault_of_step (Split percent) = fault_if (not (is_percent percent)) (Percent percent)
-fault_of_step (ProRata least) = fault_if (not (is_within 1 most_lots least)) (Least least)
+fault_of_step (ProRata least) = fault_if (not (is_within 1 MOST_LOTS least)) (Least least)
 fault_of_step Leveling = None
 fault_of_step Fifo = None
 
@@ -129,21 +118,17 @@ fault_of_step Fifo = None
 -- the first fault of a list of steps
 abbrev pub fault_of : List Step → Option StepFault
 fault_of steps =
-    first_of
+    first_fault
     (fault_if (is_empty steps) Empty
     ∷ option_map Twice (first_twice steps)
     ∷ fault_if (not (is_fifo_last steps)) NotLast
     ∷ fault_if (leveling_first steps) LevelingFirst
-    ∷ first_of (map fault_of_step steps)
+    ∷ first_fault (map fault_of_step steps)
     ∷ [])
-
-abbrev pub or_fault : List Step → Option StepFault → Result (List Step) StepFault
-or_fault steps None = Ok steps
-or_fault steps (Some fault) = Err fault
 
 -- the list, if it has no fault, or else its first fault
 abbrev pub steps_of : List Step → Result (List Step) StepFault
-steps_of steps = or_fault steps (fault_of steps)
+steps_of steps = unless_fault (fault_of steps) steps
 
 -- the rule of the TOP step
 abbrev pub top_rule_of : List Step → Option TopRule

@@ -1,14 +1,12 @@
 //! What is wrong with a list of steps.
 ghost use Rattle.std.specs.Prelude.{◌≡◌, map, position};
 ghost use Rattle.std.specs.List.{list_any};
-ghost use Rattle.step_config.specs.Rules.{is_leveling, is_pro_rata, has_name, first_twice, is_fifo_last, leveling_first, is_top_rule, fault_of_step, first_of, fault_of};
+ghost use Rattle.gx_base.specs.FirstFault.{first_fault};
+ghost use Rattle.step_config.specs.Rules.{is_leveling, is_pro_rata, has_name, first_twice, is_fifo_last, leveling_first, is_top_rule, fault_of_step, fault_of};
 
 use crate::share_faults::{fault_of_shares, is_percent};
 use crate::step::{Step, StepFault, is_same_name};
-use gx_base::{StepName, TopRule};
-
-/// The most lots of an order or of a rule.
-const MOST_LOTS: u32 = 999_999;
+use gx_base::{MOST_LOTS, StepName, TopRule};
 
 /// The first fault of a list of steps, in the order of `StepFault`.
 pub(crate) fn fault_of(steps: &[Step]) -> Option<StepFault>
@@ -84,7 +82,7 @@ fn has_pro_rata(steps: &[Step]) -> bool
 
 /// The first fault of a step, of the first step that has one.
 fn first_step_fault(steps: &[Step]) -> Option<StepFault>
-    ensures { result ≡ first_of (map fault_of_step steps.now) }
+    ensures { result ≡ first_fault (map fault_of_step steps.now) }
 {
     for step in steps {
         if let Some(fault) = fault_of_step(step) {
@@ -107,7 +105,7 @@ fn fault_of_step(step: &Step) -> Option<StepFault>
     }
 }
 
-/// Whether the least is not 0 and not above the most, and the most not above 999,999 lots.
+/// Whether the least is not 0 and not above the most, and the most not above `MOST_LOTS`.
 fn is_top_rule(rule: TopRule) -> bool
     ensures { result ≡ is_top_rule rule }
 {

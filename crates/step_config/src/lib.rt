@@ -11,5 +11,5 @@ mod steps;
 mod tests;
 
 pub use presets::{Letter, Params, preset};
-pub use step::{Step, StepFault};
+pub use step::{MOST_SHARES, MOST_STEPS, Step, StepFault};
 pub use steps::Steps;

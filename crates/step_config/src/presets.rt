@@ -3,10 +3,10 @@ ghost use Rattle.std.specs.Prelude.{◌≡◌, IsTrue};
 ghost use Rattle.step_config.specs.Rules.{steps_of};
 ghost use Rattle.step_config.specs.Presets.{is_preset, preset_steps};
 
-use crate::step::{Step, StepFault, copy_shares};
+use crate::step::{MOST_SHARES, Step, StepFault, copy_shares};
 use crate::steps::Steps;
 use arrayvec::ArrayVec;
-use gx_base::{LmmShare, TopRule};
+use gx_base::{LmmShare, MOST_LOTS, TopRule};
 
 /// The letter of an algorithm, named after those of the exchange's tag 1142. What each stands for is our own rule, after
 /// the exchange's published outline.
@@ -37,11 +37,11 @@ pub struct Params {
     /// The least part of a PRORATA step, in lots.
     pub least: u32,
     /// The shares of an LMM step, in percent.
-    pub lmm: ArrayVec<LmmShare, 8>,
+    pub lmm: ArrayVec<LmmShare, MOST_SHARES>,
 }
 
 /// The steps of an algorithm with these parameters, or the fault that `Steps::read` finds in its list, which comes of a
-/// parameter that is out of its range. `F` is FIFO; `T` LMM, FIFO; `C` PRORATA, FIFO; `A` TOP within 1 and 999,999 lots,
+/// parameter that is out of its range. `F` is FIFO; `T` LMM, FIFO; `C` PRORATA, FIFO; `A` TOP within 1 and `MOST_LOTS` lots,
 /// PRORATA, FIFO; `O` TOP, PRORATA, FIFO; and `Q` TOP, LMM, PRORATA, FIFO. `K` has no list of its own, and is not asked
 /// for. The lists and their order are our own rule, after the exchange's published outline.
 pub fn preset(letter: Letter, params: &Params) -> Result<Steps, StepFault>
@@ -68,5 +68,5 @@ pub fn preset(letter: Letter, params: &Params) -> Result<Steps, StepFault>
 /// A TOP step's limits that no order exceeds.
 const ANY_SIZE: TopRule = TopRule {
     min: 1,
-    max: 999_999,
+    max: MOST_LOTS,
 };

@@ -2,12 +2,12 @@
 ghost use Rattle.std.specs.Prelude.{◌≡◌, ◌≤◌, length};
 ghost use Rattle.step_config.specs.Rules.{is_percent, has_firm, first_firm_twice, first_wrong_percent, percent_sum, fault_of_shares};
 
-use crate::step::StepFault;
+use crate::step::{MOST_SHARES, StepFault};
 use gx_base::LmmShare;
 
 /// The first fault of these shares.
 pub(crate) fn fault_of_shares(shares: &[LmmShare]) -> Option<StepFault>
-    requires { length shares.now ≤ 8 }
+    requires { length shares.now ≤ MOST_SHARES }
     ensures { result ≡ fault_of_shares shares.now }
 {
     if let Some(firm) = first_firm_twice(shares) {
@@ -59,7 +59,7 @@ pub(crate) fn is_percent(percent: u8) -> bool
 
 /// The sum of the percentages.
 fn percent_sum(shares: &[LmmShare]) -> u32
-    requires { length shares.now ≤ 8 }
+    requires { length shares.now ≤ MOST_SHARES }
     ensures { result ≡ percent_sum shares.now }
 {
     let mut sum = 0;

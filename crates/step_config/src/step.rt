@@ -6,6 +6,12 @@ use arrayvec::ArrayVec;
 use gx_base::{LmmShare, StepName, TopRule};
 use thiserror::Error;
 
+/// How many steps a list has at most, one of each name.
+pub const MOST_STEPS: usize = 6;
+
+/// How many lead market makers a step serves at most (our own rule).
+pub const MOST_SHARES: usize = 8;
+
 /// One step of a match: to whom it gives how much of an incoming order. The steps follow the exchange's published
 /// outline; what each gives, what it takes as parameters, and their limits are our own rule.
 #[derive(Debug, Default, Drop, PartialEq, Eq)]
@@ -13,7 +19,7 @@ pub enum Step {
     /// To the order that bettered the market, within these limits in lots.
     Top(TopRule),
     /// To lead market makers, each firm its percentage.
-    Lmm(ArrayVec<LmmShare, 8>),
+    Lmm(ArrayVec<LmmShare, MOST_SHARES>),
     /// This percentage, by priority.
     Split(u8),
     /// To each order in proportion to what it shows, where its part is at least this many lots.
@@ -49,10 +55,10 @@ pub enum StepFault {
     /// LMM step's percentages, which is above 100.
     #[error("{0} is no percentage from 1 to 100")]
     Percent(u32),
-    /// This least part of a PRORATA step is not from 1 to 999,999 lots.
+    /// This least part of a PRORATA step is not from 1 to `MOST_LOTS` lots.
     #[error("the least part of {0} lots is not from 1 to 999999")]
     Least(u32),
-    /// The least and the most lots of a TOP step, where the least is 0 or above the most, or the most is above 999,999.
+    /// The least and the most lots of a TOP step, where the least is 0 or above the most, or the most is above `MOST_LOTS`.
     #[error("the limits of {0} and {1} lots are not in order from 1 to 999999")]
     MinMax(u32, u32),
 }
@@ -109,7 +115,9 @@ impl Step {
 }
 
 /// The same shares again. Takes no memory.
-pub(crate) fn copy_shares(shares: &ArrayVec<LmmShare, 8>) -> ArrayVec<LmmShare, 8>
+pub(crate) fn copy_shares(
+    shares: &ArrayVec<LmmShare, MOST_SHARES>,
+) -> ArrayVec<LmmShare, MOST_SHARES>
     ensures { result ≡ shares.now }
 {
     let shares = shares.as_slice();

@@ -4,7 +4,7 @@ ghost use Rattle.step_config.specs.Rules.{steps_of, top_rule_of};
 ghost use Rattle.step_config.specs.RightSteps.{AreRightSteps};
 
 use crate::faults::fault_of;
-use crate::step::{Step, StepFault};
+use crate::step::{MOST_STEPS, Step, StepFault};
 use arrayvec::ArrayVec;
 use gx_base::TopRule;
 use std::marker::Model;
@@ -13,7 +13,7 @@ use std::marker::Model;
 /// list.
 #[derive(Debug, Drop)]
 pub struct Steps {
-    steps: ArrayVec<Step, 6>,
+    steps: ArrayVec<Step, MOST_STEPS>,
 }
 
 impl Model for Steps {
@@ -81,8 +81,8 @@ impl Default for Steps {
 }
 
 /// The same steps again. Takes no memory.
-fn copy_steps(steps: &[Step]) -> ArrayVec<Step, 6>
-    requires { length steps.now ≤ 6 }
+fn copy_steps(steps: &[Step]) -> ArrayVec<Step, MOST_STEPS>
+    requires { length steps.now ≤ MOST_STEPS }
     ensures { result.items ≡ steps.now }
 {
     let mut copy = ArrayVec::new();

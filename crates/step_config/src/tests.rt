@@ -1,4 +1,4 @@
-//! The presets' lists, lists that are right, and each fault, beside one that comes after it where there is one.
+//! The presets' lists, lists that are right, and a list for each fault.
 ghost use Rattle.std.specs.Prelude.{IsTrue};
 ghost use Rattle.step_config.specs.Presets.{is_preset};
 
@@ -8,12 +8,13 @@ use gx_base::{LmmShare, StepName, TopRule};
 use std::process::Abort;
 use std::test::Fail;
 
-/// Two shares, of firms 1 and 2.
-fn two_shares(first: u8, second: u8) -> ArrayVec<LmmShare, 8> {
-    shares_of(1, first, 2, second)
-}
-
-fn shares_of(firm: u8, percent: u8, other_firm: u8, other_percent: u8) -> ArrayVec<LmmShare, 8> {
+/// Two shares.
+fn shares_of(
+    firm: u8,
+    percent: u8,
+    other_firm: u8,
+    other_percent: u8,
+) -> ArrayVec<LmmShare, MOST_SHARES> {
     let mut shares = ArrayVec::new();
     shares.push(LmmShare { firm, percent });
     shares.push(LmmShare {
@@ -24,14 +25,14 @@ fn shares_of(firm: u8, percent: u8, other_firm: u8, other_percent: u8) -> ArrayV
 }
 
 fn usual_lmm() -> Step {
-    Step::Lmm(two_shares(40, 60))
+    Step::Lmm(shares_of(1, 40, 2, 60))
 }
 
 fn usual() -> Params {
     Params {
         top: TopRule { min: 10, max: 100 },
         least: 2,
-        lmm: two_shares(40, 60),
+        lmm: shares_of(1, 40, 2, 60),
     }
 }
 
@@ -92,87 +93,27 @@ fn rules_of_top(rt: HostRuntime) -> Result<(), Fail> {
 }
 
 #[test]
-fn faulty_lists(rt: HostRuntime) {
+fn a_list_for_each_fault(rt: HostRuntime) {
     assert_fault(&rt, &[], StepFault::Empty);
     assert_fault(
         &rt,
-        &[Step::Fifo, Step::Fifo, Step::Leveling],
+        &[Step::Fifo, Step::Fifo],
         StepFault::Twice(StepName::Fifo),
     );
-    assert_fault(&rt, &[Step::Leveling, Step::Split(50)], StepFault::NotLast);
     assert_fault(&rt, &[Step::Fifo, Step::Split(50)], StepFault::NotLast);
-    assert_fault(
-        &rt,
-        &[Step::Split(0), Step::Leveling, Step::ProRata(2), Step::Fifo],
-        StepFault::LevelingFirst,
-    );
     assert_fault(&rt, &[Step::Leveling, Step::Fifo], StepFault::LevelingFirst);
-}
-
-#[test]
-fn first_name_that_stands_twice(rt: HostRuntime) {
-    let list = [
-        Step::Split(1),
-        Step::Leveling,
-        Step::Leveling,
-        Step::Split(2),
-    ];
-    assert_fault(&rt, &list, StepFault::Twice(StepName::Leveling));
-}
-
-#[test]
-fn faulty_shares(rt: HostRuntime) {
     assert_fault(
         &rt,
-        &[Step::Lmm(shares_of(1, 0, 1, 50)), Step::Fifo],
+        &[Step::Lmm(shares_of(1, 50, 1, 50)), Step::Fifo],
         StepFault::Firm(1),
     );
     assert_fault(
         &rt,
-        &[Step::Lmm(two_shares(100, 200)), Step::Fifo],
-        StepFault::Percent(200),
-    );
-    assert_fault(
-        &rt,
-        &[Step::Lmm(two_shares(60, 41)), Step::Fifo],
+        &[Step::Lmm(shares_of(1, 60, 2, 41)), Step::Fifo],
         StepFault::Percent(101),
     );
-}
-
-#[test]
-fn faulty_steps(rt: HostRuntime) {
-    assert_fault(
-        &rt,
-        &[Step::Split(0), Step::ProRata(0), Step::Fifo],
-        StepFault::Percent(0),
-    );
-    assert_fault(
-        &rt,
-        &[Step::ProRata(0), Step::Split(0), Step::Fifo],
-        StepFault::Least(0),
-    );
-    assert_fault(
-        &rt,
-        &[Step::ProRata(1_000_000), Step::Fifo],
-        StepFault::Least(1_000_000),
-    );
-    assert_fault(&rt, &[top(0, 5), Step::Fifo], StepFault::MinMax(0, 5));
+    assert_fault(&rt, &[Step::ProRata(0), Step::Fifo], StepFault::Least(0));
     assert_fault(&rt, &[top(6, 5), Step::Fifo], StepFault::MinMax(6, 5));
-    assert_fault(
-        &rt,
-        &[top(1, 1_000_000), Step::Fifo],
-        StepFault::MinMax(1, 1_000_000),
-    );
-}
-
-#[test]
-fn faulty_parameters(rt: HostRuntime) {
-    let params = Params {
-        top: TopRule { min: 0, max: 0 },
-        least: 0,
-        lmm: ArrayVec::new(),
-    };
-    assert_eq!(rt; preset(Letter::C, &params).err(), Some(StepFault::Least(0)));
 }
 
 #[test]

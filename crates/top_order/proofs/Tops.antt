@@ -1,4 +1,4 @@
--- Where the TOP order stands, and what it gives there.
+-- Where the TOP order stands, and what it trades there.
 use Rattle.std.proofs.Common.{◌≡◌, ℕ, min, Bool, true, false, cond, ◌&&◌, List, [], ◌∷◌, map, filter, refl, sym, ap, subst, ◌∙◌, inl, inr, Option, Some, None}
 use Rattle.std.specs.Prelude.{◌==◌, option_map}
 use Rattle.std.specs.Ordering.{int_eq}
@@ -12,8 +12,8 @@ use Rattle.gx_base.specs.declared.order.TopRule.{TopRule}
 use Rattle.gx_base.specs.declared.event.StepName.TheVariants.{Top}
 use Rattle.plain_book.specs.declared.entry.Entry.{Entry}
 use Rattle.plain_book.specs.Orders.{Level, level_of, is_level, is_at, is_on, is_side, is_slot, orders_at, side_of, slot_of, top_of, HasSlot, order_of, opposite}
-use Rattle.plain_book.specs.Book.{AllDiffer, live_orders, slot_number}
-use Rattle.plain_book.specs.Match.{MatchState, Share, give, gives}
+use Rattle.plain_book.specs.Book.{AllDiffer, Book, IsRight, live_orders, slot_number}
+use Rattle.plain_book.specs.Match.{MatchState, Share, trade_share, trade_shares}
 use Rattle.plain_book.specs.Steps.{top_shares, top, level_now, facing}
 use Rattle.plain_book.proofs.Levels.{AllDiffer-front, HasSlot-left, order_of-left}
 
@@ -101,48 +101,51 @@ at-price true true c h = refl
 at-price true false c h = cc
 at-price false b c h = cc
 
--- the answer of a book for the side that an incoming order meets
-pub met_top : (t : Taker) (side : Side) (es : List Entry) (at : Option Slot) (slot : Slot) → side ≡ opposite t.order.side
-    → option_map slot_number at ≡ top_of t.order.instrument side es → at ≡ Some slot → Some slot.0 ≡ top_of t.order.instrument (opposite t.order.side) es
-met_top t side es at slot met top is = sym (ap (option_map slot_number) is) ∙ top ∙ ap (λ (d : Side). top_of t.order.instrument d es) met
+-- the TOP order of the side that an incoming order meets
+pub record IsMetTop (t : Taker) (b : Book) (s : ℕ) : Type 0 where
+  pub found : Some s ≡ top_of t.order.instrument (opposite t.order.side) b.resting
+  pub differ : AllDiffer b.resting
+  pub is : IsTopOf t.order.instrument (opposite t.order.side) b.resting s
+  pub live : HasSlot s (live_orders b)
+  pub live_order : order_of s (live_orders b) ≡ order_of s b.resting
 
-module _ (rule : TopRule) (price : Price) (m : MatchState) (s : ℕ) (differ : AllDiffer (live_orders m.book)) (found : Some s ≡ top_of m.taker.order.instrument (opposite m.taker.order.side) m.book.resting) where
+-- a book answers it for that side
+pub met_top : (t : Taker) (side : Side) (b : Book) (at : Option Slot) (slot : Slot) → IsRight b → side ≡ opposite t.order.side
+    → option_map slot_number at ≡ top_of t.order.instrument side b.resting → at ≡ Some slot → IsMetTop t b slot.0
+met_top t side b at slot right met top is =
+    let found : Some slot.0 ≡ top_of t.order.instrument (opposite t.order.side) b.resting = sym (ap (option_map slot_number) is) ∙ top ∙ ap (λ (d : Side). top_of t.order.instrument d b.resting) met in
+    let differ = AllDiffer-front b.resting b.waiting right.differ in
+    let top = top_is t.order.instrument (opposite t.order.side) b.resting slot.0 differ found in
+    record {
+      found = found;
+      differ = differ;
+      is = top;
+      live = HasSlot-left slot.0 b.resting b.waiting top.has;
+      live_order = order_of-left slot.0 b.resting b.waiting top.has;
+    }
+
+module _ (rule : TopRule) (price : Price) (m : MatchState) (s : ℕ) (met : IsMetTop m.taker m.book s) where
   abbrev the_order : Order
   the_order = order_of s m.book.resting
 
   abbrev the_lots : ℕ
   the_lots = min m.taker.order.leaves (min the_order.shown rule.max)
 
-  apart : AllDiffer m.book.resting
-  apart = AllDiffer-front m.book.resting m.book.waiting differ
-
-  the_top : IsTopOf m.taker.order.instrument (opposite m.taker.order.side) m.book.resting s
-  the_top = top_is m.taker.order.instrument (opposite m.taker.order.side) m.book.resting s apart found
-
-  pub top_rests : HasSlot s m.book.resting
-  top_rests = the_top.has
-
-  pub top_lives : HasSlot s (live_orders m.book)
-  top_lives = HasSlot-left s m.book.resting m.book.waiting top_rests
-
-  pub top_order : order_of s (live_orders m.book) ≡ the_order
-  top_order = order_of-left s m.book.resting m.book.waiting top_rests
-
-  by_price : top rule price m ≡ gives Top (cond (int_eq the_order.price.0 price.0) ((s, the_lots) ∷ []) []) m
+  by_price : top rule price m ≡ trade_shares Top (cond (int_eq the_order.price.0 price.0) ((s, the_lots) ∷ []) []) m
   by_price =
-      ap (λ (t : Option ℕ). gives Top (top_shares rule.max t m.taker.order.leaves (level_now price m)) m) (sym found)
-      ∙ ap (λ (x : List Share). gives Top x m) (shares_at (facing price m.taker) s rule.max m.taker.order.leaves m.book.resting apart top_rests
-      ∙ ap (λ (c : Bool). cond c ((s, the_lots) ∷ []) []) (at-price _ _ (int_eq the_order.price.0 price.0) the_top.on))
+      ap (λ (t : Option ℕ). trade_shares Top (top_shares rule.max t m.taker.order.leaves (level_now price m)) m) (sym met.found)
+      ∙ ap (λ (x : List Share). trade_shares Top x m) (shares_at (facing price m.taker) s rule.max m.taker.order.leaves m.book.resting met.differ met.is.has
+      ∙ ap (λ (c : Bool). cond c ((s, the_lots) ∷ []) []) (at-price _ _ (int_eq the_order.price.0 price.0) met.is.on))
 
-  -- at this price, the order gives its share
-  pub top_here : (o : Order) (n : ℕ) → o ≡ order_of s (live_orders m.book) → int_eq o.price.0 price.0 ≡ true → n ≡ min m.taker.order.leaves (min o.shown rule.max)
-      → give Top s n m ≡ top rule price m
-  top_here o n is h share =
-      let o_is : o ≡ the_order = is ∙ top_order in
-      ap (λ (x : ℕ). give Top s x m) (share ∙ ap (λ (x : Order). min m.taker.order.leaves (min x.shown rule.max)) o_is)
-      ∙ sym (by_price ∙ ap (λ (c : Bool). gives Top (cond c ((s, the_lots) ∷ []) []) m) (sym (ap (λ (x : Order). int_eq x.price.0 price.0) o_is) ∙ h))
+  -- at this price, the order trades its share
+  pub top_here : (o : Order) (n : ℕ) (same : Bool) → o ≡ order_of s (live_orders m.book) → same ≡ int_eq o.price.0 price.0 → same ≡ true → n ≡ min m.taker.order.leaves (min o.shown rule.max)
+      → trade_share Top s n m ≡ top rule price m
+  top_here o n same is test h share =
+      let o_is : o ≡ the_order = is ∙ met.live_order in
+      ap (λ (x : ℕ). trade_share Top s x m) (share ∙ ap (λ (x : Order). min m.taker.order.leaves (min x.shown rule.max)) o_is)
+      ∙ sym (by_price ∙ ap (λ (c : Bool). trade_shares Top (cond c ((s, the_lots) ∷ []) []) m) (sym (ap (λ (x : Order). int_eq x.price.0 price.0) o_is) ∙ sym test ∙ h))
 
   -- at another price, nothing is done
-  pub top_away : (o : Order) → o ≡ order_of s (live_orders m.book) → int_eq o.price.0 price.0 ≡ false → m ≡ top rule price m
-  top_away o is h =
-      sym (by_price ∙ ap (λ (c : Bool). gives Top (cond c ((s, the_lots) ∷ []) []) m) (sym (ap (λ (x : Order). int_eq x.price.0 price.0) (is ∙ top_order)) ∙ h))
+  pub top_away : (o : Order) (same : Bool) → o ≡ order_of s (live_orders m.book) → same ≡ int_eq o.price.0 price.0 → same ≡ false → m ≡ top rule price m
+  top_away o same is test h =
+      sym (by_price ∙ ap (λ (c : Bool). trade_shares Top (cond c ((s, the_lots) ∷ []) []) m) (sym (ap (λ (x : Order). int_eq x.price.0 price.0) (is ∙ met.live_order)) ∙ sym test ∙ h))

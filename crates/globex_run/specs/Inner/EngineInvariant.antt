@@ -1,6 +1,8 @@
 -- What holds of the book and of the counters, between two messages and within one.
 use Rattle.std.specs.Prelude.{◌≡◌, ℕ, ◌+◌, ◌*◌, ◌^◌, ◌<◌, ◌≤◌, length, slice_index, ◌⊎◌}
 use Rattle.std.specs.List.{AllByRecursion}
+use Rattle.gx_base.specs.declared.limits.TheConstants.{MOST_FIRMS, MOST_LOTS}
+use Rattle.globex_run.specs.declared.engine.TheConstants.{MESSAGE_LIMIT}
 use Rattle.gx_base.specs.declared.order.Desk.{Desk}
 use Rattle.gx_base.specs.declared.order.Order.{Order}
 use Rattle.gx_base.specs.declared.order.Kind.TheVariants.{Limit}
@@ -53,7 +55,7 @@ counter_limit = 2 ^ 62
 
 -- a limit order that may rest, with no least quantity, all of which is shown
 pub record IsPlain (new : NewOrder) : Type 0 where
-  pub firm : new.sender.firm < 64
+  pub firm : new.sender.firm < MOST_FIRMS
   pub kind : new.kind ≡ Limit
   pub life : (new.life ≡ Day) ⊎ (new.life ≡ Gtc)
   pub no_trigger : new.trigger ≡ Absent
@@ -65,7 +67,7 @@ pub record IsOrder (instruments : ℕ) (new : NewOrder) : Type 0 where
   pub plain : IsPlain new
   pub listed : instrument_number new.named < instruments
   pub some : 1 ≤ new.quantity
-  pub small : new.quantity ≤ 999999
+  pub small : new.quantity ≤ MOST_LOTS
 
 -- an order as another one, but for what is filled and what is open
 abbrev pub filled_as : Order → Order → Order
@@ -76,12 +78,12 @@ filled_as now o = record o { filled = now.filled; leaves = now.leaves }
 pub record IsServing (book : Book) (counters : Desk) : Type 0 where
   pub numbered : AreNumbered counters.orders book
   pub counted : counters.orders ≤ counters.messages
-  pub bounded : counters.messages ≤ 10000
+  pub bounded : counters.messages ≤ MESSAGE_LIMIT
   pub counters_fit : HasRoom counters 0 (counters.messages * 2 ^ 38)
 
 -- the same once one more message was counted, and before it is applied
 pub record IsCounting (book : Book) (counters : Desk) : Type 0 where
   pub numbered : AreNumbered counters.orders book
   pub counted : counters.orders + 1 ≤ counters.messages
-  pub bounded : counters.messages ≤ 10000
+  pub bounded : counters.messages ≤ MESSAGE_LIMIT
   pub counters_fit : HasRoom counters 1000000 (counters.messages * 2 ^ 38)

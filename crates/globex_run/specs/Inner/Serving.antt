@@ -12,6 +12,7 @@ use Rattle.globex_run.specs.State.{State, empty_state}
 use Rattle.globex_run.specs.ServedRequests.{is_served_frame, AreServed}
 use Rattle.globex_run.specs.Step.{step_of, state_after, reports_of, lines_of}
 use Rattle.globex_run.specs.Outside.{SourceAt, StationAt, Streams}
+use Rattle.globex_run.specs.declared.engine.TheConstants.{MESSAGE_LIMIT}
 use Rattle.globex_run.specs.declared.serve.Unserved.{Unserved}
 use Rattle.globex_run.specs.declared.serve.Unserved.TheVariants as unserved
 use Rattle.globex_run.specs.declared.serve.Ending.{Ending}
@@ -33,16 +34,16 @@ pub record TakesMore {I F : Type 0} (before after : SourceAt I) (held holds : Fr
 abbrev pub ServesFrame : {S : Type 0} → ProductLists → State → State → StationAt S → StationAt S → List ℕ → Result (Unit {0}) Unserved → Type 0
 ServesFrame product old new before after frame (Ok t) =
     (new ≡ (step_of product old frame).0)
-    × (old.desk.messages < 10000)
+    × (old.desk.messages < MESSAGE_LIMIT)
     × (new.desk.messages ≡ old.desk.messages + 1)
     × IsTrue (is_served_frame product frame)
     × (after.sent ≡ sent_and before.sent (lines_of product (step_of product old frame).1))
     × (after.faults ≡ before.faults)
 ServesFrame product old new before after frame (Err unserved.NotServed) = (new ≡ old) × (after ≡ before) × IsFalse (is_served_frame product frame)
 ServesFrame product old new before after frame (Err unserved.Full) =
-    (new ≡ old) × (after ≡ before) × (10000 ≤ old.desk.messages) × IsTrue (is_served_frame product frame)
+    (new ≡ old) × (after ≡ before) × (MESSAGE_LIMIT ≤ old.desk.messages) × IsTrue (is_served_frame product frame)
 ServesFrame product old new before after frame (Err unserved.SendFailed) =
-    (old.desk.messages < 10000)
+    (old.desk.messages < MESSAGE_LIMIT)
     × (new.desk.messages ≡ old.desk.messages + 1)
     × IsTrue (is_served_frame product frame)
     × IsKnownPrefix after.sent (sent_and before.sent (lines_of product (step_of product old frame).1))

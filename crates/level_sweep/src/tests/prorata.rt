@@ -1,25 +1,19 @@
 //! Levels of orders that are marked with a share of 7 lots: what each gives, and with which share it is marked then.
 ghost use Rattle.std.specs.Prelude.{◌≡◌, ◌<◌, ◌≤◌};
 
-use super::{PRICE, expect_queue, incoming, limit_order, rest};
+use super::{PRICE, expect_queue, incoming, limit_order, rest, rest_all};
 use gx_base::{Desk, NullEmit, Order, Side, Taker};
 use plain_book::{Book, PlainBook};
 use prorata_pass::prorata_pass;
 use std::process::Abort;
 use std::test::Fail;
 
-/// Rests sells, one after the other: number, lots, and how many are shown at a time.
-fn rest_sells<B: Book>(rt: &impl Abort, book: &mut B, sells: &[(u8, u32, u32)])
-    requires one { (B.book book.old).instruments ≡ 1 }
-    ensures { (B.book book.new).instruments ≡ 1 }
-{
-    for (number, quantity, show) in sells {
-        let sell = Order {
-            show: *show,
-            prorated: 7,
-            ..limit_order(rt, *number, Side::Sell, *quantity)
-        };
-        rest(rt, book, sell, None);
+/// A sell that is marked with a share of 7 lots, of which so many lots are shown at a time.
+fn sell(rt: &impl Abort, number: u8, quantity: u32, show: u32) -> Order {
+    Order {
+        show,
+        prorated: 7,
+        ..limit_order(rt, number, Side::Sell, quantity)
     }
 }
 
@@ -37,7 +31,8 @@ fn buy<B: Book>(rt: &impl Abort, book: &mut B, wanted: u32, least: u32) -> (Take
 #[test]
 fn shares_below_the_least_are_none(rt: HostRuntime) -> Result<(), Fail> {
     let mut book = PlainBook::new(rt.alloc(), 4, 1)?;
-    rest_sells(&rt, &mut book, &[(1, 10, 0), (2, 1, 0), (3, 9, 0)]);
+    let sells = [sell(&rt, 1, 10, 0), sell(&rt, 2, 1, 0), sell(&rt, 3, 9, 0)];
+    rest_all(&rt, &mut book, &sells);
     let (taker, desk) = buy(&rt, &mut book, 10, 5);
     assert_eq!(rt; (taker.order.leaves, desk.trades, desk.reports), (5, 1, 2));
     let want = [(1, 5, 5, 5), (2, 1, 1, 0), (3, 9, 9, 0)];
@@ -46,20 +41,14 @@ fn shares_below_the_least_are_none(rt: HostRuntime) -> Result<(), Fail> {
 }
 
 #[test]
-fn shares_are_rounded_down(rt: HostRuntime) -> Result<(), Fail> {
-    let mut book = PlainBook::new(rt.alloc(), 4, 1)?;
-    rest_sells(&rt, &mut book, &[(2, 50, 0), (3, 30, 0), (4, 1, 0)]);
-    let (taker, desk) = buy(&rt, &mut book, 31, 1);
-    assert_eq!(rt; (taker.order.leaves, desk.trades), (1, 2));
-    let want = [(2, 31, 31, 19), (3, 19, 19, 11), (4, 1, 1, 0)];
-    expect_queue(&rt, &book, Side::Sell, PRICE, &want);
-    Ok(())
-}
-
-#[test]
 fn no_more_is_given_than_is_shown(rt: HostRuntime) -> Result<(), Fail> {
     let mut book = PlainBook::new(rt.alloc(), 4, 1)?;
-    rest_sells(&rt, &mut book, &[(1, 100, 10), (2, 10, 0), (3, 30, 20)]);
+    let sells = [
+        sell(&rt, 1, 100, 10),
+        sell(&rt, 2, 10, 0),
+        sell(&rt, 3, 30, 20),
+    ];
+    rest_all(&rt, &mut book, &sells);
     let (taker, desk) = buy(&rt, &mut book, 50, 1);
     assert_eq!(rt; (taker.order.leaves, desk.trades), (10, 3));
     let want = [(1, 90, 10, 10), (3, 10, 10, 20)];
@@ -71,13 +60,13 @@ fn no_more_is_given_than_is_shown(rt: HostRuntime) -> Result<(), Fail> {
 fn the_largest_orders_share(rt: HostRuntime) -> Result<(), Fail> {
     let mut book = PlainBook::new(rt.alloc(), 5, 1)?;
     let sells = [
-        (1, 999_999, 0),
-        (2, 999_999, 0),
-        (3, 999_999, 0),
-        (4, 999_999, 0),
-        (5, 1, 0),
+        sell(&rt, 1, 999_999, 0),
+        sell(&rt, 2, 999_999, 0),
+        sell(&rt, 3, 999_999, 0),
+        sell(&rt, 4, 999_999, 0),
+        sell(&rt, 5, 1, 0),
     ];
-    rest_sells(&rt, &mut book, &sells);
+    rest_all(&rt, &mut book, &sells);
     let (taker, desk) = buy(&rt, &mut book, 999_999, 1);
     assert_eq!(rt; (taker.order.leaves, desk.trades), (3, 4));
     let want = [
@@ -94,7 +83,7 @@ fn the_largest_orders_share(rt: HostRuntime) -> Result<(), Fail> {
 #[test]
 fn where_nothing_is_wanted_no_order_is_marked(rt: HostRuntime) -> Result<(), Fail> {
     let mut book = PlainBook::new(rt.alloc(), 4, 1)?;
-    rest_sells(&rt, &mut book, &[(1, 10, 0)]);
+    rest(&rt, &mut book, sell(&rt, 1, 10, 0), None);
     let (_taker, desk) = buy(&rt, &mut book, 0, 1);
     assert_eq!(rt; desk.trades, 0);
     expect_queue(&rt, &book, Side::Sell, PRICE, &[(1, 10, 10, 7)]);

@@ -3,6 +3,7 @@ use Rattle.std.specs.Prelude.{ℕ, Bool, false, ◌&&◌, List, codes, bytes_eq,
 use Rattle.std.specs.List.{list_any}
 use Rattle.step_config.specs.declared.presets.Letter.{Letter}
 use Rattle.toml.specs.Data.{Data, no_items, get, as_array}
+use Rattle.gx_base.specs.declared.limits.TheConstants.{MOST_LOTS}
 use Rattle.product_file.specs.declared.algorithms.Parameters.{Parameters}
 use Rattle.product_file.specs.declared.faults.ProductFault.{ProductFault}
 use Rattle.product_file.specs.declared.faults.ProductFault.TheVariants.{UnknownLetter}
@@ -33,17 +34,17 @@ has_split (Some value) = list_any is_split (entries_of (unwrap_or (as_array valu
 abbrev pub needs_split : Letter → Data → Bool
 needs_split letter fields = is_configurable letter && has_split (get (word_of Steps) fields)
 
--- what the steps take: 1 and 999,999 lots are the usual limits of TOP, and a percentage of SPLIT that is absent is not used
+-- what the steps take: 1 and MOST_LOTS lots are the usual limits of TOP, and a percentage of SPLIT that is absent is not used
 unfoldable pub parameters_of : List (List ℕ) → Letter → Data → Result Parameters ProductFault
 parameters_of firms letter fields = do
-  min ← number_if false TopMin 1 999999 fields
-  max ← number_if false TopMax 1 999999 fields
-  least ← number_if false Least 1 999999 fields
+  min ← number_if false TopMin 1 MOST_LOTS fields
+  max ← number_if false TopMax 1 MOST_LOTS fields
+  least ← number_if false Least 1 MOST_LOTS fields
   split ← number_if (needs_split letter fields) Split 1 100 fields
   lmm ← shares_of firms fields
   Ok (record {
     preset = record {
-      top = record { min = unwrap_or min 1; max = unwrap_or max 999999 };
+      top = record { min = unwrap_or min 1; max = unwrap_or max MOST_LOTS };
       least = unwrap_or least (usual_least letter);
       lmm = lmm;
     };

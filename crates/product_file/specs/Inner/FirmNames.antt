@@ -3,6 +3,7 @@ use Rattle.std.specs.Prelude.{ℕ, Bool, ◌&&◌, nat_le, List, [], length, map
 use Rattle.std.specs.List.{list_all}
 use Rattle.step_config.specs.Rules.{first_twice_after}
 use Rattle.toml.specs.Data.{Data}
+use Rattle.gx_base.specs.declared.limits.TheConstants.{MOST_FIRMS}
 use Rattle.product_file.specs.declared.faults.ProductFault.{ProductFault}
 use Rattle.product_file.specs.declared.faults.ProductFault.TheVariants.{Range, Twice}
 use Rattle.product_file.specs.declared.faults.Key.TheVariants.{Firms}
@@ -11,9 +12,9 @@ use Rattle.product_file.specs.Rows.{is_text}
 use Rattle.product_file.specs.Ranges.{is_firm_name}
 use Rattle.product_file.specs.Inner.Keys.{◌>>=◌, where_passes, needed, array_of}
 
--- 1 to 64 names of firms
+-- 1 to MOST_FIRMS names of firms
 abbrev pub are_firm_names : List (List ℕ) → Bool
-are_firm_names texts = nat_le 1 (length texts) && nat_le (length texts) 64 && list_all is_firm_name texts
+are_firm_names texts = nat_le 1 (length texts) && nat_le (length texts) MOST_FIRMS && list_all is_firm_name texts
 
 abbrev pub firm_names : List Data → Result (List (List ℕ)) ProductFault
 firm_names entries = where_passes are_firm_names (Range Firms) (map text_in entries)

@@ -3,6 +3,8 @@ use Rattle.std.specs.Prelude.{ℕ, pos, nat_le, ◌&&◌, if◌then◌else◌, L
 use Rattle.std.specs.List.{list_any}
 use Rattle.gx_base.specs.declared.names.Listed.{Listed}
 use Rattle.toml.specs.Data.{Data}
+use Rattle.gx_base.specs.declared.limits.TheConstants.{MOST_INSTRUMENTS, MOST_DECIMALS}
+use Rattle.product_file.specs.declared.limits.TheConstants.{MOST_TICK, MOST_PROTECTION}
 use Rattle.product_file.specs.declared.instruments.Instruments.{Instruments}
 use Rattle.product_file.specs.declared.product.InstrumentRule.{InstrumentRule}
 use Rattle.product_file.specs.declared.faults.ProductFault.{ProductFault}
@@ -24,14 +26,14 @@ new_name_of earlier fields = do
 unfoldable pub listed_of : List Listed → Data → Result Listed ProductFault
 listed_of earlier fields = do
   name ← new_name_of earlier fields
-  decimals ← needed_number Decimals 0 8 fields
+  decimals ← needed_number Decimals 0 MOST_DECIMALS fields
   Ok (record { name = name; decimals = decimals })
 
 -- the algorithm, what its steps take, and last its list of steps
 unfoldable pub rule_of : List (List ℕ) → Data → Result InstrumentRule ProductFault
 rule_of firms fields = do
-  tick ← needed_number Tick 1 1000000 fields
-  protection ← needed_number Protection 0 10000 fields
+  tick ← needed_number Tick 1 MOST_TICK fields
+  protection ← needed_number Protection 0 MOST_PROTECTION fields
   letter ← algorithm_of fields
   parameters ← parameters_of firms letter fields
   names ← step_names_of letter fields
@@ -50,11 +52,11 @@ instruments_after firms earlier (fields ∷ rest) = do
   rule ← rule_of firms fields
   instruments_after firms (record { listed = earlier.listed ++ listed ∷ []; rules = earlier.rules ++ rule ∷ [] }) rest
 
--- the tables of the instruments, of which there are 1 to 16
+-- the tables of the instruments, of which there are 1 to MOST_INSTRUMENTS
 unfoldable pub tables_of : Data → Result (List Data) ProductFault
 tables_of document = do
   tables ← needed Instrument (array_of is_table) document
-  where_passes (λ (ts : List Data). nat_le 1 (length ts) && nat_le (length ts) 16) (fault.Range Instrument) tables
+  where_passes (λ (ts : List Data). nat_le 1 (length ts) && nat_le (length ts) MOST_INSTRUMENTS) (fault.Range Instrument) tables
 
 -- the instruments that a document lists
 unfoldable pub instruments_of : List (List ℕ) → Data → Result InstrumentLists ProductFault

@@ -4,6 +4,7 @@ use Rattle.arrayvec.specs.ArrayVec.{ArrayVec}
 use Rattle.gx_base.specs.declared.order.LmmShare.{LmmShare}
 use Rattle.step_config.specs.Rules.{has_firm}
 use Rattle.toml.specs.Data.{Data}
+use Rattle.step_config.specs.declared.step.TheConstants.{MOST_SHARES}
 use Rattle.product_file.specs.declared.faults.ProductFault.{ProductFault}
 use Rattle.product_file.specs.declared.faults.ProductFault.TheVariants.{Range, Twice, UnknownFirm}
 use Rattle.product_file.specs.declared.faults.Key.TheVariants.{Lmm, LmmFirm, LmmPercent}
@@ -29,9 +30,9 @@ abbrev pub shares_after : List (List ℕ) → List LmmShare → List Data → Re
 shares_after firms earlier [] = Ok (record { items = earlier })
 shares_after firms earlier (entry ∷ rest) = share_of firms earlier entry >>= λ share. shares_after firms (earlier ++ share ∷ []) rest
 
--- the shares of an instrument, of which there are at most 8, and none where the key is absent
+-- the shares of an instrument, of which there are at most MOST_SHARES, and none where the key is absent
 unfoldable pub shares_of : List (List ℕ) → Data → Result (ArrayVec LmmShare) ProductFault
 shares_of firms fields = do
   entries ← array_if false is_table Lmm fields
-  few ← where_passes (λ (es : List Data). nat_le (length es) 8) (Range Lmm) entries
+  few ← where_passes (λ (es : List Data). nat_le (length es) MOST_SHARES) (Range Lmm) entries
   shares_after firms [] few

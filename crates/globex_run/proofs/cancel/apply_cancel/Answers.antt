@@ -1,6 +1,6 @@
 use Rattle.std.proofs.Common.{List, option_map, refl, sym, ap, subst, ◌∙◌}
 use Rattle.gx_base.specs.declared.event.Event.{Event}
-use Rattle.gx_base.proofs.Putting.{emits_as}
+use Rattle.gx_base.specs.EmitLaws.{emits_as}
 use Rattle.plain_book.specs.Book.{live_orders, slot_number}
 use Rattle.plain_book.specs.Numbers.{book_numbered}
 use Rattle.globex_run.specs.State.{State}

@@ -3,7 +3,7 @@ use Rattle.gx_base.specs.declared.order.Order.{Order}
 use Rattle.gx_base.specs.declared.event.Head.{Head}
 use Rattle.gx_base.specs.declared.event.Event.TheVariants.{Cancelled}
 use Rattle.gx_base.specs.declared.event.Cause.TheVariants.{Asked}
-use Rattle.gx_base.proofs.Putting.{emits_as, emits_one}
+use Rattle.gx_base.specs.EmitLaws.{emits_as, emits_one}
 use Rattle.globex_run.specs.Cancels.{closed, order_cancelled}
 use Rattle.globex_run.proofs.cancel.cancel_order.Goals as goal
 

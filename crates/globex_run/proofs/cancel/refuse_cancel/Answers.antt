@@ -2,7 +2,7 @@ use Rattle.std.proofs.Common.{[], ◌∷◌, false, ap}
 use Rattle.gx_base.specs.declared.event.Head.{Head}
 use Rattle.gx_base.specs.declared.event.Event.TheVariants.{RefusedChange}
 use Rattle.gx_base.specs.declared.event.ChangeFault.TheVariants.{Unknown}
-use Rattle.gx_base.proofs.Putting.{emits_as, emits_one}
+use Rattle.gx_base.specs.EmitLaws.{emits_as, emits_one}
 use Rattle.globex_run.proofs.cancel.refuse_cancel.Goals as goal
 
 pub returns-clause-emits : goal.returns-clause-emits

@@ -1,7 +1,7 @@
 use Rattle.std.proofs.Common.{[], ◌∷◌, ap}
 use Rattle.gx_base.specs.declared.event.Head.{Head}
 use Rattle.gx_base.specs.declared.event.Event.TheVariants.{RefusedSession}
-use Rattle.gx_base.proofs.Putting.{emits_as, emits_one}
+use Rattle.gx_base.specs.EmitLaws.{emits_as, emits_one}
 use Rattle.globex_run.proofs.cancel.refuse_message.Goals as goal
 
 pub returns-clause-emits : goal.returns-clause-emits

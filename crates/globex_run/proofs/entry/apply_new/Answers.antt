@@ -1,6 +1,6 @@
 use Rattle.std.proofs.Common.{◌≡◌, None, Some, ◌∙◌, ℕ, ◌+◌, ◌*◌, ◌^◌, List, refl, sym, ap, subst, arith}
 use Rattle.gx_base.specs.declared.event.Event.{Event}
-use Rattle.gx_base.proofs.Putting.{emits_as}
+use Rattle.gx_base.specs.EmitLaws.{emits_as}
 use Rattle.step_config.specs.declared.step.Step.{Step}
 use Rattle.globex_run.specs.State.{State}
 use Rattle.globex_run.specs.NewOrders.{new_fault, new_of, state_in}

@@ -1,5 +1,5 @@
 use Rattle.std.proofs.Common.{◌≡◌, ◌-◌, ℕ, subst, arith}
-use Rattle.gx_base.proofs.Putting.{emits_as, emits_joined, emits_one}
+use Rattle.gx_base.specs.EmitLaws.{emits_as, emits_joined, emits_one}
 use Rattle.globex_run.specs.Inner.EngineInvariant.{AreNumbered}
 use Rattle.globex_run.proofs.Counters.{room-matched}
 use Rattle.globex_run.proofs.Entered.{IsAccepted, accepted-room, accepted-can, accepted-number, entered-state, entered-events}

@@ -2,7 +2,7 @@ use Rattle.std.proofs.Common.{[], ◌∷◌, ap, ◌∙◌}
 use Rattle.gx_base.specs.declared.event.Head.{Head}
 use Rattle.gx_base.specs.declared.event.NewRefused.{NewRefused}
 use Rattle.gx_base.specs.declared.event.Event.TheVariants.{RefusedNew}
-use Rattle.gx_base.proofs.Putting.{emits_as, emits_one}
+use Rattle.gx_base.specs.EmitLaws.{emits_as, emits_one}
 use Rattle.globex_run.specs.NewOrders.{refused_of}
 use Rattle.globex_run.proofs.entry.refuse_new.Goals as goal
 

@@ -1,7 +1,7 @@
 use Rattle.std.proofs.Common.{◌≤◌, ◌+◌, ◌*◌, ℕ, sym, ap, subst, ◌∙◌, arith}
 use Rattle.fix_frame.specs.Framing.{Framing}
-use Rattle.fix_frame.proofs.Fronts.{unfinished_front}
-use Rattle.fix_frame.proofs.Streams.{messages_of-unfinished, messages_of-refused}
+use Rattle.fix_frame.specs.FrontLaws.{unfinished_front}
+use Rattle.fix_frame.specs.StreamLaws.{messages_of-unfinished, messages_of-refused}
 use Rattle.globex_run.specs.Outside.{source_at, station_at, streams_at}
 use Rattle.globex_run.proofs.Running.{served-next, served-read, place-next}
 use Rattle.globex_run.proofs.Ends.{ends-done, ends-read_fault, ends-truncated, ends-broken, ends-stopped}

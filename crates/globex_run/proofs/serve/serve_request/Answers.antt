@@ -3,7 +3,8 @@ use Rattle.std.specs.List.{flat_map}
 use Rattle.gx_base.specs.NameLists.{NameLists}
 use Rattle.gx_base.specs.Line.{line_of}
 use Rattle.globex_run.specs.Step.{with_message, request_step}
-use Rattle.exec_report.proofs.Sent.{delivered, sends_to, sends_as}
+use Rattle.gx_station.specs.SendLaws.{sends_to, sends_as}
+use Rattle.exec_report.specs.OutgoingLaws.{delivered}
 use Rattle.globex_run.proofs.serve.serve_request.Goals as goal
 
 pub returns-clause-sends : goal.returns-clause-sends

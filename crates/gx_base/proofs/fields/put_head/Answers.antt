@@ -1,5 +1,6 @@
 use Rattle.std.proofs.Common.{ℕ, ◌+◌, ◌-◌, List, take, decimal, ◌∙◌, ap, arith}
 use Rattle.gx_base.specs.Frames.{head_of}
+use Rattle.gx_base.specs.declared.fields.TheConstants.{GAP}
 use Rattle.gx_base.proofs.Framing.{head_fills, body_moved}
 use Rattle.gx_base.proofs.fields.put_head.Goals as goal
 use Rattle.gx_base.proofs.fields.put_head.Goals.{then-at-lt-GAP, else-at-lt-GAP}
@@ -8,8 +9,8 @@ pub returns-clause-head : goal.returns-clause-head
 returns-clause-head c =
     let old : List ℕ = c.args.into.now in
     let new : List ℕ = c.head_fields-at.new.into in
-    let head : List ℕ = head_of (decimal (c.args.end - 16)) in
-    let taken = λ (l : List ℕ). take (c.head_fields-at.result + (c.args.end - 16)) l in
+    let head : List ℕ = head_of (decimal (c.args.end - GAP)) in
+    let taken = λ (l : List ℕ). take (c.head_fields-at.result + (c.args.end - GAP)) l in
     elim c.if-at-lt-GAP.branch [
       | then-at-lt-GAP w ↦
           ap taken (w.into-is ∙ w.copy_within.ensures.after)

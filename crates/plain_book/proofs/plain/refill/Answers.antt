@@ -1,6 +1,6 @@
 use Rattle.std.proofs.Common.{◌≤◌, ◌+◌, List, ℕ, sym, subst, arith}
 use Rattle.std.specs.Prelude.{vec_capacity}
-use Rattle.plain_book.specs.Keeping.{IsFreeList}
+use Rattle.plain_book.specs.Inner.FreeSlots.{IsFreeList}
 use Rattle.plain_book.proofs.Kept.{free_list-more}
 use Rattle.plain_book.proofs.plain.refill.Goals as goal
 

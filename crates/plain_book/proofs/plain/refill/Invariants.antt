@@ -1,6 +1,6 @@
 use Rattle.std.proofs.Common.{◌≤◌}
 use Rattle.std.specs.Prelude.{vec_capacity}
-use Rattle.plain_book.specs.Keeping.{IsFreeList}
+use Rattle.plain_book.specs.Inner.FreeSlots.{IsFreeList}
 use Rattle.plain_book.proofs.plain.refill.Given as goal
 
 abbrev pub invariant-loop-slot : goal.invariant-loop-slot

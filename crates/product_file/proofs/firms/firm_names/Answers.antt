@@ -1,6 +1,7 @@
 use Rattle.std.proofs.Common.{◌≡◌, ◌+◌, Bool, true, false, ◌&&◌, cond, nat_le, length, map, drop, sym, ap, ◌∙◌, refl}
 use Rattle.std.specs.List.{list_all}
 use Rattle.toml.specs.View.{view}
+use Rattle.gx_base.specs.declared.limits.TheConstants.{MOST_FIRMS}
 use Rattle.product_file.specs.Values.{text_in}
 use Rattle.product_file.specs.Ranges.{is_firm_name}
 use Rattle.product_file.proofs.Mapped.{drop-mapped_twice, take-mapped_twice}
@@ -24,7 +25,7 @@ returns-in-None c =
     let here = drop-mapped_twice text_in view c.args.entries.now i value c.loop-entry-test.true c.entry-item.is in
     let fault = fails (is_firm_name (text_in (view value))) c.in-None.ensures in
     let all : list_all is_firm_name texts ≡ false = c.loop-entry.invariant.rest ∙ ap (list_all is_firm_name) here ∙ ap (λ (b : Bool). b && list_all is_firm_name (drop (i + 1) texts)) fault in
-    sym (last_fails (nat_le 1 (length texts)) (nat_le (length texts) 64) (list_all is_firm_name texts) _ _ all)
+    sym (last_fails (nat_le 1 (length texts)) (nat_le (length texts) MOST_FIRMS) (list_all is_firm_name texts) _ _ all)
 
 pub loop-entry-preserved : goal.loop-entry-preserved
 loop-entry-preserved c =

@@ -2,8 +2,8 @@ use Rattle.std.proofs.Common.{◌≡◌, ℕ, ◌+◌, ◌-◌, ◌≤◌, List,
 use Rattle.fix_frame.specs.Grammar.{IsFrame, IsUnfinished, IsRefused}
 use Rattle.fix_frame.specs.Stream.{rest_of}
 use Rattle.fix_frame.specs.Framing.{Framing, GivesFrame}
-use Rattle.fix_frame.proofs.Fronts.{unfinished_short}
-use Rattle.fix_frame.proofs.Streams.{rest_of-push}
+use Rattle.fix_frame.specs.FrontLaws.{unfinished_short}
+use Rattle.fix_frame.specs.StreamLaws.{rest_of-push}
 use Rattle.fix_frame.proofs.Scanning.{scan_of_none}
 use Rattle.fix_frame.proofs.Framings.{framing, gives_frame, can_be_lent, take-push, length-slice_range}
 use Rattle.fix_frame.proofs.framer.Framer.next.Goals as goal

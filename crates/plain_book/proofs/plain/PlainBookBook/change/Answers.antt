@@ -4,7 +4,7 @@ use Rattle.gx_base.specs.declared.order.Order.{Order}
 use Rattle.plain_book.specs.declared.entry.Entry.{Entry}
 use Rattle.plain_book.specs.Orders.{HasSlot, order_of, is_live, with_order}
 use Rattle.plain_book.specs.Book.{Book, live_orders, changed_to}
-use Rattle.plain_book.specs.Keeping.{book_of, IsKept}
+use Rattle.plain_book.specs.Inner.FreeSlots.{book_of, IsKept}
 use Rattle.plain_book.proofs.Kept.{kept-changed}
 use Rattle.plain_book.proofs.plain.PlainBookBook.change.Goals as goal
 

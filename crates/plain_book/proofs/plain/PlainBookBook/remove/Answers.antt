@@ -3,7 +3,7 @@ use Rattle.std.specs.Prelude.{vec_capacity}
 use Rattle.plain_book.specs.declared.entry.Entry.{Entry}
 use Rattle.plain_book.specs.Orders.{HasSlot, without}
 use Rattle.plain_book.specs.Book.{Book, live_orders}
-use Rattle.plain_book.specs.Keeping.{book_of, IsKept}
+use Rattle.plain_book.specs.Inner.FreeSlots.{book_of, IsKept}
 use Rattle.plain_book.proofs.Kept.{kept-without}
 use Rattle.plain_book.proofs.plain.PlainBookBook.remove.Goals as goal
 

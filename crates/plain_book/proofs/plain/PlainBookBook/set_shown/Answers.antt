@@ -4,7 +4,7 @@ use Rattle.gx_base.specs.declared.order.Order.{Order}
 use Rattle.plain_book.specs.declared.entry.Entry.{Entry}
 use Rattle.plain_book.specs.Orders.{HasSlot, order_of, with_order}
 use Rattle.plain_book.specs.Book.{Book, IsResting}
-use Rattle.plain_book.specs.Keeping.{book_of, IsKept}
+use Rattle.plain_book.specs.Inner.FreeSlots.{book_of, IsKept}
 use Rattle.plain_book.proofs.Live.{fit_of}
 use Rattle.plain_book.proofs.Kept.{kept-with_order, fit-shown}
 use Rattle.plain_book.proofs.plain.PlainBookBook.set_shown.Goals as goal

@@ -3,7 +3,7 @@ use Rattle.std.specs.Prelude.{vec_capacity}
 use Rattle.std.specs.Option.{option_map}
 use Rattle.plain_book.specs.declared.entry.Entry.{Entry}
 use Rattle.plain_book.specs.Book.{Book, CanBeTop, slot_number}
-use Rattle.plain_book.specs.Keeping.{book_of, IsKept}
+use Rattle.plain_book.specs.Inner.FreeSlots.{book_of, IsKept}
 use Rattle.plain_book.proofs.Kept.{kept-marked}
 use Rattle.plain_book.proofs.plain.PlainBookBook.set_top.Goals as goal
 

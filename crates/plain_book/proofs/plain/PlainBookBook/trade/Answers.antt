@@ -3,7 +3,7 @@ use Rattle.std.specs.Prelude.{vec_capacity}
 use Rattle.plain_book.specs.declared.entry.Entry.{Entry}
 use Rattle.plain_book.specs.Orders.{HasSlot, order_of, traded}
 use Rattle.plain_book.specs.Book.{Book, IsResting}
-use Rattle.plain_book.specs.Keeping.{book_of, IsKept}
+use Rattle.plain_book.specs.Inner.FreeSlots.{book_of, IsKept}
 use Rattle.plain_book.proofs.Levels.{AllDiffer-front}
 use Rattle.plain_book.proofs.Live.{fit_of}
 use Rattle.plain_book.proofs.Right.{length-without, length-front}

@@ -3,7 +3,7 @@ use Rattle.std.specs.Prelude.{vec_capacity}
 use Rattle.plain_book.specs.declared.entry.Entry.{Entry}
 use Rattle.plain_book.specs.Orders.{HasSlot, is_live}
 use Rattle.plain_book.specs.Book.{Book, live_orders, IsFitToWait}
-use Rattle.plain_book.specs.Keeping.{book_of, IsKept, AreFree}
+use Rattle.plain_book.specs.Inner.FreeSlots.{book_of, IsKept, AreFree}
 use Rattle.plain_book.proofs.Kept.{kept-waited, free-last}
 use Rattle.plain_book.proofs.plain.PlainBookBook.wait.Goals as goal
 

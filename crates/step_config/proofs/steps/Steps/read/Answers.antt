@@ -1,5 +1,5 @@
 use Rattle.std.proofs.Common.{sym, ◌∙◌}
-use Rattle.step_config.proofs.FewSteps.{few_steps}
+use Rattle.step_config.proofs.NoFault.{few_steps}
 use Rattle.step_config.proofs.steps.Steps.read.Goals as goal
 
 pub copy_steps-requires : goal.copy_steps-requires

@@ -1,0 +1,77 @@
+-- How runs of puts go together.
+use Rattle.std.proofs.Common.{◌≡◌, inl, inr, ℕ, ◌+◌, ◌≤◌, List, [], ◌∷◌, ◌++◌, length, take, Option, Some, None, refl, sym, ◌∙◌, ap, subst, arith, length-append}
+use Rattle.std.proofs.lemmas.Bool.{cases_Bool, true≢false}
+use Rattle.std.proofs.lemmas.List.{take-append-le}
+use Rattle.std.proofs.lemmas.List.Sums.{fold-append}
+use Rattle.std.proofs.Math.Seq.{take-append-add}
+use Rattle.std.specs.Option.{option_map}
+use Rattle.gx_base.specs.KnownBytes.{IsKnownPrefix, known_itself}
+use Rattle.gx_base.specs.Emits.{EmitMeanings, Puts, Emits, seen_after}
+use Rattle.gx_base.specs.declared.event.Event.{Event}
+
+-- no event leaves what is seen
+pub seen_after_none : (f : List ℕ → Event → List ℕ) (s : Option (List ℕ)) → seen_after f s [] ≡ s
+seen_after_none f None = refl
+seen_after_none f (Some a) = refl
+
+pub seen_after-append : (f : List ℕ → Event → List ℕ) (s : Option (List ℕ)) (xs ys : List Event) → seen_after f s (xs ++ ys) ≡ seen_after f (seen_after f s xs) ys
+seen_after-append f None xs ys = refl
+seen_after-append f (Some a) xs ys = ap Some (fold-append f a xs ys)
+
+pub seen_after_one : (f : List ℕ → Event → List ℕ) (s : Option (List ℕ)) (x : Event) → option_map (λ a. f a x) s ≡ seen_after f s (x ∷ [])
+seen_after_one f None x = refl
+seen_after_one f (Some a) x = refl
+
+module _ {E : Type 0} (m : EmitMeanings E) where
+  -- nothing was put
+  pub emits_none : (a : E) → Emits m a a []
+  emits_none a = record {
+    later = m.later_itself a;
+    all = λ _. sym (seen_after_none (m.after a) (m.seen a));
+    part = λ _. (0, omega arith, subst (λ s. IsKnownPrefix (m.seen a) s) (sym (seen_after_none (m.after a) (m.seen a))) (known_itself (m.seen a)));
+    stays = λ failed. refl;
+  }
+
+  pub emits_one : (a b : E) (x : Event) → Puts m a b x → Emits m a b (x ∷ [])
+  emits_one a b x put = record {
+    later = put.later;
+    all = λ ok. put.done ok ∙ seen_after_one (m.after a) (m.seen a) x;
+    part = λ failed. elim (cases_Bool (m.has_failed a)) [
+      | inl was ↦ (0, omega arith, subst (λ s. IsKnownPrefix (m.seen b) s) (ap m.seen (put.stays was) ∙ sym (seen_after_none (m.after a) (m.seen a))) (known_itself (m.seen b)))
+      | inr was_not ↦ (1, omega arith, subst (λ s. IsKnownPrefix (m.seen b) s) (seen_after_one (m.after a) (m.seen a) x) (put.cut was_not failed))
+    ];
+    stays = put.stays;
+  }
+
+  -- some events, and then some more
+  pub emits_joined : (a b c : E) (xs ys : List Event) → Emits m a b xs → Emits m b c ys → Emits m a c (xs ++ ys)
+  emits_joined a b c xs ys first second = record {
+    later = m.later_then a b c first.later second.later;
+    all = λ ok. elim (cases_Bool (m.has_failed b)) [
+      | inl was ↦ absurd (true≢false (sym (ap m.has_failed (second.stays was) ∙ was) ∙ ok))
+      | inr was_not ↦ second.all ok ∙ ap (λ f. seen_after f (m.seen b) ys) same_rule ∙ ap (λ s. seen_after (m.after a) s ys) (first.all was_not) ∙ sym (seen_after-append (m.after a) (m.seen a) xs ys)
+    ];
+    part = λ failed. elim (cases_Bool (m.has_failed b)) [
+      | inl was ↦
+          let p = first.part was in
+          let lt : p.0 ≤ length (xs ++ ys) = omega (arith, p.1, length-append xs ys) in
+          let front : take p.0 (xs ++ ys) ≡ take p.0 xs = take-append-le p.0 xs ys p.1 in
+          (p.0, lt, subst (λ s. IsKnownPrefix s (seen_after (m.after a) (m.seen a) (take p.0 (xs ++ ys)))) (ap m.seen (sym (second.stays was))) (subst (λ (l : List Event). IsKnownPrefix (m.seen b) (seen_after (m.after a) (m.seen a) l)) (sym front) p.2))
+      | inr was_not ↦
+          let p = second.part failed in
+          let lt : length xs + p.0 ≤ length (xs ++ ys) = omega (arith, p.1, length-append xs ys) in
+          let whole : seen_after (m.after b) (m.seen b) (take p.0 ys) ≡ seen_after (m.after a) (m.seen a) (take (length xs + p.0) (xs ++ ys)) =
+          ap (λ f. seen_after f (m.seen b) (take p.0 ys)) same_rule ∙ ap (λ s. seen_after (m.after a) s (take p.0 ys)) (first.all was_not) ∙ sym (seen_after-append (m.after a) (m.seen a) xs (take p.0 ys)) ∙ ap (λ (l : List Event). seen_after (m.after a) (m.seen a) l) (sym (take-append-add xs ys p.0)) in
+          (length xs + p.0, lt, subst (λ s. IsKnownPrefix (m.seen c) s) whole p.2)
+    ];
+    stays = λ was.
+        let p = first.stays was in
+        let q = second.stays (ap m.has_failed p ∙ was) in
+        q ∙ p;
+  }
+    where
+      same_rule : m.after b ≡ m.after a
+      same_rule = m.after_stays a b first.later
+
+  pub emits_as : (a b : E) (xs ys : List Event) → xs ≡ ys → Emits m a b xs → Emits m a b ys
+  emits_as a b xs ys same run = subst (λ (l : List Event). Emits m a b l) same run

@@ -1,8 +1,0 @@
-use Rattle.level_sweep.proofs.Marked.{top-swept, top-left}
-use Rattle.level_sweep.proofs.laws.nobody_inherits_top.Goals as goal
-
-pub returns-clause-swept : goal.returns-clause-swept
-returns-clause-swept c = λ steps limit m i d s r h. top-swept steps limit m i d s r h
-
-pub returns-clause-left : goal.returns-clause-left
-returns-clause-left c = λ b gone i d s r h. top-left b gone i d s r h

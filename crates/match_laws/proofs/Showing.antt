@@ -1,0 +1,70 @@
+-- Each resting order shows some of its lots. Any trade keeps that, so a whole match does.
+use Rattle.std.proofs.Common.{◌≡◌, ◌≢◌, ℕ, ◌-◌, ◌≤◌, List, ap, arith}
+use Rattle.gx_base.specs.declared.order.Order.{Order}
+use Rattle.gx_base.specs.declared.price.Price.{Price}
+use Rattle.step_config.specs.declared.step.Step.{Step}
+use Rattle.plain_book.specs.declared.entry.Entry.{Entry}
+use Rattle.plain_book.specs.Orders.{refreshed, filled_by}
+use Rattle.plain_book.specs.Book.{Book, IsRight, IsResting}
+use Rattle.plain_book.specs.Match.{MatchState}
+use Rattle.plain_book.specs.Steps.{trade_head}
+use Rattle.plain_book.proofs.Pairs.{all-with}
+use Rattle.plain_book.proofs.Live.{AllOrders}
+use Rattle.level_sweep.specs.Sweep.{wanted_step, level_match}
+use Rattle.level_sweep.proofs.EachTrade.{Relation, IsKept, each-head, each-wanted, each-match}
+use Rattle.level_sweep.proofs.EachOrder.{StaysTrue, all-kept}
+use Rattle.match_laws.proofs.Standing.{IsInOrder, order-kept, right-in-order}
+
+-- an order shows at least one lot, and all that is open where it shows no part
+abbrev pub IsShowing : Order → Type 0
+IsShowing o = (1 ≤ o.shown) × (o.show ≡ 0 → o.shown ≡ o.leaves)
+
+abbrev EntryShows : Entry → Type 0
+EntryShows e = IsShowing e.order
+
+-- each order shows some of its lots, and the orders are in book order
+pub record AreShowing (es : List Entry) : Type 0 where
+  pub each : AllOrders IsShowing es
+  pub in_order : IsInOrder es
+
+show-back : (n : ℕ) (o : Order) → IsShowing o → o.leaves - n ≢ 0 → o.shown - n ≡ 0 → IsShowing (refreshed (filled_by n o))
+show-back n o h a b =
+    let hidden : o.show ≢ 0 = λ e. (let u = h.1 e in omega (arith, u, a, b)) in
+    (omega (arith, hidden, a), λ e. absurd (hidden e))
+
+show-stays : (n : ℕ) (o : Order) → IsShowing o → o.shown - n ≢ 0 → IsShowing (filled_by n o)
+show-stays n o h b = (omega (arith, b), λ e. ap (λ (k : ℕ). k - n) (h.1 e))
+
+shows : StaysTrue EntryShows
+shows = record {
+  fills = λ n e x p q is some. show-stays n e.order p some;
+  refreshes = λ n e p some none. show-back n e.order p some none;
+  marks = λ n e x p q is. p;
+}
+
+abbrev ShowingStays : Relation
+ShowingStays a b = AreShowing a.book.resting → AreShowing b.book.resting
+
+showing : IsKept ShowingStays
+showing = record {
+  same = λ m a. a;
+  both = λ a b c h k x. k (h x);
+  trades = λ step s n m a. record { each = (all-kept EntryShows shows).trades step s n m a.each; in_order = order-kept.trades step s n m a.in_order };
+  marks = λ s n m a. record { each = (all-kept EntryShows shows).marks s n m a.each; in_order = order-kept.marks s n m a.in_order };
+}
+
+pub showing-head : (es : List Entry) (m : MatchState) → AreShowing m.book.resting → AreShowing (trade_head es m).book.resting
+showing-head es m a = each-head ShowingStays showing es m a
+
+pub showing-wanted : (s : Step) (price : Price) (m : MatchState) → AreShowing m.book.resting → AreShowing (wanted_step s price m).book.resting
+showing-wanted s price m a = each-wanted ShowingStays showing s price m a
+
+pub showing-match : (steps : List Step) (price : Price) (m : MatchState) → AreShowing m.book.resting → AreShowing (level_match steps price m).book.resting
+showing-match steps price m a = each-match ShowingStays showing steps price m a
+
+-- a right book
+pub showing-right : (b : Book) → IsRight b → AreShowing b.resting
+showing-right b r = record {
+  each = all-with (λ (e : Entry). IsResting b.instruments e.order) EntryShows (λ e h. (h.showing, h.unhidden)) b.resting r.rest;
+  in_order = right-in-order b r;
+}
