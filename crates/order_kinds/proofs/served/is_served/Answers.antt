@@ -1,0 +1,2 @@
+use Rattle.order_kinds.proofs.NumberingSteps.{step-same}
+use Rattle.order_kinds.proofs.served.is_served.Goals as goal
