@@ -31,8 +31,8 @@ finished-same name steps m =
     let rested : taker_rested o.number steps (match_numbered m) ≡ match_numbered (taker_rested name steps m) =
     ap (λ (b : Book). record m { book = b }) (placed-same name o (top_min_of steps) m.book) in
     let go : (none rests : Bool)
-        → cond none (match_numbered m) (cond rests (taker_rested o.number steps (match_numbered m)) (taker_cancelled cause.Fak (match_numbered m)))
-        ≡ match_numbered (cond none m (cond rests (taker_rested name steps m) (taker_cancelled cause.Fak m))) = elim [
+    → cond none (match_numbered m) (cond rests (taker_rested o.number steps (match_numbered m)) (taker_cancelled cause.Fak (match_numbered m)))
+    ≡ match_numbered (cond none m (cond rests (taker_rested name steps m) (taker_cancelled cause.Fak m))) = elim [
       | true ↦ λ rests. refl
       | false ↦ elim [ true ↦ rested | false ↦ refl ]
     ] in go (m.taker.order.leaves == 0) (may_rest m.taker.order.life)
@@ -53,8 +53,8 @@ entered-same name steps m d n =
     ∙ ap (λ (x : ℕ). finished x steps (match_numbered end)) (sym (swept-number steps limit m))
     ∙ finished-same name steps end in
     let go : (few : Bool)
-        → cond few (taker_cancelled cause.MinQty (match_numbered m)) (finished k steps (sweep steps limit (match_numbered m)))
-        ≡ match_numbered (cond few (taker_cancelled cause.MinQty m) (finished name steps end)) = elim [ true ↦ refl | false ↦ swept ] in
+    → cond few (taker_cancelled cause.MinQty (match_numbered m)) (finished k steps (sweep steps limit (match_numbered m)))
+    ≡ match_numbered (cond few (taker_cancelled cause.MinQty m) (finished name steps end)) = elim [ true ↦ refl | false ↦ swept ] in
     ap (λ (x : ℕ). cond (nat_lt x m.taker.order.min) (taker_cancelled cause.MinQty (match_numbered m)) (finished k steps (sweep steps limit (match_numbered m)))) least
     ∙ go (nat_lt (open_for m) m.taker.order.min)
 

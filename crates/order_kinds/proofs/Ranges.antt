@@ -48,7 +48,7 @@ in-range : (tick : ℕ) (price : ℤ) → unsigned_abs (within_range tick price)
 in-range tick price =
     let greatest = MOST_PRICE_UNITS / tick * tick in
     let go : (above below : Bool) → int_lt (pos MOST_PRICE_UNITS) price ≡ above → int_lt price (neg_ℤ (pos MOST_PRICE_UNITS)) ≡ below
-        → unsigned_abs (cond above (greatest_price tick) (cond below (neg_ℤ (greatest_price tick)) price)) ≤ MOST_PRICE_UNITS = elim [
+    → unsigned_abs (cond above (greatest_price tick) (cond below (neg_ℤ (greatest_price tick)) price)) ≤ MOST_PRICE_UNITS = elim [
       | true ↦ λ below a b. div-mul-le_self MOST_PRICE_UNITS tick
       | false ↦ elim [
         | true ↦ λ a b. subst (λ (n : ℕ). n ≤ MOST_PRICE_UNITS) (sym (abs-neg greatest)) (div-mul-le_self MOST_PRICE_UNITS tick)
