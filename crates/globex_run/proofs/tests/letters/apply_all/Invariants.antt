@@ -1,4 +1,4 @@
-use Rattle.globex_run.specs.Inner.EngineInvariant.{FitsProduct}
+use Rattle.order_kinds.specs.Cores.{FitsProduct, AreNumbered}
 use Rattle.globex_run.proofs.tests.letters.apply_all.Given as goal
 
 abbrev pub invariant-loop-message : goal.invariant-loop-message
