@@ -118,10 +118,12 @@ fn serve_frame<B: Book, S: Station>(
     frame: &[u8],
 ) -> Result<(), Unserved>
     requires frame { IsFrame frame.now }
+    requires bound { core.old.desk.messages ≤ MESSAGE_LIMIT }
     requires fits { FitsProduct product.now core.old }
     requires numbered { AreNumbered core.old }
     requires empty { buffer.old ≡ [] }
     ensures served { ServesFrame product.now (state_numbered core.old) (state_numbered core.new) (station_at S.meanings station.old) (station_at S.meanings station.new) frame.now result }
+    ensures bound { core.new.desk.messages ≤ MESSAGE_LIMIT }
     ensures fits { FitsProduct product.now core.new }
     ensures numbered { AreNumbered core.new }
     ensures empty { OnOk result (buffer.new ≡ []) }

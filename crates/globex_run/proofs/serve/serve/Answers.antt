@@ -2,9 +2,13 @@ use Rattle.std.proofs.Common.{◌≤◌, ◌+◌, ◌*◌, ℕ, sym, ap, subst, 
 use Rattle.fix_frame.specs.Framing.{Framing}
 use Rattle.fix_frame.specs.FrontLaws.{unfinished_front}
 use Rattle.fix_frame.specs.StreamLaws.{messages_of-unfinished, messages_of-refused}
-use Rattle.order_kinds.specs.State.{state_numbered}
+use Rattle.fix_frame.specs.Grammar.{IsFrame}
+use Rattle.fix_frame.specs.FramingLaws.{bytes_given}
+use Rattle.order_kinds.specs.State.{State, state_numbered}
+use Rattle.order_kinds.specs.Cores.{FitsProduct, AreNumbered}
+use Rattle.order_kinds.proofs.EmptyStates.{fits-empty, numbered-empty}
 use Rattle.globex_run.specs.Outside.{source_at, station_at, streams_at}
-use Rattle.globex_run.proofs.Running.{served-next, served-read, place-next}
+use Rattle.globex_run.proofs.Running.{served-first, served-next, served-read, place-next}
 use Rattle.globex_run.proofs.Ends.{ends-done, ends-read_fault, ends-truncated, ends-broken, ends-stopped}
 use Rattle.globex_run.proofs.serve.serve.Goals as goal
 
@@ -52,8 +56,27 @@ turns-preserved g c = record {
   run = served-read c.args.product.now (streams_at g.I.Source.meanings g.S.Station.meanings c.args.input.now c.args.station.now) (source_at g.I.Source.meanings c.turns.input) (source_at g.I.Source.meanings c.take_more.new.input) (station_at g.S.Station.meanings c.turns.station) c.turns.framer c.next.new.self c.take_more.new.framer (state_numbered c.turns.core)
       c.take_more.result c.in-More.ensures.front.0 c.turns.invariant.run c.take_more.ensures.takes c.in-Ok.ensures.takes.cause.ok;
   fits = c.turns.invariant.fits;
+  numbered = c.turns.invariant.numbered;
   chunk = c.take_more.ensures.chunk;
   buffer = c.turns.invariant.buffer;
   offset = omega (arith, c.take_more.ensures.takes.offset, ap (λ (f : Framing). f.offset) c.in-More.ensures.front.0, c.turns.invariant.offset);
   few = c.turns.invariant.few;
 }
+
+pub turns-init : goal.turns-init
+turns-init g c =
+    let empty = sym c.requires.start in
+    record {
+      run = served-first c.args.product.now (streams_at g.I.Source.meanings g.S.Station.meanings c.args.input.now c.args.station.now) c.args.framer.now (state_numbered c.args.core.now) c.requires.framer (ap state_numbered c.requires.start);
+      fits = subst (FitsProduct c.args.product.now) empty (fits-empty c.args.product.now);
+      numbered = subst AreNumbered empty (numbered-empty c.args.product.now);
+      chunk = c.requires.chunk;
+      buffer = c.requires.buffer;
+      offset = omega (arith, c.requires.framer.offset);
+      few = omega (arith, ap (λ (s : State). s.desk.messages) c.requires.start);
+    }
+
+pub serve_frame-requires-clause-frame : goal.serve_frame-requires-clause-frame
+serve_frame-requires-clause-frame g c =
+    let given = c.in-Frame.ensures.front in
+    subst IsFrame (sym (c.frame-frame.ensures ∙ bytes_given c.turns.framer c.next.new.self c.in-Frame.start c.in-Frame.end given)) given.is_frame
