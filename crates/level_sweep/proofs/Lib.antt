@@ -9,6 +9,5 @@ pub mod Names
 pub mod Numbered
 pub mod Renamed
 pub mod Swept
-
 -- What the proofs of this crate alone cite.
 mod Resting
