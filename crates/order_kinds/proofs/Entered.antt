@@ -19,6 +19,7 @@ use Rattle.plain_book.specs.Match.{MatchState, match_start, report_counted, next
 use Rattle.plain_book.specs.Matches.{MatchAt, match_at, start_at, IsNow, CanTrade, Matches}
 use Rattle.plain_book.proofs.TradedShares.{match_with, with_events, IgnoresEvents}
 use Rattle.level_sweep.specs.Sweep.{sweep, with_resting}
+use Rattle.level_sweep.proofs.Events.{sweep-ignores}
 use Rattle.level_sweep.proofs.Swept.{filled_as, sweep-fewer, sweep-order}
 use Rattle.order_kinds.specs.NewOrders.{may_rest}
 use Rattle.order_kinds.specs.Entering.{cancel_event, taker_cancelled, as_limit, top_min_of, taker_rested, finished, open_for, entered}
@@ -71,6 +72,17 @@ entered-cancelled name steps m h = ap (entered_by name steps m) h
 pub entered-swept : (name : ℕ) (steps : List Step) (m : MatchState) → nat_lt (open_for m) m.taker.order.min ≡ false
     → entered name steps m ≡ finished name steps (sweep steps m.taker.order.price m)
 entered-swept name steps m h = ap (entered_by name steps m) h
+
+-- and so is all of it
+pub entered-ignores : (name : ℕ) (steps : List Step) → IgnoresEvents (entered name steps)
+entered-ignores name steps es m =
+    let price = m.taker.order.price in
+    let swept : finished name steps (sweep steps price (with_events es m)) ≡ with_events es (finished name steps (sweep steps price m)) =
+    ap (finished name steps) (sweep-ignores steps price es m) ∙ finished-ignores name steps es (sweep steps price m) in
+    let go : (c : Bool) → entered_by name steps (with_events es m) c ≡ with_events es (entered_by name steps m c) = elim [
+      | true ↦ cancelled-ignores cause.MinQty es m
+      | false ↦ swept
+    ] in go (nat_lt (open_for m) m.taker.order.min)
 
 pub not-false : (b : Bool) → not b ≡ false → b ≡ true
 not-false true h = refl

@@ -1,27 +1,46 @@
-use Rattle.std.proofs.Common.{rules, ◌≡◌, ◌<◌, ◌≤◌, ◌+◌, ◌^◌, [], ◌∷◌, length, slice_index, ℕ, ◌-◌, ◌*◌, ◌/◌, ◌%◌, Bool, true, false, nat_eq, nat_lt, List, ◌++◌, slice_index_or, slice_set, bit_and, bit_or, Fits, w8, w32, w64, Bor, MutBor}
-use Rattle.gx_base.specs.Emits.{Emits}
-use Rattle.gx_base.specs.declared.order.Kind.TheVariants.{StopLimit}
-use Rattle.fix_request.specs.ValidRequests.{IsValidNew}
-use Rattle.plain_book.specs.Match.{report_counted}
-use Rattle.order_kinds.specs.NewOrders.{terms_of}
-use Rattle.order_kinds.specs.Accepting.{refused_of, refusal, accepted, new_step}
-use Rattle.order_kinds.specs.Cores.{FitsProduct}
+use Rattle.std.proofs.Common.{sym, subst}
+use Rattle.gx_base.specs.EmitLaws.{emits_one}
+use Rattle.order_kinds.specs.State.{State}
+use Rattle.order_kinds.specs.Accepting.{accepted}
+use Rattle.order_kinds.specs.Inner.Taking.{Takes, CountsRose, IsCounted}
 use Rattle.order_kinds.specs.Inner.Terms.{terms_seen, IsAccepted}
-use Rattle.order_kinds.specs.Inner.Taking.{Takes, CountsRose, IsCounted, last_in_range}
+use Rattle.order_kinds.proofs.Accepted.{IsReported, numbered_next, accepted-can, accepted-rests, accepted-rose, takes-accepted}
+use Rattle.order_kinds.proofs.accepting.accept_new.Given.{Over}
 use Rattle.order_kinds.proofs.accepting.accept_new.Goals as goal
+use Rattle.order_kinds.proofs.accepting.accept_new.Goals.{After-put}
 
--- src/accepting.rt:88:5
+-- what stands after the first report
+reported : (g : Over) (c : After-put g) → IsReported (terms_seen c.args.terms.now) c.args.new.now c.state.inside.desk c.count_report-head.new.desk c.order.result c.count_report-head.result
+reported g c = record { is_order = c.order.ensures; is_head = c.count_report-head.ensures.head; is_desk = c.count_report-head.ensures.desk }
+
 pub enter-requires-clause-can : goal.enter-requires-clause-can
-enter-requires-clause-can g c = ?
+enter-requires-clause-can g c =
+    let is = reported g (goal.at.enter-requires-clause-can g c).After-put in
+    let new = c.args.new.now in
+    let terms = terms_seen c.args.terms.now in
+    accepted-can _ terms new _ _ _ is (subst (λ (s : State). IsAccepted s terms new) (sym c.state.view_is) c.requires.accepted) (subst (λ (s : State). IsCounted s.desk) (sym c.state.view_is) c.requires.counted)
 
--- src/accepting.rt:88:5
 pub enter-requires-clause-rests : goal.enter-requires-clause-rests
-enter-requires-clause-rests g c = ?
+enter-requires-clause-rests g c =
+    let is = reported g (goal.at.enter-requires-clause-rests g c).After-put in
+    let new = c.args.new.now in
+    let terms = terms_seen c.args.terms.now in
+    accepted-rests _ terms new _ _ _ is (subst (λ (s : State). IsAccepted s terms new) (sym c.state.view_is) c.requires.accepted)
 
--- src/accepting.rt:65:1
 pub returns-clause-takes : goal.returns-clause-takes
-returns-clause-takes g c = ?
+returns-clause-takes g c =
+    let is = reported g (goal.at.returns-clause-takes g c).After-put in
+    let m = g.E.Emit.meanings in
+    let new = c.args.new.now in
+    let terms = terms_seen c.args.terms.now in
+    subst (λ (s : State). Takes m (λ name. accepted name terms new) s _ c.args.out.now c.enter.new.out) c.state.view_is
+    (takes-accepted m _ terms new _ _ _ is (g.B.Book.book c.enter.new.book) c.enter.new.desk c.enter.new.taker _ c.args.out.now c.put.new.self c.enter.new.out c.rules.ensures c.list.ensures.right
+    (emits_one m _ _ _ c.put.ensures) c.enter.ensures.takes ?)
 
--- src/accepting.rt:65:1
 pub returns-clause-rose : goal.returns-clause-rose
-returns-clause-rose g c = ?
+returns-clause-rose g c =
+    let is = reported g (goal.at.returns-clause-rose g c).After-put in
+    let new = c.args.new.now in
+    let terms = terms_seen c.args.terms.now in
+    subst (λ (s : State). CountsRose 2000002 (numbered_next s.desk) c.enter.new.desk) c.state.view_is
+    (accepted-rose _ terms new _ c.enter.new.desk _ _ is (subst (λ (s : State). IsAccepted s terms new) (sym c.state.view_is) c.requires.accepted) c.enter.ensures.rose)

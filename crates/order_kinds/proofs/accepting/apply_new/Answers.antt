@@ -1,15 +1,11 @@
-use Rattle.std.proofs.Common.{rules, ◌≡◌, ◌<◌, ◌≤◌, ◌+◌, ◌^◌, [], ◌∷◌, length, slice_index, ℕ, ◌-◌, ◌*◌, ◌/◌, ◌%◌, Bool, true, false, nat_eq, nat_lt, List, ◌++◌, slice_index_or, slice_set, bit_and, bit_or, Fits, w8, w32, w64, Bor, MutBor}
-use Rattle.gx_base.specs.Emits.{Emits}
-use Rattle.gx_base.specs.declared.order.Kind.TheVariants.{StopLimit}
-use Rattle.fix_request.specs.ValidRequests.{IsValidNew}
-use Rattle.plain_book.specs.Match.{report_counted}
-use Rattle.order_kinds.specs.NewOrders.{terms_of}
-use Rattle.order_kinds.specs.Accepting.{refused_of, refusal, accepted, new_step}
-use Rattle.order_kinds.specs.Cores.{FitsProduct}
-use Rattle.order_kinds.specs.Inner.Terms.{terms_seen, IsAccepted}
-use Rattle.order_kinds.specs.Inner.Taking.{Takes, CountsRose, IsCounted, last_in_range}
+use Rattle.std.proofs.Common.{sym, ap, subst, ◌∙◌}
+use Rattle.plain_book.specs.Book.{IsRight}
+use Rattle.order_kinds.specs.State.{State}
+use Rattle.order_kinds.specs.Inner.Terms.{terms_seen, map_terms}
+use Rattle.order_kinds.proofs.Terms.{terms-accepted}
 use Rattle.order_kinds.proofs.accepting.apply_new.Goals as goal
 
--- src/accepting.rt:117:22
 pub accept_new-requires-clause-accepted : goal.accept_new-requires-clause-accepted
-accept_new-requires-clause-accepted g c = ?
+accept_new-requires-clause-accepted g c =
+    terms-accepted c.args.product.now c.args.new.now c.args.state.now (terms_seen c.in-Ok.terms) c.limits.ensures c.requires.valid c.requires.fits
+    (subst (λ (s : State). IsRight s.book) c.state.view_is c.rules.ensures) (sym c.of.ensures ∙ ap map_terms c.in-Ok.is)
