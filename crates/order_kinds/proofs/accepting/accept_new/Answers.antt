@@ -1,8 +1,10 @@
-use Rattle.std.proofs.Common.{sym, subst}
+use Rattle.std.proofs.Common.{◌≡◌, Option, sym, ap, subst, ◌∙◌}
+use Rattle.gx_base.specs.declared.price.Price.{Price}
 use Rattle.gx_base.specs.EmitLaws.{emits_one}
 use Rattle.order_kinds.specs.State.{State}
+use Rattle.order_kinds.specs.Entering.{last_after}
 use Rattle.order_kinds.specs.Accepting.{accepted}
-use Rattle.order_kinds.specs.Inner.Taking.{Takes, CountsRose, IsCounted}
+use Rattle.order_kinds.specs.Inner.Taking.{Takes, CountsRose, IsCounted, last_in_range}
 use Rattle.order_kinds.specs.Inner.Terms.{terms_seen, IsAccepted}
 use Rattle.order_kinds.proofs.Accepted.{IsReported, numbered_next, accepted-can, accepted-rests, accepted-rose, takes-accepted}
 use Rattle.order_kinds.proofs.accepting.accept_new.Given.{Over}
@@ -33,9 +35,12 @@ returns-clause-takes g c =
     let m = g.E.Emit.meanings in
     let new = c.args.new.now in
     let terms = terms_seen c.args.terms.now in
-    subst (λ (s : State). Takes m (λ name. accepted name terms new) s _ c.args.out.now c.enter.new.out) c.state.view_is
-    (takes-accepted m _ terms new _ _ _ is (g.B.Book.book c.enter.new.book) c.enter.new.desk c.enter.new.taker _ c.args.out.now c.put.new.self c.enter.new.out c.rules.ensures c.list.ensures.right
-    (emits_one m _ _ _ c.put.ensures) c.enter.ensures.takes ?)
+    let after : State = record { book = g.B.Book.book c.enter.new.book; last = c.set_last.new.last.items; desk = c.enter.new.desk } in
+    let last : c.set_last.new.last.items ≡ last_after terms.instrument.number (last_in_range c.enter.new.taker.order.side c.enter.new.taker.range) c.state.inside.last.items =
+    c.set_last.ensures ∙ ap (λ (p : Option Price). last_after terms.instrument.number p c.state.inside.last.items) c.last_price.ensures in
+    subst (λ (s : State). Takes m (λ name. accepted name terms new) s after c.args.out.now c.enter.new.out) c.state.view_is
+    (takes-accepted m _ terms new _ _ _ is after.book after.desk c.enter.new.taker after.last c.args.out.now c.put.new.self c.enter.new.out c.rules.ensures c.list.ensures.right
+    (emits_one m _ _ _ c.put.ensures) c.enter.ensures.takes last)
 
 pub returns-clause-rose : goal.returns-clause-rose
 returns-clause-rose g c =
