@@ -1,6 +1,8 @@
 -- The last trade price of an order that is entered is an end of its price range.
 use Rattle.std.proofs.Common.{◌≡◌, ℕ, List, [], None}
 use Rattle.step_config.specs.declared.step.Step.{Step}
+use Rattle.order_kinds.proofs.StepShares.{AreOf}
+use Rattle.order_kinds.proofs.PriceRanges.{int-past}
 use Rattle.step_config.specs.RightSteps.{AreRightSteps}
 use Rattle.plain_book.specs.Book.{IsRight}
 use Rattle.plain_book.specs.Match.{MatchState}
