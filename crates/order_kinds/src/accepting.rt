@@ -73,6 +73,9 @@ fn accept_new<B: Book, E: Emit>(
     ensures takes { Takes E.meanings (λ name. accepted name (terms_seen terms.now) new.now) state.old state.new out.old out.new }
     ensures rose { CountsRose 2000002 (record state.old.desk { orders = state.old.desk.orders + 1 }) state.new.desk }
 {
+    let instrument = terms.instrument;
+    state.book.rules();
+    instrument.rule.steps.list();
     state.desk.orders += 1;
     let mut taker = Taker {
         order: terms.order(new, state.desk.orders),
@@ -84,7 +87,6 @@ fn accept_new<B: Book, E: Emit>(
         head,
         order: taker.order,
     });
-    let instrument = terms.instrument;
     enter(
         &mut state.book,
         &mut state.desk,
