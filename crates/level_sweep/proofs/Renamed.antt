@@ -198,10 +198,7 @@ matched-live b d n = matched-from (live_orders b) d (subst AllDiffer (live-numbe
 matched-resting : (b : Book) → AllDiffer (live_orders b) → AllDiffer (live_orders (book_numbered b)) → Matched b.resting
 matched-resting b d n = matched-from b.resting (AllDiffer-front b.resting b.waiting d) (AllDiffer-front (numbered b.resting) (numbered b.waiting) n)
 
--- a level match and a sweep do the same by number as by slot
-pub match-numbered : (steps : List Step) (price : Price) (m : MatchState) → AllDiffer (live_orders m.book) → AllDiffer (live_orders (book_numbered m.book)) → level_match steps price (match_numbered m) ≡ match_numbered (level_match steps price m)
-match-numbered steps price m d n = match-same steps price m (matched-resting m.book d n)
-
+-- a sweep does the same by number as by slot
 pub sweep-numbered : (steps : List Step) (limit : Price) (m : MatchState) → AllDiffer (live_orders m.book) → AllDiffer (live_orders (book_numbered m.book)) → sweep steps limit (match_numbered m) ≡ match_numbered (sweep steps limit m)
 sweep-numbered steps limit m d n = sweep-same steps limit m (matched-resting m.book d n)
 

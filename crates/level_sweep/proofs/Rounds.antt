@@ -8,8 +8,8 @@ use Rattle.gx_base.specs.Emits.{EmitMeanings}
 use Rattle.step_config.specs.declared.step.Step.{Step}
 use Rattle.plain_book.specs.Book.{Book}
 use Rattle.plain_book.specs.Match.{MatchState}
-use Rattle.plain_book.specs.Matches.{MatchAt, start_at, CanTrade, Matches}
-use Rattle.plain_book.proofs.Matching.{matches-none, matches-then, matches-as}
+use Rattle.plain_book.specs.Matches.{MatchAt, start_at, Matches}
+use Rattle.plain_book.proofs.Matching.{matches-then, matches-as}
 use Rattle.level_sweep.specs.Sweep.{wanted_step, level_match, next_price, match_next, sweep_rounds, sweep, IsSweepDone}
 use Rattle.level_sweep.proofs.Events.{wanted-ignores, match-ignores}
 
@@ -56,9 +56,6 @@ pub record IsSwept {E : Type 0} (m : EmitMeanings E) (steps : List Step) (limit 
   pub matches : Matches m (sweep_rounds rounds steps limit) before now
 
 module _ {E : Type 0} (m : EmitMeanings E) (steps : List Step) (limit : Price) where
-  pub swept-start : (a : MatchAt E) → CanTrade a.book a.desk a.taker → IsSwept m steps limit a a
-  swept-start a can = record { rounds = 0; few = omega arith; matches = matches-none m a can }
-
   -- one more level match
   pub swept-more : (a b c : MatchAt E) (price : Price) → IsSwept m steps limit a b → next_price limit b.book b.taker ≡ Some price → Matches m (level_match steps price) b c → c.taker.order.leaves < b.taker.order.leaves → IsSwept m steps limit a c
   swept-more a b c price swept next done fewer =

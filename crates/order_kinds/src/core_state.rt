@@ -1,5 +1,6 @@
 //! The core: the state of the engine over a book, and what each request does to it.
 ghost use Rattle.std.specs.Prelude.{◌≡◌, ◌≤◌, ◌<◌, ◌+◌, IsTrue, IfSome, length, replicate, slice_get, slice_set, Some, None};
+ghost use Rattle.std.specs.Borrow.{Lends, sem};
 ghost use Rattle.fix_request.specs.ValidRequests.{IsValidRequest};
 ghost use Rattle.plain_book.specs.Book.{empty_book, book_cleared};
 ghost use Rattle.order_kinds.specs.State.{empty_desk, empty_state};
@@ -67,6 +68,8 @@ fn no_prices(instruments: usize) -> LastPrices
 }
 
 impl<B: Book> Core<B> {
+    ghost use Rattle.order_kinds.specs.contracts.core_state.Core.{the_row};
+
     /// A core over an empty book that has the instruments of a product and room for as many orders as it allows. Takes no
     /// memory.
     pub fn new(book: B, product: &Product) -> Core<B>
@@ -113,6 +116,14 @@ impl<B: Book> Core<B> {
         ensures { B.book result.now ≡ self.now.book }
     {
         &self.state.book
+    }
+
+    /// Lends the book for writing. The core has then the book that the borrower leaves, and nothing else of it changes.
+    pub fn book_mut(&mut self) -> &mut B
+        ensures* lends { sem 𝓛 (Lends (the_row B.row B.Book) B.row self.entry result (λ w. record self.old { book = B.book w })) }
+        ensures book { B.book result.now ≡ self.old.book }
+    {
+        &mut self.state.book
     }
 
     /// Lends the counters.

@@ -10,7 +10,6 @@ pub mod Found
 pub mod Sorted
 pub mod Tops
 pub mod Right
-
 -- What the proofs of this crate alone cite.
 mod Before
 mod Mapped

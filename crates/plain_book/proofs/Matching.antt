@@ -1,9 +1,8 @@
 -- Parts of a match that are done one after the other.
-use Rattle.std.proofs.Common.{◌≡◌, ℕ, List, [], ◌++◌, refl, sym, ap, subst, ◌∙◌, arith}
+use Rattle.std.proofs.Common.{◌≡◌, ℕ, ◌++◌, refl, sym, ap, subst, ◌∙◌, arith}
 use Rattle.std.proofs.lemmas.List.{append-nil}
 use Rattle.gx_base.specs.declared.order.Desk.{Desk}
 use Rattle.gx_base.specs.declared.order.Taker.{Taker}
-use Rattle.gx_base.specs.declared.event.Event.{Event}
 use Rattle.gx_base.specs.Emits.{EmitMeanings, Emits}
 use Rattle.gx_base.specs.EmitLaws.{emits_none, emits_joined, emits_as}
 use Rattle.plain_book.specs.Book.{Book}

@@ -11,7 +11,7 @@ use Rattle.gx_base.specs.declared.event.Event.TheVariants.{Fill}
 use Rattle.gx_base.specs.Emits.{EmitMeanings, Puts, Emits}
 use Rattle.gx_base.specs.EmitLaws.{emits_joined, emits_one}
 use Rattle.plain_book.specs.Orders.{HasSlot, order_of, filled_by}
-use Rattle.plain_book.specs.Book.{Book, book_traded, book_with_order}
+use Rattle.plain_book.specs.Book.{Book, book_traded}
 use Rattle.plain_book.specs.Match.{next_head, report_counted, fill, taken_by, book_marked}
 use Rattle.plain_book.specs.Matches.{CanTrade, KeepsRoom}
 use Rattle.plain_book.proofs.Live.{unnamed-traded, unnamed-with_order}

@@ -1,8 +1,6 @@
 -- How far a walk along a level has come.
-use Rattle.std.proofs.Common.{◌≡◌, ℕ, ◌-◌, ◌≤◌, List, [], ◌∷◌, ◌++◌, length, Option, Some, None, refl, sym, ap, subst, ◌∙◌, arith, append_assoc}
+use Rattle.std.proofs.Common.{◌≡◌, ℕ, ◌-◌, ◌≤◌, List, [], ◌∷◌, ◌++◌, length, Option, Some, None, refl, sym, ap, subst, ◌∙◌, append_assoc}
 use Rattle.std.proofs.lemmas.List.{append-nil}
-use Rattle.gx_base.specs.declared.order.Order.{Order}
-use Rattle.gx_base.specs.declared.order.Desk.{Desk}
 use Rattle.gx_base.specs.declared.order.Taker.{Taker}
 use Rattle.gx_base.specs.declared.event.StepName.{StepName}
 use Rattle.gx_base.specs.Emits.{EmitMeanings}
@@ -18,7 +16,7 @@ use Rattle.plain_book.proofs.Live.{fit_of}
 use Rattle.plain_book.proofs.Walks.{Stands, Remains, stands-has, stands-order, stands-after, stands-differ}
 use Rattle.plain_book.proofs.TradedShares.{share-ignores, shares-append, share-leaves}
 use Rattle.plain_book.proofs.Matching.{matches-none, matches-then, matches-as}
-use Rattle.plain_book.proofs.WalkSteps.{IsShowing, share-remains, IsHead, head_of, next-is, still_to_come, comes-rest}
+use Rattle.plain_book.proofs.WalkSteps.{IsShowing, share-remains, head_of, next-is, still_to_come, comes-rest}
 
 no-slot : (es : List Entry) → slot_of es ≡ None → es ≡ []
 no-slot [] h = refl

@@ -1,19 +1,18 @@
 -- One step of a walk along a level: an order trades its share, and those that are still to come stay in their place.
-use Rattle.std.proofs.Common.{◌≡◌, ◌≢◌, ℕ, ◌-◌, ◌<◌, ◌≤◌, Bool, true, false, cond, ◌&&◌, List, [], ◌∷◌, ◌++◌, length, Option, Some, None, refl, sym, ap, subst, ◌∙◌, arith, inl, inr, append_assoc}
+use Rattle.std.proofs.Common.{◌≡◌, ◌≢◌, ℕ, ◌-◌, ◌<◌, ◌≤◌, Bool, true, false, cond, ◌&&◌, List, [], ◌∷◌, ◌++◌, Option, Some, None, refl, sym, ap, subst, ◌∙◌, arith, inl, inr, append_assoc}
 use Rattle.std.proofs.lemmas.List.{append-nil}
 use Rattle.std.proofs.lemmas.Bool.Decides.{eqb_tells, leb_tells}
 use Prim.Native.Nat.{suc}
-use Rattle.std.specs.Prelude.{◌==◌, nat_lt, is_none}
+use Rattle.std.specs.Prelude.{◌==◌, nat_lt}
 use Rattle.gx_base.specs.declared.order.Order.{Order}
 use Rattle.gx_base.specs.declared.event.StepName.{StepName}
 use Rattle.plain_book.specs.declared.entry.Entry.{Entry}
-use Rattle.plain_book.specs.Orders.{Level, level_of, orders_at, HasSlot, order_of, slot_of, without, with_order, placed, settled, refreshed, filled_by}
-use Rattle.plain_book.specs.Book.{Book, AllDiffer}
+use Rattle.plain_book.specs.Orders.{Level, level_of, order_of, slot_of, without, with_order, placed, settled, refreshed, filled_by}
+use Rattle.plain_book.specs.Book.{AllDiffer}
 use Rattle.plain_book.specs.Match.{MatchState, trade, trade_if_any, trade_share, is_prorata, book_marked}
 use Rattle.plain_book.specs.Inner.Walk.{is_refreshed_by, end_after, before_end}
 use Rattle.plain_book.proofs.Levels.{renewed, same, other, AllDiffer-back}
 use Rattle.plain_book.proofs.Walks.{Stands, Remains, stands-order, stands-without, stands-last, stands-with_order, AllDiffer-with_order}
-use Rattle.plain_book.proofs.TradedShares.{marked_in}
 
 -- what the trade of an order asks of it: some of it is shown, at most what is open
 pub record IsShowing (lots : ℕ) (o : Order) : Type 0 where

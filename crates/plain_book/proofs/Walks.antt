@@ -1,5 +1,5 @@
 -- A walk along a level while its orders trade: what is still to come stays in its place.
-use Rattle.std.proofs.Common.{◌≡◌, ℕ, Option, Bool, true, false, cond, not, List, [], ◌∷◌, ◌++◌, filter, refl, sym, ap, subst, ◌∙◌, inl, inr, append_assoc}
+use Rattle.std.proofs.Common.{◌≡◌, ℕ, Option, Bool, true, false, cond, not, List, [], ◌∷◌, ◌++◌, filter, refl, sym, ap, subst, ◌∙◌, inl, inr}
 use Rattle.std.proofs.lemmas.Bool.Decides.{eqb_tells}
 use Rattle.std.specs.Prelude.{◌==◌}
 use Rattle.gx_base.specs.declared.order.Order.{Order}

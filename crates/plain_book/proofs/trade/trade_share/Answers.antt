@@ -1,11 +1,8 @@
 -- The order is still there after it was marked, and shows as much.
-use Rattle.std.proofs.Common.{◌≤◌, Bool, true, false, cond, sym, subst}
-use Rattle.gx_base.specs.declared.order.Order.{Order}
+use Rattle.std.proofs.Common.{◌≤◌, sym, subst}
 use Rattle.plain_book.specs.Orders.{HasSlot, order_of}
 use Rattle.plain_book.specs.Book.{Book}
-use Rattle.plain_book.specs.Match.{is_prorata}
 use Rattle.plain_book.specs.Matches.{CanTrade}
-use Rattle.plain_book.proofs.TradedShares.{marked_in}
 use Rattle.plain_book.proofs.Marks.{marked-has, marked-shows, marked-can}
 use Rattle.plain_book.proofs.trade.trade_share.Goals as goal
 

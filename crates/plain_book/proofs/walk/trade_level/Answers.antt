@@ -9,7 +9,7 @@ use Rattle.plain_book.specs.Shares.{shares_by}
 use Rattle.plain_book.specs.Steps.{facing}
 use Rattle.plain_book.specs.Inner.Walk.{end_after}
 use Rattle.plain_book.proofs.WalkSteps.{still_to_come}
-use Rattle.plain_book.proofs.WalkLevel.{IsWalk, walk-start, walk-turn, walk-more, walk-more-rest, walk-end, walk-length}
+use Rattle.plain_book.proofs.WalkLevel.{IsWalk, walk-start, walk-turn, walk-more, walk-more-rest, walk-length}
 use Rattle.plain_book.proofs.walk.trade_level.Goals as goal
 
 pub loop-at-init : goal.loop-at-init
