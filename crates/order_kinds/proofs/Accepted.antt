@@ -113,7 +113,7 @@ accepted-rests old terms new desk order head is asked =
 -- ---- the counters after it
 
 pub accepted-rose : (old : State) (terms : Terms) (new : NewOrder) (desk after : Desk) (order : Order) (head : Head) → IsReported terms new old.desk desk order head → IsAccepted old terms new
-    → CountsRose (2 * order.leaves + 1) desk after → CountsRose 2000002 (numbered_next old.desk) after
+    → CountsRose (2 * order.leaves + 1) desk after → CountsRose 2000000 (numbered_next old.desk) after
 accepted-rose old terms new desk after order head is asked rose =
     let leaves : order.leaves ≡ new.quantity = ap (λ (o : Order). o.leaves) is.is_order in
     let counted : CountsRose (2 * order.leaves + 1) (report_counted (numbered_next old.desk) new.sender.firm) after = subst (λ (d : Desk). CountsRose (2 * order.leaves + 1) d after) is.is_desk rose in

@@ -4,7 +4,8 @@ use Rattle.gx_base.specs.declared.limits.TheConstants.{ADDRESSEES}
 use Rattle.gx_base.specs.declared.order.Desk.{Desk}
 use Rattle.plain_book.proofs.Found.{all-zero}
 use Rattle.order_kinds.specs.State.{empty_desk}
-use Rattle.order_kinds.specs.Cores.{AreCountsWithin, AreCounters, most_messages}
+use Rattle.order_kinds.specs.Cores.{AreCountsWithin, AreCounters}
+use Rattle.order_kinds.specs.declared.core_state.TheConstants.{MOST_MESSAGES}
 use Rattle.order_kinds.specs.Inner.Taking.{CountsRose, IsCounted}
 
 -- counters that have counted nothing

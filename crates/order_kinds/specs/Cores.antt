@@ -12,14 +12,11 @@ use Rattle.fix_request.specs.declared.request.Request.{Request}
 use Rattle.plain_book.specs.declared.entry.Entry.{Entry}
 use Rattle.plain_book.specs.Book.{AllDiffer, live_orders}
 use Rattle.plain_book.specs.Numbers.{book_numbered}
+use Rattle.order_kinds.specs.declared.core_state.TheConstants.{MOST_MESSAGES}
 use Rattle.order_kinds.specs.State.{State, state_numbered}
 use Rattle.order_kinds.specs.Step.{with_message, request_step}
 
 -- ---- the counters
-
--- how many messages a core takes at most: 2 ^ 24
-abbrev pub most_messages : ℕ
-most_messages = 16777216
 
 -- each counter of reports, trades and lines is within a bound
 pub record AreCountsWithin (bound : ℕ) (desk : Desk) : Type 0 where
@@ -30,7 +27,7 @@ pub record AreCountsWithin (bound : ℕ) (desk : Desk) : Type 0 where
 -- what holds of the counters at every moment: no more orders than messages, and no other counter above 2 ^ 38 for each message
 pub record AreCounters (desk : Desk) : Type 0 where
   pub orders : desk.orders ≤ desk.messages
-  pub messages : desk.messages ≤ most_messages
+  pub messages : desk.messages ≤ MOST_MESSAGES
   pub counts : AreCountsWithin (desk.messages * 2 ^ 38) desk
 
 -- ---- a product

@@ -71,7 +71,7 @@ fn accept_new<B: Book, E: Emit>(
     requires accepted { IsAccepted state.old (terms_seen terms.now) new.now }
     requires counted { IsCounted state.old.desk }
     ensures takes { Takes E.meanings (λ name. accepted name (terms_seen terms.now) new.now) state.old state.new out.old out.new }
-    ensures rose { CountsRose 2000002 (record state.old.desk { orders = state.old.desk.orders + 1 }) state.new.desk }
+    ensures rose { CountsRose 2000000 (record state.old.desk { orders = state.old.desk.orders + 1 }) state.new.desk }
 {
     let instrument = terms.instrument;
     state.book.rules();
@@ -110,7 +110,7 @@ pub(crate) fn apply_new<B: Book, E: Emit>(
     requires counted { IsCounted state.old.desk }
     ensures takes { Takes E.meanings (λ name. new_step name product.now new.now) state.old state.new out.old out.new }
     ensures orders { state.new.desk.orders ≤ state.old.desk.orders + 1 }
-    ensures rose { CountsRose 2000002 (record state.old.desk { orders = state.new.desk.orders }) state.new.desk }
+    ensures rose { CountsRose 2000000 (record state.old.desk { orders = state.new.desk.orders }) state.new.desk }
 {
     product.limits();
     state.book.rules();

@@ -191,7 +191,7 @@ fn apply_counted<B: Book, E: Emit>(
     ensures takes { Takes E.meanings (λ name. request_step_as name product.now request.now) state.old state.new out.old out.new }
     ensures silent { IsTrue (is_passed request.now) → out.new ≡ out.old }
     ensures orders { state.new.desk.orders ≤ state.old.desk.orders + 1 }
-    ensures rose { CountsRose 2000002 (record state.old.desk { orders = state.new.desk.orders }) state.new.desk }
+    ensures rose { CountsRose 2000000 (record state.old.desk { orders = state.new.desk.orders }) state.new.desk }
 {
     product.limits();
     match request {

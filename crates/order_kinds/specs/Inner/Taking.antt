@@ -16,7 +16,8 @@ use Rattle.plain_book.specs.Matches.{MatchAt, start_at, IsNow}
 use Rattle.order_kinds.specs.State.{State}
 use Rattle.order_kinds.specs.NewOrders.{may_rest}
 use Rattle.order_kinds.specs.Entering.{as_limit}
-use Rattle.order_kinds.specs.Cores.{AreCountsWithin, most_messages}
+use Rattle.order_kinds.specs.declared.core_state.TheConstants.{MOST_MESSAGES}
+use Rattle.order_kinds.specs.Cores.{AreCountsWithin}
 
 -- a part of a match was done, in which an order may come to rest under some name
 pub record TakesPart {E : Type 0} (m : EmitMeanings E) (part : ℕ → MatchState → MatchState) (before after : MatchAt E) : Type 0 where
@@ -43,8 +44,8 @@ pub record CountsRose (most : ℕ) (old new : Desk) : Type 0 where
 -- a message was counted, which is applied next
 pub record IsCounted (desk : Desk) : Type 0 where
   pub orders : desk.orders + 1 ≤ desk.messages
-  pub messages : desk.messages ≤ most_messages
-  pub counts : AreCountsWithin (most_messages * 2 ^ 38) desk
+  pub messages : desk.messages ≤ MOST_MESSAGES
+  pub counts : AreCountsWithin (MOST_MESSAGES * 2 ^ 38) desk
 
 -- ---- orders
 

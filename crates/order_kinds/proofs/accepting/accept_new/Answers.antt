@@ -47,5 +47,5 @@ returns-clause-rose g c =
     let is = reported g (goal.at.returns-clause-rose g c).After-put in
     let new = c.args.new.now in
     let terms = terms_seen c.args.terms.now in
-    subst (λ (s : State). CountsRose 2000002 (numbered_next s.desk) c.enter.new.desk) c.state.view_is
+    subst (λ (s : State). CountsRose 2000000 (numbered_next s.desk) c.enter.new.desk) c.state.view_is
     (accepted-rose _ terms new _ c.enter.new.desk _ _ is (subst (λ (s : State). IsAccepted s terms new) (sym c.state.view_is) c.requires.accepted) c.enter.ensures.rose)
