@@ -91,6 +91,9 @@ fn is_least_open<B: Book>(book: &B, taker: &Taker) -> bool
     ensures { let o = taker.now.order in result ≡ not (nat_lt (open_within o.instrument (opposite o.side) o.price.0 (B.book book.now).resting) o.min) }
 {
     let order = &taker.order;
+    if order.min == 0 {
+        return true;
+    }
     let side = opposite_side(order.side);
     let open = book.available(order.instrument, side, order.price);
     open >= u64::from(order.min)
