@@ -1,6 +1,6 @@
 -- Prices that are within the price range, and what an accepted order has.
-use Rattle.std.proofs.Common.{◌≡◌, ℕ, zero, suc, ◌<◌, ◌≤◌, ◌*◌, ◌/◌, ℤ, pos, negsuc, Bool, true, false, cond, not, length, List, Option, Some, None, option_map, Result, Ok, Err, refl, sym, ap, subst, ◌∙◌, arith, inl, inr}
-use Rattle.std.specs.Prelude.{◌==◌, nat_lt, int_lt, neg_ℤ, unsigned_abs, ok_or, slice_get}
+use Rattle.std.proofs.Common.{◌≡◌, ℕ, zero, suc, ◌<◌, ◌≤◌, ◌*◌, ◌/◌, ℤ, pos, negsuc, Bool, true, false, cond, not, length, Option, Some, None, option_map, Result, Ok, refl, sym, subst, ◌∙◌, arith, inl, inr}
+use Rattle.std.specs.Prelude.{◌==◌, nat_lt, int_lt, neg_ℤ, unsigned_abs}
 use Rattle.std.proofs.Math.Nat.{div-mul-le_self}
 use Rattle.std.proofs.lemmas.Bool.Decides.{leb_tells}
 use Rattle.gx_base.specs.declared.limits.TheConstants.{MOST_PRICE_UNITS}
@@ -10,19 +10,16 @@ use Rattle.gx_base.specs.declared.order.Kind.{Kind}
 use Rattle.gx_base.specs.declared.order.Kind.TheVariants.{Limit, Market, StopLimit}
 use Rattle.gx_base.specs.declared.event.NewFault.{NewFault}
 use Rattle.gx_base.specs.declared.event.NewFault.TheVariants as fault
-use Rattle.gx_base.specs.NameLists.{NameLists}
 use Rattle.product_file.specs.Products.{ProductLists}
 use Rattle.product_file.specs.declared.product.InstrumentRule.{InstrumentRule}
-use Rattle.fix_request.specs.declared.request.Named.{Named}
-use Rattle.fix_request.specs.declared.request.Named.TheVariants.{Known, Unknown}
 use Rattle.fix_request.specs.declared.request.Px.{Px}
 use Rattle.fix_request.specs.declared.request.Px.TheVariants.{Absent, At, Between}
 use Rattle.fix_request.specs.declared.request.NewOrder.{NewOrder}
-use Rattle.fix_request.specs.ValidRequests.{IsListed, IsWithinLimit, IsValidNew}
+use Rattle.fix_request.specs.ValidRequests.{IsWithinLimit, IsValidNew}
 use Rattle.plain_book.specs.Orders.{is_live, best_of, opposite}
 use Rattle.plain_book.specs.Book.{Book, live_orders}
 use Rattle.order_kinds.specs.Instruments.{ListedInstrument, instrument_of, tick_of, price_at, greatest_price, within_range, beyond, protected_limit}
-use Rattle.order_kinds.specs.NewOrders.{Terms, terms_of, limit_of, refused_where, is_quantity, has_off_tick, has_bad_min, ◌>>=◌}
+use Rattle.order_kinds.specs.NewOrders.{Terms, terms_of, limit_of, is_quantity, has_off_tick, has_bad_min}
 use Rattle.order_kinds.specs.State.{State}
 use Rattle.order_kinds.specs.Cores.{IsInRange}
 use Rattle.order_kinds.proofs.Terms.{refused-then, found-then, named-number}

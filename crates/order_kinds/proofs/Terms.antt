@@ -1,7 +1,6 @@
 -- What is asked of a book for a new order, and what is true of one that no rule refuses.
 use Rattle.std.proofs.Common.{◌≡◌, ◌≢◌, ℕ, ◌<◌, ◌≤◌, Bool, true, false, cond, not, ◌&&◌, ◌||◌, List, [], ◌∷◌, filter, length, Option, Some, None, Result, Ok, Err, option_map, is_some, slice_get, refl, sym, ap, subst, ◌∙◌, arith, inl, inr}
 use Rattle.std.specs.Prelude.{◌==◌, nat_lt, nat_le, ok_or}
-use Rattle.std.specs.List.{AllByRecursion}
 use Rattle.std.proofs.lemmas.Bool.Decides.{eqb_tells, nat_tests}
 use Rattle.gx_base.specs.declared.limits.TheConstants.{MOST_LOTS}
 use Rattle.gx_base.specs.declared.price.Price.{Price}
@@ -82,7 +81,7 @@ named-number product (Known number) found listed h =
     let go : (rule : Option InstrumentRule) → option_map (λ r. record { number = number; rule = r }) rule ≡ Some found → found.number ≡ number = elim [
       | None ↦ λ k. absurd (let e : None ≡ Some found = k in cc)
       | Some r ↦ λ k. let here : ListedInstrument = record { number = number; rule = r } in
-        let e : Some here ≡ Some found = k in let same : here ≡ found = cc in sym (ap (λ (i : ListedInstrument). i.number) same)
+          let e : Some here ≡ Some found = k in let same : here ≡ found = cc in sym (ap (λ (i : ListedInstrument). i.number) same)
     ] in subst (λ (n : ℕ). n < length product.names.instruments) (sym (go (slice_get product.rules number) h)) listed
 
 -- a valid new order that is accepted on some terms
