@@ -1,5 +1,5 @@
 -- A new order is accepted: what its entering is given, and what all of it comes to.
-use Rattle.std.proofs.Common.{◌≡◌, ℕ, ◌+◌, ◌*◌, ◌^◌, ◌<◌, ◌≤◌, true, false, List, [], ◌∷◌, ◌++◌, Option, Some, None, slice_index, slice_set, refl, sym, ap, subst, ◌∙◌, arith, inl, inr, ◌⊎◌}
+use Rattle.std.proofs.Common.{◌≡◌, ℕ, ◌+◌, ◌*◌, ◌≤◌, true, false, List, [], ◌∷◌, Option, None, slice_index, slice_set, refl, sym, ap, subst, ◌∙◌, arith, inl, inr, ◌⊎◌}
 use Prim.Native.Nat.{zero, suc}
 use Rattle.gx_base.specs.declared.price.Price.{Price}
 use Rattle.gx_base.specs.declared.order.Life.{Life}
@@ -14,10 +14,9 @@ use Rattle.gx_base.specs.EmitLaws.{emits_joined, emits_as}
 use Rattle.step_config.specs.declared.step.Step.{Step}
 use Rattle.step_config.specs.RightSteps.{AreRightSteps}
 use Rattle.fix_request.specs.declared.request.NewOrder.{NewOrder}
-use Rattle.plain_book.specs.Orders.{is_live}
-use Rattle.plain_book.specs.Book.{Book, IsRight, live_orders}
+use Rattle.plain_book.specs.Book.{Book, IsRight}
 use Rattle.plain_book.specs.Match.{MatchState, match_start, next_head, report_counted}
-use Rattle.plain_book.specs.Matches.{MatchAt, match_at, CanTrade}
+use Rattle.plain_book.specs.Matches.{match_at, CanTrade}
 use Rattle.plain_book.proofs.TradedShares.{with_events}
 use Rattle.order_kinds.specs.State.{State}
 use Rattle.order_kinds.specs.NewOrders.{may_rest, least_of, Terms, order_on}

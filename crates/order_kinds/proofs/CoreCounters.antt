@@ -1,12 +1,11 @@
 -- The counters of a core: at the start, when a message is counted, and after it is applied.
-use Rattle.std.proofs.Common.{◌≡◌, ℕ, zero, suc, ◌+◌, ◌*◌, ◌^◌, ◌<◌, ◌≤◌, replicate, slice_index, refl, sym, subst, arith}
+use Rattle.std.proofs.Common.{◌≡◌, ℕ, refl, sym, subst, arith}
 use Rattle.gx_base.specs.declared.limits.TheConstants.{ADDRESSEES}
 use Rattle.gx_base.specs.declared.order.Desk.{Desk}
 use Rattle.plain_book.proofs.Found.{all-zero}
 use Rattle.order_kinds.specs.State.{empty_desk}
-use Rattle.order_kinds.specs.Cores.{AreCountsWithin, AreCounters}
-use Rattle.order_kinds.specs.declared.core_state.TheConstants.{MOST_MESSAGES}
-use Rattle.order_kinds.specs.Inner.Taking.{CountsRose, IsCounted}
+use Rattle.order_kinds.specs.Cores.{AreCounters}
+use Rattle.order_kinds.specs.Inner.Taking.{CountsRose}
 
 -- counters that have counted nothing
 pub counters-empty : (desk : Desk) → desk ≡ empty_desk → AreCounters desk

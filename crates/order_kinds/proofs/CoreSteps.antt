@@ -1,6 +1,6 @@
 -- What a core's private functions do by slots is the step of the engine by numbers.
-use Rattle.std.proofs.Common.{◌≡◌, ℕ, [], refl, sym, ap, subst, ◌∙◌, List}
-use Rattle.gx_base.specs.Emits.{EmitMeanings, Emits}
+use Rattle.std.proofs.Common.{◌≡◌, refl, sym, ap, subst, ◌∙◌, List}
+use Rattle.gx_base.specs.Emits.{EmitMeanings}
 use Rattle.gx_base.specs.EmitLaws.{emits_as, emits_none}
 use Rattle.gx_base.specs.declared.event.Event.{Event}
 use Rattle.product_file.specs.Products.{ProductLists}

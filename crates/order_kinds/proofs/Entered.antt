@@ -1,5 +1,5 @@
 -- An order is entered: what becomes of it, one part after the other.
-use Rattle.std.proofs.Common.{◌≡◌, ◌≢◌, ℕ, ◌≤◌, ◌<◌, Bool, true, false, cond, not, List, [], ◌∷◌, ◌++◌, length, refl, sym, ap, subst, ◌∙◌, arith, length-append, append_assoc}
+use Rattle.std.proofs.Common.{◌≡◌, ◌≢◌, ℕ, ◌≤◌, Bool, true, false, cond, not, List, [], ◌∷◌, ◌++◌, length, refl, sym, ap, subst, ◌∙◌, arith, length-append, append_assoc}
 use Rattle.std.specs.Prelude.{◌==◌, nat_lt}
 use Rattle.std.proofs.lemmas.Bool.{ne_eqb}
 use Rattle.std.proofs.lemmas.List.{append-nil}
@@ -9,11 +9,9 @@ use Rattle.gx_base.specs.declared.order.Desk.{Desk}
 use Rattle.gx_base.specs.declared.order.Taker.{Taker}
 use Rattle.gx_base.specs.declared.event.Cause.{Cause}
 use Rattle.gx_base.specs.declared.event.Cause.TheVariants as cause
-use Rattle.gx_base.specs.declared.event.Event.{Event}
 use Rattle.gx_base.specs.Emits.{EmitMeanings, Emits}
 use Rattle.gx_base.specs.EmitLaws.{emits_none, emits_joined, emits_as}
 use Rattle.step_config.specs.declared.step.Step.{Step}
-use Rattle.plain_book.specs.declared.entry.Entry.{Entry}
 use Rattle.plain_book.specs.Book.{Book, IsFitToRest, live_orders, book_placed}
 use Rattle.plain_book.specs.Match.{MatchState, match_start, report_counted, next_head}
 use Rattle.plain_book.specs.Matches.{MatchAt, match_at, start_at, IsNow, CanTrade, Matches}
@@ -55,7 +53,7 @@ cancelled-ignores why es m =
 finished-ignores : (name : ℕ) (steps : List Step) → IgnoresEvents (finished name steps)
 finished-ignores name steps es m =
     let go : (a b : Bool) → cond a (with_events es m) (cond b (taker_rested name steps (with_events es m)) (taker_cancelled cause.Fak (with_events es m)))
-        ≡ with_events es (cond a m (cond b (taker_rested name steps m) (taker_cancelled cause.Fak m))) = elim [
+    ≡ with_events es (cond a m (cond b (taker_rested name steps m) (taker_cancelled cause.Fak m))) = elim [
       | true ↦ λ b. refl
       | false ↦ elim [ true ↦ refl | false ↦ cancelled-ignores cause.Fak es m ]
     ] in go (m.taker.order.leaves == 0) (may_rest m.taker.order.life)

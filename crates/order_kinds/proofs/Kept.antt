@@ -1,7 +1,6 @@
 -- What holds of each live order holds of each after a sweep, and when an order comes to rest or leaves.
-use Rattle.std.proofs.Common.{◌≡◌, ℕ, ◌≤◌, Bool, true, false, cond, not, List, [], ◌∷◌, ◌++◌, Option, None, refl, sym, ap, subst, ◌∙◌}
+use Rattle.std.proofs.Common.{◌≡◌, ℕ, Bool, true, false, cond, not, List, Option, None, sym, ap, subst}
 use Rattle.std.specs.Prelude.{◌==◌, ◌&&◌}
-use Rattle.std.specs.List.{AllByRecursion}
 use Rattle.gx_base.specs.declared.price.Price.{Price}
 use Rattle.gx_base.specs.declared.order.Order.{Order}
 use Rattle.step_config.specs.declared.step.Step.{Step}
@@ -12,9 +11,8 @@ use Rattle.plain_book.specs.Match.{MatchState}
 use Rattle.plain_book.proofs.Pairs.{all-append, all-front, all-back, all-filter, all-map}
 use Rattle.plain_book.proofs.Live.{AllOrders, orders-placed}
 use Rattle.plain_book.proofs.Right.{live-without}
-use Rattle.plain_book.proofs.Levels.{renewed}
 use Rattle.level_sweep.specs.Sweep.{sweep}
-use Rattle.level_sweep.proofs.EachTrade.{Relation, IsKept, each-sweep}
+use Rattle.level_sweep.proofs.EachTrade.{each-sweep}
 use Rattle.level_sweep.proofs.EachOrder.{StaysTrue, AllStay, all-kept}
 use Rattle.order_kinds.proofs.Slots.{sweep-rest}
 

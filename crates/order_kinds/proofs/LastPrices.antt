@@ -1,7 +1,7 @@
 -- The last trade price of an order that is entered is an end of its price range: prices of a sweep never improve.
-use Rattle.std.proofs.Common.{◌≡◌, ◌≢◌, ℕ, ◌+◌, Bool, true, false, cond, not, ◌&&◌, List, [], ◌∷◌, ◌++◌, filter, Option, Some, None, refl, sym, ap, subst, ◌∙◌, inl, inr, ◌⊎◌}
+use Rattle.std.proofs.Common.{◌≡◌, ◌≢◌, ℕ, ◌+◌, Bool, true, false, cond, not, List, [], ◌∷◌, ◌++◌, filter, Option, Some, None, refl, sym, ap, subst, ◌∙◌, inl, inr, ◌⊎◌}
 use Prim.Native.Nat.{zero, suc}
-use Rattle.std.specs.Prelude.{ℤ, ◌==◌, min, nat_lt, sum_by}
+use Rattle.std.specs.Prelude.{◌==◌, min, nat_lt, sum_by}
 use Rattle.std.specs.List.{AllByRecursion}
 use Rattle.std.proofs.lemmas.Bool.Decides.{eqb_tells}
 use Rattle.gx_base.specs.declared.price.Price.{Price}
@@ -19,13 +19,13 @@ use Rattle.step_config.specs.declared.step.Step.{Step}
 use Rattle.step_config.specs.declared.step.Step.TheVariants.{Top, Lmm, Split, ProRata, Leveling, Fifo}
 use Rattle.step_config.specs.RightSteps.{IsRightStep, AreRightSteps}
 use Rattle.plain_book.specs.declared.entry.Entry.{Entry}
-use Rattle.plain_book.specs.Orders.{Level, level_of, opposite, is_on, is_at, is_better, is_within, side_of, price_of, best_of, top_of, HasSlot, order_of, without, with_order, placed, settled, traded, refreshed, filled_by, is_at_earlier_level}
+use Rattle.plain_book.specs.Orders.{Level, level_of, opposite, is_on, is_at, is_better, is_within, side_of, price_of, best_of, top_of, HasSlot, order_of, without, with_order, placed, settled, refreshed, filled_by, is_at_earlier_level}
 use Rattle.plain_book.specs.Book.{Book, IsRight, AllDiffer, book_traded}
-use Rattle.plain_book.specs.Match.{MatchState, Share, next_head, report, fill, taken_by, lengthened, trade, trade_if_any, is_prorata, book_marked, marked, trade_share, trade_shares}
-use Rattle.plain_book.specs.Steps.{facing, level_now, trade_head, fifo_rounds, spent, prorata_share, prorata_shares, top_shares, lmm_shares, split_shares, leveling_shares}
-use Rattle.plain_book.proofs.Levels.{renewed, HasSlot-filter, HasSlot-left, HasSlot-right, AllDiffer-filter, is_level-same}
+use Rattle.plain_book.specs.Match.{MatchState, Share, next_head, report, fill, taken_by, lengthened, trade, is_prorata, book_marked, marked, trade_share, trade_shares}
+use Rattle.plain_book.specs.Steps.{facing, level_now, trade_head, fifo_rounds, prorata_share, prorata_shares, top_shares, lmm_shares, split_shares, leveling_shares}
+use Rattle.plain_book.proofs.Levels.{HasSlot-filter, HasSlot-left, HasSlot-right, AllDiffer-filter, is_level-same}
 use Rattle.plain_book.proofs.Walks.{HasSlot-with_order}
-use Rattle.plain_book.proofs.Pairs.{all-with, all-both, all-filter, all-from}
+use Rattle.plain_book.proofs.Pairs.{all-with, all-both, all-from}
 use Rattle.plain_book.proofs.Tops.{best-is-best}
 use Rattle.level_sweep.specs.Sweep.{step_of, wanted_step, level_match, facing_best, within_limit, next_price, match_next, sweep_rounds, sweep}
 use Rattle.level_sweep.proofs.EachTrade.{each-marked, each-share}

@@ -1,11 +1,9 @@
 -- A core still fits its product after a request.
-use Rattle.std.proofs.Common.{◌≡◌, ℕ, ◌+◌, ◌<◌, ◌≤◌, Bool, true, false, cond, List, [], ◌∷◌, length, replicate, slice_set, Option, Some, None, Result, Ok, Err, refl, sym, ap, subst, ◌∙◌, lit≤}
-use Rattle.std.specs.Prelude.{◌==◌, nat_lt, unsigned_abs, IsTrue}
+use Rattle.std.proofs.Common.{◌≡◌, ℕ, ◌+◌, ◌<◌, Bool, true, false, cond, List, length, Option, Some, None, Result, Ok, Err, refl, sym, ap, subst, ◌∙◌, lit≤}
+use Rattle.std.specs.Prelude.{◌==◌, nat_lt}
 use Rattle.std.proofs.lemmas.List.{length-set}
-use Rattle.gx_base.specs.declared.limits.TheConstants.{MOST_PRICE_UNITS}
 use Rattle.gx_base.specs.declared.price.Price.{Price}
 use Rattle.gx_base.specs.declared.order.Order.{Order}
-use Rattle.gx_base.specs.declared.order.Desk.{Desk}
 use Rattle.gx_base.specs.declared.event.Cause.TheVariants as cause
 use Rattle.gx_base.specs.declared.event.Event.TheVariants.{Accepted}
 use Rattle.gx_base.specs.declared.event.NewFault.{NewFault}
@@ -21,12 +19,12 @@ use Rattle.plain_book.specs.Book.{Book, live_orders}
 use Rattle.plain_book.specs.Match.{MatchState, match_start, report}
 use Rattle.plain_book.proofs.Live.{AllOrders}
 use Rattle.level_sweep.specs.Sweep.{sweep}
-use Rattle.level_sweep.proofs.Swept.{filled_as, sweep-order}
+use Rattle.level_sweep.proofs.Swept.{sweep-order}
 use Rattle.order_kinds.specs.State.{State}
 use Rattle.order_kinds.specs.NewOrders.{Terms, terms_of, may_rest}
-use Rattle.order_kinds.specs.Entering.{as_limit, top_min_of, taker_cancelled, taker_rested, finished, open_for, entered, last_fill, last_after}
+use Rattle.order_kinds.specs.Entering.{as_limit, top_min_of, taker_cancelled, taker_rested, open_for, entered, last_fill, last_after}
 use Rattle.order_kinds.specs.Accepting.{taker_on, accepted, new_by}
-use Rattle.order_kinds.specs.Cancels.{cancel_by, cancel_step}
+use Rattle.order_kinds.specs.Cancels.{cancel_by}
 use Rattle.order_kinds.specs.Step.{request_step_as}
 use Rattle.order_kinds.specs.Cores.{IsListedOrder, FitsProduct}
 use Rattle.order_kinds.proofs.Slots.{sweep-rest}

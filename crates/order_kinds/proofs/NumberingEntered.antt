@@ -1,14 +1,13 @@
 -- Entering an order does the same where each order is named by its number, and numbers still differ.
-use Rattle.std.proofs.Common.{◌≡◌, ℕ, ◌+◌, ◌≤◌, ◌<◌, Bool, true, false, cond, List, [], ◌∷◌, refl, sym, ap, subst, ◌∙◌, arith, inl, inr}
+use Rattle.std.proofs.Common.{◌≡◌, ℕ, ◌≤◌, ◌<◌, Bool, true, false, cond, List, [], ◌∷◌, refl, sym, ap, subst, ◌∙◌, arith, inl, inr}
 use Rattle.std.specs.Prelude.{◌==◌, nat_lt}
-use Rattle.std.specs.List.{AllByRecursion}
 use Rattle.gx_base.specs.declared.price.Price.{Price}
 use Rattle.gx_base.specs.declared.order.Order.{Order}
 use Rattle.gx_base.specs.declared.event.Cause.TheVariants as cause
 use Rattle.step_config.specs.declared.step.Step.{Step}
 use Rattle.plain_book.specs.declared.entry.Entry.{Entry}
 use Rattle.plain_book.specs.Orders.{HasSlot, opposite}
-use Rattle.plain_book.specs.Book.{Book, AllDiffer, live_orders, book_placed}
+use Rattle.plain_book.specs.Book.{Book, AllDiffer, live_orders}
 use Rattle.plain_book.specs.Match.{MatchState}
 use Rattle.plain_book.specs.Numbers.{numbered, book_numbered, match_numbered}
 use Rattle.plain_book.proofs.Pairs.{all-with}

@@ -3,7 +3,6 @@ use Rattle.std.proofs.Common.{◌≡◌, ℕ, ◌+◌, ◌≤◌, ◌<◌, List,
 use Rattle.std.specs.Prelude.{◌==◌}
 use Rattle.std.specs.List.{AllByRecursion}
 use Rattle.gx_base.specs.declared.order.Order.{Order}
-use Rattle.gx_base.specs.declared.order.Desk.{Desk}
 use Rattle.gx_base.specs.declared.event.Event.{Event}
 use Rattle.gx_base.specs.declared.event.Event.TheVariants.{Accepted}
 use Rattle.gx_base.specs.declared.event.NewFault.{NewFault}
@@ -13,10 +12,10 @@ use Rattle.fix_request.specs.declared.request.CancelOrder.{CancelOrder}
 use Rattle.fix_request.specs.declared.request.Request.{Request}
 use Rattle.fix_request.specs.declared.request.Request.TheVariants.{New, Cancel, Replace, Passed, Refused}
 use Rattle.plain_book.specs.declared.entry.Entry.{Entry}
-use Rattle.plain_book.specs.Orders.{HasSlot, order_of, slot_named}
+use Rattle.plain_book.specs.Orders.{order_of, slot_named}
 use Rattle.plain_book.specs.Book.{Book, AllDiffer, live_orders, book_without}
 use Rattle.plain_book.specs.Match.{MatchState, match_start, report, report_counted}
-use Rattle.plain_book.specs.Numbers.{book_numbered, match_numbered}
+use Rattle.plain_book.specs.Numbers.{book_numbered}
 use Rattle.plain_book.proofs.Levels.{AllDiffer-filter}
 use Rattle.plain_book.proofs.Pairs.{all-with}
 use Rattle.plain_book.proofs.Right.{live-without}
@@ -24,8 +23,8 @@ use Rattle.level_sweep.proofs.Renamed.{live-numbered, named-live, removed-same}
 use Rattle.order_kinds.specs.State.{State, state_numbered}
 use Rattle.order_kinds.specs.NewOrders.{Terms, terms_of}
 use Rattle.order_kinds.specs.Entering.{entered, last_fill, last_after}
-use Rattle.order_kinds.specs.Accepting.{refused, taker_on, new_of, accepted, new_by, new_step}
-use Rattle.order_kinds.specs.Cancels.{cancel_by, cancel_refused, cancelled, cancel_step, order_cancelled}
+use Rattle.order_kinds.specs.Accepting.{taker_on, accepted, new_by, new_step}
+use Rattle.order_kinds.specs.Cancels.{cancel_by, cancel_step, order_cancelled}
 use Rattle.order_kinds.specs.Step.{request_step_as, request_step}
 use Rattle.order_kinds.specs.Cores.{AreNumbered}
 use Rattle.order_kinds.proofs.Kept.{all-left}

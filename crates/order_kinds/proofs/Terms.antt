@@ -1,7 +1,6 @@
 -- What is asked of a book for a new order, and what is true of one that no rule refuses.
 use Rattle.std.proofs.Common.{◌≡◌, ◌≢◌, ℕ, ◌<◌, ◌≤◌, Bool, true, false, cond, not, ◌&&◌, ◌||◌, List, [], ◌∷◌, filter, length, Option, Some, None, Result, Ok, Err, option_map, is_some, slice_get, refl, sym, ap, subst, ◌∙◌, arith, inl, inr}
 use Rattle.std.specs.Prelude.{◌==◌, nat_lt, nat_le, ok_or}
-use Rattle.std.specs.List.{AllByRecursion}
 use Rattle.std.proofs.lemmas.Bool.Decides.{eqb_tells, nat_tests}
 use Rattle.gx_base.specs.declared.limits.TheConstants.{MOST_LOTS}
 use Rattle.gx_base.specs.declared.price.Price.{Price}
@@ -54,12 +53,12 @@ best-in-range instrument side es p h is = first-in-range (side_of instrument sid
 -- ---- no rule refuses
 
 -- the rule does not hold, and the others are next
-refused-then : {B : Type 0} (b : Bool) (f : NewFault) (rest : Unit {0} → Result B NewFault) (r : B) → (refused_where b f >>= rest) ≡ Ok r → (b ≡ false) × (rest tt ≡ Ok r)
+pub refused-then : {B : Type 0} (b : Bool) (f : NewFault) (rest : Unit {0} → Result B NewFault) (r : B) → (refused_where b f >>= rest) ≡ Ok r → (b ≡ false) × (rest tt ≡ Ok r)
 refused-then true f rest r h = absurd (let k : Err f ≡ Ok r = h in cc)
 refused-then false f rest r h = (refl, h)
 
 -- it is found, and the other rules are next
-found-then : {A B : Type 0} (found : Option A) (f : NewFault) (rest : A → Result B NewFault) (r : B) → (ok_or found f >>= rest) ≡ Ok r → (x : A) × (found ≡ Some x) × (rest x ≡ Ok r)
+pub found-then : {A B : Type 0} (found : Option A) (f : NewFault) (rest : A → Result B NewFault) (r : B) → (ok_or found f >>= rest) ≡ Ok r → (x : A) × (found ≡ Some x) × (rest x ≡ Ok r)
 found-then None f rest r h = absurd (let k : Err f ≡ Ok r = h in cc)
 found-then (Some x) f rest r h = (x, refl, h)
 
@@ -76,13 +75,13 @@ none-least : (n least : ℕ) (may : Bool) → (nat_lt n least || (may && nat_lt 
 none-least n least may h k = grind (arith, nat_tests)
 
 -- the instrument that is found is the one that is named
-named-number : (product : ProductLists) (named : Named) (found : ListedInstrument) → IsListed product.names named → instrument_of product named ≡ Some found → found.number < length product.names.instruments
+pub named-number : (product : ProductLists) (named : Named) (found : ListedInstrument) → IsListed product.names named → instrument_of product named ≡ Some found → found.number < length product.names.instruments
 named-number product Unknown found listed h = absurd (let k : None ≡ Some found = h in cc)
 named-number product (Known number) found listed h =
     let go : (rule : Option InstrumentRule) → option_map (λ r. record { number = number; rule = r }) rule ≡ Some found → found.number ≡ number = elim [
       | None ↦ λ k. absurd (let e : None ≡ Some found = k in cc)
       | Some r ↦ λ k. let here : ListedInstrument = record { number = number; rule = r } in
-        let e : Some here ≡ Some found = k in let same : here ≡ found = cc in sym (ap (λ (i : ListedInstrument). i.number) same)
+          let e : Some here ≡ Some found = k in let same : here ≡ found = cc in sym (ap (λ (i : ListedInstrument). i.number) same)
     ] in subst (λ (n : ℕ). n < length product.names.instruments) (sym (go (slice_get product.rules number) h)) listed
 
 -- a valid new order that is accepted on some terms

@@ -1,6 +1,6 @@
 -- Entering an order: it meets the other side, and what is left of it comes to rest or is cancelled. Our own rule, after the
 -- exchange's published outline.
-use Rattle.std.specs.Prelude.{ℕ, ◌==◌, nat_lt, if◌then◌else◌, List, [], ◌∷◌, ◌++◌, slice_set, Option, Some, None, option_map}
+use Rattle.std.specs.Prelude.{ℕ, ◌==◌, nat_lt, if◌then◌else◌, List, [], ◌∷◌, slice_set, Option, Some, None, option_map}
 use Rattle.gx_base.specs.declared.price.Price.{Price}
 use Rattle.gx_base.specs.declared.order.Kind.TheVariants.{Limit}
 use Rattle.gx_base.specs.declared.order.Order.{Order}
@@ -13,7 +13,7 @@ use Rattle.gx_base.specs.declared.event.Event.TheVariants as event
 use Rattle.step_config.specs.declared.step.Step.{Step}
 use Rattle.step_config.specs.Rules.{top_rule_of}
 use Rattle.plain_book.specs.Orders.{open_within, opposite}
-use Rattle.plain_book.specs.Book.{Book, book_placed}
+use Rattle.plain_book.specs.Book.{book_placed}
 use Rattle.plain_book.specs.Match.{MatchState, report}
 use Rattle.level_sweep.specs.Sweep.{sweep}
 use Rattle.order_kinds.specs.NewOrders.{may_rest}

@@ -1,5 +1,5 @@
 -- The state of the engine: the live orders, the last trade prices, and the counters.
-use Rattle.std.specs.Prelude.{ℕ, List, length, replicate, Option, None}
+use Rattle.std.specs.Prelude.{List, length, replicate, Option, None}
 use Rattle.gx_base.specs.declared.limits.TheConstants.{ADDRESSEES}
 use Rattle.gx_base.specs.declared.price.Price.{Price}
 use Rattle.gx_base.specs.declared.order.Desk.{Desk}

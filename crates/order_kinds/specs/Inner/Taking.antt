@@ -1,12 +1,10 @@
 -- What the functions of a core do: one part of the engine's step each, on the orders as the book keeps them.
-use Rattle.std.specs.Prelude.{◌≡◌, ℕ, ◌+◌, ◌*◌, ◌^◌, ◌<◌, ◌≤◌, false, List, length, slice_index, Option, Some, None, true}
-use Rattle.gx_base.specs.declared.limits.TheConstants.{MOST_FIRMS, MOST_LOTS}
+use Rattle.std.specs.Prelude.{◌≡◌, ℕ, ◌+◌, ◌*◌, ◌^◌, ◌<◌, ◌≤◌, false, List, length, slice_index, Option, Some, None}
 use Rattle.gx_base.specs.declared.price.Price.{Price}
 use Rattle.gx_base.specs.declared.order.Side.{Side}
 use Rattle.gx_base.specs.declared.order.Side.TheVariants.{Buy, Sell}
 use Rattle.gx_base.specs.declared.order.Order.{Order}
 use Rattle.gx_base.specs.declared.order.Desk.{Desk}
-use Rattle.gx_base.specs.declared.order.Taker.{Taker}
 use Rattle.gx_base.specs.declared.event.Event.{Event}
 use Rattle.gx_base.specs.Emits.{EmitMeanings, Emits}
 use Rattle.plain_book.specs.Orders.{is_live}
@@ -14,7 +12,6 @@ use Rattle.plain_book.specs.Book.{Book, IsFitToRest, live_orders}
 use Rattle.plain_book.specs.Match.{MatchState}
 use Rattle.plain_book.specs.Matches.{MatchAt, start_at, IsNow}
 use Rattle.order_kinds.specs.State.{State}
-use Rattle.order_kinds.specs.NewOrders.{may_rest}
 use Rattle.order_kinds.specs.Entering.{as_limit}
 use Rattle.order_kinds.specs.declared.core_state.TheConstants.{MOST_MESSAGES}
 use Rattle.order_kinds.specs.Cores.{AreCountsWithin}

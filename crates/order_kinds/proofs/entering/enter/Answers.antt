@@ -1,8 +1,7 @@
-use Rattle.std.proofs.Common.{◌≡◌, true, false, not, sym, ◌∙◌}
-use Rattle.std.specs.Prelude.{nat_lt}
+use Rattle.std.proofs.Common.{sym, ◌∙◌}
 use Rattle.gx_base.specs.declared.event.Cause.TheVariants.{MinQty}
 use Rattle.plain_book.specs.Matches.{match_at, start_at}
-use Rattle.order_kinds.specs.Entering.{entered, open_for}
+use Rattle.order_kinds.specs.Entering.{entered}
 use Rattle.order_kinds.proofs.Entered.{entered-cancelled, takes-cancelled, takes-swept, can-rest, not-false, not-true}
 use Rattle.order_kinds.proofs.entering.enter.Goals as goal
 
