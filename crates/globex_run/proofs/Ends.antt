@@ -10,10 +10,10 @@ use Rattle.fix_frame.specs.Grammar.{IsFrameFront}
 use Rattle.fix_frame.specs.Framing.{Framing, GivesFrame, given_bytes}
 use Rattle.fix_frame.specs.Stream.{messages_of, rest_of}
 use Rattle.product_file.specs.Products.{ProductLists}
-use Rattle.globex_run.specs.State.{State}
+use Rattle.order_kinds.specs.State.{State}
 use Rattle.fix_frame.specs.StreamLaws.{concat-messages_of}
 use Rattle.fix_frame.specs.FramingLaws.{message_given, bytes_given}
-use Rattle.globex_run.specs.Step.{step_of, reports_of, lines_of}
+use Rattle.order_kinds.specs.Step.{step_of, reports_of, lines_of}
 use Rattle.globex_run.specs.Outside.{SourceAt, StationAt, Streams}
 use Rattle.globex_run.specs.ServedRequests.{is_served_frame, AreServed}
 use Rattle.globex_run.specs.RunResult.{ServingResult, EndsAs, AreReported, BeginsWith, first_messages, served_front, bytes_at}

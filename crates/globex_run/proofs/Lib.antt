@@ -1,10 +1,3 @@
-mod Counters
-mod Numbers
-mod Sweeping
-mod Resting
-mod Entered
-mod Cancelling
-mod Invariant
 mod ServedFrames
 mod Running
 mod Fronts
@@ -12,4 +5,3 @@ mod Ends
 mod Complete
 mod Runs
 mod ProductReads
-mod Faults

@@ -11,8 +11,8 @@ use Rattle.fix_frame.specs.Framing.{Framing, GivesFrame, given_bytes}
 use Rattle.fix_frame.specs.Stream.{messages_of, rest_of}
 use Rattle.fix_frame.specs.FramingLaws.{message_given, rest_given, bytes_given}
 use Rattle.product_file.specs.Products.{ProductLists}
-use Rattle.globex_run.specs.State.{State, empty_state}
-use Rattle.globex_run.specs.Step.{step_of, state_after, events_from, reports_of, lines_of}
+use Rattle.order_kinds.specs.State.{State, empty_state}
+use Rattle.order_kinds.specs.Step.{step_of, state_after, events_from, reports_of, lines_of}
 use Rattle.globex_run.specs.Outside.{SourceAt, StationAt, Streams}
 use Rattle.globex_run.specs.Inner.Serving.{TakesMore, ServesFrame, IsEmptyFramer, IsServed}
 use Rattle.globex_run.specs.ServedRequests.{is_served_frame, AreServed}

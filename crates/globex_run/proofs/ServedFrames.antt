@@ -5,9 +5,10 @@ use Rattle.gx_station.specs.Stations.{StationMeanings, sent_and}
 use Rattle.globex_run.specs.Outside.{station_at}
 use Rattle.gx_station.specs.Quiet.{Sends}
 use Rattle.product_file.specs.Products.{ProductLists}
-use Rattle.globex_run.specs.State.{State}
-use Rattle.globex_run.specs.ServedRequests.{is_served, is_served_frame}
-use Rattle.globex_run.specs.Step.{with_message, request_step, step_of, lines_of}
+use Rattle.order_kinds.specs.State.{State}
+use Rattle.globex_run.specs.ServedRequests.{is_served_frame}
+use Rattle.order_kinds.specs.ServedRequests.{is_served}
+use Rattle.order_kinds.specs.Step.{with_message, request_step, step_of, lines_of}
 use Rattle.globex_run.specs.Inner.Serving.{ServesFrame}
 use Rattle.globex_run.specs.declared.serve.Unserved.TheVariants.{SendFailed}
 use Rattle.fix_request.specs.Requests.{request_of}

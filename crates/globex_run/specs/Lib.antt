@@ -1,10 +1,5 @@
-pub mod Ticks
 pub mod ProductTexts
-pub mod State
 pub mod ServedRequests
-pub mod NewOrders
-pub mod Cancels
-pub mod Step
 pub mod Words
 pub mod Outside
 pub mod Outcomes

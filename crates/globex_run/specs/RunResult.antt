@@ -12,10 +12,10 @@ use Rattle.product_file.specs.Products.{ProductLists}
 use Rattle.product_file.specs.ProductTexts.{product_of}
 use Rattle.globex_run.specs.Outside.{Streams, Outside}
 use Rattle.globex_run.specs.ProductTexts.{TakesAtMost, IsProductText, IsRefusedAt}
-use Rattle.globex_run.specs.Step.{reports_of}
+use Rattle.order_kinds.specs.Step.{reports_of}
 use Rattle.globex_run.specs.ServedRequests.{is_served_frame, AreServed, AreServedFrames}
 use Rattle.globex_run.specs.Outcomes.{outcome_of}
-use Rattle.globex_run.specs.declared.engine.TheConstants.{MESSAGE_LIMIT}
+use Rattle.globex_run.specs.declared.serve.TheConstants.{MESSAGE_LIMIT}
 use Rattle.globex_run.specs.declared.outcome.Outcome.{Outcome}
 use Rattle.globex_run.specs.declared.serve.Ending.{Ending}
 use Rattle.globex_run.specs.declared.serve.Ending.TheVariants.{Done, ReadFault, SendFault, BadFrame, Truncated, Full}

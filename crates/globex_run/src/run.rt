@@ -7,8 +7,8 @@ ghost use Rattle.globex_run.specs.Outcomes.{outcome_of, is_outcome};
 ghost use Rattle.globex_run.specs.ProductTexts.{TakesAtMost};
 ghost use Rattle.globex_run.specs.RunResult.{RunResult, CanBeServed};
 ghost use Rattle.globex_run.specs.Inner.Statuses.{outcome_without};
+ghost use Rattle.order_kinds.specs.State.{empty_state};
 
-use crate::engine::Engine;
 use crate::outcome::{Outcome, Status};
 use crate::product_text::{NoProduct, take_product};
 use crate::serve::{Ending, serve};
@@ -16,16 +16,27 @@ use crate::words::is_run;
 use exec_report::ReportBuffer;
 use fix_frame::Framer;
 use gx_station::{LEAST_READ, Source, Station};
+use order_kinds::Core;
+use plain_book::PlainBook;
 use product_file::{LONGEST_TEXT, Product};
 use std::alloc::{AllocError, Global};
 
 /// All the memory of a run.
 #[derive(Drop)]
 struct Buffers {
-    engine: Engine,
+    core: Core<PlainBook>,
     framer: Framer,
     chunk: Vec<u8>,
     reports: ReportBuffer,
+}
+
+/// A core over an empty book with room for as many orders as the product allows. An `Err` is want of memory.
+fn new_core(alloc: Global, product: &Product) -> Result<Core<PlainBook>, AllocError>
+    ensures { IfOk result (λ core. core ≡ empty_state product.now) }
+{
+    let instruments = product.names().instrument_count() as u8;
+    let book = PlainBook::new(alloc, product.max_orders(), instruments)?;
+    Ok(Core::new(book, product))
 }
 
 impl Buffers {
@@ -36,7 +47,7 @@ impl Buffers {
         ensures { IfOk result (AreNew product.now) }
     {
         Ok(Buffers {
-            engine: Engine::new(alloc, product)?,
+            core: new_core(alloc, product)?,
             framer: Framer::new(alloc)?,
             chunk: vec![in alloc; 0; LEAST_READ]?,
             reports: ReportBuffer::new(alloc)?,
@@ -122,12 +133,12 @@ pub fn globex<P: Source, I: Source, S: Station>(
     };
     let ending = serve(
         &product,
-        &mut buffers.engine,
+        &mut buffers.core,
         &mut buffers.framer,
         &mut buffers.chunk,
         &mut buffers.reports,
         input,
         station,
     );
-    outcome_of(ending, buffers.engine.messages())
+    outcome_of(ending, buffers.core.messages())
 }

@@ -3,21 +3,24 @@ ghost use Rattle.std.specs.Prelude.{◌≡◌, ◌≢◌, ◌+◌, ◌*◌, ◌^
 ghost use Rattle.gx_station.specs.Quiet.{Sends};
 ghost use Rattle.fix_frame.specs.Grammar.{IsFrame};
 ghost use Rattle.fix_request.specs.ValidRequests.{IsValidRequest};
-ghost use Rattle.globex_run.specs.ServedRequests.{is_served};
-ghost use Rattle.globex_run.specs.Step.{with_message, is_passed, request_step, lines_of};
-ghost use Rattle.globex_run.specs.State.{empty_state};
-ghost use Rattle.globex_run.specs.Inner.EngineInvariant.{FitsProduct};
+ghost use Rattle.order_kinds.specs.ServedRequests.{is_served};
+ghost use Rattle.order_kinds.specs.Step.{with_message, is_passed, request_step, lines_of};
+ghost use Rattle.order_kinds.specs.State.{empty_state, state_numbered};
+ghost use Rattle.order_kinds.specs.Cores.{FitsProduct, AreNumbered};
 ghost use Rattle.globex_run.specs.Outside.{source_at, station_at, streams_at};
 ghost use Rattle.globex_run.specs.RunResult.{ServingResult};
 ghost use Rattle.globex_run.specs.Inner.Serving.{TakesMore, CausedBy, ServesFrame, IsEmptyFramer};
 
-use crate::engine::{Engine, MESSAGE_LIMIT};
-use crate::served::is_served;
 use exec_report::{Outgoing, ReportBuffer, SendFault};
 use fix_frame::{FRONT_LIMIT, Framer, Next};
 use fix_request::{Request, read_request};
 use gx_station::{Failed, LEAST_READ, Source, Station};
+use order_kinds::{Core, is_served};
+use plain_book::Book;
 use product_file::Product;
+
+/// How many messages are served in one run, for now.
+pub const MESSAGE_LIMIT: u64 = 10_000;
 
 /// How serving ended, at which place: behind so many bytes of the input.
 #[derive(Clone, Copy, Debug, PartialEq, Eq)]
@@ -63,27 +66,29 @@ impl Unserved {
 }
 
 /// Applies a message, and sends its reports. A session message has none, and the station is not called.
-fn serve_request<S: Station>(
+fn serve_request<B: Book, S: Station>(
     product: &Product,
-    engine: &mut Engine,
+    core: &mut Core<B>,
     buffer: &mut ReportBuffer,
     station: &mut S,
     request: &Request,
 ) -> Result<(), SendFault>
-    requires few { engine.old.desk.messages < MESSAGE_LIMIT }
-    requires given { IsValidRequest product.now request.now }
+    requires few { core.old.desk.messages < MESSAGE_LIMIT }
+    requires valid { IsValidRequest product.now request.now }
     requires served { IsTrue (is_served request.now) }
-    requires fits { FitsProduct product.now engine.old.book }
+    requires fits { FitsProduct product.now core.old }
+    requires numbered { AreNumbered core.old }
     requires empty { buffer.old ≡ [] }
-    ensures state { engine.new ≡ (request_step product.now request.now (with_message engine.old)).0 }
-    ensures count { engine.new.desk.messages ≡ engine.old.desk.messages + 1 }
-    ensures fits { FitsProduct product.now engine.new.book }
-    ensures sends { Sends S.meanings station.old station.new (lines_of product.now (request_step product.now request.now (with_message engine.old)).1) result }
+    ensures state { state_numbered core.new ≡ (request_step product.now request.now (with_message (state_numbered core.old))).0 }
+    ensures count { core.new.desk.messages ≡ core.old.desk.messages + 1 }
+    ensures fits { FitsProduct product.now core.new }
+    ensures numbered { AreNumbered core.new }
+    ensures sends { Sends S.meanings station.old station.new (lines_of product.now (request_step product.now request.now (with_message (state_numbered core.old))).1) result }
     ensures silent { IsTrue (is_passed request.now) → IsOk result × (station.new ≡ station.old) }
     ensures empty { OnOk result (buffer.new ≡ []) }
 {
     let mut out = Outgoing::new(buffer, station, product.names());
-    engine.apply(product, request, &mut out);
+    core.apply(product, request, &mut out);
     out.flush()
 }
 
@@ -105,28 +110,32 @@ fn take_more<I: Source>(
 }
 
 /// Serves one frame, or says why it was not served.
-fn serve_frame<S: Station>(
+fn serve_frame<B: Book, S: Station>(
     product: &Product,
-    engine: &mut Engine,
+    core: &mut Core<B>,
     buffer: &mut ReportBuffer,
     station: &mut S,
     frame: &[u8],
 ) -> Result<(), Unserved>
     requires frame { IsFrame frame.now }
-    requires fits { FitsProduct product.now engine.old.book }
+    requires bound { core.old.desk.messages ≤ MESSAGE_LIMIT }
+    requires fits { FitsProduct product.now core.old }
+    requires numbered { AreNumbered core.old }
     requires empty { buffer.old ≡ [] }
-    ensures served { ServesFrame product.now engine.old engine.new (station_at S.meanings station.old) (station_at S.meanings station.new) frame.now result }
-    ensures fits { FitsProduct product.now engine.new.book }
+    ensures served { ServesFrame product.now (state_numbered core.old) (state_numbered core.new) (station_at S.meanings station.old) (station_at S.meanings station.new) frame.now result }
+    ensures bound { core.new.desk.messages ≤ MESSAGE_LIMIT }
+    ensures fits { FitsProduct product.now core.new }
+    ensures numbered { AreNumbered core.new }
     ensures empty { OnOk result (buffer.new ≡ []) }
 {
     let request = read_request(frame, product);
     if !is_served(&request) {
         return Err(Unserved::NotServed);
     }
-    if engine.messages() == MESSAGE_LIMIT {
+    if core.messages() == MESSAGE_LIMIT {
         return Err(Unserved::Full);
     }
-    if serve_request(product, engine, buffer, station, &request).is_err() {
+    if serve_request(product, core, buffer, station, &request).is_err() {
         return Err(Unserved::SendFailed);
     }
     Ok(())
@@ -135,21 +144,21 @@ fn serve_frame<S: Station>(
 /// Serves the input to its end, or as far as it can be served: each message is applied, and its reports are sent, before
 /// the next one. It ends since each frame counts towards the limit of messages, and each read that does not end the input
 /// takes at least one byte into a bounded buffer.
-pub fn serve<I: Source, S: Station>(
+pub fn serve<B: Book, I: Source, S: Station>(
     product: &Product,
-    engine: &mut Engine,
+    core: &mut Core<B>,
     framer: &mut Framer,
     chunk: &mut Vec<u8>,
     buffer: &mut ReportBuffer,
     input: &mut I,
     station: &mut S,
 ) -> Ending
-    requires start { engine.old ≡ empty_state product.now }
+    requires start { core.old ≡ empty_state product.now }
     requires framer { IsEmptyFramer framer.old }
     requires chunk { vec_len chunk.old ≡ LEAST_READ }
     requires buffer { buffer.old ≡ [] }
     ensures cause { CausedBy result (streams_at I.meanings S.meanings input.old station.old) (streams_at I.meanings S.meanings input.new station.new) }
-    ensures serves { ServingResult product.now (streams_at I.meanings S.meanings input.old station.old) (streams_at I.meanings S.meanings input.new station.new) result engine.new.desk.messages }
+    ensures serves { ServingResult product.now (streams_at I.meanings S.meanings input.old station.old) (streams_at I.meanings S.meanings input.new station.new) result core.new.desk.messages }
 {
     'turns: loop {
         let at = framer.offset();
@@ -157,7 +166,7 @@ pub fn serve<I: Source, S: Station>(
         match framer.next() {
             Next::Frame(start, end) => {
                 let frame = framer.frame(start, end);
-                if let Err(reason) = serve_frame(product, engine, buffer, station, frame) {
+                if let Err(reason) = serve_frame(product, core, buffer, station, frame) {
                     return reason.ending(at);
                 }
             }

@@ -1,4 +1,6 @@
 //! Runs over a source and a station in memory.
+mod displays;
+mod kinds;
 mod letters;
 mod orders;
 mod products;

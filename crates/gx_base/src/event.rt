@@ -79,7 +79,7 @@ pub struct NewRefused {
 pub enum Cause {
     /// The client asked for it.
     Asked,
-    /// It is fill and kill or fill or kill, and this was not filled.
+    /// It is fill and kill, and this was not filled.
     Fak,
     /// The least quantity that had to be filled at once was not there.
     MinQty,

@@ -9,5 +9,6 @@ pub mod Names
 pub mod Numbered
 pub mod Renamed
 pub mod Swept
+pub mod Standing
 -- What the proofs of this crate alone cite.
 mod Resting

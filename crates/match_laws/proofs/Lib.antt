@@ -1,6 +1,5 @@
 mod Parts
 mod Lots
-mod Standing
 mod Showing
 mod Done
 mod Tops

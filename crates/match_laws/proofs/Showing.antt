@@ -13,7 +13,7 @@ use Rattle.plain_book.proofs.Live.{AllOrders}
 use Rattle.level_sweep.specs.Sweep.{wanted_step, level_match}
 use Rattle.level_sweep.proofs.EachTrade.{Relation, IsKept, each-head, each-wanted, each-match}
 use Rattle.level_sweep.proofs.EachOrder.{StaysTrue, all-kept}
-use Rattle.match_laws.proofs.Standing.{IsInOrder, order-kept, right-in-order}
+use Rattle.level_sweep.proofs.Standing.{IsInOrder, order-kept, right-in-order}
 
 -- an order shows at least one lot, and all that is open where it shows no part
 abbrev pub IsShowing : Order → Type 0

@@ -19,7 +19,7 @@ use Rattle.plain_book.proofs.Live.{orders-placed}
 use Rattle.plain_book.proofs.Tops.{behind-on, new-best-all}
 use Rattle.level_sweep.specs.Sweep.{sweep, within_limit, IsSweepDone}
 use Rattle.match_laws.specs.Laws.{AreApart, IsUncrossed}
-use Rattle.match_laws.proofs.Standing.{Levels, sweep-levels, sweep-in-order, right-in-order}
+use Rattle.level_sweep.proofs.Standing.{Levels, sweep-levels, sweep-in-order, right-in-order}
 use Rattle.level_sweep.proofs.Swept.{sweep-order}
 
 -- where no level is added, none is crossed

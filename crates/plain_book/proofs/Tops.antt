@@ -127,7 +127,7 @@ standing-not-best n s es o has l =
     ] in go (is_new_best n.order es) refl
 
 -- no order of a side is better than the best
-best-is-best : (i : ℕ) (s : Side) (p : Price) (es : List Entry) → EachPair AreInBookOrder es → best_of i s es ≡ Some p → AllByRecursion (λ (x : Entry). is_on i s x ≡ true → is_better s x.order.price.0 p.0 ≡ false) es
+pub best-is-best : (i : ℕ) (s : Side) (p : Price) (es : List Entry) → EachPair AreInBookOrder es → best_of i s es ≡ Some p → AllByRecursion (λ (x : Entry). is_on i s x ≡ true → is_better s x.order.price.0 p.0 ≡ false) es
 best-is-best i s p [] o h = tt
 best-is-best i s p (e ∷ es) o h =
     let P = λ (x : Entry). is_on i s x ≡ true → is_better s x.order.price.0 p.0 ≡ false in

@@ -2,12 +2,12 @@
 use Rattle.std.specs.Prelude.{◌≡◌, [], vec_len}
 use Rattle.gx_station.specs.declared.source.TheConstants.{LEAST_READ}
 use Rattle.product_file.specs.Products.{ProductLists}
-use Rattle.globex_run.specs.State.{empty_state}
+use Rattle.order_kinds.specs.State.{empty_state}
 use Rattle.globex_run.specs.Inner.Serving.{IsEmptyFramer}
 use Rattle.globex_run.specs.declared.run.Buffers.{Buffers}
 
 pub record AreNew (product : ProductLists) (buffers : Buffers) : Type 0 where
-  pub engine : buffers.engine ≡ empty_state product
+  pub core : buffers.core ≡ empty_state product
   pub framer : IsEmptyFramer buffers.framer
   pub chunk : vec_len buffers.chunk ≡ LEAST_READ
   pub reports : buffers.reports ≡ []

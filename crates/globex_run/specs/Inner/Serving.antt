@@ -8,11 +8,11 @@ use Rattle.gx_station.specs.Stations.{sent_and}
 use Rattle.fix_frame.specs.Framing.{Framing}
 use Rattle.fix_frame.specs.Stream.{messages_of, rest_of}
 use Rattle.product_file.specs.Products.{ProductLists}
-use Rattle.globex_run.specs.State.{State, empty_state}
+use Rattle.order_kinds.specs.State.{State, empty_state}
 use Rattle.globex_run.specs.ServedRequests.{is_served_frame, AreServed}
-use Rattle.globex_run.specs.Step.{step_of, state_after, reports_of, lines_of}
+use Rattle.order_kinds.specs.Step.{step_of, state_after, reports_of, lines_of}
 use Rattle.globex_run.specs.Outside.{SourceAt, StationAt, Streams}
-use Rattle.globex_run.specs.declared.engine.TheConstants.{MESSAGE_LIMIT}
+use Rattle.globex_run.specs.declared.serve.TheConstants.{MESSAGE_LIMIT}
 use Rattle.globex_run.specs.declared.serve.Unserved.{Unserved}
 use Rattle.globex_run.specs.declared.serve.Unserved.TheVariants as unserved
 use Rattle.globex_run.specs.declared.serve.Ending.{Ending}

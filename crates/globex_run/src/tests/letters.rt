@@ -1,13 +1,13 @@
 //! One stream of orders under each letter, through a log of lines. `examples/` has the same orders and reports as files.
 ghost use Rattle.std.specs.Prelude.{◌≤◌};
-ghost use Rattle.globex_run.specs.Inner.EngineInvariant.{FitsProduct};
+ghost use Rattle.order_kinds.specs.Cores.{FitsProduct};
 
 use super::frames_of;
-use crate::engine::{Engine, MESSAGE_LIMIT};
-use crate::served::is_served;
 use fix_frame::{Framer, Next};
 use fix_request::read_request;
 use gx_base::{ByteEmit, Emit};
+use order_kinds::{Core, MOST_MESSAGES, is_served};
+use plain_book::{Book, PlainBook};
 use product_file::{Product, read_product};
 use std::process::Abort;
 use std::test::Fail;
@@ -31,15 +31,15 @@ const ACCEPTED: [&str; 5] = [
 ];
 
 /// Applies the messages that the framer holds, one for each of `ORDERS`, and logs their lines.
-fn apply_all(
+fn apply_all<B: Book>(
     rt: &impl Abort,
     product: &Product,
-    engine: &mut Engine,
+    core: &mut Core<B>,
     framer: &mut Framer,
     log: &mut ByteEmit<'_>,
 )
-    requires fits { FitsProduct product.now engine.old.book }
-    ensures fits { FitsProduct product.now engine.new.book }
+    requires fits { FitsProduct product.now core.old }
+    ensures fits { FitsProduct product.now core.new }
 {
     for _message in 0..ORDERS.len() {
         let Next::Frame(start, end) = framer.next() else {
@@ -47,8 +47,8 @@ fn apply_all(
         };
         let request = read_request(framer.frame(start, end), product);
         assert!(rt; is_served(&request));
-        assert!(rt; engine.messages() < MESSAGE_LIMIT);
-        engine.apply(product, &request, log);
+        assert!(rt; core.messages() < MOST_MESSAGES);
+        core.apply(product, &request, log);
     }
 }
 
@@ -60,13 +60,15 @@ fn expect_fills(
 ) -> Result<(), Fail> {
     let alloc = rt.alloc();
     let product = read_product(alloc, product.as_bytes())?;
-    let mut engine = Engine::new(alloc, &product)?;
+    let instruments = product.names().instrument_count() as u8;
+    let book = PlainBook::new(alloc, product.max_orders(), instruments)?;
+    let mut core = Core::new(book, &product);
     let mut framer = Framer::new(alloc)?;
     let mut log = ByteEmit::new(alloc, product.names(), 8192)?;
     let bytes = frames_of(alloc, &ORDERS)?;
     assert!(rt; bytes.len() <= 4096);
     assert_eq!(rt; framer.feed(bytes.as_slice()), bytes.len());
-    apply_all(rt, &product, &mut engine, &mut framer, &mut log);
+    apply_all(rt, &product, &mut core, &mut framer, &mut log);
     assert!(rt; !log.failed());
     let mut expected = frames_of(alloc, &ACCEPTED)?;
     expected.extend_from_slice(frames_of(alloc, fills)?.as_slice())?;

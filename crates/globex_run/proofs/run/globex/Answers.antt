@@ -24,12 +24,12 @@ pub returns-clause-ran : goal.returns-clause-ran
 returns-clause-ran g c memory words =
     result-served (outside_at g.P.Source.meanings g.I.Source.meanings g.S.Station.meanings c.args.product.now c.args.input.now c.args.station.now)
     (outside_at g.P.Source.meanings g.I.Source.meanings g.S.Station.meanings c.take_product.new.source c.serve-ending.new.input c.serve-ending.new.station)
-    c.in-Ok.product c.in-Ok.ensures c.serve-ending.result c.serve-ending.new.engine.desk.messages c.serve-ending.ensures.serves _
+    c.in-Ok.product c.in-Ok.ensures c.serve-ending.result c.serve-ending.new.core.desk.messages c.serve-ending.ensures.serves _
     (c.outcome_of.ensures ∙ ap (outcome_of c.serve-ending.result) c.messages.ensures.count)
 
 pub returns-clause-all_served : goal.returns-clause-all_served
 returns-clause-all_served g c words can quiet =
     all-served (outside_at g.P.Source.meanings g.I.Source.meanings g.S.Station.meanings c.args.product.now c.args.input.now c.args.station.now)
     (outside_at g.P.Source.meanings g.I.Source.meanings g.S.Station.meanings c.take_product.new.source c.serve-ending.new.input c.serve-ending.new.station)
-    c.in-Ok.product c.in-Ok.ensures c.serve-ending.result c.serve-ending.new.engine.desk.messages c.serve-ending.ensures.serves _
+    c.in-Ok.product c.in-Ok.ensures c.serve-ending.result c.serve-ending.new.core.desk.messages c.serve-ending.ensures.serves _
     (c.outcome_of.ensures ∙ ap (outcome_of c.serve-ending.result) c.messages.ensures.count) c.serve-ending.ensures.cause can quiet

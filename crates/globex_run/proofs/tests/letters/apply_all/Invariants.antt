@@ -1,7 +1,7 @@
-use Rattle.globex_run.specs.Inner.EngineInvariant.{FitsProduct}
+use Rattle.order_kinds.specs.Cores.{FitsProduct}
 use Rattle.globex_run.proofs.tests.letters.apply_all.Given as goal
 
 abbrev pub invariant-loop-message : goal.invariant-loop-message
 invariant-loop-message g l = record {
-  fits : FitsProduct l.product l.engine.book;
+  fits : FitsProduct l.product l.core;
 }

@@ -1,7 +1,0 @@
-use Rattle.std.proofs.Common.{◌∙◌}
-use Rattle.plain_book.specs.Book.{live_orders}
-use Rattle.globex_run.proofs.Numbers.{found-live}
-use Rattle.globex_run.proofs.entry.has_id.Goals as goal
-
-pub returns : goal.returns
-returns g c = c.is_some.ensures ∙ found-live c.args.new.now.sender.firm c.args.new.now.id (live_orders (g.B.Book.book c.args.book.now)) c.find.result c.find.ensures

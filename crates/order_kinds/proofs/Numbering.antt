@@ -1,0 +1,113 @@
+-- What is asked of a book is the same where each order is named by its number.
+use Rattle.std.proofs.Common.{◌≡◌, ℕ, Bool, cond, ◌||◌, List, [], ◌∷◌, filter, length, suc, Option, Some, None, option_map, fold, Result, Ok, refl, sym, ap, subst, ◌∙◌, inl}
+use Rattle.std.specs.Prelude.{◌==◌, not, nat_lt, ℤ, sum_by, ◌+◌, ok_or}
+use Rattle.gx_base.specs.declared.event.NewFault.{NewFault}
+use Rattle.gx_base.specs.declared.event.NewFault.TheVariants as fault
+use Rattle.gx_base.specs.declared.order.Side.{Side}
+use Rattle.gx_base.specs.declared.order.Kind.{Kind}
+use Rattle.gx_base.specs.declared.order.Kind.TheVariants.{Limit, Market, StopLimit}
+use Rattle.gx_base.specs.declared.price.Price.{Price}
+use Rattle.plain_book.specs.declared.entry.Entry.{Entry}
+use Rattle.plain_book.specs.Orders.{HasSlot, order_of, slot_of, slot_named, is_named, is_live, is_within, side_of, open_within, opposite}
+use Rattle.plain_book.specs.Book.{Book, AllDiffer, live_orders}
+use Rattle.plain_book.specs.Numbers.{numbered, book_numbered}
+use Rattle.plain_book.proofs.Levels.{same, order_of-filter, HasSlot-filter}
+use Rattle.plain_book.proofs.Live.{first-has}
+use Rattle.level_sweep.proofs.Names.{Agree}
+use Rattle.level_sweep.proofs.Numbered.{filter-order, side-numbered, best-numbered}
+use Rattle.level_sweep.proofs.Renamed.{live-numbered}
+use Rattle.product_file.specs.Products.{ProductLists}
+use Rattle.fix_request.specs.declared.request.NewOrder.{NewOrder}
+use Rattle.order_kinds.specs.Instruments.{ListedInstrument, instrument_of, protected_limit}
+use Rattle.order_kinds.specs.State.{State, state_numbered}
+use Rattle.order_kinds.specs.NewOrders.{Terms, terms_of, limit_of, refused_where, is_quantity, has_off_tick, has_bad_min, ◌>>=◌}
+
+any-numbered : (firm : ℕ) (id : List ℕ) (es : List Entry) → is_live firm id (numbered es) ≡ is_live firm id es
+any-numbered firm id [] = refl
+any-numbered firm id (e ∷ es) = ap (λ (b : Bool). is_named firm id e || b) (any-numbered firm id es)
+
+length-numbered : (es : List Entry) → length (numbered es) ≡ length es
+length-numbered [] = refl
+length-numbered (e ∷ es) = ap suc (length-numbered es)
+
+live-same : (firm : ℕ) (id : List ℕ) (b : Book) → is_live firm id (live_orders (book_numbered b)) ≡ is_live firm id (live_orders b)
+live-same firm id b = ap (is_live firm id) (live-numbered b) ∙ any-numbered firm id (live_orders b)
+
+length-same : (b : Book) → length (live_orders (book_numbered b)) ≡ length (live_orders b)
+length-same b = ap (λ (es : List Entry). length es) (live-numbered b) ∙ length-numbered (live_orders b)
+
+-- ---- what is open
+
+leaves-from : (n : ℕ) (es : List Entry) → fold (λ (a : ℕ) (e : Entry). a + e.order.leaves) n (numbered es) ≡ fold (λ (a : ℕ) (e : Entry). a + e.order.leaves) n es
+leaves-from n [] = refl
+leaves-from n (e ∷ es) = leaves-from (n + e.order.leaves) es
+
+-- as much is open within a limit
+pub open-same : (i : ℕ) (d : Side) (limit : ℤ) (es : List Entry) → open_within i d limit (numbered es) ≡ open_within i d limit es
+open-same i d limit es =
+    let p : Entry → Bool = λ e. is_within d limit e.order.price.0 in
+    ap (λ (l : List Entry). sum_by (λ (e : Entry). e.order.leaves) (filter p l)) (side-numbered i d es)
+    ∙ ap (λ (l : List Entry). sum_by (λ (e : Entry). e.order.leaves) l) (filter-order p (λ e. refl) (side_of i d es))
+    ∙ leaves-from 0 (filter p (side_of i d es))
+
+-- ---- the terms of a new order
+
+limit-same : (kind : Kind) (instrument : ListedInstrument) (new : NewOrder) (b : Book) → limit_of kind instrument new (book_numbered b) ≡ limit_of kind instrument new b
+limit-same Market instrument new b = ap (λ (best : Option Price). option_map (protected_limit instrument.rule new.side) best) (best-numbered instrument.number (opposite new.side) b.resting)
+limit-same Limit instrument new b = refl
+limit-same StopLimit instrument new b = refl
+
+-- the terms of a new order for this instrument, by what is asked of the book
+abbrev terms_by : ProductLists → NewOrder → ListedInstrument → Bool → ℕ → Option Price → Result Terms NewFault
+terms_by product new instrument live long found = do
+  _ ← refused_where live fault.Duplicate
+  _ ← refused_where (not (is_quantity new.quantity)) fault.Quantity
+  _ ← refused_where (has_off_tick instrument new) fault.Tick
+  _ ← refused_where (has_bad_min new) fault.MinQty
+  _ ← refused_where (nat_lt new.quantity new.show) fault.Show
+  _ ← refused_where (long == product.max_orders) fault.BookFull
+  limit ← ok_or found fault.NoMarket
+  Ok (record { instrument = instrument; limit = limit })
+
+terms-for : (product : ProductLists) (new : NewOrder) (state : State) (found : Option ListedInstrument)
+    → (ok_or found fault.Symbol >>= λ (i : ListedInstrument). terms_by product new i (is_live new.sender.firm new.id (live_orders (book_numbered state.book))) (length (live_orders (book_numbered state.book))) (limit_of new.kind i new (book_numbered state.book)))
+    ≡ (ok_or found fault.Symbol >>= λ (i : ListedInstrument). terms_by product new i (is_live new.sender.firm new.id (live_orders state.book)) (length (live_orders state.book)) (limit_of new.kind i new state.book))
+terms-for product new state None = refl
+terms-for product new state (Some i) =
+    let b = state.book in
+    let live = is_live new.sender.firm new.id (live_orders b) in
+    ap (λ (x : Bool). terms_by product new i x (length (live_orders (book_numbered b))) (limit_of new.kind i new (book_numbered b))) (live-same new.sender.firm new.id b)
+    ∙ ap (λ (n : ℕ). terms_by product new i live n (limit_of new.kind i new (book_numbered b))) (length-same b)
+    ∙ ap (λ (x : Option Price). terms_by product new i live (length (live_orders b)) x) (limit-same new.kind i new b)
+
+-- a new order has the same terms, or is refused alike
+pub terms-same : (product : ProductLists) (new : NewOrder) (state : State) → terms_of product new (state_numbered state) ≡ terms_of product new state
+terms-same product new state = terms-for product new state (instrument_of product new.named)
+
+-- ---- an order by its firm and id
+
+first-number : (p : Entry → Bool) (es xs : List Entry) → AllDiffer es → filter p es ≡ xs → slot_of (numbered xs) ≡ option_map (λ s. (order_of s es).number) (slot_of xs)
+first-number p es [] d is = refl
+first-number p es (x ∷ xs) d is =
+    let has : HasSlot x.slot (filter p es) = subst (HasSlot x.slot) (sym is) (inl refl) in
+    let head : order_of x.slot (x ∷ xs) ≡ x.order = ap (λ (b : Bool). cond b x.order (order_of x.slot xs)) (same x.slot) in
+    let order : order_of x.slot es ≡ x.order = sym (order_of-filter p x.slot es d has) ∙ ap (order_of x.slot) is ∙ head in
+    ap (λ o. Some o.number) (sym order)
+
+-- its number, in place of its slot
+pub named-numbered : (firm : ℕ) (id : List ℕ) (b : Book) → AllDiffer (live_orders b)
+    → slot_named firm id (live_orders (book_numbered b)) ≡ option_map (λ s. (order_of s (live_orders b)).number) (slot_named firm id (live_orders b))
+named-numbered firm id b d =
+    ap (slot_named firm id) (live-numbered b)
+    ∙ ap slot_of (filter-order (is_named firm id) (λ e. refl) (live_orders b))
+    ∙ first-number (is_named firm id) (live_orders b) (filter (is_named firm id) (live_orders b)) d refl
+
+-- the order that a slot or its number names
+pub order-numbered : (s k : ℕ) (es : List Entry) → Agree s k es → order_of k (numbered es) ≡ order_of s es
+order-numbered s k [] a = refl
+order-numbered s k (e ∷ es) a =
+    ap (λ (b : Bool). cond b e.order (order_of k (numbered es))) (sym a.0)
+    ∙ ap (λ o. cond (e.slot == s) e.order o) (order-numbered s k es a.1)
+
+pub named-has : (firm : ℕ) (id : List ℕ) (s : ℕ) (es : List Entry) → slot_named firm id es ≡ Some s → HasSlot s es
+named-has firm id s es h = HasSlot-filter (is_named firm id) s es (first-has s (filter (is_named firm id) es) h)

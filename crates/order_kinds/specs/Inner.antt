@@ -1,0 +1,4 @@
+-- What the private functions promise each other. A reader need not believe any of it: the core's calls speak only of the
+-- files beside this one.
+pub mod Terms
+pub mod Taking

@@ -1,0 +1,11 @@
+pub mod State
+pub mod Instruments
+pub mod NewOrders
+pub mod Entering
+pub mod Reports
+pub mod Cancels
+pub mod Accepting
+pub mod Step
+pub mod ServedRequests
+pub mod Cores
+pub mod Inner

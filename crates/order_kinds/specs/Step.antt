@@ -1,0 +1,61 @@
+-- One message after the other: what each does to the state of the engine, and what is reported.
+use Rattle.std.specs.Prelude.{ℕ, ◌+◌, Bool, true, false, List, [], ◌∷◌, ◌++◌, flat_map}
+use Rattle.gx_base.specs.Line.{line_of}
+use Rattle.gx_base.specs.declared.event.Event.{Event}
+use Rattle.product_file.specs.Products.{ProductLists}
+use Rattle.fix_request.specs.Requests.{request_of}
+use Rattle.fix_request.specs.declared.request.Request.{Request}
+use Rattle.fix_request.specs.declared.request.Request.TheVariants.{New, Cancel, Replace, Passed, Refused}
+use Rattle.order_kinds.specs.State.{State, empty_state}
+use Rattle.order_kinds.specs.Accepting.{new_step}
+use Rattle.order_kinds.specs.Cancels.{cancel_step, session_step}
+
+-- every message counts
+abbrev pub with_message : State → State
+with_message state = record state { desk = record state.desk { messages = state.desk.messages + 1 } }
+
+-- a session message, which has no report
+abbrev pub is_passed : Request → Bool
+is_passed (Passed sender) = true
+is_passed (New order) = false
+is_passed (Cancel order) = false
+is_passed (Replace order) = false
+is_passed (Refused refusal) = false
+
+-- What a request does: the state after it, and its events. An order that it brings to rest has this name in the list. A
+-- replace is not served yet.
+abbrev pub request_step_as : ℕ → ProductLists → Request → State → State × List Event
+request_step_as name product (New order) state = new_step name product order state
+request_step_as name product (Cancel order) state = cancel_step order state
+request_step_as name product (Replace order) state = (state, [])
+request_step_as name product (Passed sender) state = (state, [])
+request_step_as name product (Refused refusal) state = session_step refusal state
+
+-- in the state of the engine a new order is named by its number
+abbrev pub request_step : ProductLists → Request → State → State × List Event
+request_step product request state = request_step_as (state.desk.orders + 1) product request state
+
+abbrev pub step_of : ProductLists → State → List ℕ → State × List Event
+step_of product state frame = request_step product (request_of product frame) (with_message state)
+
+-- ---- the folds over messages
+
+abbrev pub state_after : ProductLists → State → List (List ℕ) → State
+state_after product state [] = state
+state_after product state (frame ∷ frames) = state_after product (step_of product state frame).0 frames
+
+abbrev pub events_from : ProductLists → State → List (List ℕ) → List Event
+events_from product state [] = []
+events_from product state (frame ∷ frames) = (step_of product state frame).1 ++ events_from product (step_of product state frame).0 frames
+
+-- the events of these messages
+abbrev pub events_of : ProductLists → List (List ℕ) → List Event
+events_of product frames = events_from product (empty_state product) frames
+
+-- the lines of these events, one behind the other
+abbrev pub lines_of : ProductLists → List Event → List ℕ
+lines_of product events = flat_map (line_of product.names) events
+
+-- the reports of these messages
+abbrev pub reports_of : ProductLists → List (List ℕ) → List ℕ
+reports_of product frames = lines_of product (events_of product frames)

@@ -1,0 +1,121 @@
+//! New orders: refused, or accepted, reported and entered.
+ghost use Rattle.std.specs.Prelude.{◌≡◌, ◌<◌, ◌≤◌, ◌+◌, ◌^◌, [], ◌∷◌, length, slice_index};
+ghost use Rattle.gx_base.specs.Emits.{Emits};
+ghost use Rattle.gx_base.specs.declared.order.Kind.TheVariants.{StopLimit};
+ghost use Rattle.fix_request.specs.ValidRequests.{IsValidNew};
+ghost use Rattle.plain_book.specs.Match.{report_counted};
+ghost use Rattle.order_kinds.specs.NewOrders.{terms_of};
+ghost use Rattle.order_kinds.specs.Accepting.{refused_of, refusal, accepted, new_step};
+ghost use Rattle.order_kinds.specs.Cores.{FitsProduct};
+ghost use Rattle.order_kinds.specs.Inner.Terms.{terms_seen, IsAccepted};
+ghost use Rattle.order_kinds.specs.Inner.Taking.{Takes, CountsRose, IsCounted, last_in_range};
+
+use crate::entering::enter;
+use crate::new_orders::Terms;
+use crate::state::{EngineState, set_last};
+use fix_request::NewOrder;
+use gx_base::{Desk, Emit, Event, MOST_FIRMS, NewFault, NewRefused, Price, Side, Taker};
+use plain_book::{Book, count_report};
+use product_file::Product;
+
+/// What is said of a refused new order.
+fn new_refused(new: &NewOrder) -> NewRefused
+    ensures { result ≡ refused_of new.now }
+{
+    NewRefused {
+        id: new.id,
+        symbol: new.symbol,
+        side: new.side,
+        quantity: new.quantity,
+        kind: new.kind,
+        life: new.life,
+    }
+}
+
+/// A new order is refused. Only its report is counted.
+fn refuse_new<E: Emit>(desk: &mut Desk, new: &NewOrder, fault: NewFault, out: &mut E)
+    requires firm { new.now.sender.firm < MOST_FIRMS }
+    requires reports { desk.old.reports < 2 ^ 63 }
+    requires lines { slice_index desk.old.lines new.now.sender.firm < 2 ^ 63 }
+    ensures desk { desk.new ≡ report_counted desk.old new.now.sender.firm }
+    ensures emits { Emits E.meanings out.old out.new (refusal fault new.now desk.old ∷ []) }
+{
+    let head = count_report(desk, new.sender.firm, new.sender.time);
+    out.put(&Event::RefusedNew {
+        head,
+        order: new_refused(new),
+        fault,
+    });
+}
+
+/// The price of the last trade of an order that was entered: of a sweep the greatest for a buy, the least for a sell, since
+/// its prices never improve.
+fn last_price(taker: &Taker) -> Option<Price>
+    ensures { result ≡ last_in_range taker.now.order.side taker.now.range }
+{
+    let (least, greatest) = taker.range?;
+    match taker.order.side {
+        Side::Buy => Some(greatest),
+        Side::Sell => Some(least),
+    }
+}
+
+/// A new order is accepted under the next number, reported, and entered. Its last trade price becomes that of its
+/// instrument.
+fn accept_new<B: Book, E: Emit>(
+    state: &mut EngineState<B>,
+    terms: &Terms<'_>,
+    new: &NewOrder,
+    out: &mut E,
+)
+    requires accepted { IsAccepted state.old (terms_seen terms.now) new.now }
+    requires counted { IsCounted state.old.desk }
+    ensures takes { Takes E.meanings (λ name. accepted name (terms_seen terms.now) new.now) state.old state.new out.old out.new }
+    ensures rose { CountsRose 2000000 (record state.old.desk { orders = state.old.desk.orders + 1 }) state.new.desk }
+{
+    let instrument = terms.instrument;
+    state.book.rules();
+    instrument.rule.steps.list();
+    state.desk.orders += 1;
+    let mut taker = Taker {
+        order: terms.order(new, state.desk.orders),
+        time: new.sender.time,
+        range: None,
+    };
+    let head = count_report(&mut state.desk, new.sender.firm, new.sender.time);
+    out.put(&Event::Accepted {
+        head,
+        order: taker.order,
+    });
+    enter(
+        &mut state.book,
+        &mut state.desk,
+        &mut taker,
+        &instrument.rule.steps,
+        out,
+    );
+    set_last(&mut state.last, instrument.number, last_price(&taker));
+}
+
+/// A new order is refused by the first rule that holds, or else accepted.
+pub(crate) fn apply_new<B: Book, E: Emit>(
+    state: &mut EngineState<B>,
+    product: &Product,
+    new: &NewOrder,
+    out: &mut E,
+)
+    requires valid { IsValidNew product.now.names new.now }
+    requires served { new.now.kind ≡ StopLimit → ⊥ }
+    requires fits { FitsProduct product.now state.old }
+    requires counted { IsCounted state.old.desk }
+    ensures takes { Takes E.meanings (λ name. new_step name product.now new.now) state.old state.new out.old out.new }
+    ensures orders { state.new.desk.orders ≤ state.old.desk.orders + 1 }
+    ensures rose { CountsRose 2000000 (record state.old.desk { orders = state.new.desk.orders }) state.new.desk }
+{
+    product.limits();
+    state.book.rules();
+    match Terms::of(state, product, new) {
+        Err(fault) => refuse_new(&mut state.desk, new, fault, out),
+        Ok(terms) => accept_new(state, &terms, new, out),
+    }
+}

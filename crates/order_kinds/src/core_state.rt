@@ -1,0 +1,204 @@
+//! The core: the state of the engine over a book, and what each request does to it.
+ghost use Rattle.std.specs.Prelude.{◌≡◌, ◌≤◌, ◌<◌, ◌+◌, IsTrue, IfSome, length, replicate, slice_get, slice_set, Some, None};
+ghost use Rattle.std.specs.Borrow.{Lends, sem};
+ghost use Rattle.fix_request.specs.ValidRequests.{IsValidRequest};
+ghost use Rattle.plain_book.specs.Book.{empty_book, book_cleared};
+ghost use Rattle.order_kinds.specs.State.{empty_desk, empty_state};
+ghost use Rattle.order_kinds.specs.Step.{is_passed, request_step_as};
+ghost use Rattle.order_kinds.specs.ServedRequests.{is_served};
+ghost use Rattle.order_kinds.specs.Cores.{AreCounters, IsInRange, FitsProduct, AreNumbered, TakesStep, PutsEvents};
+ghost use Rattle.order_kinds.specs.Inner.Taking.{Takes, CountsRose, IsCounted};
+
+use crate::accepting::apply_new;
+use crate::cancels::{apply_cancel, refuse_message};
+use crate::state::{EngineState, LastPrices, set_last_price};
+use arrayvec::ArrayVec;
+use fix_request::Request;
+use gx_base::{ADDRESSEES, Desk, Emit, MOST_INSTRUMENTS, Price};
+use plain_book::Book;
+use product_file::Product;
+use std::marker::Model;
+
+/// How many messages a core takes at most: 2^24 (our own rule).
+pub const MOST_MESSAGES: u64 = 16_777_216;
+
+/// The live orders of a product in a book, the last trade price of each instrument, and the counters. Contracts see it as
+/// these. At every moment there are no more orders than messages, at most `MOST_MESSAGES` messages, and no other counter is
+/// above 2^38 for each message.
+#[derive(Drop)]
+pub struct Core<B: Book> {
+    state: EngineState<B>,
+}
+
+impl<B: Book> Model for Core<B> {
+    ghost use Rattle.order_kinds.specs.State.{State};
+
+    ghost Value = { State };
+
+    ghost use Rattle.order_kinds.specs.Cores.{AreCounters};
+
+    ghost view = { λ c. c.state };
+
+    ghost invariant = { λ c. AreCounters c.state.desk };
+}
+
+/// Counters that have counted nothing.
+fn new_desk() -> Desk
+    ensures { result ≡ empty_desk }
+{
+    Desk {
+        messages: 0,
+        orders: 0,
+        reports: 0,
+        trades: 0,
+        lines: [0; ADDRESSEES],
+    }
+}
+
+/// No trade in so many instruments.
+fn no_prices(instruments: usize) -> LastPrices
+    requires { instruments ≤ MOST_INSTRUMENTS }
+    ensures { result.items ≡ replicate instruments None }
+{
+    let mut last = ArrayVec::new();
+    for _k in 0..instruments {
+        last.push(None);
+    }
+    last
+}
+
+impl<B: Book> Core<B> {
+    ghost use Rattle.order_kinds.specs.contracts.core_state.Core.{the_row};
+
+    /// A core over an empty book that has the instruments of a product and room for as many orders as it allows. Takes no
+    /// memory.
+    pub fn new(book: B, product: &Product) -> Core<B>
+        requires { B.book book ≡ empty_book product.now.max_orders (length product.now.names.instruments) }
+        ensures { result ≡ empty_state product.now }
+    {
+        product.limits();
+        Core {
+            state: EngineState {
+                book,
+                last: no_prices(product.names().instrument_count()),
+                desk: new_desk(),
+            },
+        }
+    }
+
+    /// Applies a request, which counts as a message, and puts its events. It takes no memory and never fails: a refusal is
+    /// an event, and leaves all but the counters as it was. The rules are those of the specs: a new order is refused by the
+    /// first rule that holds, or enters the book by its kind and life; a cancel takes its order out; a session message has
+    /// no event.
+    pub fn apply<E: Emit>(&mut self, product: &Product, request: &Request, out: &mut E)
+        requires few { self.old.desk.messages < MOST_MESSAGES }
+        requires valid { IsValidRequest product.now request.now }
+        requires served { IsTrue (is_served request.now) }
+        requires fits { FitsProduct product.now self.old }
+
+        // Where order numbers differ, this is the step of the engine, whatever the book and the emitter.
+        ensures step { AreNumbered self.old → TakesStep E.meanings product.now request.now self.old self.new out.old out.new }
+
+        // Over any book its events are put one after the other, and none for a session message.
+        ensures puts { PutsEvents E.meanings out.old out.new }
+        ensures silent { IsTrue (is_passed request.now) → out.new ≡ out.old }
+
+        ensures count { self.new.desk.messages ≡ self.old.desk.messages + 1 }
+        ensures fits { FitsProduct product.now self.new }
+    {
+        self.state.book.rules();
+        self.state.desk.messages += 1;
+        apply_counted(&mut self.state, product, request, out);
+    }
+
+    /// Lends the book.
+    pub fn book(&self) -> &B
+        ensures { B.book result.now ≡ self.now.book }
+    {
+        &self.state.book
+    }
+
+    /// Lends the book for writing. The core has then the book that the borrower leaves, and nothing else of it changes.
+    pub fn book_mut(&mut self) -> &mut B
+        ensures* lends { sem 𝓛 (Lends (the_row B.row B.Book) B.row self.entry result (λ w. record self.old { book = B.book w })) }
+        ensures book { B.book result.now ≡ self.old.book }
+    {
+        &mut self.state.book
+    }
+
+    /// Lends the counters.
+    pub fn desk(&self) -> &Desk
+        ensures desk { result.now ≡ self.now.desk }
+        ensures counters { AreCounters result.now }
+    {
+        &self.state.desk
+    }
+
+    /// How many messages were applied, at most `MOST_MESSAGES`.
+    pub fn messages(&self) -> u64
+        ensures count { result ≡ self.now.desk.messages }
+        ensures few { result ≤ MOST_MESSAGES }
+    {
+        self.state.desk.messages
+    }
+
+    /// The last trade price of an instrument. `None` exactly where it has none.
+    pub fn last(&self, instrument: u8) -> Option<Price>
+        requires { instrument < length self.now.last }
+        ensures { slice_get self.now.last instrument ≡ Some result }
+    {
+        self.state.last.as_slice()[instrument as usize]
+    }
+
+    /// Sets the counters, and nothing else.
+    pub fn restore(&mut self, desk: Desk)
+        requires { AreCounters desk }
+        ensures { self.new ≡ record self.old { desk = desk } }
+    {
+        self.state.desk = desk;
+    }
+
+    /// Sets the last trade price of an instrument, and nothing else.
+    pub fn restore_last(&mut self, instrument: u8, price: Option<Price>)
+        requires listed { instrument < length self.old.last }
+        requires range { IfSome price IsInRange }
+        ensures { self.new ≡ record self.old { last = slice_set self.old.last instrument price } }
+    {
+        set_last_price(&mut self.state.last, instrument, price);
+    }
+
+    /// Makes the core as `new` made it: no order, no trade, and all counters 0.
+    pub fn clear(&mut self)
+        ensures { self.new ≡ record { book = book_cleared self.old.book; last = replicate (length self.old.last) None; desk = empty_desk } }
+    {
+        self.state.book.clear();
+        self.state.last = no_prices(self.state.last.len());
+        self.state.desk = new_desk();
+    }
+}
+
+/// Applies a request that was counted as a message.
+fn apply_counted<B: Book, E: Emit>(
+    state: &mut EngineState<B>,
+    product: &Product,
+    request: &Request,
+    out: &mut E,
+)
+    requires counted { IsCounted state.old.desk }
+    requires valid { IsValidRequest product.now request.now }
+    requires served { IsTrue (is_served request.now) }
+    requires fits { FitsProduct product.now state.old }
+    ensures takes { Takes E.meanings (λ name. request_step_as name product.now request.now) state.old state.new out.old out.new }
+    ensures silent { IsTrue (is_passed request.now) → out.new ≡ out.old }
+    ensures orders { state.new.desk.orders ≤ state.old.desk.orders + 1 }
+    ensures rose { CountsRose 2000000 (record state.old.desk { orders = state.new.desk.orders }) state.new.desk }
+{
+    product.limits();
+    match request {
+        Request::New(new) => apply_new(state, product, new, out),
+        Request::Cancel(cancel) => apply_cancel(state, cancel, out),
+        Request::Refused(refusal) => refuse_message(&mut state.desk, refusal, out),
+        Request::Passed(_) => {}
+        Request::Replace(_) => unreachable!(),
+    }
+}

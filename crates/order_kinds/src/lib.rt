@@ -1,0 +1,16 @@
+//! The rules of orders: what each request does to the live orders, the last trade prices and the counters, and what is
+//! reported.
+#![tactic(auto)]
+
+mod accepting;
+mod cancels;
+mod core_state;
+mod entering;
+mod instruments;
+mod new_orders;
+mod reports;
+mod served;
+mod state;
+
+pub use core_state::{Core, MOST_MESSAGES};
+pub use served::is_served;
