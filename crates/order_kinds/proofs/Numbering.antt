@@ -20,7 +20,8 @@ use Rattle.product_file.specs.Products.{ProductLists}
 use Rattle.fix_request.specs.declared.request.NewOrder.{NewOrder}
 use Rattle.order_kinds.specs.Instruments.{ListedInstrument, instrument_of, protected_limit}
 use Rattle.order_kinds.specs.State.{State, state_numbered}
-use Rattle.order_kinds.specs.NewOrders.{Terms, terms_of, limit_of, refused_where, is_quantity, has_off_tick, has_bad_min, ◌>>=◌}
+use Rattle.order_kinds.specs.OrderRules.{refused_where, is_quantity, has_off_tick, ◌>>=◌}
+use Rattle.order_kinds.specs.NewOrders.{Terms, terms_of, limit_of, has_bad_min}
 
 any-numbered : (firm : ℕ) (id : List ℕ) (es : List Entry) → is_live firm id (numbered es) ≡ is_live firm id es
 any-numbered firm id [] = refl

@@ -20,7 +20,8 @@ use Rattle.plain_book.specs.Book.{IsRight, live_orders, slot_number}
 use Rattle.plain_book.proofs.Pairs.{all-filter}
 use Rattle.order_kinds.specs.State.{State}
 use Rattle.order_kinds.specs.Instruments.{ListedInstrument, instrument_of}
-use Rattle.order_kinds.specs.NewOrders.{◌>>=◌, refused_where, is_quantity, has_off_tick, has_bad_min, may_rest, limit_of, Terms, terms_of}
+use Rattle.order_kinds.specs.OrderRules.{◌>>=◌, refused_where, is_quantity, has_off_tick}
+use Rattle.order_kinds.specs.NewOrders.{has_bad_min, may_rest, limit_of, Terms, terms_of}
 use Rattle.order_kinds.specs.Cores.{IsInRange, FitsProduct}
 use Rattle.order_kinds.specs.Inner.Terms.{ArePricesInRange, IsAccepted}
 

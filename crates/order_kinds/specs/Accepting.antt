@@ -1,4 +1,4 @@
--- What a new order does: it is refused, or accepted, reported and entered.
+-- What a new order does: it is refused, or accepted, reported, and comes in.
 use Rattle.std.specs.Prelude.{ℕ, ◌+◌, List, [], ◌∷◌, None, Result, Ok, Err}
 use Rattle.gx_base.specs.declared.order.Desk.{Desk}
 use Rattle.gx_base.specs.declared.order.Taker.{Taker}
@@ -11,7 +11,8 @@ use Rattle.fix_request.specs.declared.request.NewOrder.{NewOrder}
 use Rattle.plain_book.specs.Match.{MatchState, match_start, report, report_counted, next_head}
 use Rattle.order_kinds.specs.State.{State}
 use Rattle.order_kinds.specs.NewOrders.{Terms, terms_of, order_on}
-use Rattle.order_kinds.specs.Entering.{entered, last_fill, last_after}
+use Rattle.order_kinds.specs.Entering.{last_fill, last_after}
+use Rattle.order_kinds.specs.Stops.{Naming, come_in}
 
 -- ---- refused
 
@@ -31,24 +32,29 @@ refused f new state = (record state { desk = report_counted state.desk new.sende
 abbrev pub taker_on : Terms → NewOrder → ℕ → Taker
 taker_on terms new number = record { order = order_on terms new number; time = new.sender.time; range = None }
 
--- a new order gets the next number, is reported, and is entered
-abbrev pub new_of : ℕ → Terms → NewOrder → State → MatchState
-new_of name terms new state =
+-- a new order gets the next number, and is reported
+abbrev pub new_start : Terms → NewOrder → State → MatchState
+new_start terms new state =
     let number = state.desk.orders + 1 in
     let taker = taker_on terms new number in
-    let desk = record state.desk { orders = number } in
-    entered name terms.instrument.rule.steps (report Accepted taker.order (match_start state.book desk taker))
+    report Accepted taker.order (match_start state.book (record state.desk { orders = number }) taker)
 
--- the last trade price of its instrument is that of its last fill
-abbrev pub accepted : ℕ → Terms → NewOrder → State → State × List Event
-accepted name terms new state =
-    let end = new_of name terms new state in
-    (record { book = end.book; last = last_after terms.instrument.number (last_fill end.events) state.last; desk = end.desk }, end.events)
+-- and then it comes in
+abbrev pub new_of : Naming → Terms → NewOrder → State → MatchState
+new_of naming terms new state = come_in naming terms.instrument.rule.steps (new_start terms new state)
 
-abbrev pub new_by : ℕ → Result Terms NewFault → NewOrder → State → State × List Event
-new_by name (Ok terms) new state = accepted name terms new state
-new_by name (Err f) new state = refused f new state
+-- What a match leaves: the last trade price of its instrument is that of its last fill.
+abbrev pub after_match : ℕ → State → MatchState → State × List Event
+after_match instrument state end =
+    (record { book = end.book; last = last_after instrument (last_fill end.events) state.last; desk = end.desk }, end.events)
+
+abbrev pub accepted : Naming → Terms → NewOrder → State → State × List Event
+accepted naming terms new state = after_match terms.instrument.number state (new_of naming terms new state)
+
+abbrev pub new_by : Naming → Result Terms NewFault → NewOrder → State → State × List Event
+new_by naming (Ok terms) new state = accepted naming terms new state
+new_by naming (Err f) new state = refused f new state
 
 -- a new order is refused by the first rule that holds, or else accepted
-abbrev pub new_step : ℕ → ProductLists → NewOrder → State → State × List Event
-new_step name product new state = new_by name (terms_of product new state) new state
+abbrev pub new_step : Naming → ProductLists → NewOrder → State → State × List Event
+new_step naming product new state = new_by naming (terms_of product new state) new state

@@ -1,9 +1,9 @@
 -- Cancels, and messages that a session rule refuses.
-use Rattle.std.specs.Prelude.{ℕ, false, List, [], ◌∷◌, Option, Some, None}
+use Rattle.std.specs.Prelude.{ℕ, Bool, false, List, [], ◌∷◌, Option, Some, None}
 use Rattle.gx_base.specs.declared.order.Order.{Order}
 use Rattle.gx_base.specs.declared.order.Desk.{Desk}
 use Rattle.gx_base.specs.declared.event.Event.{Event}
-use Rattle.gx_base.specs.declared.event.Event.TheVariants.{Cancelled, RefusedChange, RefusedSession}
+use Rattle.gx_base.specs.declared.event.Event.TheVariants.{Cancelled, RefusedSession}
 use Rattle.gx_base.specs.declared.event.Cause.TheVariants.{Asked}
 use Rattle.gx_base.specs.declared.event.ChangeFault.TheVariants as change
 use Rattle.fix_request.specs.declared.request.CancelOrder.{CancelOrder}
@@ -12,18 +12,14 @@ use Rattle.plain_book.specs.Orders.{order_of, slot_named}
 use Rattle.plain_book.specs.Book.{live_orders, book_without}
 use Rattle.plain_book.specs.Match.{report_counted, next_head}
 use Rattle.order_kinds.specs.State.{State}
-use Rattle.order_kinds.specs.Reports.{line_head, line_counted}
+use Rattle.order_kinds.specs.Reports.{line_head, line_counted, unchanged}
 use Rattle.order_kinds.specs.Entering.{closed}
 
 -- ---- cancels
 
-abbrev pub unknown_order : CancelOrder → Desk → Event
-unknown_order request desk =
-    RefusedChange (line_head desk (Some request.sender.firm) request.sender.time) request.id request.old 0 0 false change.Unknown
-
 -- no live order has the id: the cancel is refused
 abbrev pub cancel_refused : CancelOrder → State → State × List Event
-cancel_refused request state = (record state { desk = line_counted state.desk (Some request.sender.firm) }, unknown_order request state.desk ∷ [])
+cancel_refused request state = unchanged request.sender request.id request.old 0 0 false change.Unknown state
 
 abbrev pub order_cancelled : CancelOrder → Order → Desk → Event
 order_cancelled request o desk =

@@ -37,9 +37,9 @@ taker_cancelled why m = report (cancel_event why) m.taker.order m
 abbrev pub top_min_of : List Step → Option ℕ
 top_min_of steps = option_map (λ (rule : TopRule). rule.min) (top_rule_of steps)
 
--- an order rests as a limit order: a market order at its protected limit
+-- an order rests as a limit order, a market order at its protected limit, and has no minimum any more
 abbrev pub as_limit : Order → Order
-as_limit o = record o { kind = Limit }
+as_limit o = record o { kind = Limit; min = 0 }
 
 -- What is open of the incoming order comes to rest, under a name in the list: its number in the state of the engine, its slot
 -- in that of a core.

@@ -2,3 +2,5 @@
 -- files beside this one.
 pub mod Terms
 pub mod Taking
+pub mod Triggering
+pub mod Apart

@@ -1,11 +1,14 @@
 pub mod State
 pub mod Instruments
+pub mod OrderRules
 pub mod NewOrders
 pub mod Entering
+pub mod Stops
 pub mod Reports
 pub mod Cancels
 pub mod Accepting
+pub mod Replaces
 pub mod Step
-pub mod ServedRequests
+pub mod Balance
 pub mod Cores
 pub mod Inner

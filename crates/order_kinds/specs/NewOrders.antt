@@ -1,6 +1,5 @@
 -- New orders: which are refused, and the order that is accepted. The rules, their order and their words are our own.
-use Rattle.std.specs.Prelude.{ℕ, Bool, true, false, not, ◌&&◌, ◌||◌, ◌==◌, nat_le, nat_lt, if◌then◌else◌, length, pos, Option, option_map, Result, Ok, Err, ok_or}
-use Rattle.gx_base.specs.declared.limits.TheConstants.{MOST_LOTS}
+use Rattle.std.specs.Prelude.{ℕ, Bool, true, false, not, ◌&&◌, ◌||◌, ◌==◌, nat_lt, length, Option, option_map, Result, Ok, ok_or}
 use Rattle.gx_base.specs.declared.price.Price.{Price}
 use Rattle.gx_base.specs.declared.order.Kind.TheVariants.{Limit, Market, StopLimit}
 use Rattle.gx_base.specs.declared.order.Kind.{Kind}
@@ -13,27 +12,11 @@ use Rattle.product_file.specs.Products.{ProductLists}
 use Rattle.fix_request.specs.declared.request.NewOrder.{NewOrder}
 use Rattle.plain_book.specs.Orders.{is_live, best_of, opposite}
 use Rattle.plain_book.specs.Book.{Book, live_orders}
-use Rattle.order_kinds.specs.Instruments.{ListedInstrument, instrument_of, tick_of, is_off_tick, price_at, protected_limit}
+use Rattle.order_kinds.specs.Instruments.{ListedInstrument, instrument_of, price_at, protected_limit}
 use Rattle.order_kinds.specs.State.{State}
+use Rattle.order_kinds.specs.OrderRules.{◌>>=◌, refused_where, is_quantity, has_off_tick, is_beyond_stop, is_reached_already, last_of, stop_price}
 
 -- ---- rules that refuse
-
--- one rule after the other, up to the first that refuses
-infixl 10 ◌>>=◌
-abbrev pub ◌>>=◌ : {A B : Type 0} → Result A NewFault → (A → Result B NewFault) → Result B NewFault
-(Ok a) >>= rest = rest a
-(Err f) >>= rest = Err f
-
-abbrev pub refused_where : Bool → NewFault → Result (Unit {0}) NewFault
-refused_where holds f = if holds then Err f else Ok tt
-
--- 1 to 999,999 lots
-abbrev pub is_quantity : ℕ → Bool
-is_quantity lots = nat_le 1 lots && nat_le lots MOST_LOTS
-
--- a price or a stop price that the instrument does not have
-abbrev pub has_off_tick : ListedInstrument → NewOrder → Bool
-has_off_tick instrument new = let tick = tick_of instrument.rule in is_off_tick tick new.price || is_off_tick tick new.trigger
 
 -- what is not filled of an order of this life at once may rest
 abbrev pub may_rest : Life → Bool
@@ -63,7 +46,9 @@ terms_of product new state = do
   instrument ← ok_or (instrument_of product new.named) fault.Symbol
   _ ← refused_where (is_live new.sender.firm new.id (live_orders state.book)) fault.Duplicate
   _ ← refused_where (not (is_quantity new.quantity)) fault.Quantity
-  _ ← refused_where (has_off_tick instrument new) fault.Tick
+  _ ← refused_where (has_off_tick instrument new.price new.trigger) fault.Tick
+  _ ← refused_where (is_beyond_stop new.side (price_at new.price) (price_at new.trigger)) fault.StopLimit
+  _ ← refused_where (is_reached_already new.side (price_at new.trigger) (last_of instrument.number state.last)) fault.StopReached
   _ ← refused_where (has_bad_min new) fault.MinQty
   _ ← refused_where (nat_lt new.quantity new.show) fault.Show
   _ ← refused_where (length (live_orders state.book) == product.max_orders) fault.BookFull
@@ -89,7 +74,7 @@ order_on terms new number = record {
   id = new.id;
   kind = new.kind;
   price = terms.limit;
-  trigger = record { 0 = pos 0 };
+  trigger = stop_price new.trigger;
   quantity = new.quantity;
   filled = 0;
   leaves = new.quantity;

@@ -8,7 +8,9 @@ use Rattle.fix_request.specs.declared.request.Request.{Request}
 use Rattle.fix_request.specs.declared.request.Request.TheVariants.{New, Cancel, Replace, Passed, Refused}
 use Rattle.order_kinds.specs.State.{State, empty_state}
 use Rattle.order_kinds.specs.Accepting.{new_step}
+use Rattle.order_kinds.specs.Stops.{Naming, by_number}
 use Rattle.order_kinds.specs.Cancels.{cancel_step, session_step}
+use Rattle.order_kinds.specs.Replaces.{replace_step}
 
 -- every message counts
 abbrev pub with_message : State → State
@@ -22,18 +24,17 @@ is_passed (Cancel order) = false
 is_passed (Replace order) = false
 is_passed (Refused refusal) = false
 
--- What a request does: the state after it, and its events. An order that it brings to rest has this name in the list. A
--- replace is not served yet.
-abbrev pub request_step_as : ℕ → ProductLists → Request → State → State × List Event
-request_step_as name product (New order) state = new_step name product order state
-request_step_as name product (Cancel order) state = cancel_step order state
-request_step_as name product (Replace order) state = (state, [])
-request_step_as name product (Passed sender) state = (state, [])
-request_step_as name product (Refused refusal) state = session_step refusal state
+-- What a request does: the state after it, and its events.
+abbrev pub request_step_as : Naming → ProductLists → Request → State → State × List Event
+request_step_as naming product (New order) state = new_step naming product order state
+request_step_as naming product (Cancel order) state = cancel_step order state
+request_step_as naming product (Replace order) state = replace_step naming product order state
+request_step_as naming product (Passed sender) state = (state, [])
+request_step_as naming product (Refused refusal) state = session_step refusal state
 
--- in the state of the engine a new order is named by its number
+-- in the state of the engine each order is named by its number
 abbrev pub request_step : ProductLists → Request → State → State × List Event
-request_step product request state = request_step_as (state.desk.orders + 1) product request state
+request_step product request state = request_step_as by_number product request state
 
 abbrev pub step_of : ProductLists → State → List ℕ → State × List Event
 step_of product state frame = request_step product (request_of product frame) (with_message state)

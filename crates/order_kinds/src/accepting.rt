@@ -1,20 +1,21 @@
-//! New orders: refused, or accepted, reported and entered.
-ghost use Rattle.std.specs.Prelude.{◌≡◌, ◌<◌, ◌≤◌, ◌+◌, ◌^◌, [], ◌∷◌, length, slice_index};
+//! New orders: refused, or accepted and reported, and then they come in.
+ghost use Rattle.std.specs.Prelude.{◌≡◌, ◌<◌, ◌≤◌, ◌+◌, ◌^◌, [], ◌∷◌, length, slice_index, Ok};
 ghost use Rattle.gx_base.specs.Emits.{Emits};
-ghost use Rattle.gx_base.specs.declared.order.Kind.TheVariants.{StopLimit};
+ghost use Rattle.product_file.specs.declared.limits.TheConstants.{MOST_ORDERS};
 ghost use Rattle.fix_request.specs.ValidRequests.{IsValidNew};
 ghost use Rattle.plain_book.specs.Match.{report_counted};
 ghost use Rattle.order_kinds.specs.NewOrders.{terms_of};
 ghost use Rattle.order_kinds.specs.Accepting.{refused_of, refusal, accepted, new_step};
 ghost use Rattle.order_kinds.specs.Cores.{FitsProduct};
 ghost use Rattle.order_kinds.specs.Inner.Terms.{terms_seen, IsAccepted};
-ghost use Rattle.order_kinds.specs.Inner.Taking.{Takes, CountsRose, IsCounted, last_in_range};
+ghost use Rattle.order_kinds.specs.Inner.Apart.{NewApart};
+ghost use Rattle.order_kinds.specs.Inner.Taking.{Takes, CountsRose, IsCounted};
 
-use crate::entering::enter;
 use crate::new_orders::Terms;
 use crate::state::{EngineState, set_last};
+use crate::stops::come_in;
 use fix_request::NewOrder;
-use gx_base::{Desk, Emit, Event, MOST_FIRMS, NewFault, NewRefused, Price, Side, Taker};
+use gx_base::{Desk, Emit, Event, MOST_FIRMS, NewFault, NewRefused, Taker};
 use plain_book::{Book, count_report};
 use product_file::Product;
 
@@ -48,19 +49,7 @@ fn refuse_new<E: Emit>(desk: &mut Desk, new: &NewOrder, fault: NewFault, out: &m
     });
 }
 
-/// The price of the last trade of an order that was entered: of a sweep the greatest for a buy, the least for a sell, since
-/// its prices never improve.
-fn last_price(taker: &Taker) -> Option<Price>
-    ensures { result ≡ last_in_range taker.now.order.side taker.now.range }
-{
-    let (least, greatest) = taker.range?;
-    match taker.order.side {
-        Side::Buy => Some(greatest),
-        Side::Sell => Some(least),
-    }
-}
-
-/// A new order is accepted under the next number, reported, and entered. Its last trade price becomes that of its
+/// A new order is accepted under the next number, reported, and comes in. The price of its last trade becomes that of its
 /// instrument.
 fn accept_new<B: Book, E: Emit>(
     state: &mut EngineState<B>,
@@ -70,8 +59,9 @@ fn accept_new<B: Book, E: Emit>(
 )
     requires accepted { IsAccepted state.old (terms_seen terms.now) new.now }
     requires counted { IsCounted state.old.desk }
-    ensures takes { Takes E.meanings (λ name. accepted name (terms_seen terms.now) new.now) state.old state.new out.old out.new }
-    ensures rose { CountsRose 2000000 (record state.old.desk { orders = state.old.desk.orders + 1 }) state.new.desk }
+    requires few { length state.old.book.waiting ≤ MOST_ORDERS }
+    ensures takes { Takes E.meanings (NewApart (Ok (terms_seen terms.now)) new.now) (λ naming. accepted naming (terms_seen terms.now) new.now) state.old state.new out.old out.new }
+    ensures rose { CountsRose (2 ^ 38) (record state.old.desk { orders = state.old.desk.orders + 1 }) state.new.desk }
 {
     let instrument = terms.instrument;
     state.book.rules();
@@ -87,14 +77,14 @@ fn accept_new<B: Book, E: Emit>(
         head,
         order: taker.order,
     });
-    enter(
+    let last = come_in(
         &mut state.book,
         &mut state.desk,
         &mut taker,
         &instrument.rule.steps,
         out,
     );
-    set_last(&mut state.last, instrument.number, last_price(&taker));
+    set_last(&mut state.last, instrument.number, last);
 }
 
 /// A new order is refused by the first rule that holds, or else accepted.
@@ -105,12 +95,11 @@ pub(crate) fn apply_new<B: Book, E: Emit>(
     out: &mut E,
 )
     requires valid { IsValidNew product.now.names new.now }
-    requires served { new.now.kind ≡ StopLimit → ⊥ }
     requires fits { FitsProduct product.now state.old }
     requires counted { IsCounted state.old.desk }
-    ensures takes { Takes E.meanings (λ name. new_step name product.now new.now) state.old state.new out.old out.new }
+    ensures takes { Takes E.meanings (λ state. NewApart (terms_of product.now new.now state) new.now state) (λ naming. new_step naming product.now new.now) state.old state.new out.old out.new }
     ensures orders { state.new.desk.orders ≤ state.old.desk.orders + 1 }
-    ensures rose { CountsRose 2000000 (record state.old.desk { orders = state.new.desk.orders }) state.new.desk }
+    ensures rose { CountsRose (2 ^ 38) (record state.old.desk { orders = state.new.desk.orders }) state.new.desk }
 {
     product.limits();
     state.book.rules();

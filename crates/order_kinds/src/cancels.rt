@@ -1,15 +1,15 @@
 //! Cancels, and messages that a session rule refuses.
-ghost use Rattle.std.specs.Prelude.{◌≡◌, ◌<◌, ◌^◌, IfSome, [], ◌∷◌, Some, slice_index};
+ghost use Rattle.std.specs.Prelude.{false, ◌≡◌, ◌<◌, ◌^◌, IfSome, [], ◌∷◌, Some, slice_index};
 ghost use Rattle.gx_base.specs.Emits.{Emits};
 ghost use Rattle.plain_book.specs.Orders.{HasSlot, order_of};
 ghost use Rattle.plain_book.specs.Book.{live_orders, book_without};
 ghost use Rattle.plain_book.specs.Match.{report_counted};
 ghost use Rattle.order_kinds.specs.Reports.{line_place, line_counted};
-ghost use Rattle.order_kinds.specs.Cancels.{unknown_order, order_cancelled, cancel_step, rejected};
+ghost use Rattle.order_kinds.specs.Cancels.{order_cancelled, cancel_step, rejected};
 ghost use Rattle.order_kinds.specs.Inner.Taking.{Takes, CountsRose, IsCounted};
 
 use crate::entering::closed;
-use crate::reports::count_line;
+use crate::reports::{RefusedChange, count_line};
 use crate::state::EngineState;
 use fix_request::{CancelOrder, Refusal};
 use gx_base::{Cause, ChangeFault, Desk, Emit, Event, MOST_FIRMS, Slot};
@@ -42,23 +42,19 @@ fn cancel_order<B: Book, E: Emit>(
     });
 }
 
-/// A cancel of an order that is not live is refused.
-fn refuse_cancel<E: Emit>(desk: &mut Desk, request: &CancelOrder, out: &mut E)
-    requires firm { request.now.sender.firm < MOST_FIRMS }
-    requires lines { slice_index desk.old.lines request.now.sender.firm < 2 ^ 63 }
-    ensures desk { desk.new ≡ line_counted desk.old (Some request.now.sender.firm) }
-    ensures emits { Emits E.meanings out.old out.new (unknown_order request.now desk.old ∷ []) }
+/// What is said of a cancel of an order that is not live.
+fn refused(request: &CancelOrder) -> RefusedChange<'_>
+    ensures change { result ≡ record { sender = result.sender; id = request.now.id; old = request.now.old; number = 0; filled = 0; replace = false } }
+    ensures sender { result.sender.now ≡ request.now.sender }
 {
-    let head = count_line(desk, Some(request.sender.firm), request.sender.time);
-    out.put(&Event::RefusedChange {
-        head,
+    RefusedChange {
+        sender: &request.sender,
         id: request.id,
         old: request.old,
         number: 0,
         filled: 0,
         replace: false,
-        fault: ChangeFault::Unknown,
-    });
+    }
 }
 
 /// A cancel: the order of the firm with the old id leaves, and its firm is told what was open. It is refused where no live
@@ -70,12 +66,12 @@ pub(crate) fn apply_cancel<B: Book, E: Emit>(
 )
     requires firm { request.now.sender.firm < MOST_FIRMS }
     requires counted { IsCounted state.old.desk }
-    ensures takes { Takes E.meanings (λ name. cancel_step request.now) state.old state.new out.old out.new }
+    ensures takes { Takes E.meanings (λ state naming. Unit {0}) (λ naming. cancel_step request.now) state.old state.new out.old out.new }
     ensures rose { CountsRose 1 state.old.desk state.new.desk }
 {
     match state.book.find(request.sender.firm, &request.old) {
         Some(slot) => cancel_order(&mut state.book, &mut state.desk, request, slot, out),
-        None => refuse_cancel(&mut state.desk, request, out),
+        None => refused(request).report(ChangeFault::Unknown, &mut state.desk, out),
     }
 }
 

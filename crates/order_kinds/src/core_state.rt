@@ -1,16 +1,17 @@
 //! The core: the state of the engine over a book, and what each request does to it.
-ghost use Rattle.std.specs.Prelude.{◌≡◌, ◌≤◌, ◌<◌, ◌+◌, IsTrue, IfSome, length, replicate, slice_get, slice_set, Some, None};
+ghost use Rattle.std.specs.Prelude.{◌≡◌, ◌^◌, ◌≤◌, ◌<◌, ◌+◌, IsTrue, IfSome, length, replicate, slice_get, slice_set, Some, None};
 ghost use Rattle.std.specs.Borrow.{Lends, sem};
 ghost use Rattle.fix_request.specs.ValidRequests.{IsValidRequest};
 ghost use Rattle.plain_book.specs.Book.{empty_book, book_cleared};
 ghost use Rattle.order_kinds.specs.State.{empty_desk, empty_state};
 ghost use Rattle.order_kinds.specs.Step.{is_passed, request_step_as};
-ghost use Rattle.order_kinds.specs.ServedRequests.{is_served};
 ghost use Rattle.order_kinds.specs.Cores.{AreCounters, IsInRange, FitsProduct, AreNumbered, TakesStep, PutsEvents};
+ghost use Rattle.order_kinds.specs.Inner.Apart.{StayApart};
 ghost use Rattle.order_kinds.specs.Inner.Taking.{Takes, CountsRose, IsCounted};
 
 use crate::accepting::apply_new;
 use crate::cancels::{apply_cancel, refuse_message};
+use crate::replaces::apply_replace;
 use crate::state::{EngineState, LastPrices, set_last_price};
 use arrayvec::ArrayVec;
 use fix_request::Request;
@@ -88,12 +89,11 @@ impl<B: Book> Core<B> {
 
     /// Applies a request, which counts as a message, and puts its events. It takes no memory and never fails: a refusal is
     /// an event, and leaves all but the counters as it was. The rules are those of the specs: a new order is refused by the
-    /// first rule that holds, or enters the book by its kind and life; a cancel takes its order out; a session message has
-    /// no event.
+    /// first rule that holds, or waits or is entered by its kind; a cancel takes its order out; a replace is refused by the
+    /// first rule that holds, or changes its order; a session message has no event.
     pub fn apply<E: Emit>(&mut self, product: &Product, request: &Request, out: &mut E)
         requires few { self.old.desk.messages < MOST_MESSAGES }
         requires valid { IsValidRequest product.now request.now }
-        requires served { IsTrue (is_served request.now) }
         requires fits { FitsProduct product.now self.old }
 
         // Where order numbers differ, this is the step of the engine, whatever the book and the emitter.
@@ -186,12 +186,11 @@ fn apply_counted<B: Book, E: Emit>(
 )
     requires counted { IsCounted state.old.desk }
     requires valid { IsValidRequest product.now request.now }
-    requires served { IsTrue (is_served request.now) }
     requires fits { FitsProduct product.now state.old }
-    ensures takes { Takes E.meanings (λ name. request_step_as name product.now request.now) state.old state.new out.old out.new }
+    ensures takes { Takes E.meanings (StayApart product.now request.now) (λ naming. request_step_as naming product.now request.now) state.old state.new out.old out.new }
     ensures silent { IsTrue (is_passed request.now) → out.new ≡ out.old }
     ensures orders { state.new.desk.orders ≤ state.old.desk.orders + 1 }
-    ensures rose { CountsRose 2000000 (record state.old.desk { orders = state.new.desk.orders }) state.new.desk }
+    ensures rose { CountsRose (2 ^ 38) (record state.old.desk { orders = state.new.desk.orders }) state.new.desk }
 {
     product.limits();
     match request {
@@ -199,6 +198,6 @@ fn apply_counted<B: Book, E: Emit>(
         Request::Cancel(cancel) => apply_cancel(state, cancel, out),
         Request::Refused(refusal) => refuse_message(&mut state.desk, refusal, out),
         Request::Passed(_) => {}
-        Request::Replace(_) => unreachable!(),
+        Request::Replace(replace) => apply_replace(state, product, replace, out),
     }
 }

@@ -50,13 +50,14 @@ fn top_min(steps: &Steps) -> Option<u32>
     steps.top_rule().map(|rule| rule.min)
 }
 
-/// What is open of the incoming order comes to rest, as a limit order.
+/// What is open of the incoming order comes to rest, as a limit order without a minimum.
 fn rest_taker<B: Book>(book: &mut B, taker: &Taker, steps: &Steps)
     requires { CanRest (B.book book.old) taker.now.order }
     ensures { (name : ℕ) × (B.book book.new ≡ book_placed name (as_limit taker.now.order) (top_min_of steps.now) (B.book book.old)) }
 {
     let mut order = taker.order;
     order.kind = Kind::Limit;
+    order.min = 0;
     book.place(order, top_min(steps));
 }
 

@@ -7,10 +7,14 @@ mod cancels;
 mod core_state;
 mod entering;
 mod instruments;
+mod laws;
 mod new_orders;
+mod order_rules;
+mod replaces;
 mod reports;
-mod served;
 mod state;
+mod stops;
+mod trades;
 
 pub use core_state::{Core, MOST_MESSAGES};
-pub use served::is_served;
+pub use laws::streams_balance;

@@ -3,14 +3,17 @@ ghost use Rattle.std.specs.Prelude.{◌≡◌, ◌<◌};
 ghost use Rattle.fix_request.specs.ValidRequests.{IsValidNew};
 ghost use Rattle.plain_book.specs.Orders.{is_live};
 ghost use Rattle.plain_book.specs.Book.{live_orders};
-ghost use Rattle.order_kinds.specs.NewOrders.{is_quantity, may_rest, has_bad_min, least_of, has_off_tick, limit_of, terms_of, order_on};
+ghost use Rattle.order_kinds.specs.NewOrders.{may_rest, has_bad_min, least_of, limit_of, terms_of, order_on};
 ghost use Rattle.order_kinds.specs.Cores.{FitsProduct};
 ghost use Rattle.order_kinds.specs.Inner.Terms.{listed_instrument, terms_seen, map_terms, IsRule, ArePricesInRange};
 
-use crate::instruments::{Instrument, is_off_tick, price_at, protected_limit, tick_of};
+use crate::instruments::{Instrument, price_at, protected_limit};
+use crate::order_rules::{
+    has_off_tick, is_beyond_stop, is_quantity, is_reached_already, last_of, stop_price,
+};
 use crate::state::EngineState;
 use fix_request::NewOrder;
-use gx_base::{Kind, Life, MOST_LOTS, NewFault, Order, Price};
+use gx_base::{Kind, Life, NewFault, Order, Price};
 use plain_book::{Book, opposite_side};
 use product_file::Product;
 
@@ -19,13 +22,6 @@ use product_file::Product;
 pub(crate) struct Terms<'a> {
     pub(crate) instrument: Instrument<'a>,
     pub(crate) limit: Price,
-}
-
-/// Whether this is a quantity that an order may have: 1 to 999,999 lots.
-fn is_quantity(lots: u32) -> bool
-    ensures { result ≡ is_quantity lots }
-{
-    1 <= lots && lots <= MOST_LOTS
 }
 
 /// Whether what is not filled of an order of this life at once may rest.
@@ -57,15 +53,6 @@ fn has_id<B: Book>(book: &B, new: &NewOrder) -> bool
     ensures { result ≡ is_live new.now.sender.firm new.now.id (live_orders (B.book book.now)) }
 {
     book.find(new.sender.firm, &new.id).is_some()
-}
-
-/// Whether a new order has a price or a stop price that its instrument does not have.
-fn has_off_tick(instrument: &Instrument<'_>, new: &NewOrder) -> bool
-    requires { IsRule instrument.now.rule.now }
-    ensures { result ≡ has_off_tick (listed_instrument instrument.now) new.now }
-{
-    let tick = tick_of(instrument.rule);
-    is_off_tick(tick, new.price) || is_off_tick(tick, new.trigger)
 }
 
 /// The price at which a new order is entered: its own, or for a market order the protected limit. `None` for a market
@@ -106,8 +93,15 @@ impl<'a> Terms<'a> {
         if !is_quantity(new.quantity) {
             return Err(NewFault::Quantity);
         }
-        if has_off_tick(&instrument, new) {
+        if has_off_tick(&instrument, new.price, new.trigger) {
             return Err(NewFault::Tick);
+        }
+        let stop = price_at(new.trigger);
+        if is_beyond_stop(new.side, price_at(new.price), stop) {
+            return Err(NewFault::StopLimit);
+        }
+        if is_reached_already(new.side, stop, last_of(instrument.number, &state.last)) {
+            return Err(NewFault::StopReached);
         }
         if has_bad_min(new) {
             return Err(NewFault::MinQty);
@@ -136,7 +130,7 @@ impl<'a> Terms<'a> {
             id: new.id,
             kind: new.kind,
             price: self.limit,
-            trigger: Price(0),
+            trigger: stop_price(new.trigger),
             quantity: new.quantity,
             filled: 0,
             leaves: new.quantity,

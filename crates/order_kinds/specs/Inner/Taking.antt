@@ -12,21 +12,24 @@ use Rattle.plain_book.specs.Book.{Book, IsFitToRest, live_orders}
 use Rattle.plain_book.specs.Match.{MatchState}
 use Rattle.plain_book.specs.Matches.{MatchAt, start_at, IsNow}
 use Rattle.order_kinds.specs.State.{State}
+use Rattle.order_kinds.specs.Stops.{Naming}
 use Rattle.order_kinds.specs.Entering.{as_limit}
 use Rattle.order_kinds.specs.declared.core_state.TheConstants.{MOST_MESSAGES}
 use Rattle.order_kinds.specs.Cores.{AreCountsWithin}
 
--- a part of a match was done, in which an order may come to rest under some name
-pub record TakesPart {E : Type 0} (m : EmitMeanings E) (part : ℕ → MatchState → MatchState) (before after : MatchAt E) : Type 0 where
-  pub name : ℕ
+-- a part of a match was done, in which orders may come to rest under some names
+pub record TakesPart {E N : Type 0} (m : EmitMeanings E) (part : N → MatchState → MatchState) (before after : MatchAt E) : Type 0 where
+  pub name : N
   pub now : IsNow (part name (start_at before)) after.book after.desk after.taker
   pub emits : Emits m before.out after.out (part name (start_at before)).events
 
--- a part of the engine's step was taken
-pub record Takes {E : Type 0} (m : EmitMeanings E) (step : ℕ → State → State × List Event) (old new : State) (before after : E) : Type 0 where
-  pub name : ℕ
-  pub state : new ≡ (step name old).0
-  pub emits : Emits m before after (step name old).1
+-- A part of the engine's step was taken, with some names for the orders that come to rest or wait. With these their slots
+-- stay apart, as `apart` says.
+pub record Takes {E : Type 0} (m : EmitMeanings E) (Apart : State → Naming → Type 0) (step : Naming → State → State × List Event) (old new : State) (before after : E) : Type 0 where
+  pub naming : Naming
+  pub apart : Apart old naming
+  pub state : new ≡ (step naming old).0
+  pub emits : Emits m before after (step naming old).1
 
 -- ---- counters
 

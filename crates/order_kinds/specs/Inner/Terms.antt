@@ -3,6 +3,7 @@ use Rattle.std.specs.Prelude.{◌≡◌, ◌<◌, ◌≤◌, pos, ◌≤ℤ◌, 
 use Rattle.std.specs.List.{AllByRecursion}
 use Rattle.gx_base.specs.declared.limits.TheConstants.{MOST_FIRMS, MOST_LOTS}
 use Rattle.gx_base.specs.declared.event.NewFault.{NewFault}
+use Rattle.gx_base.specs.declared.event.ChangeFault.{ChangeFault}
 use Rattle.product_file.specs.declared.product.InstrumentRule.{InstrumentRule}
 use Rattle.fix_request.specs.declared.request.NewOrder.{NewOrder}
 use Rattle.plain_book.specs.declared.entry.Entry.{Entry}
@@ -30,6 +31,10 @@ terms_seen terms = record { instrument = listed_instrument terms.instrument; lim
 abbrev pub map_terms : Result code.Terms NewFault → Result Terms NewFault
 map_terms (Ok terms) = Ok (terms_seen terms)
 map_terms (Err f) = Err f
+
+abbrev pub map_instrument : Result Instrument ChangeFault → Result ListedInstrument ChangeFault
+map_instrument (Ok instrument) = Ok (listed_instrument instrument)
+map_instrument (Err f) = Err f
 
 -- each order's price is within the price range
 abbrev pub ArePricesInRange : List Entry → Type 0

@@ -1,0 +1,240 @@
+//! Replaces: refused, or the order is changed, where it stands or by coming in again.
+ghost use Rattle.std.specs.Prelude.{◌≡◌, ◌≤◌, ◌<◌, ◌^◌, length, Ok};
+ghost use Rattle.product_file.specs.declared.limits.TheConstants.{MOST_ORDERS};
+ghost use Rattle.fix_request.specs.ValidRequests.{IsValidReplace};
+ghost use Rattle.plain_book.specs.Orders.{HasSlot, order_of, slot_named, is_side};
+ghost use Rattle.plain_book.specs.Book.{live_orders};
+ghost use Rattle.order_kinds.specs.Replaces.{is_kind, is_same_order, replace_terms, new_price, least_after, keeps_place, replaced_order, replaced_in_place, replaced_anew, replaced, replace_step};
+ghost use Rattle.order_kinds.specs.Cores.{FitsProduct};
+ghost use Rattle.order_kinds.specs.Inner.Terms.{listed_instrument, map_instrument};
+ghost use Rattle.order_kinds.specs.Inner.Apart.{ReplaceApart};
+ghost use Rattle.order_kinds.specs.Inner.Taking.{Takes, CountsRose, IsCounted};
+
+use crate::instruments::{Instrument, price_at};
+use crate::order_rules::{has_off_tick, is_beyond_stop, is_quantity, is_reached_already, last_of};
+use crate::reports::RefusedChange;
+use crate::state::{EngineState, set_last};
+use crate::stops::come_in;
+use fix_request::{Px, ReplaceOrder};
+use gx_base::{ChangeFault, Emit, Event, Kind, Life, Order, Price, Side, Slot, Taker};
+use plain_book::{Book, count_report};
+use product_file::Product;
+
+fn is_same_side(a: Side, b: Side) -> bool
+    ensures { result ≡ is_side a b }
+{
+    match (a, b) {
+        (Side::Buy, Side::Buy) | (Side::Sell, Side::Sell) => true,
+        (Side::Buy, Side::Sell) | (Side::Sell, Side::Buy) => false,
+    }
+}
+
+fn is_same_kind(a: Kind, b: Kind) -> bool
+    ensures { result ≡ is_kind a b }
+{
+    match (a, b) {
+        (Kind::Limit, Kind::Limit)
+        | (Kind::Market, Kind::Market)
+        | (Kind::StopLimit, Kind::StopLimit) => true,
+        _ => false,
+    }
+}
+
+/// Whether a replace names the instrument, the side and the order type that the order has now.
+fn is_same_order(instrument: &Instrument<'_>, request: &ReplaceOrder, order: &Order) -> bool
+    ensures { result ≡ is_same_order (listed_instrument instrument.now) request.now order.now }
+{
+    instrument.number == order.instrument
+        && is_same_side(request.side, order.side)
+        && is_same_kind(request.kind, order.kind)
+}
+
+/// The price of a message, or the one that the order has where the message has none.
+fn new_price(px: Px, now: Price) -> Price
+    ensures { result ≡ new_price px now }
+{
+    price_at(px).unwrap_or(now)
+}
+
+/// The least that has to be open of the replaced order: all of it for an order that is filled whole or not at all, and never
+/// more than all.
+fn least_after(request: &ReplaceOrder, order: &Order) -> u32
+    ensures { result ≡ least_after request.now order.now }
+{
+    match order.life {
+        Life::Fok => request.quantity,
+        Life::Day | Life::Gtc | Life::Fak => order.min.min(request.quantity),
+    }
+}
+
+/// Whether the order keeps its place: both its prices stay, and its quantity is not raised.
+fn keeps_place(request: &ReplaceOrder, order: &Order) -> bool
+    ensures { result ≡ keeps_place request.now order.now }
+{
+    new_price(request.price, order.price).0 == order.price.0
+        && new_price(request.trigger, order.trigger).0 == order.trigger.0
+        && request.quantity <= order.quantity
+}
+
+/// The instrument of a replace of this order, or the first of the rules that refuses it, in the order of `ChangeFault`.
+fn terms_of<'a, B: Book>(
+    state: &EngineState<B>,
+    product: &'a Product,
+    request: &ReplaceOrder,
+    order: &Order,
+) -> Result<Instrument<'a>, ChangeFault>
+    requires valid { IsValidReplace product.now.names request.now }
+    requires fits { FitsProduct product.now state.now }
+    ensures { map_instrument result ≡ replace_terms product.now request.now order.now state.now }
+{
+    let Some(instrument) = Instrument::named(product, request.named) else {
+        return Err(ChangeFault::Mismatch);
+    };
+    if !is_same_order(&instrument, request, order) {
+        return Err(ChangeFault::Mismatch);
+    }
+    if state.book.find(request.sender.firm, &request.id).is_some() {
+        return Err(ChangeFault::Duplicate);
+    }
+    if !is_quantity(request.quantity) {
+        return Err(ChangeFault::Quantity);
+    }
+    if request.quantity <= order.filled {
+        return Err(ChangeFault::Filled);
+    }
+    if has_off_tick(&instrument, request.price, request.trigger) {
+        return Err(ChangeFault::Tick);
+    }
+    let stop = price_at(request.trigger);
+    if is_beyond_stop(request.side, price_at(request.price), stop) {
+        return Err(ChangeFault::StopLimit);
+    }
+    if is_reached_already(request.side, stop, last_of(instrument.number, &state.last)) {
+        return Err(ChangeFault::StopReached);
+    }
+    if request.quantity < order.show {
+        return Err(ChangeFault::Show);
+    }
+    Ok(instrument)
+}
+
+/// The order as a replace changes it that loses its place. Nothing of it is shown until it comes in again.
+fn replaced_order(request: &ReplaceOrder, order: &Order) -> Order
+    requires { order.now.filled ≤ request.now.quantity }
+    ensures { result ≡ replaced_order request.now order.now }
+{
+    let mut replaced = *order;
+    replaced.id = request.id;
+    replaced.price = new_price(request.price, order.price);
+    replaced.trigger = new_price(request.trigger, order.trigger);
+    replaced.quantity = request.quantity;
+    replaced.leaves = request.quantity - order.filled;
+    replaced.shown = 0;
+    replaced.min = least_after(request, order);
+    replaced
+}
+
+/// An order is changed where it stands, and reported.
+fn replace_in_place<B: Book, E: Emit>(
+    state: &mut EngineState<B>,
+    request: &ReplaceOrder,
+    slot: Slot,
+    order: &Order,
+    out: &mut E,
+) {
+    let least = least_after(request, order);
+    state
+        .book
+        .change(slot, request.id, request.quantity, least);
+    let head = count_report(&mut state.desk, order.firm, request.sender.time);
+    out.put(&Event::Replaced {
+        head,
+        order: state.book.order(slot),
+        old: order.id,
+        old_quantity: order.quantity,
+    });
+}
+
+/// An order leaves, is reported as changed, and comes in again under its number.
+fn replace_anew<B: Book, E: Emit>(
+    state: &mut EngineState<B>,
+    instrument: &Instrument<'_>,
+    request: &ReplaceOrder,
+    slot: Slot,
+    out: &mut E,
+) {
+    let order = state.book.remove(slot);
+    let mut taker = Taker {
+        order: replaced_order(request, &order),
+        time: request.sender.time,
+        range: None,
+    };
+    let head = count_report(&mut state.desk, order.firm, request.sender.time);
+    out.put(&Event::Replaced {
+        head,
+        order: taker.order,
+        old: order.id,
+        old_quantity: order.quantity,
+    });
+    let last = come_in(
+        &mut state.book,
+        &mut state.desk,
+        &mut taker,
+        &instrument.rule.steps,
+        out,
+    );
+    set_last(&mut state.last, instrument.number, last);
+}
+
+/// What is said of a refused replace of an order with this number, of which so much is filled.
+fn refused(request: &ReplaceOrder, number: u64, filled: u32) -> RefusedChange<'_> {
+    RefusedChange {
+        sender: &request.sender,
+        id: request.id,
+        old: request.old,
+        number,
+        filled,
+        replace: true,
+    }
+}
+
+/// A replace of a live order: refused by the first rule that holds, or else it changes the order.
+fn replace_order<B: Book, E: Emit>(
+    state: &mut EngineState<B>,
+    product: &Product,
+    request: &ReplaceOrder,
+    slot: Slot,
+    out: &mut E,
+) {
+    let order = state.book.order(slot);
+    match terms_of(state, product, request, &order) {
+        Err(fault) => {
+            refused(request, order.number, order.filled).report(fault, &mut state.desk, out)
+        }
+        Ok(_) if keeps_place(request, &order) => {
+            replace_in_place(state, request, slot, &order, out)
+        }
+        Ok(instrument) => replace_anew(state, &instrument, request, slot, out),
+    }
+}
+
+/// A replace: the order of the firm with the old id is changed. It is refused where no live order of the firm has that id, or
+/// by the first of the other rules that holds.
+pub(crate) fn apply_replace<B: Book, E: Emit>(
+    state: &mut EngineState<B>,
+    product: &Product,
+    request: &ReplaceOrder,
+    out: &mut E,
+)
+    requires valid { IsValidReplace product.now.names request.now }
+    requires fits { FitsProduct product.now state.old }
+    requires counted { IsCounted state.old.desk }
+    requires few { length state.old.book.waiting ≤ MOST_ORDERS }
+    ensures takes { Takes E.meanings (λ state. ReplaceApart (slot_named request.now.sender.firm request.now.old (live_orders state.book)) product.now request.now state) (λ naming. replace_step naming product.now request.now) state.old state.new out.old out.new }
+    ensures rose { CountsRose (2 ^ 38) state.old.desk state.new.desk }
+{
+    match state.book.find(request.sender.firm, &request.old) {
+        Some(slot) => replace_order(state, product, request, slot, out),
+        None => refused(request, 0, 0).report(ChangeFault::Unknown, &mut state.desk, out),
+    }
+}
