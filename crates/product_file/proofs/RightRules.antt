@@ -1,5 +1,5 @@
 -- What the rule of an instrument is like.
-use Rattle.std.proofs.Common.{◌≡◌, ℕ, ◌≤◌, pos, Bool, true, false, List, [], ◌∷◌, map, length, codes, bytes_eq, Option, Some, None, unwrap_or, cond, Result, Ok, subst, arith}
+use Rattle.std.proofs.Common.{◌≡◌, ℕ, ◌≤◌, pos, Bool, true, false, List, [], ◌∷◌, map, length, codes, bytes_eq, Option, Some, None, unwrap_or, cond, Result, Ok, Err, refl, subst, arith}
 use Rattle.std.specs.List.{AllByRecursion}
 use Rattle.std.proofs.lemmas.Int.{ints}
 use Rattle.step_config.specs.declared.step.Step.{Step}
@@ -10,12 +10,15 @@ use Rattle.step_config.specs.declared.presets.Letter.TheVariants.{F, C, A, T, O,
 use Rattle.step_config.specs.declared.presets.Params.{Params}
 use Rattle.gx_base.specs.FirstFault.{unless_fault}
 use Rattle.step_config.specs.Rules.{fault_of}
+use Rattle.step_config.specs.RightSteps.{AreRightSteps}
+use Rattle.step_config.proofs.Right.{right_steps}
 use Rattle.toml.specs.Data.{Data}
 use Rattle.gx_base.specs.declared.limits.TheConstants.{MOST_LOTS}
 use Rattle.product_file.specs.declared.limits.TheConstants.{MOST_TICK, MOST_PROTECTION}
 use Rattle.product_file.specs.declared.algorithms.Parameters.{Parameters}
 use Rattle.product_file.specs.declared.product.InstrumentRule.{InstrumentRule}
 use Rattle.product_file.specs.declared.faults.ProductFault.{ProductFault}
+use Rattle.product_file.specs.declared.faults.ProductFault.TheVariants.{Steps}
 use Rattle.product_file.specs.declared.faults.Key.TheVariants.{TopMin, TopMax, Least, Tick, Protection}
 use Rattle.product_file.specs.declared.faults.Key.TheVariants as key
 use Rattle.product_file.specs.Letters.{usual_least}
@@ -69,6 +72,11 @@ steps_kept : (steps given : List Step) (fault : Option StepFault) → or_steps_f
 steps_kept steps given None e = cc
 steps_kept steps given (Some fault) e = cc
 
+-- a list without a fault is a right one
+list_right : (steps given : List Step) (fault : Option StepFault) → fault_of steps ≡ fault → or_steps_fault (unless_fault fault steps) ≡ Ok given → AreRightSteps given
+list_right steps given None is e = subst AreRightSteps (steps_kept steps given None e) (right_steps steps is)
+list_right steps given (Some fault) is e = absurd (let k : ◌≡◌ {A = Result (List Step) ProductFault} (Err (Steps fault)) (Ok given) = e in cc)
+
 -- ---- the rule
 
 right_parameters : (firms : List (List ℕ)) (letter : Letter) (fields : Data) (parameters : Parameters) → parameters_of firms letter fields ≡ Ok parameters → HasListedShares firms parameters
@@ -83,20 +91,21 @@ right_parameters firms letter fields parameters e =
     (record { top = record { min = unwrap_or min 1; max = unwrap_or max MOST_LOTS }; least = unwrap_or least (usual_least letter); lmm = shares })
     (unwrap_or split 0) parameters (listed_shares firms fields shares given) e5
 
-right_steps : (firms : List (List ℕ)) (letter : Letter) (parameters : Parameters) (names : List (List ℕ)) (steps : List Step) → HasListedShares firms parameters → letter_steps letter parameters names ≡ Ok steps → AllByRecursion (HasListedFirms (length firms)) steps
-right_steps firms letter parameters names steps given e =
+steps_listed : (firms : List (List ℕ)) (letter : Letter) (parameters : Parameters) (names : List (List ℕ)) (steps : List Step) → HasListedShares firms parameters → letter_steps letter parameters names ≡ Ok steps → AllByRecursion (HasListedFirms (length firms)) steps
+steps_listed firms letter parameters names steps given e =
     let kept = steps_kept (written_steps letter parameters names) steps (fault_of (written_steps letter parameters names)) e in
     subst (AllByRecursion (HasListedFirms (length firms))) kept (listed_steps firms parameters given letter names)
 
-made_rule : (firms : List (List ℕ)) (tick protection : ℕ) (letter : Letter) (steps : List Step) (rule : InstrumentRule) → (1 ≤ tick) × (tick ≤ MOST_TICK) → protection ≤ MOST_PROTECTION → AllByRecursion (HasListedFirms (length firms)) steps
+made_rule : (firms : List (List ℕ)) (tick protection : ℕ) (letter : Letter) (steps : List Step) (rule : InstrumentRule) → (1 ≤ tick) × (tick ≤ MOST_TICK) → protection ≤ MOST_PROTECTION → AllByRecursion (HasListedFirms (length firms)) steps → AreRightSteps steps
     → ◌≡◌ {A = Result InstrumentRule ProductFault} (Ok (record { tick = pos tick; protection = protection; letter = letter; steps = steps })) (Ok rule) → IsRightInstrument (length firms) rule
-made_rule firms tick protection letter steps rule ticks few listed e =
+made_rule firms tick protection letter steps rule ticks few listed right e =
     let same : ◌≡◌ {A = InstrumentRule} (record { tick = pos tick; protection = protection; letter = letter; steps = steps }) rule = cc in
     subst (IsRightInstrument (length firms)) same (record {
       least_tick = omega (arith, ints, ticks.0);
       most_tick = omega (arith, ints, ticks.1);
       protection = few;
       listed_firms = listed;
+      right_steps = right;
     })
 
 pub right_rule : (firms : List (List ℕ)) (fields : Data) (rule : InstrumentRule) → rule_of firms fields ≡ Ok rule → IsRightInstrument (length firms) rule
@@ -111,5 +120,6 @@ right_rule firms fields rule e =
     made_rule firms tick protection letter steps rule
     (needed_within Tick 1 MOST_TICK fields tick ticks)
     (needed_within Protection 0 MOST_PROTECTION fields protection few).1
-    (right_steps firms letter parameters names steps (right_parameters firms letter fields parameters given) kept)
+    (steps_listed firms letter parameters names steps (right_parameters firms letter fields parameters given) kept)
+    (list_right (written_steps letter parameters names) steps (fault_of (written_steps letter parameters names)) refl kept)
     e6

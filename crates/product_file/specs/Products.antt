@@ -6,6 +6,7 @@ use Rattle.gx_base.specs.declared.order.LmmShare.{LmmShare}
 use Rattle.step_config.specs.declared.step.Step.{Step}
 use Rattle.step_config.specs.declared.step.Step.TheVariants.{Top, Lmm, Split, ProRata, Leveling, Fifo}
 use Rattle.gx_base.specs.declared.limits.TheConstants.{MOST_FIRMS, MOST_INSTRUMENTS}
+use Rattle.step_config.specs.RightSteps.{AreRightSteps}
 use Rattle.product_file.specs.declared.limits.TheConstants.{MOST_ORDERS, LEAST_JOURNAL, MOST_JOURNAL, MOST_TICK, MOST_PROTECTION}
 use Rattle.product_file.specs.declared.product.InstrumentRule.{InstrumentRule}
 
@@ -32,6 +33,7 @@ pub record IsRightInstrument (firms : ℕ) (rule : InstrumentRule) : Type 0 wher
   pub most_tick : rule.tick ≤ℤ pos MOST_TICK
   pub protection : rule.protection ≤ MOST_PROTECTION
   pub listed_firms : AllByRecursion (HasListedFirms firms) rule.steps
+  pub right_steps : AreRightSteps rule.steps
 
 pub record IsRightProduct (p : ProductLists) : Type 0 where
   pub some_firms : 1 ≤ length p.names.firms
