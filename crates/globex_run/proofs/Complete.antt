@@ -1,6 +1,6 @@
--- Where all of the input is frames that are served, a run takes them all.
-use Rattle.std.proofs.Common.{◌≡◌, ◌≢◌, inl, inr, ℕ, ◌≤◌, List, [], ◌∷◌, ◌++◌, length, take, drop, Option, Some, None, IsTrue, IsFalse, refl, sym, ap, subst, ◌∙◌, length-append, take-append-drop, arith}
-use Rattle.std.specs.List.{concat, take_while, AllByRecursion}
+-- Where all of the input is frames, a run takes them all.
+use Rattle.std.proofs.Common.{◌≡◌, ◌≢◌, inl, inr, ℕ, ◌≤◌, List, [], ◌∷◌, ◌++◌, length, take, drop, Option, Some, None, refl, sym, ap, subst, ◌∙◌, length-append, take-append-drop, arith}
+use Rattle.std.specs.List.{concat}
 use Rattle.std.proofs.lemmas.Bool.{cond-true, cond-false, cases_Bool, cases_lt}
 use Rattle.std.proofs.lemmas.List.{append-nil, drop_at, take_at, take_all, take-append-le, nil_from_length}
 use Rattle.std.proofs.lemmas.Option.{none-some, same_Some}
@@ -11,11 +11,9 @@ use Rattle.fix_frame.specs.Stream.{messages_from, rest_from, messages_of, rest_o
 use Rattle.fix_frame.specs.StreamLaws.{messages_from-append, rest_from-append, concat-messages_from, concat-messages_of, messages_of-frame-append, rest_of-frame-append, none_from_messages_of}
 use Rattle.product_file.specs.Products.{ProductLists}
 use Rattle.globex_run.specs.Outside.{Streams}
-use Rattle.globex_run.specs.ServedRequests.{is_served_frame, AreServed, AreServedFrames}
-use Rattle.globex_run.specs.RunResult.{ServingResult, EndsAs, BeginsWith, first_messages, served_front, bytes_at}
+use Rattle.globex_run.specs.RunResult.{ServingResult, EndsAs, BeginsWithFrame, AreFrames, first_messages, bytes_at}
 use Rattle.globex_run.specs.declared.serve.Ending.{Ending}
 use Rattle.globex_run.specs.declared.serve.Ending.TheVariants.{Done, ReadFault, SendFault, BadFrame, Truncated, Full}
-use Rattle.globex_run.proofs.Fronts.{front-none}
 
 -- ---- what is left of some input
 
@@ -51,9 +49,6 @@ messages_of-rest_of u = rest_from-none [] u refl refl
 
 -- ---- a stream of frames
 
-abbrev AreFrames : List (List ℕ) → Type 0
-AreFrames frames = AllByRecursion (λ (frame : List ℕ). IsFrame frame) frames
-
 messages_of-concat : (frames : List (List ℕ)) → AreFrames frames → messages_of (concat frames) ≡ frames
 messages_of-concat [] all = refl
 messages_of-concat (f ∷ frames) all = messages_of-frame-append f (concat frames) all.0 ∙ ap (λ (l : List (List ℕ)). f ∷ l) (messages_of-concat frames all.1)
@@ -65,14 +60,6 @@ rest_of-concat (f ∷ frames) all = rest_of-frame-append f (concat frames) all.0
 frames-behind : (front behind : List (List ℕ)) → AreFrames (front ++ behind) → AreFrames behind
 frames-behind [] behind all = all
 frames-behind (f ∷ front) behind all = frames-behind front behind all.1
-
-are_frames : (product : ProductLists) (frames : List (List ℕ)) → AreServedFrames product frames → AreFrames frames
-are_frames product [] all = tt
-are_frames product (f ∷ frames) all = (all.0.0, are_frames product frames all.1)
-
-served-front : (product : ProductLists) (front behind : List (List ℕ)) → AreServedFrames product (front ++ behind) → AreServed product front
-served-front product [] behind all = tt
-served-front product (f ∷ front) behind all = (all.0.1, served-front product front behind all.1)
 
 -- these bytes are a frame
 least_frame : IsFrame (frame_of (49 ∷ []) (1 ∷ []))
@@ -130,50 +117,32 @@ module _ (taken : List ℕ) (count place : ℕ) (counted : count ≡ length (mes
       let at : place ≡ length (concat (messages_of taken)) = placed ∙ ap (λ (l : List (List ℕ)). length (concat l)) all_first in
       ap (λ (l : List ℕ). drop place l) (sym (concat-messages_of taken)) ∙ drop_at (concat (messages_of taken)) (rest_of taken) place (sym at)
 
-  begins-none : (P : List ℕ → Type 0) → BeginsWith P (bytes_at place taken) → ⊥
-  begins-none P begins =
+  begins-none : BeginsWithFrame (bytes_at place taken) → ⊥
+  begins-none begins =
       let front : rest_of taken ≡ begins.frame ++ begins.more = sym bytes-behind ∙ begins.front in
       let first : [] ≡ begins.frame ∷ messages_of begins.more = sym (messages_of-rest_of taken) ∙ ap messages_of front ∙ messages_of-frame-append begins.frame begins.more begins.is_frame in
       let long = ap (λ (l : List (List ℕ)). length l) first in
       absurd (omega (arith, long))
 
-all_served : (product : ProductLists) (taken : List ℕ) → AreServed product (messages_of taken) → served_front product taken ≡ messages_of taken
-all_served product taken plain =
-    ap (λ (l : List (List ℕ)). take_while (is_served_frame product) l) (sym (append-nil (messages_of taken))) ∙ front-none product (messages_of taken) [] plain refl ∙ append-nil (messages_of taken)
-
 -- ---- the endings
 
--- where all of the input is frames that are served, at most 10,000, serving ends early only at a fault
-module _ (product : ProductLists) (frames : List (List ℕ)) (are_served : AreServedFrames product frames) (few : length frames ≤ 10000) (taken rest : List ℕ) (all : concat frames ≡ taken ++ rest) (left : Option (List ℕ)) (is : left ≡ Some rest) (count : ℕ) (some : count ≤ length (messages_of taken)) where
-  are : AreFrames frames
-  are = are_frames product frames are_served
-
-  whole_front : served_front product taken ≡ messages_of taken
-  whole_front = all_served product taken (served-front product (messages_of taken) (behind taken rest frames are all) (subst (λ (l : List (List ℕ)). AreServedFrames product l) (in_two taken rest frames are all) are_served))
-
-  counts : count ≡ length (served_front product taken) → count ≡ length (messages_of taken)
-  counts h = h ∙ ap (λ (l : List (List ℕ)). length l) whole_front
-
-  ends-done : (ending : Ending) → EndsAs product ending count taken left → ((place : ℕ) → ending ≢ ReadFault place) → ending ≢ SendFault → ending ≡ Done
+-- where all of the input is frames, at most 10,000, serving ends early only at a fault
+module _ (frames : List (List ℕ)) (are : AreFrames frames) (few : length frames ≤ 10000) (taken rest : List ℕ) (all : concat frames ≡ taken ++ rest) (left : Option (List ℕ)) (is : left ≡ Some rest) (count : ℕ) (some : count ≤ length (messages_of taken)) where
+  ends-done : (ending : Ending) → EndsAs ending count taken left → ((place : ℕ) → ending ≢ ReadFault place) → ending ≢ SendFault → ending ≡ Done
   ends-done Done ends read send = refl
   ends-done (ReadFault place) ends read send = absurd (read place refl)
   ends-done SendFault ends read send = absurd (send refl)
-  ends-done (BadFrame place) ends read send =
-      let counted = counts ends.1 in
-      elim ends.2 [
-        | inl begins ↦ absurd (begins-none taken count place counted ends.0 (λ frame. IsFalse (is_served_frame product frame)) begins)
-        | inr broken ↦ absurd (broken.1 (rest_is_front taken rest frames are all))
-      ]
+  ends-done (BadFrame place) ends read send = absurd (ends.2 (rest_is_front taken rest frames are all))
   ends-done (Truncated place) ends read send = absurd (ends.3.0 (rest_is_none taken rest frames are all (nil_from_end left rest is ends.0)))
   ends-done (Full place) ends read send =
       let total = ap (λ (l : List (List ℕ)). length l) (in_two taken rest frames are all) in
       let counted : count ≡ length (messages_of taken) = omega (arith, some, few, ends.0, total, length-append (messages_of taken) (behind taken rest frames are all)) in
-      absurd (begins-none taken count place counted ends.1 (λ frame. IsTrue (is_served_frame product frame)) ends.2)
+      absurd (begins-none taken count place counted ends.1 ends.2)
 
 pub serves-all : {I S : Type 0} (product : ProductLists) (before after : Streams I S) (ending : Ending) (count : ℕ)
     → ServingResult product before after ending count
-    → (frames : List (List ℕ)) → AreServedFrames product frames → length frames ≤ 10000 → before.input.left ≡ Some (concat frames)
+    → (frames : List (List ℕ)) → AreFrames frames → length frames ≤ 10000 → before.input.left ≡ Some (concat frames)
     → ((place : ℕ) → ending ≢ ReadFault place) → ending ≢ SendFault → ending ≡ Done
-serves-all product before after ending count result frames are_served few emits read send =
+serves-all product before after ending count result frames are few emits read send =
     let parts = left_parts after.input.left (concat frames) result.taken (sym emits ∙ result.took) in
-    ends-done product frames are_served few result.taken parts.0 parts.2 after.input.left parts.1 count result.some ending result.ends read send
+    ends-done frames are few result.taken parts.0 parts.2 after.input.left parts.1 count result.some ending result.ends read send

@@ -1,6 +1,6 @@
 -- How a run ends.
-use Rattle.std.proofs.Common.{◌≡◌, ◌≢◌, inl, inr, ℕ, ◌+◌, ◌≤◌, List, [], ◌∷◌, ◌++◌, length, take, Option, IsTrue, IsFalse, Ok, Err, refl, sym, ap, subst, ◌∙◌, append_assoc, length-append, arith}
-use Rattle.std.specs.List.{concat, take_while}
+use Rattle.std.proofs.Common.{◌≡◌, ◌≢◌, ℕ, ◌+◌, ◌≤◌, List, [], ◌∷◌, ◌++◌, length, take, Option, Ok, Err, refl, sym, ap, subst, ◌∙◌, append_assoc, length-append, arith}
+use Rattle.std.specs.List.{concat}
 use Rattle.std.proofs.lemmas.List.{append-nil, drop_at, nil_from_length}
 use Rattle.std.proofs.Math.Seq.{take-append_seam}
 use Rattle.gx_base.specs.KnownBytes.{IsKnownPrefix}
@@ -15,16 +15,15 @@ use Rattle.fix_frame.specs.StreamLaws.{concat-messages_of}
 use Rattle.fix_frame.specs.FramingLaws.{message_given, bytes_given}
 use Rattle.order_kinds.specs.Step.{step_of, reports_of, lines_of}
 use Rattle.globex_run.specs.Outside.{SourceAt, StationAt, Streams}
-use Rattle.globex_run.specs.ServedRequests.{is_served_frame, AreServed}
-use Rattle.globex_run.specs.RunResult.{ServingResult, EndsAs, AreReported, BeginsWith, first_messages, served_front, bytes_at}
+use Rattle.globex_run.specs.RunResult.{ServingResult, EndsAs, AreReported, BeginsWithFrame, first_messages, bytes_at}
 use Rattle.globex_run.specs.Inner.Serving.{ServesFrame, TakesMore, IsServed, ending_at}
 use Rattle.globex_run.specs.declared.serve.Unserved.{Unserved}
 use Rattle.globex_run.specs.declared.serve.Unserved.TheVariants as unserved
 use Rattle.globex_run.specs.declared.serve.Ending.{Ending}
 use Rattle.globex_run.specs.declared.serve.Ending.TheVariants.{Done, ReadFault, SendFault, BadFrame, Truncated, Full}
-use Rattle.globex_run.proofs.Fronts.{front-none, front-other}
-use Rattle.globex_run.proofs.Running.{reports-push, served-push, and_left-none}
+use Rattle.globex_run.proofs.Running.{reports-push, and_left-none}
 use Rattle.gx_station.specs.SendLaws.{sent_and-append}
+use Rattle.balance_laws.proofs.Balanced.{streams-balance}
 
 module _ {I S : Type 0} (product : ProductLists) (before now : Streams I S) (framing : Framing) (state : State) (run : IsServed product before now framing state) (few : state.desk.messages ≤ 10000) where
   abbrev Result : SourceAt I → StationAt S → Ending → ℕ → Type 0
@@ -55,11 +54,6 @@ module _ {I S : Type 0} (product : ProductLists) (before now : Streams I S) (fra
   behind_it : bytes_at framing.offset (concat run.served ++ framing.rest) ≡ framing.rest
   behind_it = drop_at (concat run.served) framing.rest framing.offset (sym run.offset)
 
-  no_more : messages_of framing.rest ≡ [] → state.desk.messages ≡ length (served_front product (concat run.served ++ framing.rest))
-  no_more none =
-      run.count
-      ∙ ap (λ (l : List (List ℕ)). length l) (sym (ap (λ (l : List (List ℕ)). take_while (is_served_frame product) l) all_messages ∙ front-none product run.served (messages_of framing.rest) run.are_served none ∙ append-nil run.served))
-
   all_count : messages_of framing.rest ≡ [] → state.desk.messages ≡ length (messages_of (concat run.served ++ framing.rest))
   all_count none = run.count ∙ ap (λ (l : List (List ℕ)). length l) (sym (all_messages ∙ ap (λ (l : List (List ℕ)). run.served ++ l) none ∙ append-nil run.served))
 
@@ -67,16 +61,16 @@ module _ {I S : Type 0} (product : ProductLists) (before now : Streams I S) (fra
   rest_is none = all_rest ∙ ap (λ (l : List (List ℕ)). concat l ++ rest_of framing.rest) (sym none) ∙ concat-messages_of framing.rest
 
   -- the endings but that of a failed send, where nothing more was taken
-  ends-with : (then : SourceAt I) → now.input.left ≡ then.left → (ending : Ending) → AreReported product ending before.station.sent now.station.sent run.served → EndsAs product ending state.desk.messages (concat run.served ++ framing.rest) then.left
+  ends-with : (then : SourceAt I) → now.input.left ≡ then.left → (ending : Ending) → AreReported product ending before.station.sent now.station.sent run.served → EndsAs ending state.desk.messages (concat run.served ++ framing.rest) then.left
       → Result then now.station ending state.desk.messages
   ends-with then same ending sent ends = record {
     taken = concat run.served ++ framing.rest;
     took = run.left ∙ ap (λ (l : Option (List ℕ)). and_left (concat run.served ++ framing.rest) l) same;
     some = some;
     few = few;
-    are_served = subst (λ (l : List (List ℕ)). AreServed product l) (sym firsts) run.are_served;
     sent = subst (λ (l : List (List ℕ)). AreReported product ending before.station.sent now.station.sent l) (sym firsts) sent;
     ends = ends;
+    balanced = streams-balance product (first_messages state.desk.messages (concat run.served ++ framing.rest)) run.right;
   }
 
   -- a read that took nothing
@@ -121,26 +115,19 @@ module _ {I S : Type 0} (product : ProductLists) (before now : Streams I S) (fra
   ends-broken none broken at is =
       ends-with now.input refl (BadFrame at) run.sent (
         is ∙ place,
-        no_more none,
-        inr (all_count none, (λ front. broken (subst (λ (l : List ℕ). IsFrameFront l) (rest_is none) front))),
+        all_count none,
+        λ front. broken (subst (λ (l : List ℕ). IsFrameFront l) (rest_is none) front),
       )
 
   module _ (next : Framing) (start end : ℕ) (given : GivesFrame framing next start end) where
     next_message : messages_of framing.rest ≡ given.frame ∷ messages_of next.rest
     next_message = ap messages_of (sym (append-nil framing.rest)) ∙ message_given framing next start end given [] ∙ ap (λ (l : List ℕ). given.frame ∷ messages_of l) (append-nil next.rest)
 
-    begins : (P : List ℕ → Type 0) → P given.frame → BeginsWith P (bytes_at framing.offset (concat run.served ++ framing.rest))
-    begins P passes = record { frame = given.frame; more = next.rest; is_frame = given.is_frame; front = behind_it ∙ given.front; passes = passes }
+    begins : BeginsWithFrame (bytes_at framing.offset (concat run.served ++ framing.rest))
+    begins = record { frame = given.frame; more = next.rest; is_frame = given.is_frame; front = behind_it ∙ given.front }
 
-    ends-unserved : IsFalse (is_served_frame product given.frame) → Result now.input now.station (BadFrame framing.offset) state.desk.messages
-    ends-unserved other = ends-with now.input refl (BadFrame framing.offset) run.sent (
-      place,
-      run.count ∙ ap (λ (l : List (List ℕ)). length l) (sym (ap (λ (l : List (List ℕ)). take_while (is_served_frame product) l) all_messages ∙ front-other product run.served (messages_of framing.rest) given.frame (messages_of next.rest) run.are_served next_message other ∙ append-nil run.served)),
-      inl (begins (λ (frame : List ℕ). IsFalse (is_served_frame product frame)) other),
-    )
-
-    ends-full : 10000 ≤ state.desk.messages → IsTrue (is_served_frame product given.frame) → Result now.input now.station (Full framing.offset) state.desk.messages
-    ends-full many one = ends-with now.input refl (Full framing.offset) run.sent (omega (arith, few, many), place, begins (λ (frame : List ℕ). IsTrue (is_served_frame product frame)) one)
+    ends-full : 10000 ≤ state.desk.messages → Result now.input now.station (Full framing.offset) state.desk.messages
+    ends-full many = ends-with now.input refl (Full framing.offset) run.sent (omega (arith, few, many), place, begins)
 
     -- a send has failed, in the midst of the reports of one message more
     ends-send_fault : (then : StationAt S) (state' : State) → ServesFrame product state state' now.station then given.frame (Err unserved.SendFailed) → Result now.input then SendFault state'.desk.messages
@@ -158,26 +145,23 @@ module _ {I S : Type 0} (product : ProductLists) (before now : Streams I S) (fra
         (ap (λ (s : Option (List ℕ)). sent_and s (lines_of product (step_of product state frame).1)) run.sent
         ∙ sym (sent_and-append before.station.sent (reports_of product run.served) (lines_of product (step_of product state frame).1))
         ∙ ap (λ (l : List ℕ). sent_and before.station.sent l) (ap (λ (l : List ℕ). reports_of product run.served ++ l) stepped ∙ sym (reports-push product run.served frame)))
-        did.3 in
+        did.2 in
         record {
           taken = concat run.served ++ framing.rest;
           took = run.left;
           some = omega (arith, count, ap (λ (l : List (List ℕ)). length l) messages, length-append all (messages_of next.rest));
           few = omega (arith, did.0, did.1);
-          are_served = subst (λ (l : List (List ℕ)). AreServed product l) (sym first) (served-push product run.served frame run.are_served did.2);
           sent = subst (λ (l : List (List ℕ)). IsKnownPrefix then.sent (sent_and before.station.sent (reports_of product l))) (sym first) sent;
           ends = tt;
+          balanced = streams-balance product (first_messages state'.desk.messages (concat run.served ++ framing.rest)) run.right;
         }
 
     -- the frame was not served, or not to its end
     ends-at : (why : Unserved) (then : StationAt S) (state' : State) → ServesFrame product state state' now.station then given.frame (Err why) → Result now.input then (ending_at why framing.offset) state'.desk.messages
     ends-at unserved.SendFailed then state' did = ends-send_fault then state' did
-    ends-at unserved.NotServed then state' did =
-        subst (λ (t : StationAt S). Result now.input t (BadFrame framing.offset) state'.desk.messages) (sym did.1)
-        (subst (λ (s : State). Result now.input now.station (BadFrame framing.offset) s.desk.messages) (sym did.0) (ends-unserved did.2))
     ends-at unserved.Full then state' did =
         subst (λ (t : StationAt S). Result now.input t (Full framing.offset) state'.desk.messages) (sym did.1)
-        (subst (λ (s : State). Result now.input now.station (Full framing.offset) s.desk.messages) (sym did.0) (ends-full did.2 did.3))
+        (subst (λ (s : State). Result now.input now.station (Full framing.offset) s.desk.messages) (sym did.0) (ends-full did.2))
 
     pub ends-stopped : (why : Unserved) (then : StationAt S) (state' : State) (frame : List ℕ) → frame ≡ given_bytes next start end → ServesFrame product state state' now.station then frame (Err why)
         → (at : ℕ) → at ≡ framing.offset → (ending : Ending) → ending ≡ ending_at why at → Result now.input then ending state'.desk.messages

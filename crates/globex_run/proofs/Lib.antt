@@ -1,6 +1,5 @@
 mod ServedFrames
 mod Running
-mod Fronts
 mod Ends
 mod Complete
 mod Runs

@@ -1,5 +1,5 @@
 -- How the messages served grow, turn by turn.
-use Rattle.std.proofs.Common.{◌≡◌, ℕ, ◌+◌, ◌*◌, ◌≤◌, List, [], ◌∷◌, ◌++◌, length, Option, Some, None, Result, Ok, IsTrue, refl, sym, ap, subst, ◌∙◌, append_assoc, length-append, arith}
+use Rattle.std.proofs.Common.{◌≡◌, ℕ, ◌+◌, ◌*◌, ◌≤◌, List, [], ◌∷◌, ◌++◌, length, Option, Some, None, Result, Ok, refl, sym, ap, subst, ◌∙◌, append_assoc, length-append, arith}
 use Rattle.std.specs.List.{concat}
 use Rattle.std.proofs.lemmas.List.{append-nil}
 use Rattle.std.proofs.lemmas.Grind.{flat_map-append}
@@ -10,12 +10,11 @@ use Rattle.gx_station.specs.Stations.{sent_and}
 use Rattle.fix_frame.specs.Framing.{Framing, GivesFrame, given_bytes}
 use Rattle.fix_frame.specs.Stream.{messages_of, rest_of}
 use Rattle.fix_frame.specs.FramingLaws.{message_given, rest_given, bytes_given}
-use Rattle.product_file.specs.Products.{ProductLists}
+use Rattle.product_file.specs.Products.{ProductLists, IsRightProduct}
 use Rattle.order_kinds.specs.State.{State, empty_state}
 use Rattle.order_kinds.specs.Step.{step_of, state_after, events_from, reports_of, lines_of}
 use Rattle.globex_run.specs.Outside.{SourceAt, StationAt, Streams}
 use Rattle.globex_run.specs.Inner.Serving.{TakesMore, ServesFrame, IsEmptyFramer, IsServed}
-use Rattle.globex_run.specs.ServedRequests.{is_served_frame, AreServed}
 use Rattle.gx_station.specs.SendLaws.{sent_and-append, sent_and_none}
 
 -- ---- lists of frames
@@ -23,10 +22,6 @@ use Rattle.gx_station.specs.SendLaws.{sent_and-append, sent_and_none}
 pub concat-push : (frames : List (List ℕ)) (frame : List ℕ) → concat (frames ++ frame ∷ []) ≡ concat frames ++ frame
 concat-push [] frame = append-nil frame
 concat-push (f ∷ frames) frame = ap (λ (l : List ℕ). f ++ l) (concat-push frames frame) ∙ sym (append_assoc f (concat frames) frame)
-
-pub served-push : (product : ProductLists) (frames : List (List ℕ)) (frame : List ℕ) → AreServed product frames → IsTrue (is_served_frame product frame) → AreServed product (frames ++ frame ∷ [])
-served-push product [] frame all one = (one, tt)
-served-push product (f ∷ frames) frame all one = (all.0, served-push product frames frame all.1 one)
 
 -- one message more
 state-push : (product : ProductLists) (state : State) (frames : List (List ℕ)) (frame : List ℕ) → state_after product state (frames ++ frame ∷ []) ≡ (step_of product (state_after product state frames) frame).0
@@ -57,10 +52,10 @@ module _ {I S : Type 0} (product : ProductLists) (before : Streams I S) where
   abbrev Run : SourceAt I → StationAt S → Framing → State → Type 0
   Run input station framing state = IsServed product before (record { input = input; station = station }) framing state
 
-  pub served-first : (framing : Framing) (state : State) → IsEmptyFramer framing → state ≡ empty_state product → Run before.input before.station framing state
-  served-first framing state empty start = record {
+  pub served-first : IsRightProduct product → (framing : Framing) (state : State) → IsEmptyFramer framing → state ≡ empty_state product → Run before.input before.station framing state
+  served-first right framing state empty start = record {
     served = [];
-    are_served = tt;
+    right = right;
     left = subst (λ (l : List ℕ). before.input.left ≡ and_left l before.input.left) (sym empty.rest) (and_left-none before.input.left);
     messages = λ more. refl;
     behind = λ more. refl;
@@ -83,7 +78,7 @@ module _ {I S : Type 0} (product : ProductLists) (before : Streams I S) where
       let stepped : step_of product state frame ≡ step_of product (state_after product (empty_state product) run.served) frame = ap (λ (s : State). step_of product s frame) run.is_state in
       record {
         served = all;
-        are_served = served-push product run.served frame run.are_served did.3;
+        right = run.right;
         left = run.left ∙ ap (λ (l : List ℕ). and_left l now.left) (sym bytes);
         messages = λ more.
             ap (λ (l : List ℕ). messages_of (l ++ more)) bytes ∙ run.messages more ∙ ap (λ (l : List (List ℕ)). run.served ++ l) (message_given framing next start end given more) ∙ sym (append_assoc run.served (frame ∷ []) (messages_of (next.rest ++ more)));
@@ -92,12 +87,12 @@ module _ {I S : Type 0} (product : ProductLists) (before : Streams I S) where
         is_state = did.0 ∙ ap (λ (s : State × List Event). s.0) stepped ∙ sym (state-push product (empty_state product) run.served frame);
         count = did.2 ∙ ap (λ (n : ℕ). n + 1) run.count ∙ sym (length-append run.served (frame ∷ []));
         sent =
-            did.4
+            did.3
             ∙ ap (λ (s : Option (List ℕ)). sent_and s (lines_of product (step_of product state frame).1)) run.sent
             ∙ sym (sent_and-append before.station.sent (reports_of product run.served) (lines_of product (step_of product state frame).1))
             ∙ ap (λ (l : List ℕ). sent_and before.station.sent l) (ap (λ (s : State × List Event). reports_of product run.served ++ lines_of product s.1) stepped ∙ sym (reports-push product run.served frame));
         reads = run.reads;
-        sends = did.5 ∙ run.sends;
+        sends = did.4 ∙ run.sends;
       }
 
   pub served-next : (now : SourceAt I) (after then : StationAt S) (framing next : Framing) (state state' : State) (start end : ℕ) (frame : List ℕ) (t : Unit {0}) → Run now after framing state
@@ -121,7 +116,7 @@ module _ {I S : Type 0} (product : ProductLists) (before : Streams I S) where
       λ more. sym (ap (λ (l : List ℕ). l ++ more) takes.rest ∙ append_assoc framing.rest takes.taken more) in
       record {
         served = run.served;
-        are_served = run.are_served;
+        right = run.right;
         left = run.left ∙ ap (λ (l : Option (List ℕ)). and_left (concat run.served ++ framing.rest) l) takes.left ∙ and_left-then (concat run.served ++ framing.rest) takes.taken then.left ∙ ap (λ (l : List ℕ). and_left l then.left) (sym bytes);
         messages = λ more. ap messages_of (further more) ∙ run.messages (takes.taken ++ more) ∙ ap (λ (l : List ℕ). run.served ++ messages_of l) (held more);
         behind = λ more. ap rest_of (further more) ∙ run.behind (takes.taken ++ more) ∙ ap rest_of (held more);

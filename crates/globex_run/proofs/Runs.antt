@@ -115,7 +115,7 @@ module _ {P I S : Type 0} (before after : Outside P I S) where
         let same : product ≡ can.product = one_product (product_of took.0) product can.product took.2 right in
         let done : ending ≡ Done =
         serves-all can.product before.streams after.streams ending count (subst (λ (p : ProductLists). ServingResult p before.streams after.streams ending count) same serving)
-        can.frames can.are_served can.few can.input_known
+        can.frames can.are_frames can.few can.input_known
         (λ place is. quiet.input (subst (λ (e : Ending). CausedBy e before.streams after.streams) is cause).0)
         (λ is. quiet.station (subst (λ (e : Ending). CausedBy e before.streams after.streams) is cause).1) in
         inl (ap (λ (x : Outcome). x.status) (made ∙ ap (λ (e : Ending). outcome_of e count) done))

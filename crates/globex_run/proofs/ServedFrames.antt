@@ -1,13 +1,11 @@
 -- One frame served, or not.
-use Rattle.std.proofs.Common.{◌≡◌, ℕ, ◌+◌, ◌<◌, true, false, List, IsTrue, Result, Ok, Err, OnOk, OnErr, is_err, ap, subst, ◌∙◌}
+use Rattle.std.proofs.Common.{◌≡◌, ℕ, ◌+◌, ◌<◌, true, false, List, Result, Ok, Err, OnOk, OnErr, is_err, ap, subst, ◌∙◌}
 use Rattle.gx_base.specs.KnownBytes.{IsKnownPrefix}
 use Rattle.gx_station.specs.Stations.{StationMeanings, sent_and}
 use Rattle.globex_run.specs.Outside.{station_at}
 use Rattle.gx_station.specs.Quiet.{Sends}
 use Rattle.product_file.specs.Products.{ProductLists}
 use Rattle.order_kinds.specs.State.{State}
-use Rattle.globex_run.specs.ServedRequests.{is_served_frame}
-use Rattle.order_kinds.specs.ServedRequests.{is_served}
 use Rattle.order_kinds.specs.Step.{with_message, request_step, step_of, lines_of}
 use Rattle.globex_run.specs.Inner.Serving.{ServesFrame}
 use Rattle.globex_run.specs.declared.serve.Unserved.TheVariants.{SendFailed}
@@ -22,10 +20,7 @@ on_err : {T E : Type 0} (r : Result T E) (P : Type 0) → is_err r ≡ true → 
 on_err (Ok x) P e h = absurd (let f : false ≡ true = e in cc)
 on_err (Err x) P e h = h
 
-module _ {S T E : Type 0} (m : StationMeanings S) (product : ProductLists) (old new : State) (before after : S) (frame : List ℕ) (request : Request) (is : request ≡ request_of product frame) (asked : IsTrue (is_served request)) (few : old.desk.messages < 10000) (sent : Result T E) (sends : Sends m before after (lines_of product (request_step product request (with_message old)).1) sent) where
-  is_asked : IsTrue (is_served_frame product frame)
-  is_asked = subst (λ (r : Request). IsTrue (is_served r)) is asked
-
+module _ {S T E : Type 0} (m : StationMeanings S) (product : ProductLists) (old new : State) (before after : S) (frame : List ℕ) (request : Request) (is : request ≡ request_of product frame) (few : old.desk.messages < 10000) (sent : Result T E) (sends : Sends m before after (lines_of product (request_step product request (with_message old)).1) sent) where
   is_lines : lines_of product (request_step product request (with_message old)).1 ≡ lines_of product (step_of product old frame).1
   is_lines = ap (λ (r : Request). lines_of product (request_step product r (with_message old)).1) is
 
@@ -34,7 +29,6 @@ module _ {S T E : Type 0} (m : StationMeanings S) (product : ProductLists) (old 
     state ∙ ap (λ (r : Request). (request_step product r (with_message old)).0) is,
     few,
     count,
-    is_asked,
     on_ok sent _ ok sends.all ∙ ap (λ (l : List ℕ). sent_and (m.sent before) l) is_lines,
     on_ok sent _ ok sends.cause.ok,
   )
@@ -43,7 +37,6 @@ module _ {S T E : Type 0} (m : StationMeanings S) (product : ProductLists) (old 
   failed-frame count err = (
     few,
     count,
-    is_asked,
     subst (λ (l : List ℕ). IsKnownPrefix (m.sent after) (sent_and (m.sent before) l)) is_lines (on_err sent _ err sends.part),
     on_err sent _ err sends.cause.failed,
   )

@@ -1,5 +1,4 @@
 pub mod ProductTexts
-pub mod ServedRequests
 pub mod Words
 pub mod Outside
 pub mod Outcomes

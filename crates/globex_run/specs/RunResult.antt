@@ -1,6 +1,6 @@
 -- What a run did: what it took, what it sent, and why it ended.
-use Rattle.std.specs.Prelude.{◌≡◌, ◌⊎◌, ℕ, ◌≤◌, IsTrue, IsFalse, List, [], ◌++◌, length, take, drop, take_while, Option, Some, Ok}
-use Rattle.std.specs.List.{concat}
+use Rattle.std.specs.Prelude.{◌≡◌, ◌⊎◌, ℕ, ◌≤◌, List, [], ◌++◌, length, take, drop, Option, Some, Ok}
+use Rattle.std.specs.List.{concat, AllByRecursion}
 use Rattle.gx_base.specs.KnownBytes.{IsKnownPrefix}
 use Rattle.gx_station.specs.Counts.{Rose}
 use Rattle.gx_station.specs.Sources.{and_left, IsAtEnd}
@@ -13,7 +13,7 @@ use Rattle.product_file.specs.ProductTexts.{product_of}
 use Rattle.globex_run.specs.Outside.{Streams, Outside}
 use Rattle.globex_run.specs.ProductTexts.{TakesAtMost, IsProductText, IsRefusedAt}
 use Rattle.order_kinds.specs.Step.{reports_of}
-use Rattle.globex_run.specs.ServedRequests.{is_served_frame, AreServed, AreServedFrames}
+use Rattle.order_kinds.specs.Balance.{IsBalanced}
 use Rattle.globex_run.specs.Outcomes.{outcome_of}
 use Rattle.globex_run.specs.declared.serve.TheConstants.{MESSAGE_LIMIT}
 use Rattle.globex_run.specs.declared.outcome.Outcome.{Outcome}
@@ -34,17 +34,12 @@ AreAll count taken = count ≡ length (messages_of taken)
 abbrev pub end_of_messages : ℕ → List ℕ → ℕ
 end_of_messages count taken = length (concat (first_messages count taken))
 
--- the frames at the front of some bytes that are served
-abbrev pub served_front : ProductLists → List ℕ → List (List ℕ)
-served_front product taken = take_while (is_served_frame product) (messages_of taken)
-
--- the bytes begin with a frame that passes the test
-pub record BeginsWith (test : List ℕ → Type 0) (bytes : List ℕ) : Type 0 where
+-- the bytes begin with a frame
+pub record BeginsWithFrame (bytes : List ℕ) : Type 0 where
   pub frame : List ℕ
   pub more : List ℕ
   pub is_frame : IsFrame frame
   pub front : bytes ≡ frame ++ more
-  pub passes : test frame
 
 -- the bytes behind a place of those taken
 abbrev pub bytes_at : ℕ → List ℕ → List ℕ
@@ -53,45 +48,42 @@ bytes_at place taken = drop place taken
 -- ---- why serving ended
 
 -- What holds of the bytes taken, of which so many messages were applied, and of what is left of the input.
-abbrev pub EndsAs : ProductLists → Ending → ℕ → List ℕ → Option (List ℕ) → Type 0
+abbrev pub EndsAs : Ending → ℕ → List ℕ → Option (List ℕ) → Type 0
 -- the input is at its end, all messages were applied, and nothing stands behind the last
-EndsAs product Done count taken left =
+EndsAs Done count taken left =
     IsAtEnd left × AreAll count taken × (rest_of taken ≡ [])
 -- all messages were applied, what stands behind the last is the front of a frame, and the place is the end of the bytes
-EndsAs product (ReadFault place) count taken left =
+EndsAs (ReadFault place) count taken left =
     (place ≡ length taken) × AreAll count taken × IsFrameFront (rest_of taken)
 -- a send may fail at any message
-EndsAs product SendFault count taken left = Unit {0}
--- all the served messages at the front were applied; the next frame is not served, or there is none and the bytes that
--- stand there are the front of none
-EndsAs product (BadFrame place) count taken left =
-    (place ≡ end_of_messages count taken)
-    × (count ≡ length (served_front product taken))
-    × (BeginsWith (λ frame. IsFalse (is_served_frame product frame)) (bytes_at place taken) ⊎ (AreAll count taken × IsBroken taken))
+EndsAs SendFault count taken left = Unit {0}
+-- all messages were applied, and what stands behind the last is the front of no frame
+EndsAs (BadFrame place) count taken left =
+    (place ≡ end_of_messages count taken) × AreAll count taken × IsBroken taken
 -- the input is at its end, all messages were applied, and a part of a frame stands behind the last
-EndsAs product (Truncated place) count taken left =
+EndsAs (Truncated place) count taken left =
     IsAtEnd left × (place ≡ end_of_messages count taken) × AreAll count taken × IsCut taken
--- as many messages as there may be were applied, and one more that is served follows
-EndsAs product (Full place) count taken left =
+-- as many messages as there may be were applied, and one more follows
+EndsAs (Full place) count taken left =
     (count ≡ MESSAGE_LIMIT)
     × (place ≡ end_of_messages count taken)
-    × BeginsWith (λ frame. IsTrue (is_served_frame product frame)) (bytes_at place taken)
+    × BeginsWithFrame (bytes_at place taken)
 
 -- what was sent before, and then the reports of these messages; where a send has failed, a part from the front of that
 abbrev pub AreReported : ProductLists → Ending → Option (List ℕ) → Option (List ℕ) → List (List ℕ) → Type 0
 AreReported product SendFault before after messages = IsKnownPrefix after (sent_and before (reports_of product messages))
 AreReported product _ before after messages = after ≡ sent_and before (reports_of product messages)
 
--- Bytes were taken from the input, in whatever pieces, and the first messages of them applied, each of which is served.
--- What was sent are their reports.
+-- Bytes were taken from the input, in whatever pieces, and the first messages of them applied. What was sent are their
+-- reports, of which the quantities add up.
 pub record ServingResult {I S : Type 0} (product : ProductLists) (before after : Streams I S) (ending : Ending) (count : ℕ) : Type 0 where
   pub taken : List ℕ
   pub took : before.input.left ≡ and_left taken after.input.left
   pub some : count ≤ length (messages_of taken)
   pub few : count ≤ MESSAGE_LIMIT
-  pub are_served : AreServed product (first_messages count taken)
   pub sent : AreReported product ending before.station.sent after.station.sent (first_messages count taken)
-  pub ends : EndsAs product ending count taken after.input.left
+  pub ends : EndsAs ending count taken after.input.left
+  pub balanced : IsBalanced product (first_messages count taken)
 
 -- ---- the product comes first
 
@@ -129,8 +121,10 @@ RunResult before after outcome = ProductUnread before after outcome ⊎ (Product
 
 -- ---- a run that can be served to its end
 
--- the product is told, and its text breaks no rule; the input is told, and is a list of frames that are served, of at most
--- as many as may be
+abbrev pub AreFrames : List (List ℕ) → Type 0
+AreFrames frames = AllByRecursion (λ (frame : List ℕ). IsFrame frame) frames
+
+-- the product is told, and its text breaks no rule; the input is told, and is a list of frames, of at most as many as may be
 pub record CanBeServed {P I S : Type 0} (before : Outside P I S) : Type 0 where
   pub text : List ℕ
   pub product : ProductLists
@@ -138,5 +132,5 @@ pub record CanBeServed {P I S : Type 0} (before : Outside P I S) : Type 0 where
   pub gives : product_of text ≡ Ok product
   pub frames : List (List ℕ)
   pub input_known : before.streams.input.left ≡ Some (concat frames)
-  pub are_served : AreServedFrames product frames
+  pub are_frames : AreFrames frames
   pub few : length frames ≤ MESSAGE_LIMIT

@@ -104,7 +104,7 @@ pub fn globex<P: Source, I: Source, S: Station>(
     // but 1 and 2.
     ensures ran { let before = outside_at P.meanings I.meanings S.meanings product.old input.old station.old in let after = outside_at P.meanings I.meanings S.meanings product.new input.new station.new in result.status ≢ 1 → result.status ≢ 2 → RunResult before after result }
 
-    // An input of at most 10,000 frames that are served is served to its end where memory is given and no fault comes.
+    // An input of at most 10,000 frames is served to its end where memory is given and no fault comes.
     ensures all_served { let before = outside_at P.meanings I.meanings S.meanings product.old input.old station.old in let after = outside_at P.meanings I.meanings S.meanings product.new input.new station.new in IsTrue (is_run words.now) → CanBeServed before → IsQuiet before after → (result.status ≡ 0) ⊎ (result.status ≡ 1) }
 
     // Want of memory, words that are no command, or a product that is refused, leave the input and the station untouched.

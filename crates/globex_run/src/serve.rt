@@ -3,7 +3,6 @@ ghost use Rattle.std.specs.Prelude.{◌≡◌, ◌≢◌, ◌+◌, ◌*◌, ◌^
 ghost use Rattle.gx_station.specs.Quiet.{Sends};
 ghost use Rattle.fix_frame.specs.Grammar.{IsFrame};
 ghost use Rattle.fix_request.specs.ValidRequests.{IsValidRequest};
-ghost use Rattle.order_kinds.specs.ServedRequests.{is_served};
 ghost use Rattle.order_kinds.specs.Step.{with_message, is_passed, request_step, lines_of};
 ghost use Rattle.order_kinds.specs.State.{empty_state, state_numbered};
 ghost use Rattle.order_kinds.specs.Cores.{FitsProduct, AreNumbered};
@@ -15,7 +14,7 @@ use exec_report::{Outgoing, ReportBuffer, SendFault};
 use fix_frame::{FRONT_LIMIT, Framer, Next};
 use fix_request::{Request, read_request};
 use gx_station::{Failed, LEAST_READ, Source, Station};
-use order_kinds::{Core, is_served};
+use order_kinds::Core;
 use plain_book::Book;
 use product_file::Product;
 
@@ -31,7 +30,7 @@ pub enum Ending {
     ReadFault(u64),
     /// A send failed.
     SendFault,
-    /// What stands here is no frame, or is one that is not served.
+    /// What stands here is no frame.
     BadFrame(u64),
     /// The input ended within the frame that begins here.
     Truncated(u64),
@@ -42,8 +41,6 @@ pub enum Ending {
 /// Why a frame was not served, or not to its end.
 #[derive(Clone, Copy, Debug, PartialEq, Eq)]
 enum Unserved {
-    /// Its request is one that is not served.
-    NotServed,
     /// As many messages as there may be were applied before it.
     Full,
     /// A send of its reports failed.
@@ -58,7 +55,6 @@ impl Unserved {
         ensures { result ≡ ending_at self at }
     {
         match self {
-            Unserved::NotServed => Ending::BadFrame(at),
             Unserved::Full => Ending::Full(at),
             Unserved::SendFailed => Ending::SendFault,
         }
@@ -75,7 +71,6 @@ fn serve_request<B: Book, S: Station>(
 ) -> Result<(), SendFault>
     requires few { core.old.desk.messages < MESSAGE_LIMIT }
     requires valid { IsValidRequest product.now request.now }
-    requires served { IsTrue (is_served request.now) }
     requires fits { FitsProduct product.now core.old }
     requires numbered { AreNumbered core.old }
     requires empty { buffer.old ≡ [] }
@@ -128,13 +123,10 @@ fn serve_frame<B: Book, S: Station>(
     ensures numbered { AreNumbered core.new }
     ensures empty { OnOk result (buffer.new ≡ []) }
 {
-    let request = read_request(frame, product);
-    if !is_served(&request) {
-        return Err(Unserved::NotServed);
-    }
     if core.messages() == MESSAGE_LIMIT {
         return Err(Unserved::Full);
     }
+    let request = read_request(frame, product);
     if serve_request(product, core, buffer, station, &request).is_err() {
         return Err(Unserved::SendFailed);
     }
@@ -160,6 +152,7 @@ pub fn serve<B: Book, I: Source, S: Station>(
     ensures cause { CausedBy result (streams_at I.meanings S.meanings input.old station.old) (streams_at I.meanings S.meanings input.new station.new) }
     ensures serves { ServingResult product.now (streams_at I.meanings S.meanings input.old station.old) (streams_at I.meanings S.meanings input.new station.new) result core.new.desk.messages }
 {
+    product.limits();
     'turns: loop {
         let at = framer.offset();
         let held = framer.rest();

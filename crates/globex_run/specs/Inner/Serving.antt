@@ -1,5 +1,5 @@
 -- What the steps of serving do: reading, serving one frame, and all that was served so far.
-use Rattle.std.specs.Prelude.{◌≡◌, ℕ, ◌+◌, ◌<◌, ◌≤◌, List, ◌++◌, length, IsTrue, IsFalse, Result, Ok, Err, IfOk, OnErr, []}
+use Rattle.std.specs.Prelude.{◌≡◌, ℕ, ◌+◌, ◌<◌, ◌≤◌, List, ◌++◌, length, Result, Ok, Err, IfOk, OnErr, []}
 use Rattle.std.specs.List.{concat}
 use Rattle.gx_base.specs.KnownBytes.{IsKnownPrefix}
 use Rattle.gx_station.specs.Counts.{Rose, HasCause}
@@ -7,16 +7,15 @@ use Rattle.gx_station.specs.Sources.{and_left, IsAtEnd}
 use Rattle.gx_station.specs.Stations.{sent_and}
 use Rattle.fix_frame.specs.Framing.{Framing}
 use Rattle.fix_frame.specs.Stream.{messages_of, rest_of}
-use Rattle.product_file.specs.Products.{ProductLists}
+use Rattle.product_file.specs.Products.{ProductLists, IsRightProduct}
 use Rattle.order_kinds.specs.State.{State, empty_state}
-use Rattle.globex_run.specs.ServedRequests.{is_served_frame, AreServed}
 use Rattle.order_kinds.specs.Step.{step_of, state_after, reports_of, lines_of}
 use Rattle.globex_run.specs.Outside.{SourceAt, StationAt, Streams}
 use Rattle.globex_run.specs.declared.serve.TheConstants.{MESSAGE_LIMIT}
 use Rattle.globex_run.specs.declared.serve.Unserved.{Unserved}
 use Rattle.globex_run.specs.declared.serve.Unserved.TheVariants as unserved
 use Rattle.globex_run.specs.declared.serve.Ending.{Ending}
-use Rattle.globex_run.specs.declared.serve.Ending.TheVariants.{ReadFault, SendFault, BadFrame, Full}
+use Rattle.globex_run.specs.declared.serve.Ending.TheVariants.{ReadFault, SendFault, Full}
 
 -- bytes were read from a source into a framer; at the end of the source, or after a fault, there are none
 pub record TakesMore {I F : Type 0} (before after : SourceAt I) (held holds : Framing) (result : Result ℕ F) : Type 0 where
@@ -36,22 +35,18 @@ ServesFrame product old new before after frame (Ok t) =
     (new ≡ (step_of product old frame).0)
     × (old.desk.messages < MESSAGE_LIMIT)
     × (new.desk.messages ≡ old.desk.messages + 1)
-    × IsTrue (is_served_frame product frame)
     × (after.sent ≡ sent_and before.sent (lines_of product (step_of product old frame).1))
     × (after.faults ≡ before.faults)
-ServesFrame product old new before after frame (Err unserved.NotServed) = (new ≡ old) × (after ≡ before) × IsFalse (is_served_frame product frame)
 ServesFrame product old new before after frame (Err unserved.Full) =
-    (new ≡ old) × (after ≡ before) × (MESSAGE_LIMIT ≤ old.desk.messages) × IsTrue (is_served_frame product frame)
+    (new ≡ old) × (after ≡ before) × (MESSAGE_LIMIT ≤ old.desk.messages)
 ServesFrame product old new before after frame (Err unserved.SendFailed) =
     (old.desk.messages < MESSAGE_LIMIT)
     × (new.desk.messages ≡ old.desk.messages + 1)
-    × IsTrue (is_served_frame product frame)
     × IsKnownPrefix after.sent (sent_and before.sent (lines_of product (step_of product old frame).1))
     × Rose before.faults after.faults
 
 -- how serving ends at a frame at this place
 abbrev pub ending_at : Unserved → ℕ → Ending
-ending_at unserved.NotServed place = BadFrame place
 ending_at unserved.Full place = Full place
 ending_at unserved.SendFailed place = SendFault
 
@@ -71,7 +66,7 @@ pub record IsEmptyFramer (f : Framing) : Type 0 where
 -- no fault has come.
 pub record IsServed {I S : Type 0} (product : ProductLists) (before after : Streams I S) (framing : Framing) (state : State) : Type 0 where
   pub served : List (List ℕ)
-  pub are_served : AreServed product served
+  pub right : IsRightProduct product
   pub left : before.input.left ≡ and_left (concat served ++ framing.rest) after.input.left
   -- they are the first messages, however the stream goes on
   pub messages : (more : List ℕ) → messages_of ((concat served ++ framing.rest) ++ more) ≡ served ++ messages_of (framing.rest ++ more)

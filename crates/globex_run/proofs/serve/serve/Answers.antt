@@ -67,7 +67,7 @@ pub turns-init : goal.turns-init
 turns-init g c =
     let empty = sym c.requires.start in
     record {
-      run = served-first c.args.product.now (streams_at g.I.Source.meanings g.S.Station.meanings c.args.input.now c.args.station.now) c.args.framer.now (state_numbered c.args.core.now) c.requires.framer (ap state_numbered c.requires.start);
+      run = served-first c.args.product.now (streams_at g.I.Source.meanings g.S.Station.meanings c.args.input.now c.args.station.now) c.limits.ensures c.args.framer.now (state_numbered c.args.core.now) c.requires.framer (ap state_numbered c.requires.start);
       fits = subst (FitsProduct c.args.product.now) empty (fits-empty c.args.product.now);
       numbered = subst AreNumbered empty (numbered-empty c.args.product.now);
       chunk = c.requires.chunk;
