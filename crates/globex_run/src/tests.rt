@@ -5,8 +5,10 @@ mod letters;
 mod orders;
 mod products;
 mod refusals;
+mod replaces;
 mod runs;
 mod shares;
+mod stops;
 
 ghost use Rattle.std.specs.Prelude.{◌≤◌};
 ghost use Rattle.std.specs.List.{AllByRecursion};

@@ -6,7 +6,7 @@ use super::frames_of;
 use fix_frame::{Framer, Next};
 use fix_request::read_request;
 use gx_base::{ByteEmit, Emit};
-use order_kinds::{Core, MOST_MESSAGES, is_served};
+use order_kinds::{Core, MOST_MESSAGES};
 use plain_book::{Book, PlainBook};
 use product_file::{Product, read_product};
 use std::process::Abort;
@@ -46,7 +46,6 @@ fn apply_all<B: Book>(
             panic!(rt; "a frame is missing");
         };
         let request = read_request(framer.frame(start, end), product);
-        assert!(rt; is_served(&request));
         assert!(rt; core.messages() < MOST_MESSAGES);
         core.apply(product, &request, log);
     }

@@ -29,10 +29,6 @@ const HEARTBEAT: &str = "8=FIX.4.2|9=49|35=0|49=AAA|56=GX|34=1|52=20240102-09:30
 const WRONG_ORDER: &str =
     "8=FIX.4.2|9=88|35=D|49=BBB|56=GX|34=1|52=20240102-09:30:01|11=b1|55=ESZ4|54=1|38=4|40=2|44=100.00|59=0|10=169|";
 
-/// A stop limit order, which is not served yet.
-const STOP_ORDER: &str =
-    "8=FIX.4.2|9=97|35=D|49=BBB|56=GX|34=1|52=20240102-09:30:01|11=b1|55=ESZ4|54=1|38=4|40=4|44=100.00|99=99.00|59=0|10=090|";
-
 const DONE: Outcome = Outcome {
     status: 0,
     at: 0,
@@ -138,11 +134,6 @@ fn bad_frame_after_an_order(rt: HostRuntime) -> Result<(), Fail> {
 fn cut_frame_after_an_order(rt: HostRuntime) -> Result<(), Fail> {
     let cut = ORDERS.len() - 5;
     expect_each_cut(&rt, &ORDERS[..cut], "", after_one(8, 111), ACCEPTED)
-}
-
-#[test]
-fn stop_order_after_an_order(rt: HostRuntime) -> Result<(), Fail> {
-    expect_each_cut(&rt, ORDER, STOP_ORDER, after_one(7, 111), ACCEPTED)
 }
 
 /// Runs over this input and this station.
