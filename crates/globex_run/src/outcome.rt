@@ -12,7 +12,7 @@ ghost use Rattle.globex_run.specs.Inner.Statuses.{outcome_with};
 /// | 3 | Product | the number of the rule that the product's text breaks |
 /// | 4 | ReadFault | how many bytes of the input were read |
 /// | 6 | SendFault | 0 |
-/// | 7 | BadFrame | the offset of the bytes that are no frame, or of the frame that is not served |
+/// | 7 | BadFrame | the offset of the bytes that are the front of no frame |
 /// | 8 | Truncated | the offset of the rest |
 /// | 12 | JournalFull | the offset of the next message |
 #[derive(Clone, Copy, Debug, PartialEq, Eq)]
