@@ -1,16 +1,16 @@
--- What holds of each live order holds of each after a sweep, and when an order comes to rest, waits or leaves.
+-- What holds of each live order holds of each after a sweep, and when an order comes to rest, waits, leaves or changes.
 use Rattle.std.proofs.Common.{◌≡◌, ℕ, Bool, true, false, cond, not, List, ◌∷◌, filter, Option, None, sym, ap, subst}
 use Rattle.std.specs.Prelude.{◌==◌, ◌&&◌}
 use Rattle.gx_base.specs.declared.price.Price.{Price}
 use Rattle.gx_base.specs.declared.order.Order.{Order}
 use Rattle.step_config.specs.declared.step.Step.{Step}
 use Rattle.plain_book.specs.declared.entry.Entry.{Entry}
-use Rattle.plain_book.specs.Orders.{is_of_earlier_instrument, is_new_best, with_top, topped}
-use Rattle.plain_book.specs.Book.{Book, live_orders, first_shown, is_enough, book_placed, book_waited, book_without}
+use Rattle.plain_book.specs.Orders.{order_of, is_of_earlier_instrument, is_new_best, with_top, topped}
+use Rattle.plain_book.specs.Book.{Book, live_orders, first_shown, is_enough, book_placed, book_waited, book_without, book_changed, changed_to}
 use Rattle.plain_book.specs.Match.{MatchState}
 use Rattle.plain_book.proofs.Pairs.{all-append, all-front, all-back, all-filter, all-map}
-use Rattle.plain_book.proofs.Live.{AllOrders, orders-placed}
-use Rattle.plain_book.proofs.Right.{live-without}
+use Rattle.plain_book.proofs.Live.{AllOrders, orders-placed, orders-with_order}
+use Rattle.plain_book.proofs.Right.{live-without, live-reordered}
 use Rattle.level_sweep.specs.Sweep.{sweep}
 use Rattle.level_sweep.proofs.EachTrade.{each-sweep}
 use Rattle.level_sweep.proofs.EachOrder.{StaysTrue, AllStay, all-kept}
@@ -62,3 +62,9 @@ module _ (P : Order → Type 0) (ignores : IgnoresTrades P) where
 
 pub all-left : (P : Order → Type 0) (slot : ℕ) (b : Book) → AllOrders P (live_orders b) → AllOrders P (live_orders (book_without slot b))
 all-left P slot b a = subst (AllOrders P) (sym (live-without slot b)) (all-filter (λ (e : Entry). P e.order) (λ e. not (e.slot == slot)) (live_orders b) a)
+
+-- where it holds of the order as it is changed to
+pub all-changed : (P : Order → Type 0) (slot : ℕ) (id : List ℕ) (quantity least : ℕ) (b : Book) → P (changed_to id quantity least (order_of slot (live_orders b))) → AllOrders P (live_orders b) → AllOrders P (live_orders (book_changed slot id quantity least b))
+all-changed P slot id quantity least b p a =
+    let o = changed_to id quantity least (order_of slot (live_orders b)) in
+    subst (AllOrders P) (sym (live-reordered slot o b)) (orders-with_order P slot o (live_orders b) (λ _. p) a)
