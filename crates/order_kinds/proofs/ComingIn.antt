@@ -22,7 +22,7 @@ use Rattle.level_sweep.proofs.EachTrade.{Relation, IsKept, each-sweep}
 use Rattle.level_sweep.proofs.Swept.{sweep-order}
 use Rattle.order_kinds.specs.NewOrders.{may_rest}
 use Rattle.order_kinds.specs.Entering.{as_limit, top_min_of, taker_cancelled, taker_rested, open_for, entered}
-use Rattle.order_kinds.specs.Stops.{fill_range, is_marked, first_entry, first_marked, next_stop, as_triggered, stop_triggered, Naming, stop_entered, stop_rounds, stops_entered, entered_with_stops, taker_waiting, come_in_as, come_in}
+use Rattle.order_kinds.specs.Stops.{fill_range, is_marked, first_entry, first_marked, next_stop, as_triggered, stop_triggered, Naming, stop_entered, stop_rounds, entered_with_stops, taker_waiting, come_in_as, come_in}
 use Rattle.order_kinds.proofs.Slots.{sweep-rest}
 use Rattle.order_kinds.proofs.Kept.{IgnoresTrades, all-swept, all-book_placed, all-book_waited, all-left}
 

@@ -1,5 +1,5 @@
 -- A core still fits its product after a request.
-use Rattle.std.proofs.Common.{◌≡◌, ℕ, ◌<◌, Bool, true, false, cond, List, length, Option, Some, None, Result, Ok, Err, refl, ◌∙◌, lit≤}
+use Rattle.std.proofs.Common.{◌≡◌, ℕ, Bool, true, false, cond, List, length, Option, Some, None, Result, Ok, Err, refl, ◌∙◌, lit≤}
 use Rattle.std.proofs.lemmas.List.{length-set}
 use Rattle.gx_base.specs.declared.price.Price.{Price}
 use Rattle.gx_base.specs.declared.order.Desk.{Desk}
@@ -29,7 +29,7 @@ use Rattle.order_kinds.specs.Replaces.{replace_terms, keeps_place, least_after, 
 use Rattle.order_kinds.specs.Step.{request_step_as}
 use Rattle.order_kinds.specs.Cores.{IsListedOrder, FitsProduct}
 use Rattle.order_kinds.proofs.Kept.{all-left, all-changed}
-use Rattle.order_kinds.proofs.ComingIn.{StaysTrue, IsHeld, held-come_in}
+use Rattle.order_kinds.proofs.ComingIn.{StaysTrue, held-come_in}
 use Rattle.order_kinds.proofs.Numbering.{named-has}
 use Rattle.order_kinds.proofs.Ranges.{AreListedTerms, terms-listed, price-range}
 

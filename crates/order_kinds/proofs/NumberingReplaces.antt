@@ -22,7 +22,7 @@ use Rattle.order_kinds.proofs.Kept.{all-left, all-changed}
 use Rattle.order_kinds.proofs.Numbering.{replace-terms-same, named-numbered, named-has}
 use Rattle.order_kinds.proofs.NumberingEntered.{IsIncoming}
 use Rattle.order_kinds.proofs.NumberingChanges.{found-same, left-same, left-numbers, left-lacks, changed-same, changed-numbers}
-use Rattle.order_kinds.proofs.NumberingStops.{outcome_numbered, AreGiven, match-same, match-numbered}
+use Rattle.order_kinds.proofs.NumberingStops.{outcome_numbered, match-same, match-numbered}
 
 module _ (naming : Naming) (product : ProductLists) (request : ReplaceOrder) (state : State) (slots : AllDiffer (live_orders state.book)) (are : AreNumbered state) where
   -- ---- the order of a slot is replaced

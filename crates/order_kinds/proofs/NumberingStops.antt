@@ -25,7 +25,7 @@ use Rattle.order_kinds.specs.Accepting.{after_match}
 use Rattle.order_kinds.specs.Cores.{AreNumbered}
 use Rattle.order_kinds.specs.Inner.Apart.{EnterApart, ComeApartAs, ComeApart}
 use Rattle.order_kinds.proofs.Slots.{left-differ}
-use Rattle.order_kinds.proofs.ComingIn.{StaysTrue, IsHeld, held-come_in}
+use Rattle.order_kinds.proofs.ComingIn.{StaysTrue, held-come_in}
 use Rattle.order_kinds.proofs.Numbering.{length-numbered}
 use Rattle.order_kinds.proofs.NumberingChanges.{left-same, left-numbers, left-lacks}
 use Rattle.order_kinds.proofs.NumberingEntered.{IsIncoming, IsAlike, entered-alike, waiting-alike}
