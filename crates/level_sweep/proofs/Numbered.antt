@@ -70,7 +70,7 @@ module _ (s k : ℕ) where
       filter-numbered (λ e. not (e.slot == s)) (λ e. not (e.slot == k)) es
       (all-with (λ (e : Entry). GoesWith s k e.slot e.order.number) (λ (e : Entry). not (e.order.number == k) ≡ not (e.slot == s)) (λ e h. ap not (sym h)) es a)
 
-  with_order-numbered : (o : Order) (es : List Entry) → o.number ≡ k → Agree s k es → with_order k o (numbered es) ≡ numbered (with_order s o es)
+  pub with_order-numbered : (o : Order) (es : List Entry) → o.number ≡ k → Agree s k es → with_order k o (numbered es) ≡ numbered (with_order s o es)
   with_order-numbered o [] h a = refl
   with_order-numbered o (e ∷ es) h a =
       let t = with_order-numbered o es h a.1 in

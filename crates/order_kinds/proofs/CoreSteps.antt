@@ -12,37 +12,43 @@ use Rattle.plain_book.specs.Book.{AllDiffer, live_orders}
 use Rattle.order_kinds.specs.State.{State, state_numbered}
 use Rattle.order_kinds.specs.Step.{with_message, request_step_as, request_step}
 use Rattle.order_kinds.specs.Cores.{FitsProduct, AreNumbered, TakesStep}
+use Rattle.order_kinds.specs.Stops.{by_number}
+use Rattle.order_kinds.specs.Inner.Apart.{StayApart}
 use Rattle.order_kinds.specs.Inner.Taking.{Takes}
 use Rattle.order_kinds.proofs.NumberingSteps.{step-same, step-numbered}
 use Rattle.order_kinds.proofs.Listed.{step-fits}
 
 module _ {E : Type 0} (m : EmitMeanings E) (product : ProductLists) (request : Request) where
-  -- a session message does nothing
-  pub takes-passed : (sender : Sender) (state : State) (out : E) → request ≡ Passed sender → Takes m (λ name. request_step_as name product request) state state out out
-  takes-passed sender state out is =
-      subst (λ (r : Request). Takes m (λ name. request_step_as name product r) state state out out) (sym is) (record { name = 0; state = refl; emits = emits_none m out })
+  abbrev TakesIt : State → State → E → E → Type 0
+  TakesIt old new before after = Takes m (StayApart product request) (λ naming. request_step_as naming product request) old new before after
 
-  module _ (old now new : State) (before after : E) (takes : Takes m (λ name. request_step_as name product request) (with_message now) new before after) (same : now ≡ old) where
-    taken : Takes m (λ name. request_step_as name product request) (with_message old) new before after
-    taken = subst (λ (s : State). Takes m (λ name. request_step_as name product request) (with_message s) new before after) same takes
+  -- a session message does nothing
+  pub takes-passed : (sender : Sender) (state : State) (out : E) → request ≡ Passed sender → TakesIt state state out out
+  takes-passed sender state out is =
+      subst (λ (r : Request). Takes m (StayApart product r) (λ naming. request_step_as naming product r) state state out out) (sym is)
+      (record { naming = by_number; apart = tt; state = refl; emits = emits_none m out })
+
+  module _ (old now new : State) (before after : E) (takes : TakesIt (with_message now) new before after) (same : now ≡ old) where
+    taken : TakesIt (with_message old) new before after
+    taken = subst (λ (s : State). TakesIt (with_message s) new before after) same takes
 
     -- where order numbers differ, it is the step of the engine
     pub step-taken : AllDiffer (live_orders now.book) → AreNumbered old → TakesStep m product request old new before after
     step-taken differ are =
         let counted = with_message old in
-        let name = taken.name in
-        let made = request_step_as name product request counted in
+        let naming = taken.naming in
+        let made = request_step_as naming product request counted in
         let slots : AllDiffer (live_orders old.book) = subst (λ (s : State). AllDiffer (live_orders s.book)) same differ in
         let numbers : AreNumbered counted = record { differ = are.differ; given = are.given } in
-        let step : request_step product request (state_numbered counted) ≡ (state_numbered made.0, made.1) = step-same counted slots numbers name product request in
+        let step : request_step product request (state_numbered counted) ≡ (state_numbered made.0, made.1) = step-same counted slots numbers naming product request taken.apart in
         record {
           state = ap state_numbered taken.state ∙ sym (ap (λ (r : State × List Event). r.0) step);
           emits = emits_as m before after made.1 (request_step product request (state_numbered counted)).1 (sym (ap (λ (r : State × List Event). r.1) step)) taken.emits;
-          numbered = subst AreNumbered (sym taken.state) (step-numbered counted slots numbers name product request);
+          numbered = subst AreNumbered (sym taken.state) (step-numbered counted slots numbers naming product request taken.apart);
         }
 
     -- the core still fits the product
     pub fits-taken : FitsProduct product old → IsValidRequest product request → FitsProduct product new
     fits-taken fits valid =
         let counted : FitsProduct product (with_message old) = record { capacity = fits.capacity; instruments = fits.instruments; prices = fits.prices; orders = fits.orders } in
-        subst (FitsProduct product) (sym taken.state) (step-fits product (with_message old) counted taken.name request valid)
+        subst (FitsProduct product) (sym taken.state) (step-fits taken.naming product (with_message old) counted request valid)

@@ -1,4 +1,5 @@
--- How often a slot stands in a list: where slots differ, they still do after a sweep, and when an order comes to rest.
+-- How often a slot stands in a list: where slots differ, they still do after a sweep, and when an order comes to rest, waits or
+-- leaves.
 use Rattle.std.proofs.Common.{◌≡◌, ℕ, ◌+◌, ◌≤◌, Bool, true, false, cond, not, List, [], ◌∷◌, ◌++◌, filter, Option, None, refl, sym, ap, subst, ◌∙◌, arith, inl, inr, ◌⊎◌}
 use Rattle.std.specs.Prelude.{◌==◌, ◌&&◌}
 use Rattle.std.proofs.lemmas.Bool.Decides.{eqb_tells}
@@ -7,9 +8,11 @@ use Rattle.gx_base.specs.declared.order.Side.{Side}
 use Rattle.gx_base.specs.declared.order.Order.{Order}
 use Rattle.step_config.specs.declared.step.Step.{Step}
 use Rattle.plain_book.specs.declared.entry.Entry.{Entry}
-use Rattle.plain_book.specs.Orders.{HasSlot, order_of, no_order, without, with_order, placed, settled, traded, refreshed, filled_by, is_at_earlier_level, is_new_best, with_top}
-use Rattle.plain_book.specs.Book.{Book, AllDiffer, live_orders, first_shown, is_enough, book_placed}
+use Rattle.plain_book.specs.Orders.{HasSlot, order_of, no_order, without, with_order, placed, lined_up, settled, traded, refreshed, filled_by, is_at_earlier_level, is_of_earlier_instrument, is_new_best, with_top}
+use Rattle.plain_book.specs.Book.{Book, AllDiffer, live_orders, first_shown, is_enough, book_placed, book_waited, book_without}
 use Rattle.plain_book.specs.Match.{MatchState}
+use Rattle.plain_book.proofs.Levels.{AllDiffer-filter}
+use Rattle.plain_book.proofs.Right.{live-without}
 use Rattle.plain_book.proofs.Walks.{slot-reordered}
 use Rattle.level_sweep.specs.Sweep.{sweep, with_resting}
 use Rattle.level_sweep.proofs.EachTrade.{Relation, IsKept, each-sweep}
@@ -53,9 +56,12 @@ times-halves s p (e ∷ es) =
       | false ↦ omega (arith, times-halves s p es)
     ] in go (p e)
 
+-- an entry is put in before those that a test tells
+times-put : (s : ℕ) (behind : Entry → Bool) (n : Entry) (es : List Entry) → times s (filter (λ e. not (behind e)) es ++ n ∷ filter behind es) ≡ once s n + times s es
+times-put s behind n es = omega (arith, times-append s (filter (λ e. not (behind e)) es) (n ∷ filter behind es), times-halves s behind es)
+
 times-placed : (s : ℕ) (n : Entry) (es : List Entry) → times s (placed n es) ≡ once s n + times s es
-times-placed s n es =
-    omega (arith, times-append s (filter (λ e. not (is_at_earlier_level n e)) es) (n ∷ filter (is_at_earlier_level n) es), times-halves s (is_at_earlier_level n) es)
+times-placed s n es = times-put s (is_at_earlier_level n) n es
 
 times-gone : (s : ℕ) (es : List Entry) → times s (without s es) ≡ 0
 times-gone s [] = refl
@@ -182,35 +188,58 @@ sweep-rest steps limit m = each-sweep RestStays rest steps limit m
 often-live : (a b : Book) → NoMoreOften a.resting b.resting → b.waiting ≡ a.waiting → NoMoreOften (live_orders a) (live_orders b)
 often-live a b h w s = omega (arith, h s, times-append s a.resting a.waiting, times-append s b.resting b.waiting, ap (times s) w)
 
+fewer-swept : (steps : List Step) (limit : Price) (m : MatchState) → NoMoreOften (live_orders m.book) (live_orders (sweep steps limit m).book)
+fewer-swept steps limit m = often-live m.book (sweep steps limit m).book (each-sweep Often often steps limit m) (ap (λ (b : Book). b.waiting) (sweep-rest steps limit m))
+
 -- slots differ after a sweep, where they did before it
 pub sweep-differ : (steps : List Step) (limit : Price) (m : MatchState) → AllDiffer (live_orders m.book) → AllDiffer (live_orders (sweep steps limit m).book)
-sweep-differ steps limit m d =
-    let end = sweep steps limit m in
-    still-differ (live_orders m.book) (live_orders end.book) (often-live m.book end.book (each-sweep Often often steps limit m) (ap (λ (b : Book). b.waiting) (sweep-rest steps limit m))) d
+sweep-differ steps limit m d = still-differ (live_orders m.book) (live_orders (sweep steps limit m).book) (fewer-swept steps limit m) d
 
--- ---- an order comes to rest
+-- a slot that no order had before a sweep, none has after it
+pub sweep-lacks : (s : ℕ) (steps : List Step) (limit : Price) (m : MatchState) → (HasSlot s (live_orders m.book) → ⊥) → HasSlot s (live_orders (sweep steps limit m).book) → ⊥
+sweep-lacks s steps limit m none has =
+    omega (arith, fewer-swept steps limit m s, no-times s (live_orders m.book) none, some-times s (live_orders (sweep steps limit m).book) has)
+
+-- ---- an order comes, and has a slot that none has
+
+-- each slot stands as often as before, and that of the newcomer once more
+abbrev HasOneMore : ℕ → List Entry → List Entry → Type 0
+HasOneMore slot es fs = (s : ℕ) → times s fs ≡ once_of slot s + times s es
+
+one-more-differ : (slot : ℕ) (es fs : List Entry) → HasOneMore slot es fs → AllDiffer es → (HasSlot slot es → ⊥) → AllDiffer fs
+one-more-differ slot es fs more d fresh = once-differ fs (λ s.
+    elim (eqb_tells slot s) [
+      | inl t ↦
+          let none : times s es ≡ 0 = no-times s es (subst (λ (n : ℕ). HasSlot n es → ⊥) t.1 fresh) in
+          let one : once_of slot s ≡ 1 = ap (λ (c : Bool). cond c 1 0) t.0 in
+          omega (arith, more s, none, one)
+      | inr t ↦
+          let one : once_of slot s ≡ 0 = ap (λ (c : Bool). cond c 1 0) t.0 in
+          omega (arith, more s, one, differ-once s es d)
+    ])
 
 abbrev new_entry : ℕ → Order → Option ℕ → Book → Entry
 new_entry slot o top_min b = record { slot = slot; order = record o { shown = first_shown o }; is_top = is_new_best o b.resting && is_enough top_min o.leaves }
 
-times-book_placed : (s slot : ℕ) (o : Order) (top_min : Option ℕ) (b : Book) → times s (live_orders (book_placed slot o top_min b)) ≡ once_of slot s + times s (live_orders b)
-times-book_placed s slot o top_min b =
+-- it comes to rest
+pub placed-differ : (slot : ℕ) (o : Order) (top_min : Option ℕ) (b : Book) → AllDiffer (live_orders b) → (HasSlot slot (live_orders b) → ⊥) → AllDiffer (live_orders (book_placed slot o top_min b))
+placed-differ slot o top_min b d fresh =
     let es = b.resting in
     let cleared : Bool → List Entry = λ c. cond c (with_top o.instrument o.side None es) es in
-    let kept : (c : Bool) → times s (cleared c) ≡ times s es = elim [ true ↦ times-topped s o.instrument o.side None es | false ↦ refl ] in
     let rests = cleared (is_new_best o es) in
     let n = new_entry slot o top_min b in
-    omega (arith, times-append s (placed n rests) b.waiting, times-placed s n rests, kept (is_new_best o es), times-append s es b.waiting)
+    let kept : (s : ℕ) (c : Bool) → times s (cleared c) ≡ times s es = λ s. elim [ true ↦ times-topped s o.instrument o.side None es | false ↦ refl ] in
+    one-more-differ slot (live_orders b) (live_orders (book_placed slot o top_min b))
+    (λ s. omega (arith, times-append s (placed n rests) b.waiting, times-placed s n rests, kept s (is_new_best o es), times-append s es b.waiting)) d fresh
 
--- slots still differ when an order comes under a slot that none has
-pub placed-differ : (slot : ℕ) (o : Order) (top_min : Option ℕ) (b : Book) → AllDiffer (live_orders b) → (HasSlot slot (live_orders b) → ⊥) → AllDiffer (live_orders (book_placed slot o top_min b))
-placed-differ slot o top_min b d fresh = once-differ (live_orders (book_placed slot o top_min b)) (λ s.
-    elim (eqb_tells slot s) [
-      | inl t ↦
-          let none : times s (live_orders b) ≡ 0 = no-times s (live_orders b) (subst (λ (n : ℕ). HasSlot n (live_orders b) → ⊥) t.1 fresh) in
-          let one : once_of slot s ≡ 1 = ap (λ (c : Bool). cond c 1 0) t.0 in
-          omega (arith, times-book_placed s slot o top_min b, none, one)
-      | inr t ↦
-          let one : once_of slot s ≡ 0 = ap (λ (c : Bool). cond c 1 0) t.0 in
-          omega (arith, times-book_placed s slot o top_min b, one, differ-once s (live_orders b) d)
-    ])
+-- it waits
+pub waited-differ : (slot : ℕ) (o : Order) (b : Book) → AllDiffer (live_orders b) → (HasSlot slot (live_orders b) → ⊥) → AllDiffer (live_orders (book_waited slot o b))
+waited-differ slot o b d fresh =
+    let n : Entry = record { slot = slot; order = record o { shown = 0 }; is_top = false } in
+    one-more-differ slot (live_orders b) (live_orders (book_waited slot o b))
+    (λ s. omega (arith, times-append s b.resting (lined_up n b.waiting), times-put s (is_of_earlier_instrument n) n b.waiting, times-append s b.resting b.waiting)) d fresh
+
+-- ---- an order leaves
+
+pub left-differ : (slot : ℕ) (b : Book) → AllDiffer (live_orders b) → AllDiffer (live_orders (book_without slot b))
+left-differ slot b d = subst AllDiffer (sym (live-without slot b)) (AllDiffer-filter (λ (e : Entry). not (e.slot == slot)) (live_orders b) d)
