@@ -202,7 +202,7 @@ module _ {X : Type 0} (f w : X → ℕ) (pool total : ℕ) (part : (x : X) → f
 
 -- ---- what shares add up to
 
-lots-cons : (s : Share) (ss : List Share) → lots_of (s ∷ ss) ≡ s.1 + lots_of ss
+pub lots-cons : (s : Share) (ss : List Share) → lots_of (s ∷ ss) ≡ s.1 + lots_of ss
 lots-cons s ss = sum_by-cons (λ (x : Share). x.1) s ss
 
 lots-map : (f : Entry → ℕ) (es : List Entry) → lots_of (map (λ (e : Entry). (e.slot, f e)) es) ≡ sum_by f es

@@ -60,7 +60,7 @@ match-differ before m h =
     numbered-differ (live_orders m.book) (live-by-number m.book h.rest h.wait)
     (λ k. omega (arith, h.told.single k, sum_by-cons (is_of k) (account m.taker.order) (accounts (live_orders m.book))))
 
-resting-differ : (before : List Event) (m : MatchState) → InMatch before m → AllDiffer m.book.resting
+pub resting-differ : (before : List Event) (m : MatchState) → InMatch before m → AllDiffer m.book.resting
 resting-differ before m h = AllDiffer-front m.book.resting m.book.waiting (match-differ before m h)
 
 -- ---- trades and marks keep how orders rest
