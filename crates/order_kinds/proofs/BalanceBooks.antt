@@ -1,7 +1,6 @@
 -- The quantities of the orders of a book, when an order comes, goes or changes.
-use Rattle.std.proofs.Common.{◌≡◌, ◌≢◌, ℕ, ◌+◌, ◌≤◌, Bool, true, false, cond, not, List, [], ◌∷◌, ◌++◌, map, filter, Option, refl, sym, ap, subst, ◌∙◌, arith, inl, inr, sum_by}
+use Rattle.std.proofs.Common.{◌≡◌, ◌≢◌, ℕ, ◌≤◌, Bool, true, false, cond, not, List, [], ◌∷◌, ◌++◌, map, filter, Option, refl, sym, ap, subst, ◌∙◌, arith, inl, inr, sum_by}
 use Rattle.std.proofs.lemmas.List.{map-append}
-use Rattle.std.proofs.lemmas.List.Elements.{filter-append}
 use Rattle.std.proofs.lemmas.List.Sums.{sum_by-cons}
 use Rattle.std.proofs.lemmas.List.Sorted.{IsPermutation-refl, IsPermutation-sym, IsPermutation-cons, IsPermutation-trans, IsPermutation-middle, IsPermutation-map, IsPermutation-append_left, IsPermutation-append_right, IsPermutation-filter_both}
 use Rattle.std.proofs.lemmas.Bool.Decides.{eqb_tells}
@@ -11,9 +10,9 @@ use Rattle.std.specs.List.Sorted.{IsPermutation}
 use Rattle.gx_base.specs.declared.order.Side.{Side}
 use Rattle.gx_base.specs.declared.order.Order.{Order}
 use Rattle.plain_book.specs.declared.entry.Entry.{Entry}
-use Rattle.plain_book.specs.Orders.{HasSlot, order_of, no_order, is_at_earlier_level, is_of_earlier_instrument, without, with_order, reordered, placed, lined_up, with_top, settled, refreshed}
-use Rattle.plain_book.specs.Book.{Book, live_orders, AllDiffer}
-use Rattle.plain_book.proofs.Levels.{renewed, without-none, lacks, HasSlot-either}
+use Rattle.plain_book.specs.Orders.{HasSlot, order_of, no_order, is_at_earlier_level, is_of_earlier_instrument, without, with_order, placed, lined_up, with_top, settled, refreshed}
+use Rattle.plain_book.specs.Book.{AllDiffer}
+use Rattle.plain_book.proofs.Levels.{renewed, without-none, lacks}
 use Rattle.plain_book.proofs.Walks.{HasSlot-with_order, AllDiffer-with_order, order_of-with_order}
 use Rattle.order_kinds.proofs.BalanceTold.{Account, account, is_of, leaves_of, leaves_in, swapped}
 
@@ -40,14 +39,14 @@ put-in p n es =
     IsPermutation-trans (front ++ n ∷ back) (n ∷ (front ++ back)) (n ∷ es) (IsPermutation-middle front n back)
     (IsPermutation-cons n (front ++ back) es (IsPermutation-sym es (front ++ back) (IsPermutation-filter_both (λ e. not (p e)) p (λ e. not-not (p e)) es)))
 
-abbrev numbers_of : Entry → Account
-numbers_of e = account e.order
+abbrev account_in : Entry → Account
+account_in e = account e.order
 
 pub placed-same : (n : Entry) (es : List Entry) → AreSame (accounts (placed n es)) (account n.order ∷ accounts es)
-placed-same n es = IsPermutation-map numbers_of (placed n es) (n ∷ es) (put-in (is_at_earlier_level n) n es)
+placed-same n es = IsPermutation-map account_in (placed n es) (n ∷ es) (put-in (is_at_earlier_level n) n es)
 
 pub lined-same : (n : Entry) (es : List Entry) → AreSame (accounts (lined_up n es)) (account n.order ∷ accounts es)
-lined-same n es = IsPermutation-map numbers_of (lined_up n es) (n ∷ es) (put-in (is_of_earlier_instrument n) n es)
+lined-same n es = IsPermutation-map account_in (lined_up n es) (n ∷ es) (put-in (is_of_earlier_instrument n) n es)
 
 -- a TOP that is set changes no quantity
 pub topped-same : (i : ℕ) (d : Side) (top : Option ℕ) (es : List Entry) → accounts (with_top i d top es) ≡ accounts es

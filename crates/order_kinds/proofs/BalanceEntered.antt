@@ -1,14 +1,12 @@
 -- An order that comes in keeps what has been told of the open orders: it is matched, and then rests, waits or is cancelled, and
 -- so is each stop that it triggers.
-use Rattle.std.proofs.Common.{◌≡◌, ◌≢◌, ℕ, ◌+◌, ◌-◌, ◌≤◌, min, Bool, true, false, cond, not, List, [], ◌∷◌, ◌++◌, filter, Option, Some, None, refl, sym, ap, subst, ◌∙◌, arith, inl, inr, append_assoc, length}
+use Rattle.std.proofs.Common.{◌≡◌, ◌≢◌, ℕ, ◌+◌, min, Bool, true, false, cond, not, List, [], ◌∷◌, ◌++◌, filter, Option, Some, None, refl, sym, ap, subst, ◌∙◌, arith, inl, inr, append_assoc, length}
 use Prim.Native.Nat.{zero, suc}
-use Rattle.std.proofs.lemmas.List.Elements.{filter-append}
-use Rattle.std.proofs.lemmas.List.Sorted.{IsPermutation-sym, IsPermutation-trans}
+use Rattle.std.proofs.lemmas.List.Sorted.{IsPermutation-sym}
 use Rattle.std.proofs.lemmas.Bool.Decides.{eqb_tells}
 use Rattle.std.specs.Prelude.{◌==◌, ◌&&◌, nat_lt}
 use Rattle.std.specs.List.{AllByRecursion}
 use Rattle.gx_base.specs.declared.price.Price.{Price}
-use Rattle.gx_base.specs.declared.order.Side.{Side}
 use Rattle.gx_base.specs.declared.order.Kind.{Kind}
 use Rattle.gx_base.specs.declared.order.Kind.TheVariants.{Limit, Market, StopLimit}
 use Rattle.gx_base.specs.declared.order.Order.{Order}
@@ -21,20 +19,21 @@ use Rattle.step_config.specs.declared.step.Step.{Step}
 use Rattle.step_config.specs.RightSteps.{IsRightStep}
 use Rattle.plain_book.specs.declared.entry.Entry.{Entry}
 use Rattle.plain_book.specs.Orders.{HasSlot, order_of, is_of, stops_of, without, placed, lined_up, with_top, topped, is_new_best, is_at_earlier_level, is_of_earlier_instrument}
-use Rattle.plain_book.specs.Book.{Book, live_orders, AllDiffer, first_shown, is_enough, book_placed, book_waited, book_without}
-use Rattle.plain_book.specs.Match.{MatchState, next_head, report}
-use Rattle.plain_book.proofs.Levels.{AllDiffer-filter, AllDiffer-front, AllDiffer-back, HasSlot-filter, HasSlot-right, order_of-filter, order_of-right, slots-apart, same}
+use Rattle.plain_book.specs.Book.{Book, live_orders, AllDiffer, first_shown, is_enough, book_without}
+use Rattle.plain_book.specs.Match.{MatchState, next_head}
+use Rattle.plain_book.proofs.Levels.{AllDiffer-filter, AllDiffer-back, HasSlot-filter, HasSlot-right, order_of-filter, order_of-right, slots-apart, same}
 use Rattle.plain_book.proofs.Pairs.{all-filter, all-append, all-map}
+use Rattle.plain_book.proofs.Right.{live-without}
 use Rattle.level_sweep.specs.Sweep.{sweep}
 use Rattle.order_kinds.specs.Balance.{ArePaired}
 use Rattle.order_kinds.specs.NewOrders.{may_rest}
-use Rattle.order_kinds.specs.Entering.{closed, cancel_event, taker_cancelled, top_min_of, as_limit, taker_rested, finished, open_for, entered}
-use Rattle.order_kinds.specs.Stops.{Naming, fill_range, is_marked, first_entry, first_marked, next_stop, as_triggered, stop_triggered, stop_entered, stop_rounds, stops_entered, entered_with_stops, taker_waiting, come_in_as, come_in}
+use Rattle.order_kinds.specs.Entering.{closed, taker_cancelled, top_min_of, as_limit, taker_rested, finished, open_for, entered}
+use Rattle.order_kinds.specs.Stops.{Naming, fill_range, is_marked, first_entry, first_marked, next_stop, as_triggered, stop_triggered, stop_entered, stop_rounds, entered_with_stops, taker_waiting, come_in_as, come_in}
 use Rattle.order_kinds.proofs.BalanceEvents.{paired-append}
 use Rattle.order_kinds.proofs.BalanceTold.{Account, account, IsTold, told-shuffled, told-closed, told-after}
 use Rattle.order_kinds.proofs.BalanceBooks.{accounts, AreSame, IsByNumber, placed-same, lined-same, topped-same, taken-same, same-front, same-back, numbered-differ}
 use Rattle.order_kinds.proofs.BalanceTrades.{Shows, Rests, IsSound, InMatch, live-by-number}
-use Rattle.order_kinds.proofs.BalanceSweeps.{IsMatched, matched-sweep}
+use Rattle.order_kinds.proofs.BalanceSweeps.{matched-sweep}
 
 -- behind these events, where no order comes in: only live orders are open
 abbrev pub AtRest : List Event → MatchState → Type 0
@@ -179,9 +178,6 @@ marked-stands instrument (Some range) es e d h =
     filter-stands (is_of instrument) e es d (filter-stands (is_marked range) e (stops_of instrument es) (AllDiffer-filter (is_of instrument) es d) (first-stands e (filter (is_marked range) (stops_of instrument es)) h))
 
 -- ---- an order leaves
-
-pub live-without : (s : ℕ) (b : Book) → live_orders (book_without s b) ≡ without s (live_orders b)
-live-without s b = sym (filter-append (λ e. not (e.slot == s)) b.resting b.waiting)
 
 -- a live order is open besides the others
 pub told-out : {events : List Event} {orders : ℕ} (s : ℕ) (b : Book) → AllDiffer (live_orders b) → HasSlot s (live_orders b) → IsTold events orders (accounts (live_orders b))

@@ -1,5 +1,5 @@
 -- Replaces keep what has been told of the open orders.
-use Rattle.std.proofs.Common.{◌≡◌, ℕ, ◌+◌, ◌-◌, ◌<◌, ◌≤◌, min, Bool, true, false, cond, not, List, [], ◌∷◌, ◌++◌, Option, Some, None, Result, Ok, Err, refl, sym, ap, subst, ◌∙◌, arith, inl, inr}
+use Rattle.std.proofs.Common.{◌≡◌, ℕ, ◌+◌, ◌-◌, ◌<◌, ◌≤◌, Bool, true, false, cond, not, List, [], ◌∷◌, ◌++◌, Option, Some, None, Result, Ok, Err, refl, sym, ap, subst, ◌∙◌, arith, inl, inr}
 use Rattle.std.proofs.lemmas.List.Sorted.{IsPermutation-sym}
 use Rattle.std.proofs.lemmas.Bool.Decides.{eqb_tells, nat_tests}
 use Rattle.std.specs.Prelude.{◌==◌, ◌&&◌, nat_lt, nat_le}
@@ -7,7 +7,6 @@ use Rattle.std.specs.List.{AllByRecursion}
 use Rattle.gx_base.specs.declared.order.Order.{Order}
 use Rattle.gx_base.specs.declared.event.Head.{Head}
 use Rattle.gx_base.specs.declared.event.Event.{Event}
-use Rattle.gx_base.specs.declared.event.Event.TheVariants.{Replaced}
 use Rattle.gx_base.specs.declared.event.ChangeFault.{ChangeFault}
 use Rattle.gx_base.specs.declared.event.ChangeFault.TheVariants as fault
 use Rattle.step_config.specs.RightSteps.{AreRightSteps}
@@ -15,23 +14,23 @@ use Rattle.product_file.specs.Products.{ProductLists}
 use Rattle.fix_request.specs.declared.request.ReplaceOrder.{ReplaceOrder}
 use Rattle.plain_book.specs.declared.entry.Entry.{Entry}
 use Rattle.plain_book.specs.Orders.{HasSlot, order_of, slot_named, is_live, without, with_order, reordered}
-use Rattle.plain_book.specs.Book.{Book, live_orders, AllDiffer, book_without, book_changed, changed_to}
+use Rattle.plain_book.specs.Book.{live_orders, AllDiffer, book_without, changed_to}
 use Rattle.plain_book.specs.Match.{next_head}
 use Rattle.plain_book.proofs.Levels.{renewed, and-right}
 use Rattle.plain_book.proofs.Pairs.{all-filter, all-front, all-back, all-both, all-map}
 use Rattle.plain_book.proofs.Tops.{at-slot}
-use Rattle.plain_book.proofs.Right.{live-reordered}
+use Rattle.plain_book.proofs.Right.{live-without, live-reordered}
 use Rattle.order_kinds.specs.State.{State}
 use Rattle.order_kinds.specs.Instruments.{ListedInstrument, instrument_of, price_at}
 use Rattle.order_kinds.specs.OrderRules.{is_quantity, has_off_tick, is_beyond_stop, is_reached_already, last_of}
 use Rattle.order_kinds.specs.Replaces.{is_same_order, replace_terms, new_price, least_after, is_same_price, keeps_place, replaced_order, replace_event, replaced_in_place, replaced_start, replaced_anew, replaced, replaced_by, replace_by, replace_step}
 use Rattle.order_kinds.specs.Stops.{by_number}
-use Rattle.order_kinds.specs.Balance.{ArePaired, HasRightSteps}
+use Rattle.order_kinds.specs.Balance.{HasRightSteps}
 use Rattle.order_kinds.proofs.BalanceEvents.{paired-append}
 use Rattle.order_kinds.proofs.BalanceTold.{Account, account, IsTold, told-shuffled, told-after}
 use Rattle.order_kinds.proofs.BalanceBooks.{accounts, IsByNumber, changed-same}
-use Rattle.order_kinds.proofs.BalanceTrades.{Shows, Rests, IsSound, InMatch}
-use Rattle.order_kinds.proofs.BalanceEntered.{rest-differ, live-without, told-out, come-in-kept}
+use Rattle.order_kinds.proofs.BalanceTrades.{Shows, Rests, InMatch}
+use Rattle.order_kinds.proofs.BalanceEntered.{rest-differ, told-out, come-in-kept}
 use Rattle.order_kinds.proofs.BalanceRequests.{TellsState, TellsStep, unchanged-kept, passes-then, found-then, instrument-right, named-has}
 
 -- ---- rules that refuse
@@ -136,7 +135,9 @@ module _ (request : ReplaceOrder) (slot : ℕ) (state : State) where
       let event : Event = replace_event was head now in
       let after : IsTold (events ++ event ∷ []) state.desk.orders (account now ∷ accounts (without slot es)) =
       subst (λ (l : List Entry). IsTold (events ++ event ∷ []) state.desk.orders (account now ∷ accounts l)) (live-without slot b) told in
-      let turned = told-shuffled (account now ∷ accounts (without slot es)) (accounts (with_order slot now es)) (IsPermutation-sym (accounts (with_order slot now es)) (account now ∷ accounts (without slot es)) (changed-same slot now es differ has)) after in
+      let standing = accounts (with_order slot now es) in
+      let other = account now ∷ accounts (without slot es) in
+      let turned = told-shuffled other standing (IsPermutation-sym standing other (changed-same slot now es differ has)) after in
       let each = all-was differ in
       record {
         told = subst (λ (l : List Entry). IsTold (events ++ event ∷ []) state.desk.orders (accounts l)) (sym (live-reordered slot now b)) turned;

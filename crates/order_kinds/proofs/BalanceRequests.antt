@@ -1,5 +1,5 @@
 -- New orders, cancels and refused messages keep what has been told of the open orders.
-use Rattle.std.proofs.Common.{◌≡◌, ℕ, ◌+◌, Bool, true, false, cond, not, List, [], ◌∷◌, ◌++◌, filter, Option, Some, None, Result, Ok, Err, option_map, slice_get, length, refl, sym, ap, subst, ◌∙◌, arith}
+use Rattle.std.proofs.Common.{◌≡◌, ℕ, ◌+◌, Bool, true, false, not, List, [], ◌∷◌, ◌++◌, filter, Option, Some, None, Result, Ok, Err, option_map, slice_get, length, refl, subst, arith}
 use Prim.Native.Nat.{zero, suc}
 use Rattle.std.specs.Prelude.{◌==◌, nat_lt, ok_or}
 use Rattle.std.specs.List.{AllByRecursion}
@@ -125,7 +125,8 @@ terms-right product new state terms right h =
     let same : made ≡ terms = cc in
     subst (λ (t : Terms). AreRightSteps t.instrument.rule.steps) same (instrument-right product new.named found.0 right found.1)
 
-told-accepted : {events : List Event} {orders : ℕ} (head : Head) (o : Order) (xs : List Account) → o.number ≡ orders + 1 → o.filled ≡ 0 → o.leaves ≡ o.quantity → IsTold events orders xs → IsTold (events ++ Accepted head o ∷ []) (orders + 1) (account o ∷ xs)
+told-accepted : {events : List Event} {orders : ℕ} (head : Head) (o : Order) (xs : List Account) → o.number ≡ orders + 1 → o.filled ≡ 0 → o.leaves ≡ o.quantity
+    → IsTold events orders xs → IsTold (events ++ Accepted head o ∷ []) (orders + 1) (account o ∷ xs)
 told-accepted {events} {orders} head o xs number none all h =
     told-after (Accepted head o) o (unentered (orders + 1)) (account o) xs
     (record {

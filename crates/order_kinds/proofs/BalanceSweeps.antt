@@ -1,6 +1,6 @@
 -- A whole sweep keeps what has been told of the open orders: each of its trades is one of a live order of the other side, of
 -- no more lots than it shows and than are wanted.
-use Rattle.std.proofs.Common.{◌≡◌, ◌≢◌, ℕ, ◌-◌, ◌*◌, ◌/◌, ◌≤◌, min, Bool, true, false, cond, not, List, [], ◌∷◌, ◌++◌, filter, Option, Some, None, refl, sym, ap, subst, ◌∙◌, arith, inl, inr, ◌⊎◌}
+use Rattle.std.proofs.Common.{◌≡◌, ◌≢◌, ℕ, ◌*◌, ◌/◌, ◌≤◌, min, Bool, true, false, cond, not, List, [], ◌∷◌, filter, Option, Some, None, refl, sym, ap, subst, ◌∙◌, arith, inl, inr, ◌⊎◌}
 use Prim.Native.Nat.{zero, suc}
 use Rattle.std.proofs.lemmas.Bool.Decides.{eqb_tells}
 use Rattle.std.specs.Prelude.{◌==◌, sum_by}
@@ -112,9 +112,9 @@ module _ (P : Order → Type 0) where
       let now : Order = record (order_of s es) { prorated = n } in
       let go : (c : Bool) → HoldsAt P t (cond c (book_marked s n m.book) m.book).resting = elim [
         | true ↦ record {
-            has = HasSlot-with_order s t now es h.has;
-            each = holds-changed P t s now es (λ is. subst (λ (k : ℕ). P (record (order_of k es) { prorated = n })) (sym is) (mark (order_of t es) n (holds-order P t es h.has h.each))) h.each;
-          }
+          has = HasSlot-with_order s t now es h.has;
+          each = holds-changed P t s now es (λ is. subst (λ (k : ℕ). P (record (order_of k es) { prorated = n })) (sym is) (mark (order_of t es) n (holds-order P t es h.has h.each))) h.each;
+        }
         | false ↦ h
       ] in go (is_prorata step)
 
@@ -165,10 +165,10 @@ module _ (before : List Event) (side : Side) (number : ℕ) where
       let go : (c : Bool) → IsMatched (cond c k (trade step x.0 x.1 k)) = elim [
         | true ↦ here
         | false ↦ record {
-            sound = trade-kept before step x.0 x.1 k there.has (omega (arith, fits.0, shows.within)) (fits.1 ∙ ap opposite (sym h.side_is)) wanted here.sound;
-            side_is = h.side_is;
-            number_is = h.number_is;
-          }
+          sound = trade-kept before step x.0 x.1 k there.has (omega (arith, fits.0, shows.within)) (fits.1 ∙ ap opposite (sym h.side_is)) wanted here.sound;
+          side_is = h.side_is;
+          number_is = h.number_is;
+        }
       ] in go (x.1 == 0)
 
   matched-shares : (step : StepName) (xs : List Share) (m : MatchState) → AreApart xs → AllByRecursion (CanGive m.book.resting) xs → lots_of xs ≤ m.taker.order.leaves → IsMatched m → IsMatched (trade_shares step xs m)

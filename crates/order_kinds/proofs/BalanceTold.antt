@@ -1,22 +1,17 @@
 -- What has been told of the orders that are open: of each how much is filled and how much is open, and so in total. What the
 -- events do to it.
-use Rattle.std.proofs.Common.{◌≡◌, ◌≢◌, ℕ, ◌+◌, ◌-◌, ◌<◌, ◌≤◌, Bool, true, false, cond, List, [], ◌∷◌, ◌++◌, Option, Some, None, refl, sym, ap, subst, ◌∙◌, arith, inl, inr, sum_by}
+use Rattle.std.proofs.Common.{◌≡◌, ◌≢◌, ℕ, ◌+◌, ◌<◌, ◌≤◌, Bool, true, false, cond, List, [], ◌∷◌, ◌++◌, Option, Some, None, refl, sym, ap, subst, ◌∙◌, arith, inl, inr, sum_by}
 use Rattle.std.proofs.lemmas.List.Sums.{sum_by-cons}
-use Rattle.std.proofs.lemmas.List.Sorted.{IsPermutation-refl, IsPermutation-sym, IsPermutation-cons, IsPermutation-trans, IsPermutation-middle, sum_by-IsPermutation, All-permutation}
+use Rattle.std.proofs.lemmas.List.Sorted.{IsPermutation-middle, sum_by-IsPermutation, All-permutation}
 use Rattle.std.proofs.lemmas.List.Elements.{All-from_recursion, recursion_from_All}
 use Rattle.std.proofs.lemmas.Bool.Decides.{eqb_tells}
 use Rattle.std.specs.Prelude.{◌==◌, IfSome}
 use Rattle.std.specs.List.{AllByRecursion}
 use Rattle.std.specs.List.Sorted.{IsPermutation}
-use Rattle.gx_base.specs.declared.price.Price.{Price}
 use Rattle.gx_base.specs.declared.order.Order.{Order}
-use Rattle.gx_base.specs.declared.event.Head.{Head}
-use Rattle.gx_base.specs.declared.event.Cause.{Cause}
-use Rattle.gx_base.specs.declared.event.StepName.{StepName}
 use Rattle.gx_base.specs.declared.event.Event.{Event}
-use Rattle.gx_base.specs.declared.event.Event.TheVariants.{Accepted, Triggered, Fill, Cancelled, Replaced, RefusedNew, RefusedChange, RefusedSession}
 use Rattle.plain_book.proofs.Pairs.{all-append, all-both, all-with}
-use Rattle.order_kinds.specs.Balance.{Quantities, AddsUp, order_in, lots_in, lots_of, last_open, last_open_from, open_by, entered_with, total_entered, filled_in, total_filled, cancelled_in, total_cancelled}
+use Rattle.order_kinds.specs.Balance.{AddsUp, order_in, lots_in, lots_of, last_open, open_by, entered_with, total_entered, filled_in, total_filled, cancelled_in, total_cancelled}
 use Rattle.order_kinds.proofs.BalanceEvents.{lots-push, open-push, entered-push, filled-push, cancelled-push, lots-told, lots-within, AreFillsTold, fills-push}
 
 -- the quantities of an order

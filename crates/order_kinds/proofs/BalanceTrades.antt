@@ -1,27 +1,24 @@
 -- A trade of a resting order and the incoming one keeps what has been told of the open orders.
-use Rattle.std.proofs.Common.{◌≡◌, ◌≢◌, ℕ, ◌+◌, ◌-◌, ◌≤◌, min, Bool, true, false, cond, not, List, [], ◌∷◌, ◌++◌, filter, Option, Some, refl, sym, ap, subst, ◌∙◌, arith, inl, inr, ◌⊎◌, append_assoc}
-use Rattle.std.proofs.lemmas.List.Sorted.{IsPermutation-refl, IsPermutation-sym, IsPermutation-cons, IsPermutation-trans}
+use Rattle.std.proofs.Common.{◌≡◌, ◌≢◌, ℕ, ◌+◌, ◌-◌, ◌≤◌, List, [], ◌∷◌, ◌++◌, refl, sym, ap, subst, ◌∙◌, arith, inl, inr, append_assoc}
+use Rattle.std.proofs.lemmas.List.Sorted.{IsPermutation-sym, IsPermutation-cons, IsPermutation-trans}
 use Rattle.std.proofs.lemmas.List.Sums.{sum_by-cons}
 use Rattle.std.proofs.lemmas.Bool.Decides.{eqb_tells}
-use Rattle.std.specs.Prelude.{◌==◌, sum_by}
 use Rattle.std.specs.List.{AllByRecursion}
 use Rattle.gx_base.specs.declared.price.Price.{Price}
 use Rattle.gx_base.specs.declared.order.Side.{Side}
 use Rattle.gx_base.specs.declared.order.Side.TheVariants.{Buy, Sell}
 use Rattle.gx_base.specs.declared.order.Order.{Order}
-use Rattle.gx_base.specs.declared.order.Taker.{Taker}
 use Rattle.gx_base.specs.declared.order.Desk.{Desk}
 use Rattle.gx_base.specs.declared.event.Head.{Head}
 use Rattle.gx_base.specs.declared.event.StepName.{StepName}
 use Rattle.gx_base.specs.declared.event.Event.{Event}
 use Rattle.gx_base.specs.declared.event.Event.TheVariants.{Fill}
 use Rattle.plain_book.specs.declared.entry.Entry.{Entry}
-use Rattle.plain_book.specs.Orders.{HasSlot, order_of, opposite, without, with_order, placed, settled, refreshed, filled_by, is_at_earlier_level}
+use Rattle.plain_book.specs.Orders.{HasSlot, order_of, opposite, without, with_order, settled, refreshed, filled_by}
 use Rattle.plain_book.specs.Book.{Book, live_orders, AllDiffer, book_traded}
-use Rattle.plain_book.specs.Match.{MatchState, next_head, report_counted, taken_by, trade, trade_share, is_prorata, book_marked, marked}
-use Rattle.plain_book.proofs.Levels.{renewed, AllDiffer-front, HasSlot-left, HasSlot-right}
-use Rattle.plain_book.proofs.Pairs.{all-filter, all-append, all-with}
-use Rattle.plain_book.proofs.Walks.{HasSlot-with_order}
+use Rattle.plain_book.specs.Match.{MatchState, next_head, report_counted, taken_by, trade, book_marked}
+use Rattle.plain_book.proofs.Levels.{AllDiffer-front}
+use Rattle.plain_book.proofs.Pairs.{all-append, all-with}
 use Rattle.level_sweep.proofs.EachOrder.{StaysTrue, all-kept}
 use Rattle.order_kinds.specs.Balance.{ArePaired}
 use Rattle.order_kinds.proofs.BalanceEvents.{paired-append}
