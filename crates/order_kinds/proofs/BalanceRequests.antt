@@ -1,0 +1,193 @@
+-- New orders, cancels and refused messages keep what has been told of the open orders.
+use Rattle.std.proofs.Common.{◌≡◌, ℕ, ◌+◌, Bool, true, false, not, List, [], ◌∷◌, ◌++◌, filter, Option, Some, None, Result, Ok, Err, option_map, slice_get, length, refl, subst, arith}
+use Prim.Native.Nat.{zero, suc}
+use Rattle.std.specs.Prelude.{◌==◌, nat_lt, ok_or}
+use Rattle.std.specs.List.{AllByRecursion}
+use Rattle.gx_base.specs.declared.order.Order.{Order}
+use Rattle.gx_base.specs.declared.event.Head.{Head}
+use Rattle.gx_base.specs.declared.event.Event.{Event}
+use Rattle.gx_base.specs.declared.event.Event.TheVariants.{Accepted}
+use Rattle.gx_base.specs.declared.event.Cause.TheVariants.{Asked}
+use Rattle.gx_base.specs.declared.event.ChangeFault.{ChangeFault}
+use Rattle.gx_base.specs.declared.event.ChangeFault.TheVariants as change
+use Rattle.gx_base.specs.declared.event.NewFault.{NewFault}
+use Rattle.gx_base.specs.declared.event.NewFault.TheVariants as fault
+use Rattle.step_config.specs.RightSteps.{AreRightSteps}
+use Rattle.product_file.specs.Products.{ProductLists}
+use Rattle.product_file.specs.declared.product.InstrumentRule.{InstrumentRule}
+use Rattle.fix_request.specs.declared.request.Named.{Named}
+use Rattle.fix_request.specs.declared.request.Named.TheVariants.{Known, Unknown}
+use Rattle.fix_request.specs.declared.request.NewOrder.{NewOrder}
+use Rattle.fix_request.specs.declared.request.CancelOrder.{CancelOrder}
+use Rattle.fix_request.specs.declared.request.Refusal.{Refusal}
+use Rattle.fix_request.specs.declared.request.Sender.{Sender}
+use Rattle.plain_book.specs.declared.entry.Entry.{Entry}
+use Rattle.plain_book.specs.Orders.{HasSlot, order_of, slot_named, is_named, is_live}
+use Rattle.plain_book.specs.Book.{live_orders, book_without}
+use Rattle.plain_book.specs.Match.{next_head}
+use Rattle.plain_book.proofs.Levels.{HasSlot-filter}
+use Rattle.plain_book.proofs.Live.{first-has}
+use Rattle.plain_book.proofs.Pairs.{all-filter}
+use Rattle.order_kinds.specs.State.{State}
+use Rattle.order_kinds.specs.Instruments.{ListedInstrument, instrument_of, price_at}
+use Rattle.order_kinds.specs.OrderRules.{◌>>=◌, refused_where, is_quantity, has_off_tick, is_beyond_stop, is_reached_already, last_of}
+use Rattle.order_kinds.specs.NewOrders.{has_bad_min, limit_of, Terms, terms_of, order_on}
+use Rattle.order_kinds.specs.Reports.{change_refused, unchanged}
+use Rattle.order_kinds.specs.Accepting.{refusal, refused, new_start, accepted, new_by, new_step}
+use Rattle.order_kinds.specs.Cancels.{cancelled, cancel_by, cancel_step, order_cancelled, rejected, session_step}
+use Rattle.order_kinds.specs.Stops.{by_number}
+use Rattle.order_kinds.specs.Balance.{ArePaired, HasRightSteps}
+use Rattle.order_kinds.proofs.BalanceEvents.{paired-append}
+use Rattle.order_kinds.proofs.BalanceTold.{Account, account, IsTold, TellsNothing, told-none, told-after, unentered, told-numbered}
+use Rattle.order_kinds.proofs.BalanceBooks.{accounts, IsByNumber}
+use Rattle.order_kinds.proofs.BalanceTrades.{Rests, IsSound, InMatch}
+use Rattle.order_kinds.proofs.BalanceEntered.{rest-differ, told-cancelled, told-out, come-in-kept}
+
+-- these events tell of the orders of a state
+abbrev pub TellsState : List Event → State → Type 0
+TellsState events state = IsSound events [] state.book state.desk.orders state.desk.trades
+
+-- with the events of a step they tell of the state after it
+abbrev pub TellsStep : List Event → State × List Event → Type 0
+TellsStep events step = TellsState (events ++ step.1) step.0
+
+-- ---- nothing changes
+
+event-kept : (events : List Event) (event : Event) (state : State) → TellsNothing event → ArePaired (state.desk.trades + 1) state.desk.trades (event ∷ []) → TellsState events state → TellsState (events ++ event ∷ []) state
+event-kept events event state nothing none h = record {
+  told = told-none event (accounts (live_orders state.book)) nothing h.told;
+  paired = paired-append 1 state.desk.trades state.desk.trades events (event ∷ []) h.paired none;
+  rest = h.rest;
+  wait = h.wait;
+}
+
+refused-kept : (events : List Event) (f : NewFault) (new : NewOrder) (state : State) → TellsState events state → TellsStep events (refused f new state)
+refused-kept events f new state h =
+    let now = event-kept events (refusal f new state.desk) state (record { is = refl; lots = λ k. refl; adds = omega arith; filled = refl; cancelled = refl; enters = λ total. refl }) refl h in
+    record { told = now.told; paired = now.paired; rest = now.rest; wait = now.wait }
+
+pub unchanged-kept : (events : List Event) (sender : Sender) (id old : List ℕ) (number filled : ℕ) (replace : Bool) (f : ChangeFault) (state : State) → TellsState events state → TellsStep events (unchanged sender id old number filled replace f state)
+unchanged-kept events sender id old number filled replace f state h =
+    let now = event-kept events (change_refused sender id old number filled replace f state.desk) state (record { is = refl; lots = λ k. refl; adds = tt; filled = refl; cancelled = refl; enters = λ total. refl }) refl h in
+    record { told = now.told; paired = now.paired; rest = now.rest; wait = now.wait }
+
+pub session-kept : (events : List Event) (refusal : Refusal) (state : State) → TellsState events state → TellsStep events (session_step refusal state)
+session-kept events refusal state h =
+    let now = event-kept events (rejected refusal state.desk) state (record { is = refl; lots = λ k. refl; adds = tt; filled = refl; cancelled = refl; enters = λ total. refl }) refl h in
+    record { told = now.told; paired = now.paired; rest = now.rest; wait = now.wait }
+
+-- ---- rules that refuse
+
+-- the rule does not hold, and the others are next
+pub passes-then : {B F : Type 0} (b : Bool) (f : F) (rest : Unit {0} → Result B F) (r : B) → (refused_where b f >>= rest) ≡ Ok r → (b ≡ false) × (rest tt ≡ Ok r)
+passes-then true f rest r h = absurd (let k : Err f ≡ Ok r = h in cc)
+passes-then false f rest r h = (refl, h)
+
+-- it is found, and the other rules are next
+pub found-then : {A B F : Type 0} (found : Option A) (f : F) (rest : A → Result B F) (r : B) → (ok_or found f >>= rest) ≡ Ok r → (x : A) × (found ≡ Some x) × (rest x ≡ Ok r)
+found-then None f rest r h = absurd (let k : Err f ≡ Ok r = h in cc)
+found-then (Some x) f rest r h = (x, refl, h)
+
+-- each rule of a product has right steps
+rule-right : (rules : List InstrumentRule) (i : ℕ) (rule : InstrumentRule) → AllByRecursion (λ (r : InstrumentRule). AreRightSteps r.steps) rules → slice_get rules i ≡ Some rule → AreRightSteps rule.steps
+rule-right [] i rule all h = absurd (let k : None ≡ Some rule = h in cc)
+rule-right (r ∷ rules) zero rule all h = let k : Some r ≡ Some rule = h in let here : r ≡ rule = cc in subst (λ (x : InstrumentRule). AreRightSteps x.steps) here all.0
+rule-right (r ∷ rules) (suc i) rule all h = rule-right rules i rule all.1 h
+
+pub instrument-right : (product : ProductLists) (named : Named) (found : ListedInstrument) → HasRightSteps product → instrument_of product named ≡ Some found → AreRightSteps found.rule.steps
+instrument-right product Unknown found right h = absurd (let k : None ≡ Some found = h in cc)
+instrument-right product (Known number) found right h =
+    let go : (rule : Option InstrumentRule) → slice_get product.rules number ≡ rule → option_map (λ r. record { number = number; rule = r }) rule ≡ Some found → AreRightSteps found.rule.steps = elim [
+      | None ↦ λ is k. absurd (let e : None ≡ Some found = k in cc)
+      | Some r ↦ λ is k.
+          let here : ListedInstrument = record { number = number; rule = r } in
+          let e : Some here ≡ Some found = k in
+          let same : here ≡ found = cc in
+          subst (λ (x : ListedInstrument). AreRightSteps x.rule.steps) same (rule-right product.rules number r right is)
+    ] in go (slice_get product.rules number) refl h
+
+-- ---- new orders
+
+terms-right : (product : ProductLists) (new : NewOrder) (state : State) (terms : Terms) → HasRightSteps product → terms_of product new state ≡ Ok terms → AreRightSteps terms.instrument.rule.steps
+terms-right product new state terms right h =
+    let found = found-then (instrument_of product new.named) fault.Symbol _ terms h in
+    let named = passes-then (is_live new.sender.firm new.id (live_orders state.book)) fault.Duplicate _ terms found.2 in
+    let quantity = passes-then (not (is_quantity new.quantity)) fault.Quantity _ terms named.1 in
+    let tick = passes-then (has_off_tick found.0 new.price new.trigger) fault.Tick _ terms quantity.1 in
+    let beyond = passes-then (is_beyond_stop new.side (price_at new.price) (price_at new.trigger)) fault.StopLimit _ terms tick.1 in
+    let reached = passes-then (is_reached_already new.side (price_at new.trigger) (last_of found.0.number state.last)) fault.StopReached _ terms beyond.1 in
+    let least = passes-then (has_bad_min new) fault.MinQty _ terms reached.1 in
+    let show = passes-then (nat_lt new.quantity new.show) fault.Show _ terms least.1 in
+    let room = passes-then (length (live_orders state.book) == product.max_orders) fault.BookFull _ terms show.1 in
+    let limit = found-then (limit_of new.kind found.0 new state.book) fault.NoMarket _ terms room.1 in
+    let made : Terms = record { instrument = found.0; limit = limit.0 } in
+    let is : Ok made ≡ Ok terms = limit.2 in
+    let same : made ≡ terms = cc in
+    subst (λ (t : Terms). AreRightSteps t.instrument.rule.steps) same (instrument-right product new.named found.0 right found.1)
+
+told-accepted : {events : List Event} {orders : ℕ} (head : Head) (o : Order) (xs : List Account) → o.number ≡ orders + 1 → o.filled ≡ 0 → o.leaves ≡ o.quantity
+    → IsTold events orders xs → IsTold (events ++ Accepted head o ∷ []) (orders + 1) (account o ∷ xs)
+told-accepted {events} {orders} head o xs number none all h =
+    told-after (Accepted head o) o (unentered (orders + 1)) (account o) xs
+    (record {
+      is = refl;
+      number = number;
+      same = number;
+      whole = omega (arith, none, all);
+      filled = none;
+      tells = refl;
+      left = refl;
+      adds = omega (arith, none, all);
+      enters = λ total sum others gone within t. omega (arith, t, all);
+    }) (told-numbered orders xs h)
+
+start-kept : (events : List Event) (terms : Terms) (new : NewOrder) (state : State) → TellsState events state → InMatch events (new_start terms new state)
+start-kept events terms new state h =
+    let number = state.desk.orders + 1 in
+    let o = order_on terms new number in
+    let head = next_head (record state.desk { orders = number }) o.firm new.sender.time in
+    record {
+      told = told-accepted head o (accounts (live_orders state.book)) refl refl refl h.told;
+      paired = paired-append 1 state.desk.trades state.desk.trades events (Accepted head o ∷ []) h.paired refl;
+      rest = h.rest;
+      wait = h.wait;
+    }
+
+accepted-kept : (events : List Event) (terms : Terms) (new : NewOrder) (state : State) → AreRightSteps terms.instrument.rule.steps → TellsState events state → TellsStep events (accepted by_number terms new state)
+accepted-kept events terms new state right h =
+    let steps = terms.instrument.rule.steps in
+    let end = come-in-kept events steps right.each by_number (new_start terms new state) (λ before number. refl) (start-kept events terms new state h) in
+    record { told = end.told; paired = end.paired; rest = end.rest; wait = end.wait }
+
+pub new-kept : (product : ProductLists) (events : List Event) (new : NewOrder) (state : State) → HasRightSteps product → TellsState events state → TellsStep events (new_step by_number product new state)
+new-kept product events new state right h =
+    let go : (r : Result Terms NewFault) → terms_of product new state ≡ r → TellsStep events (new_by by_number r new state) = elim [
+      | Ok terms ↦ λ is. accepted-kept events terms new state (terms-right product new state terms right is) h
+      | Err f ↦ λ is. refused-kept events f new state h
+    ] in go (terms_of product new state) refl
+
+-- ---- cancels
+
+pub named-has : (firm : ℕ) (id : List ℕ) (es : List Entry) (slot : ℕ) → slot_named firm id es ≡ Some slot → HasSlot slot es
+named-has firm id es slot h = HasSlot-filter (is_named firm id) slot es (first-has slot (filter (is_named firm id) es) h)
+
+cancelled-kept : (events : List Event) (request : CancelOrder) (slot : ℕ) (state : State) → HasSlot slot (live_orders state.book) → TellsState events state → TellsStep events (cancelled request slot state)
+cancelled-kept events request slot state has h =
+    let b = state.book in
+    let o = order_of slot (live_orders b) in
+    let differ = rest-differ events b state.desk.orders state.desk.trades h in
+    let head = next_head state.desk request.sender.firm request.sender.time in
+    record {
+      told = told-cancelled head o (Some request.id) Asked (accounts (live_orders (book_without slot b))) (told-out slot b differ has h.told);
+      paired = paired-append 1 state.desk.trades state.desk.trades events (order_cancelled request o state.desk ∷ []) h.paired refl;
+      rest = all-filter Rests (λ e. not (e.slot == slot)) b.resting h.rest;
+      wait = all-filter IsByNumber (λ e. not (e.slot == slot)) b.waiting h.wait;
+    }
+
+pub cancel-kept : (events : List Event) (request : CancelOrder) (state : State) → TellsState events state → TellsStep events (cancel_step request state)
+cancel-kept events request state h =
+    let es = live_orders state.book in
+    let go : (slot : Option ℕ) → slot_named request.sender.firm request.old es ≡ slot → TellsStep events (cancel_by slot request state) = elim [
+      | None ↦ λ is. unchanged-kept events request.sender request.id request.old 0 0 false change.Unknown state h
+      | Some slot ↦ λ is. cancelled-kept events request slot state (named-has request.sender.firm request.old es slot is) h
+    ] in go (slot_named request.sender.firm request.old es) refl

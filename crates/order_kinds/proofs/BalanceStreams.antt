@@ -1,0 +1,71 @@
+-- What the messages of a stream report adds up.
+use Rattle.std.proofs.Common.{ℕ, List, [], ◌∷◌, ◌++◌, refl, sym, subst, ◌∙◌, arith, append_assoc}
+use Rattle.std.proofs.lemmas.List.{append-nil}
+use Rattle.gx_base.specs.declared.event.Event.{Event}
+use Rattle.product_file.specs.Products.{ProductLists}
+use Rattle.fix_request.specs.Requests.{request_of}
+use Rattle.fix_request.specs.declared.request.Request.{Request}
+use Rattle.fix_request.specs.declared.request.Request.TheVariants.{New, Cancel, Replace, Passed, Refused}
+use Rattle.plain_book.specs.Book.{live_orders}
+use Rattle.order_kinds.specs.State.{State, empty_state}
+use Rattle.order_kinds.specs.Step.{with_message, request_step, step_of, state_after, events_from}
+use Rattle.order_kinds.specs.Balance.{HasRightSteps, AreBalanced, IsBalanced}
+use Rattle.order_kinds.proofs.BalanceEvents.{fills-add-up}
+use Rattle.order_kinds.proofs.BalanceBooks.{numbered-leaves, total-leaves}
+use Rattle.order_kinds.proofs.BalanceTrades.{live-by-number}
+use Rattle.order_kinds.proofs.BalanceEntered.{rest-differ}
+use Rattle.order_kinds.proofs.BalanceRequests.{TellsState, TellsStep, new-kept, cancel-kept, session-kept}
+use Rattle.order_kinds.proofs.BalanceReplaces.{replace-kept}
+
+module _ (product : ProductLists) (right : HasRightSteps product) where
+  request-kept : (events : List Event) (request : Request) (state : State) → TellsState events state → TellsStep events (request_step product request state)
+  request-kept events (New order) state h = new-kept product events order state right h
+  request-kept events (Cancel order) state h = cancel-kept events order state h
+  request-kept events (Replace order) state h = replace-kept product events order state right h
+  request-kept events (Passed sender) state h = subst (λ (l : List Event). TellsState l state) (sym (append-nil events)) h
+  request-kept events (Refused refusal) state h = session-kept events refusal state h
+
+  step-kept : (events : List Event) (state : State) (frame : List ℕ) → TellsState events state → TellsStep events (step_of product state frame)
+  step-kept events state frame h =
+      request-kept events (request_of product frame) (with_message state) (record { told = h.told; paired = h.paired; rest = h.rest; wait = h.wait })
+
+  frames-kept : (events : List Event) (state : State) (frames : List (List ℕ)) → TellsState events state → TellsState (events ++ events_from product state frames) (state_after product state frames)
+  frames-kept events state [] h = subst (λ (l : List Event). TellsState l state) (sym (append-nil events)) h
+  frames-kept events state (frame ∷ frames) h =
+      let step = step_of product state frame in
+      subst (λ (l : List Event). TellsState l (state_after product step.0 frames)) (append_assoc events step.1 (events_from product step.0 frames))
+      (frames-kept (events ++ step.1) step.0 frames (step-kept events state frame h))
+
+  starts : TellsState [] (empty_state product)
+  starts = record {
+    told = record {
+      single = λ k. omega arith;
+      given = tt;
+      whole = tt;
+      filled = tt;
+      leaves = λ k. refl;
+      fresh = λ k lt. refl;
+      reports = tt;
+      fills = tt;
+      total = refl;
+    };
+    paired = refl;
+    rest = tt;
+    wait = tt;
+  }
+
+sound-balances : (events : List Event) (state : State) → TellsState events state → AreBalanced events state
+sound-balances events state h =
+    let es = live_orders state.book in
+    let differ = rest-differ events state.book state.desk.orders state.desk.trades h in
+    record {
+      reports = h.told.reports;
+      fills = fills-add-up events h.told.fills;
+      leaves = λ number. h.told.leaves number ∙ numbered-leaves number es (live-by-number state.book h.rest h.wait) differ;
+      trades = h.paired;
+      total = omega (arith, h.told.total, total-leaves es);
+    }
+
+pub stream-balances : (product : ProductLists) (frames : List (List ℕ)) → HasRightSteps product → IsBalanced product frames
+stream-balances product frames right =
+    sound-balances (events_from product (empty_state product) frames) (state_after product (empty_state product) frames) (frames-kept product right [] (empty_state product) frames (starts product right))
