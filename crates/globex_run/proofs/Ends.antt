@@ -23,7 +23,7 @@ use Rattle.globex_run.specs.declared.serve.Ending.{Ending}
 use Rattle.globex_run.specs.declared.serve.Ending.TheVariants.{Done, ReadFault, SendFault, BadFrame, Truncated, Full}
 use Rattle.globex_run.proofs.Running.{reports-push, and_left-none}
 use Rattle.gx_station.specs.SendLaws.{sent_and-append}
-use Rattle.balance_laws.proofs.Balanced.{streams-balance}
+use Rattle.balance_laws.proofs.Streams.{streams-balance}
 
 module _ {I S : Type 0} (product : ProductLists) (before now : Streams I S) (framing : Framing) (state : State) (run : IsServed product before now framing state) (few : state.desk.messages ≤ 10000) where
   abbrev Result : SourceAt I → StationAt S → Ending → ℕ → Type 0

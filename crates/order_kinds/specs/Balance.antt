@@ -4,9 +4,7 @@ use Rattle.std.specs.List.{AllByRecursion}
 use Rattle.gx_base.specs.declared.order.Order.{Order}
 use Rattle.gx_base.specs.declared.event.Event.{Event}
 use Rattle.gx_base.specs.declared.event.Event.TheVariants.{Accepted, Triggered, Fill, Cancelled, Replaced, RefusedNew, RefusedChange, RefusedSession}
-use Rattle.step_config.specs.RightSteps.{AreRightSteps}
 use Rattle.product_file.specs.Products.{ProductLists}
-use Rattle.product_file.specs.declared.product.InstrumentRule.{InstrumentRule}
 use Rattle.plain_book.specs.declared.entry.Entry.{Entry}
 use Rattle.plain_book.specs.Orders.{opposite, order_of}
 use Rattle.plain_book.specs.Book.{Book, live_orders}
@@ -157,7 +155,3 @@ pub record AreBalanced (events : List Event) (state : State) : Type 0 where
 -- the messages of a stream from its beginning on
 abbrev pub IsBalanced : ProductLists → List (List ℕ) → Type 0
 IsBalanced product frames = AreBalanced (events_of product frames) (state_after product (empty_state product) frames)
-
--- the steps of each instrument are a list that may be configured
-abbrev pub HasRightSteps : ProductLists → Type 0
-HasRightSteps product = AllByRecursion (λ (rule : InstrumentRule). AreRightSteps rule.steps) product.rules

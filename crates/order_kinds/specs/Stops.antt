@@ -7,7 +7,6 @@ use Rattle.gx_base.specs.declared.order.Side.TheVariants.{Buy, Sell}
 use Rattle.gx_base.specs.declared.order.Kind.{Kind}
 use Rattle.gx_base.specs.declared.order.Kind.TheVariants.{Limit, Market, StopLimit}
 use Rattle.gx_base.specs.declared.order.Order.{Order}
-use Rattle.gx_base.specs.declared.order.Taker.{Taker}
 use Rattle.gx_base.specs.declared.event.Event.{Event}
 use Rattle.gx_base.specs.declared.event.Event.TheVariants.{Fill, Triggered}
 use Rattle.step_config.specs.declared.step.Step.{Step}

@@ -7,7 +7,6 @@ mod cancels;
 mod core_state;
 mod entering;
 mod instruments;
-mod laws;
 mod new_orders;
 mod order_rules;
 mod replaces;
@@ -17,4 +16,3 @@ mod stops;
 mod trades;
 
 pub use core_state::{Core, MOST_MESSAGES};
-pub use laws::streams_balance;

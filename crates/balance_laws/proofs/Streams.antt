@@ -2,22 +2,22 @@
 use Rattle.std.proofs.Common.{ℕ, List, [], ◌∷◌, ◌++◌, refl, sym, subst, ◌∙◌, arith, append_assoc}
 use Rattle.std.proofs.lemmas.List.{append-nil}
 use Rattle.gx_base.specs.declared.event.Event.{Event}
-use Rattle.product_file.specs.Products.{ProductLists}
+use Rattle.product_file.specs.Products.{ProductLists, IsRightProduct}
 use Rattle.fix_request.specs.Requests.{request_of}
 use Rattle.fix_request.specs.declared.request.Request.{Request}
 use Rattle.fix_request.specs.declared.request.Request.TheVariants.{New, Cancel, Replace, Passed, Refused}
 use Rattle.plain_book.specs.Book.{live_orders}
 use Rattle.order_kinds.specs.State.{State, empty_state}
 use Rattle.order_kinds.specs.Step.{with_message, request_step, step_of, state_after, events_from}
-use Rattle.order_kinds.specs.Balance.{HasRightSteps, AreBalanced, IsBalanced}
-use Rattle.order_kinds.proofs.BalanceEvents.{fills-add-up}
-use Rattle.order_kinds.proofs.BalanceBooks.{numbered-leaves, total-leaves}
-use Rattle.order_kinds.proofs.BalanceTrades.{live-by-number}
-use Rattle.order_kinds.proofs.BalanceEntered.{rest-differ}
-use Rattle.order_kinds.proofs.BalanceRequests.{TellsState, TellsStep, new-kept, cancel-kept, session-kept}
-use Rattle.order_kinds.proofs.BalanceReplaces.{replace-kept}
+use Rattle.order_kinds.specs.Balance.{AreBalanced, IsBalanced}
+use Rattle.balance_laws.proofs.Events.{fills-add-up}
+use Rattle.balance_laws.proofs.Books.{numbered-leaves, total-leaves}
+use Rattle.balance_laws.proofs.Trades.{live-by-number}
+use Rattle.balance_laws.proofs.Entered.{rest-differ}
+use Rattle.balance_laws.proofs.Requests.{TellsState, TellsStep, new-kept, cancel-kept, session-kept}
+use Rattle.balance_laws.proofs.Replaces.{replace-kept}
 
-module _ (product : ProductLists) (right : HasRightSteps product) where
+module _ (product : ProductLists) (right : IsRightProduct product) where
   request-kept : (events : List Event) (request : Request) (state : State) → TellsState events state → TellsStep events (request_step product request state)
   request-kept events (New order) state h = new-kept product events order state right h
   request-kept events (Cancel order) state h = cancel-kept events order state h
@@ -66,6 +66,6 @@ sound-balances events state h =
       total = omega (arith, h.told.total, total-leaves es);
     }
 
-pub stream-balances : (product : ProductLists) (frames : List (List ℕ)) → HasRightSteps product → IsBalanced product frames
-stream-balances product frames right =
+pub streams-balance : (product : ProductLists) (frames : List (List ℕ)) → IsRightProduct product → IsBalanced product frames
+streams-balance product frames right =
     sound-balances (events_from product (empty_state product) frames) (state_after product (empty_state product) frames) (frames-kept product right [] (empty_state product) frames (starts product right))

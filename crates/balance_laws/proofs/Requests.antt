@@ -13,7 +13,7 @@ use Rattle.gx_base.specs.declared.event.ChangeFault.TheVariants as change
 use Rattle.gx_base.specs.declared.event.NewFault.{NewFault}
 use Rattle.gx_base.specs.declared.event.NewFault.TheVariants as fault
 use Rattle.step_config.specs.RightSteps.{AreRightSteps}
-use Rattle.product_file.specs.Products.{ProductLists}
+use Rattle.product_file.specs.Products.{ProductLists, IsRightProduct, IsRightInstrument}
 use Rattle.product_file.specs.declared.product.InstrumentRule.{InstrumentRule}
 use Rattle.fix_request.specs.declared.request.Named.{Named}
 use Rattle.fix_request.specs.declared.request.Named.TheVariants.{Known, Unknown}
@@ -36,12 +36,12 @@ use Rattle.order_kinds.specs.Reports.{change_refused, unchanged}
 use Rattle.order_kinds.specs.Accepting.{refusal, refused, new_start, accepted, new_by, new_step}
 use Rattle.order_kinds.specs.Cancels.{cancelled, cancel_by, cancel_step, order_cancelled, rejected, session_step}
 use Rattle.order_kinds.specs.Stops.{by_number}
-use Rattle.order_kinds.specs.Balance.{ArePaired, HasRightSteps}
-use Rattle.order_kinds.proofs.BalanceEvents.{paired-append}
-use Rattle.order_kinds.proofs.BalanceTold.{Account, account, IsTold, TellsNothing, told-none, told-after, unentered, told-numbered}
-use Rattle.order_kinds.proofs.BalanceBooks.{accounts, IsByNumber}
-use Rattle.order_kinds.proofs.BalanceTrades.{Rests, IsSound, InMatch}
-use Rattle.order_kinds.proofs.BalanceEntered.{rest-differ, told-cancelled, told-out, come-in-kept}
+use Rattle.order_kinds.specs.Balance.{ArePaired}
+use Rattle.balance_laws.proofs.Events.{paired-append}
+use Rattle.balance_laws.proofs.Told.{Account, account, IsTold, TellsNothing, told-none, told-after, unentered, told-numbered}
+use Rattle.balance_laws.proofs.Books.{accounts, IsByNumber}
+use Rattle.balance_laws.proofs.Trades.{Rests, IsSound, InMatch}
+use Rattle.balance_laws.proofs.Entered.{rest-differ, told-cancelled, told-out, come-in-kept}
 
 -- these events tell of the orders of a state
 abbrev pub TellsState : List Event → State → Type 0
@@ -89,12 +89,12 @@ found-then None f rest r h = absurd (let k : Err f ≡ Ok r = h in cc)
 found-then (Some x) f rest r h = (x, refl, h)
 
 -- each rule of a product has right steps
-rule-right : (rules : List InstrumentRule) (i : ℕ) (rule : InstrumentRule) → AllByRecursion (λ (r : InstrumentRule). AreRightSteps r.steps) rules → slice_get rules i ≡ Some rule → AreRightSteps rule.steps
-rule-right [] i rule all h = absurd (let k : None ≡ Some rule = h in cc)
-rule-right (r ∷ rules) zero rule all h = let k : Some r ≡ Some rule = h in let here : r ≡ rule = cc in subst (λ (x : InstrumentRule). AreRightSteps x.steps) here all.0
-rule-right (r ∷ rules) (suc i) rule all h = rule-right rules i rule all.1 h
+rule-right : (firms : ℕ) (rules : List InstrumentRule) (i : ℕ) (rule : InstrumentRule) → AllByRecursion (IsRightInstrument firms) rules → slice_get rules i ≡ Some rule → AreRightSteps rule.steps
+rule-right firms [] i rule all h = absurd (let k : None ≡ Some rule = h in cc)
+rule-right firms (r ∷ rules) zero rule all h = let k : Some r ≡ Some rule = h in let here : r ≡ rule = cc in subst (λ (x : InstrumentRule). AreRightSteps x.steps) here all.0.right_steps
+rule-right firms (r ∷ rules) (suc i) rule all h = rule-right firms rules i rule all.1 h
 
-pub instrument-right : (product : ProductLists) (named : Named) (found : ListedInstrument) → HasRightSteps product → instrument_of product named ≡ Some found → AreRightSteps found.rule.steps
+pub instrument-right : (product : ProductLists) (named : Named) (found : ListedInstrument) → IsRightProduct product → instrument_of product named ≡ Some found → AreRightSteps found.rule.steps
 instrument-right product Unknown found right h = absurd (let k : None ≡ Some found = h in cc)
 instrument-right product (Known number) found right h =
     let go : (rule : Option InstrumentRule) → slice_get product.rules number ≡ rule → option_map (λ r. record { number = number; rule = r }) rule ≡ Some found → AreRightSteps found.rule.steps = elim [
@@ -103,12 +103,12 @@ instrument-right product (Known number) found right h =
           let here : ListedInstrument = record { number = number; rule = r } in
           let e : Some here ≡ Some found = k in
           let same : here ≡ found = cc in
-          subst (λ (x : ListedInstrument). AreRightSteps x.rule.steps) same (rule-right product.rules number r right is)
+          subst (λ (x : ListedInstrument). AreRightSteps x.rule.steps) same (rule-right (length product.names.firms) product.rules number r right.each is)
     ] in go (slice_get product.rules number) refl h
 
 -- ---- new orders
 
-terms-right : (product : ProductLists) (new : NewOrder) (state : State) (terms : Terms) → HasRightSteps product → terms_of product new state ≡ Ok terms → AreRightSteps terms.instrument.rule.steps
+terms-right : (product : ProductLists) (new : NewOrder) (state : State) (terms : Terms) → IsRightProduct product → terms_of product new state ≡ Ok terms → AreRightSteps terms.instrument.rule.steps
 terms-right product new state terms right h =
     let found = found-then (instrument_of product new.named) fault.Symbol _ terms h in
     let named = passes-then (is_live new.sender.firm new.id (live_orders state.book)) fault.Duplicate _ terms found.2 in
@@ -159,7 +159,7 @@ accepted-kept events terms new state right h =
     let end = come-in-kept events steps right.each by_number (new_start terms new state) (λ before number. refl) (start-kept events terms new state h) in
     record { told = end.told; paired = end.paired; rest = end.rest; wait = end.wait }
 
-pub new-kept : (product : ProductLists) (events : List Event) (new : NewOrder) (state : State) → HasRightSteps product → TellsState events state → TellsStep events (new_step by_number product new state)
+pub new-kept : (product : ProductLists) (events : List Event) (new : NewOrder) (state : State) → IsRightProduct product → TellsState events state → TellsStep events (new_step by_number product new state)
 new-kept product events new state right h =
     let go : (r : Result Terms NewFault) → terms_of product new state ≡ r → TellsStep events (new_by by_number r new state) = elim [
       | Ok terms ↦ λ is. accepted-kept events terms new state (terms-right product new state terms right is) h

@@ -26,8 +26,8 @@ use Rattle.plain_book.proofs.Tops.{at-slot}
 use Rattle.plain_book.proofs.TradedShares.{share-leaves}
 use Rattle.plain_book.proofs.Walks.{HasSlot-with_order}
 use Rattle.level_sweep.specs.Sweep.{step_of, wanted_step, level_match, next_price, match_next, sweep_rounds, sweep}
-use Rattle.order_kinds.proofs.BalanceTrades.{Shows, Rests, InMatch, resting-differ, trade-kept, marks-kept}
-use Rattle.order_kinds.proofs.BalanceShares.{AreApart, IsGiven, AreOf, AllShow, lots_of, lots-cons, spent-of, map-of, top-of, lmm-of, leveling-of, spent-wanted, split-part, top-wanted, lmm-fits, share-shown, prorata-wanted, ones-wanted}
+use Rattle.balance_laws.proofs.Trades.{Shows, Rests, InMatch, resting-differ, trade-kept, marks-kept}
+use Rattle.balance_laws.proofs.Shares.{AreApart, IsGiven, AreOf, AllShow, lots_of, lots-cons, spent-of, map-of, top-of, lmm-of, leveling-of, spent-wanted, split-part, top-wanted, lmm-fits, share-shown, prorata-wanted, ones-wanted}
 
 -- ---- the order of a slot, while others trade
 

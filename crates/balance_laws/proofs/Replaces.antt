@@ -10,7 +10,7 @@ use Rattle.gx_base.specs.declared.event.Event.{Event}
 use Rattle.gx_base.specs.declared.event.ChangeFault.{ChangeFault}
 use Rattle.gx_base.specs.declared.event.ChangeFault.TheVariants as fault
 use Rattle.step_config.specs.RightSteps.{AreRightSteps}
-use Rattle.product_file.specs.Products.{ProductLists}
+use Rattle.product_file.specs.Products.{ProductLists, IsRightProduct}
 use Rattle.fix_request.specs.declared.request.ReplaceOrder.{ReplaceOrder}
 use Rattle.plain_book.specs.declared.entry.Entry.{Entry}
 use Rattle.plain_book.specs.Orders.{HasSlot, order_of, slot_named, is_live, without, with_order, reordered}
@@ -25,13 +25,12 @@ use Rattle.order_kinds.specs.Instruments.{ListedInstrument, instrument_of, price
 use Rattle.order_kinds.specs.OrderRules.{is_quantity, has_off_tick, is_beyond_stop, is_reached_already, last_of}
 use Rattle.order_kinds.specs.Replaces.{is_same_order, replace_terms, new_price, least_after, is_same_price, keeps_place, replaced_order, replace_event, replaced_in_place, replaced_start, replaced_anew, replaced, replaced_by, replace_by, replace_step}
 use Rattle.order_kinds.specs.Stops.{by_number}
-use Rattle.order_kinds.specs.Balance.{HasRightSteps}
-use Rattle.order_kinds.proofs.BalanceEvents.{paired-append}
-use Rattle.order_kinds.proofs.BalanceTold.{Account, account, IsTold, told-shuffled, told-after}
-use Rattle.order_kinds.proofs.BalanceBooks.{accounts, IsByNumber, changed-same}
-use Rattle.order_kinds.proofs.BalanceTrades.{Shows, Rests, InMatch}
-use Rattle.order_kinds.proofs.BalanceEntered.{rest-differ, told-out, come-in-kept}
-use Rattle.order_kinds.proofs.BalanceRequests.{TellsState, TellsStep, unchanged-kept, passes-then, found-then, instrument-right, named-has}
+use Rattle.balance_laws.proofs.Events.{paired-append}
+use Rattle.balance_laws.proofs.Told.{Account, account, IsTold, told-shuffled, told-after}
+use Rattle.balance_laws.proofs.Books.{accounts, IsByNumber, changed-same}
+use Rattle.balance_laws.proofs.Trades.{Shows, Rests, InMatch}
+use Rattle.balance_laws.proofs.Entered.{rest-differ, told-out, come-in-kept}
+use Rattle.balance_laws.proofs.Requests.{TellsState, TellsStep, unchanged-kept, passes-then, found-then, instrument-right, named-has}
 
 -- ---- rules that refuse
 
@@ -46,7 +45,7 @@ record IsReplaced (instrument : ListedInstrument) (request : ReplaceOrder) (o : 
   right : AreRightSteps instrument.rule.steps
   more : o.filled < request.quantity
 
-terms-replaced : (product : ProductLists) (request : ReplaceOrder) (o : Order) (state : State) (instrument : ListedInstrument) → HasRightSteps product → replace_terms product request o state ≡ Ok instrument → IsReplaced instrument request o
+terms-replaced : (product : ProductLists) (request : ReplaceOrder) (o : Order) (state : State) (instrument : ListedInstrument) → IsRightProduct product → replace_terms product request o state ≡ Ok instrument → IsReplaced instrument request o
 terms-replaced product request o state instrument right h =
     let found = found-then (instrument_of product request.named) fault.Mismatch _ instrument h in
     let same = passes-then (not (is_same_order found.0 request o)) fault.Mismatch _ instrument found.2 in
@@ -184,7 +183,7 @@ module _ (request : ReplaceOrder) (slot : ℕ) (state : State) where
         | false ↦ λ leaves. anew-kept events instrument is.right has is.more h
       ] in go (keeps_place request was) refl
 
-pub replace-kept : (product : ProductLists) (events : List Event) (request : ReplaceOrder) (state : State) → HasRightSteps product → TellsState events state → TellsStep events (replace_step by_number product request state)
+pub replace-kept : (product : ProductLists) (events : List Event) (request : ReplaceOrder) (state : State) → IsRightProduct product → TellsState events state → TellsStep events (replace_step by_number product request state)
 replace-kept product events request state right h =
     let es = live_orders state.book in
     let by : (slot : ℕ) → HasSlot slot es → (r : Result ListedInstrument ChangeFault) → replace_terms product request (order_of slot es) state ≡ r → TellsStep events (replaced_by r by_number request slot state) = λ slot has. elim [

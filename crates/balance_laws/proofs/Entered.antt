@@ -29,11 +29,11 @@ use Rattle.order_kinds.specs.Balance.{ArePaired}
 use Rattle.order_kinds.specs.NewOrders.{may_rest}
 use Rattle.order_kinds.specs.Entering.{closed, taker_cancelled, top_min_of, as_limit, taker_rested, finished, open_for, entered}
 use Rattle.order_kinds.specs.Stops.{Naming, fill_range, is_marked, first_entry, first_marked, next_stop, as_triggered, stop_triggered, stop_entered, stop_rounds, entered_with_stops, taker_waiting, come_in_as, come_in}
-use Rattle.order_kinds.proofs.BalanceEvents.{paired-append}
-use Rattle.order_kinds.proofs.BalanceTold.{Account, account, IsTold, told-shuffled, told-closed, told-after}
-use Rattle.order_kinds.proofs.BalanceBooks.{accounts, AreSame, IsByNumber, placed-same, lined-same, topped-same, taken-same, same-front, same-back, numbered-differ}
-use Rattle.order_kinds.proofs.BalanceTrades.{Shows, Rests, IsSound, InMatch, live-by-number}
-use Rattle.order_kinds.proofs.BalanceSweeps.{matched-sweep}
+use Rattle.balance_laws.proofs.Events.{paired-append}
+use Rattle.balance_laws.proofs.Told.{Account, account, IsTold, told-shuffled, told-closed, told-after}
+use Rattle.balance_laws.proofs.Books.{accounts, AreSame, IsByNumber, placed-same, lined-same, topped-same, taken-same, same-front, same-back, numbered-differ}
+use Rattle.balance_laws.proofs.Trades.{Shows, Rests, IsSound, InMatch, live-by-number}
+use Rattle.balance_laws.proofs.Sweeps.{matched-sweep}
 
 -- behind these events, where no order comes in: only live orders are open
 abbrev pub AtRest : List Event → MatchState → Type 0
