@@ -76,8 +76,8 @@ fn expect_run(
     Ok(())
 }
 
-/// Runs over this input, cut at every place into two reads.
-fn expect_each_cut(
+/// Runs over this input, read at once, byte by byte, and cut at every place into two reads.
+fn expect_each_reading(
     rt: &(impl Abort + AllocGlobal),
     name: &str,
     word: &str,
@@ -85,6 +85,10 @@ fn expect_each_cut(
     outcome: Outcome,
     sent: &[u8],
 ) -> Result<(), Fail> {
+    let whole = Vec::new(rt.alloc());
+    expect_run(rt, name, word, input, whole, outcome, sent)?;
+    let bytes = vec![in rt.alloc(); 1; 221]?;
+    expect_run(rt, name, word, input, bytes, outcome, sent)?;
     for cut in 1..input.len() {
         let pieces = vec![in rt.alloc(); cut]?;
         expect_run(rt, name, word, input, pieces, outcome, sent)?;
@@ -101,7 +105,6 @@ type Reading = (
     &'static [&'static str],
 );
 
-/// Runs at once, byte by byte, and cut at every place.
 #[test]
 fn readings(rt: HostRuntime) -> Result<(), Fail> {
     let alloc = rt.alloc();
@@ -153,11 +156,7 @@ fn readings(rt: HostRuntime) -> Result<(), Fail> {
     for (name, word, frames, outcome, reports) in readings {
         let input = join(alloc, frames)?;
         let sent = join(alloc, reports)?;
-        let (input, sent) = (input.as_slice(), sent.as_slice());
-        expect_run(&rt, name, word, input, Vec::new(alloc), outcome, sent)?;
-        let bytes = vec![in alloc; 1; 221]?;
-        expect_run(&rt, name, word, input, bytes, outcome, sent)?;
-        expect_each_cut(&rt, name, word, input, outcome, sent)?;
+        expect_each_reading(&rt, name, word, input.as_slice(), outcome, sent.as_slice())?;
     }
     Ok(())
 }
