@@ -3,8 +3,6 @@
 
 mod outgoing;
 mod report_buffer;
-#[cfg(test)]
-mod tests;
 
 pub use gx_base::write_line;
 pub use outgoing::{Outgoing, SendFault};

@@ -7,8 +7,6 @@ mod laws;
 mod next;
 mod place;
 mod scan;
-#[cfg(test)]
-mod tests;
 
 pub use body::frame_body;
 pub use framer::{Framer, ROOM};

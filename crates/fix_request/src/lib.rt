@@ -12,8 +12,6 @@ mod orders;
 mod read;
 mod request;
 mod tags;
-#[cfg(test)]
-mod tests;
 mod texts;
 mod values;
 

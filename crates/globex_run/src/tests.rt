@@ -1,7 +1,10 @@
-//! Runs over a source and a station in memory.
+//! Runs over a source and a station in memory. Each file has tables of cases, and few tests that go through them.
 mod displays;
+mod fronts;
 mod kinds;
 mod letters;
+mod levels;
+mod lines;
 mod orders;
 mod products;
 mod refusals;
@@ -86,62 +89,59 @@ fn frames_of(alloc: Global, bodies: &[&str]) -> Result<Vec<u8>, AllocError> {
     Ok(bytes)
 }
 
-/// Runs a word over this product and this input, read in these pieces, and looks at the outcome and at what was sent.
-fn expect_run(
-    rt: &(impl Abort + AllocGlobal),
+/// Runs the command of a word over these sources and this station.
+fn run_over(
+    alloc: Global,
     word: &str,
-    product: &str,
-    input: Vec<u8>,
-    pieces: Vec<usize>,
-    outcome: Outcome,
-    sent: &[u8],
-) -> Result<(), Fail>
-    requires { AllByRecursion (λ size. 1 ≤ size) pieces.items }
-{
-    let alloc = rt.alloc();
+    product: &mut MemSource,
+    input: &mut MemSource,
+    station: &mut MemStation,
+) -> Result<Outcome, AllocError> {
     let words = vec![in alloc; String::from_str(alloc, word)?]?;
-    let mut product = MemSource::new(
-        alloc,
-        product.as_bytes().to_vec(alloc)?,
-        Vec::new(alloc),
-        Vec::new(alloc),
-    )?;
-    let mut source = MemSource::new(alloc, input, pieces, Vec::new(alloc))?;
-    let mut station = MemStation::new(alloc, Vec::new(alloc), 0, 65_536, 100, Vec::new(alloc))?;
-    let got = globex(
-        alloc,
-        words.as_slice(),
-        &mut product,
-        &mut source,
-        &mut station,
-    );
-    assert_eq!(rt; got, outcome);
-    assert_eq!(rt; station.output(), sent);
-    Ok(())
+    Ok(globex(alloc, words.as_slice(), product, input, station))
 }
 
-/// Runs over the frames of these bodies, and looks for the reports with these bodies.
-fn expect_reports(
-    rt: &(impl Abort + AllocGlobal),
+/// Runs the command of a word over this product and this input, read in these pieces. No call fails.
+fn run(
+    alloc: Global,
+    word: &str,
     product: &str,
-    bodies: &[&str],
-    reports: &[&str],
-) -> Result<(), Fail> {
+    input: &[u8],
+    pieces: Vec<usize>,
+) -> Result<(Outcome, MemStation), AllocError>
+    requires { AllByRecursion (λ size. 1 ≤ size) pieces.items }
+{
+    let product = product.as_bytes().to_vec(alloc)?;
+    let mut product = MemSource::new(alloc, product, Vec::new(alloc), Vec::new(alloc))?;
+    let mut source = MemSource::new(alloc, input.to_vec(alloc)?, pieces, Vec::new(alloc))?;
+    let mut station = MemStation::new(alloc, Vec::new(alloc), 0, 65_536, 100, Vec::new(alloc))?;
+    let outcome = run_over(alloc, word, &mut product, &mut source, &mut station)?;
+    Ok((outcome, station))
+}
+
+/// A run that applies all of its messages: its name, its product, the bodies of the messages, and those of the reports.
+type Case = (
+    &'static str,
+    &'static str,
+    &'static [&'static str],
+    &'static [&'static str],
+);
+
+/// Runs over the messages of each case, and looks for its reports.
+fn expect_reports(rt: &(impl Abort + AllocGlobal), cases: &[Case]) -> Result<(), Fail> {
     let alloc = rt.alloc();
-    let outcome = Outcome {
-        status: 0,
-        at: 0,
-        messages: bodies.len() as u64,
-    };
-    let input = frames_of(alloc, bodies)?;
-    let sent = frames_of(alloc, reports)?;
-    expect_run(
-        rt,
-        "run",
-        product,
-        input,
-        Vec::new(alloc),
-        outcome,
-        sent.as_slice(),
-    )
+    for case in cases {
+        let (name, product, bodies, reports) = *case;
+        let input = frames_of(alloc, bodies)?;
+        let sent = frames_of(alloc, reports)?;
+        let (got, station) = run(alloc, "run", product, input.as_slice(), Vec::new(alloc))?;
+        let outcome = Outcome {
+            status: 0,
+            at: 0,
+            messages: bodies.len() as u64,
+        };
+        assert_eq!(rt; got, outcome, "{name}");
+        assert_eq!(rt; station.output(), sent.as_slice(), "{name}");
+    }
+    Ok(())
 }

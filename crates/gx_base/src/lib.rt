@@ -10,15 +10,11 @@ mod fields;
 mod id;
 mod limits;
 mod line;
-#[cfg(test)]
-mod line_tests;
 mod names;
 mod order;
 mod price;
 mod quantity;
 mod stamp;
-#[cfg(test)]
-mod tests;
 mod text;
 mod trailer;
 mod values;

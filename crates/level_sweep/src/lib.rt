@@ -3,8 +3,6 @@
 
 mod levels;
 mod sweeping;
-#[cfg(test)]
-mod tests;
 
 pub use levels::match_level;
 pub use sweeping::sweep;

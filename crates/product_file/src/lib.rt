@@ -11,8 +11,6 @@ mod product;
 mod read;
 mod shares;
 mod step_lists;
-#[cfg(test)]
-mod tests;
 
 pub use faults::{Key, ProductFault};
 pub use limits::{

@@ -7,8 +7,6 @@ mod presets;
 mod share_faults;
 mod step;
 mod steps;
-#[cfg(test)]
-mod tests;
 
 pub use presets::{Letter, Params, preset};
 pub use step::{MOST_SHARES, MOST_STEPS, Step, StepFault};

@@ -108,6 +108,14 @@ const SHOWN_PARTS_REPORTS: [&str; 68] = [
 ];
 
 #[test]
-fn shown_part_is_refreshed_in_each_step(rt: HostRuntime) -> Result<(), Fail> {
-    expect_reports(&rt, SIX_STEPS, &SHOWN_PARTS, &SHOWN_PARTS_REPORTS)
+fn shown_parts(rt: HostRuntime) -> Result<(), Fail> {
+    expect_reports(
+        &rt,
+        &[(
+            "shown part is refreshed in each step",
+            SIX_STEPS,
+            &SHOWN_PARTS,
+            &SHOWN_PARTS_REPORTS,
+        )],
+    )
 }

@@ -24,11 +24,6 @@ const DISPLAY_REPORTS: [&str; 11] = [
     "35=8|34=5|49=GX|52=20240102-09:30:03|56=BBB|37=3|11=b1|17=11|20=0|150=2|39=2|55=ESZ4|54=1|38=45|40=2|44=100.00|59=0|32=5|31=100.00|151=0|14=45|6=0|60=20240102-09:30:03|9001=FIFO|9002=4|9003=0|",
 ];
 
-#[test]
-fn display_is_refreshed_behind_its_price(rt: HostRuntime) -> Result<(), Fail> {
-    expect_reports(&rt, PRODUCT, &DISPLAY, &DISPLAY_REPORTS)
-}
-
 /// Nine lots, and a buy of ten that is filled at once or cancelled.
 const FILL_OR_KILL: [&str; 2] = [
     "35=D|49=AAA|56=GX|34=1|52=20240102-09:30:04|11=a1|55=ESZ4|54=2|38=9|40=2|44=100.00|59=0|",
@@ -41,11 +36,6 @@ const FILL_OR_KILL_REPORTS: [&str; 3] = [
     "35=8|34=1|49=GX|52=20240102-09:30:05.185|56=BBB|37=2|11=b1|17=2|20=0|150=0|39=0|55=ESZ4|54=1|38=10|40=2|44=100.00|59=4|151=10|14=0|6=0|60=20240102-09:30:05.185|9003=0|",
     "35=8|34=2|49=GX|52=20240102-09:30:05.185|56=BBB|37=2|11=b1|17=3|20=0|150=4|39=4|55=ESZ4|54=1|38=10|40=2|44=100.00|59=4|151=0|14=0|6=0|60=20240102-09:30:05.185|58=MINQTY NOT MET|9003=10|",
 ];
-
-#[test]
-fn fill_or_kill_is_cancelled(rt: HostRuntime) -> Result<(), Fail> {
-    expect_reports(&rt, PRODUCT, &FILL_OR_KILL, &FILL_OR_KILL_REPORTS)
-}
 
 /// Ten lots of which four are shown, and a buy of all ten or none.
 const HIDDEN_LOTS: [&str; 2] = [
@@ -65,11 +55,6 @@ const HIDDEN_LOTS_REPORTS: [&str; 8] = [
     "35=8|34=4|49=GX|52=20240102-09:30:07|56=BBB|37=2|11=b1|17=8|20=0|150=2|39=2|55=ESZ4|54=1|38=10|40=2|44=100.00|59=4|32=2|31=100.00|151=0|14=10|6=0|60=20240102-09:30:07|9001=FIFO|9002=3|9003=0|",
 ];
 
-#[test]
-fn fill_or_kill_counts_what_is_hidden(rt: HostRuntime) -> Result<(), Fail> {
-    expect_reports(&rt, PRODUCT, &HIDDEN_LOTS, &HIDDEN_LOTS_REPORTS)
-}
-
 /// A fill-or-kill order that asks for three lots, and a minimum quantity on an order of the day.
 const OWN_MINIMUM: [&str; 3] = [
     "35=D|49=AAA|56=GX|34=1|52=20240102-09:30:08|11=a1|55=ESZ4|54=2|38=9|40=2|44=100.00|59=0|",
@@ -85,11 +70,6 @@ const OWN_MINIMUM_REPORTS: [&str; 4] = [
     "35=8|34=3|49=GX|52=20240102-09:30:10.370|56=BBB|37=0|11=b2|17=4|20=0|150=8|39=8|103=0|55=ESZ4|54=1|38=4|40=2|59=0|151=0|14=0|6=0|60=20240102-09:30:10.370|58=MINQTY|9003=4|",
 ];
 
-#[test]
-fn fill_or_kill_with_a_minimum_quantity(rt: HostRuntime) -> Result<(), Fail> {
-    expect_reports(&rt, PRODUCT, &OWN_MINIMUM, &OWN_MINIMUM_REPORTS)
-}
-
 /// Two lots, and a fill-and-kill buy of five.
 const FILL_AND_KILL: [&str; 2] = [
     "35=D|49=AAA|56=GX|34=1|52=20240102-09:30:11|11=a1|55=ESZ4|54=2|38=2|40=2|44=100.00|59=0|",
@@ -104,11 +84,6 @@ const FILL_AND_KILL_REPORTS: [&str; 5] = [
     "35=8|34=2|49=GX|52=20240102-09:30:12|56=BBB|37=2|11=b1|17=4|20=0|150=1|39=1|55=ESZ4|54=1|38=5|40=2|44=100.00|59=3|32=2|31=100.00|151=3|14=2|6=0|60=20240102-09:30:12|9001=FIFO|9002=1|9003=0|",
     "35=8|34=3|49=GX|52=20240102-09:30:12|56=BBB|37=2|11=b1|17=5|20=0|150=4|39=4|55=ESZ4|54=1|38=5|40=2|44=100.00|59=3|151=0|14=2|6=0|60=20240102-09:30:12|58=FAK|9003=3|",
 ];
-
-#[test]
-fn fill_and_kill_cancels_its_rest(rt: HostRuntime) -> Result<(), Fail> {
-    expect_reports(&rt, PRODUCT, &FILL_AND_KILL, &FILL_AND_KILL_REPORTS)
-}
 
 /// Sells at 100.00, 100.02 and 100.03, and a market order that may pay two ticks more than the best price.
 const PROTECTED_MARKET: [&str; 4] = [
@@ -130,11 +105,6 @@ const PROTECTED_MARKET_REPORTS: [&str; 8] = [
     "35=8|34=3|49=GX|52=20240102-09:30:04|56=BBB|37=4|11=b1|17=8|20=0|150=1|39=1|55=ESZ4|54=1|38=10|40=1|59=0|32=3|31=100.02|151=4|14=6|6=0|60=20240102-09:30:04|9001=FIFO|9002=2|9003=0|",
 ];
 
-#[test]
-fn protected_market_order_rests_at_its_limit(rt: HostRuntime) -> Result<(), Fail> {
-    expect_reports(&rt, PRODUCT, &PROTECTED_MARKET, &PROTECTED_MARKET_REPORTS)
-}
-
 /// A market order in an empty book.
 const NO_MARKET: [&str; 1] = [
     "35=D|49=BBB|56=GX|34=1|52=20240102-09:30:05.185|11=b1|55=ESZ4|54=1|38=1|40=1|59=0|",
@@ -143,11 +113,6 @@ const NO_MARKET: [&str; 1] = [
 const NO_MARKET_REPORTS: [&str; 1] = [
     "35=8|34=1|49=GX|52=20240102-09:30:05.185|56=BBB|37=0|11=b1|17=1|20=0|150=8|39=8|103=0|55=ESZ4|54=1|38=1|40=1|59=0|151=0|14=0|6=0|60=20240102-09:30:05.185|58=NO MARKET|9003=1|",
 ];
-
-#[test]
-fn market_order_without_a_market(rt: HostRuntime) -> Result<(), Fail> {
-    expect_reports(&rt, PRODUCT, &NO_MARKET, &NO_MARKET_REPORTS)
-}
 
 /// Prices in steps of 0.25, and a protection that passes the price range.
 const RANGE_PRODUCT: &str = r#"exchange = "GX"
@@ -202,6 +167,58 @@ const ENDS_OF_RANGE_REPORTS: [&str; 21] = [
 ];
 
 #[test]
-fn protection_ends_within_the_price_range(rt: HostRuntime) -> Result<(), Fail> {
-    expect_reports(&rt, RANGE_PRODUCT, &ENDS_OF_RANGE, &ENDS_OF_RANGE_REPORTS)
+fn kinds_and_lives(rt: HostRuntime) -> Result<(), Fail> {
+    expect_reports(
+        &rt,
+        &[
+            (
+                "display is refreshed behind its price",
+                PRODUCT,
+                &DISPLAY,
+                &DISPLAY_REPORTS,
+            ),
+            (
+                "fill or kill is cancelled",
+                PRODUCT,
+                &FILL_OR_KILL,
+                &FILL_OR_KILL_REPORTS,
+            ),
+            (
+                "fill or kill counts what is hidden",
+                PRODUCT,
+                &HIDDEN_LOTS,
+                &HIDDEN_LOTS_REPORTS,
+            ),
+            (
+                "fill or kill with a minimum quantity",
+                PRODUCT,
+                &OWN_MINIMUM,
+                &OWN_MINIMUM_REPORTS,
+            ),
+            (
+                "fill and kill cancels its rest",
+                PRODUCT,
+                &FILL_AND_KILL,
+                &FILL_AND_KILL_REPORTS,
+            ),
+            (
+                "protected market order rests at its limit",
+                PRODUCT,
+                &PROTECTED_MARKET,
+                &PROTECTED_MARKET_REPORTS,
+            ),
+            (
+                "market order without a market",
+                PRODUCT,
+                &NO_MARKET,
+                &NO_MARKET_REPORTS,
+            ),
+            (
+                "protection ends within the price range",
+                RANGE_PRODUCT,
+                &ENDS_OF_RANGE,
+                &ENDS_OF_RANGE_REPORTS,
+            ),
+        ],
+    )
 }

@@ -54,6 +54,7 @@ fn apply_all<B: Book>(
 /// Applies the orders under this product, and looks for these fills behind the five acceptances.
 fn expect_fills(
     rt: &(impl Abort + AllocGlobal),
+    name: &str,
     product: &str,
     fills: &[&str],
 ) -> Result<(), Fail> {
@@ -68,10 +69,10 @@ fn expect_fills(
     assert!(rt; bytes.len() <= 4096);
     assert_eq!(rt; framer.feed(bytes.as_slice()), bytes.len());
     apply_all(rt, &product, &mut core, &mut framer, &mut log);
-    assert!(rt; !log.failed());
+    assert!(rt; !log.failed(), "{name}");
     let mut expected = frames_of(alloc, &ACCEPTED)?;
     expected.extend_from_slice(frames_of(alloc, fills)?.as_slice())?;
-    assert_eq!(rt; log.bytes(), expected.as_slice());
+    assert_eq!(rt; log.bytes(), expected.as_slice(), "{name}");
     Ok(())
 }
 
@@ -94,11 +95,6 @@ const FIFO_FILLS: [&str; 4] = [
     "35=8|34=2|49=GX|52=20240102-09:30:04|56=BBB|37=2|11=b1|17=8|20=0|150=1|39=1|55=ESZ4|54=2|38=50|40=2|44=100.00|59=0|32=31|31=100.00|151=19|14=31|6=0|60=20240102-09:30:04|9001=FIFO|9002=2|9003=0|",
     "35=8|34=3|49=GX|52=20240102-09:30:04|56=DDD|37=5|11=d1|17=9|20=0|150=2|39=2|55=ESZ4|54=1|38=41|40=2|44=100.00|59=0|32=31|31=100.00|151=0|14=41|6=0|60=20240102-09:30:04|9001=FIFO|9002=2|9003=0|",
 ];
-
-#[test]
-fn fifo_fills(rt: HostRuntime) -> Result<(), Fail> {
-    expect_fills(&rt, FIFO, &FIFO_FILLS)
-}
 
 /// The letter T.
 const LMM_FIFO: &str = r#"exchange = "GX"
@@ -125,11 +121,6 @@ const LMM_FIFO_FILLS: [&str; 8] = [
     "35=8|34=5|49=GX|52=20240102-09:30:04|56=DDD|37=5|11=d1|17=13|20=0|150=2|39=2|55=ESZ4|54=1|38=41|40=2|44=100.00|59=0|32=11|31=100.00|151=0|14=41|6=0|60=20240102-09:30:04|9001=FIFO|9002=4|9003=0|",
 ];
 
-#[test]
-fn lmm_fifo_fills(rt: HostRuntime) -> Result<(), Fail> {
-    expect_fills(&rt, LMM_FIFO, &LMM_FIFO_FILLS)
-}
-
 /// The letter C.
 const PRO_RATA: &str = r#"exchange = "GX"
 firms = ["AAA", "BBB", "CCC", "DDD"]
@@ -155,11 +146,6 @@ const PRO_RATA_FILLS: [&str; 8] = [
     "35=8|34=5|49=GX|52=20240102-09:30:04|56=DDD|37=5|11=d1|17=13|20=0|150=2|39=2|55=ESZ4|54=1|38=41|40=2|44=100.00|59=0|32=2|31=100.00|151=0|14=41|6=0|60=20240102-09:30:04|9001=FIFO|9002=4|9003=0|",
 ];
 
-#[test]
-fn pro_rata_fills(rt: HostRuntime) -> Result<(), Fail> {
-    expect_fills(&rt, PRO_RATA, &PRO_RATA_FILLS)
-}
-
 /// The letter A.
 const ALLOCATION: &str = r#"exchange = "GX"
 firms = ["AAA", "BBB", "CCC", "DDD"]
@@ -184,11 +170,6 @@ const ALLOCATION_FILLS: [&str; 8] = [
     "35=8|34=3|49=GX|52=20240102-09:30:04|56=BBB|37=2|11=b1|17=12|20=0|150=1|39=1|55=ESZ4|54=2|38=50|40=2|44=100.00|59=0|32=1|31=100.00|151=30|14=20|6=0|60=20240102-09:30:04|9001=FIFO|9002=4|9003=0|",
     "35=8|34=5|49=GX|52=20240102-09:30:04|56=DDD|37=5|11=d1|17=13|20=0|150=2|39=2|55=ESZ4|54=1|38=41|40=2|44=100.00|59=0|32=1|31=100.00|151=0|14=41|6=0|60=20240102-09:30:04|9001=FIFO|9002=4|9003=0|",
 ];
-
-#[test]
-fn allocation_fills(rt: HostRuntime) -> Result<(), Fail> {
-    expect_fills(&rt, ALLOCATION, &ALLOCATION_FILLS)
-}
 
 /// The letter O.
 const THRESHOLD: &str = r#"exchange = "GX"
@@ -218,11 +199,6 @@ const THRESHOLD_FILLS: [&str; 10] = [
     "35=8|34=3|49=GX|52=20240102-09:30:04|56=BBB|37=2|11=b1|17=14|20=0|150=1|39=1|55=ESZ4|54=2|38=50|40=2|44=100.00|59=0|32=1|31=100.00|151=30|14=20|6=0|60=20240102-09:30:04|9001=FIFO|9002=5|9003=0|",
     "35=8|34=6|49=GX|52=20240102-09:30:04|56=DDD|37=5|11=d1|17=15|20=0|150=2|39=2|55=ESZ4|54=1|38=41|40=2|44=100.00|59=0|32=1|31=100.00|151=0|14=41|6=0|60=20240102-09:30:04|9001=FIFO|9002=5|9003=0|",
 ];
-
-#[test]
-fn threshold_fills(rt: HostRuntime) -> Result<(), Fail> {
-    expect_fills(&rt, THRESHOLD, &THRESHOLD_FILLS)
-}
 
 /// The letter Q.
 const THRESHOLD_LMM: &str = r#"exchange = "GX"
@@ -255,11 +231,6 @@ const THRESHOLD_LMM_FILLS: [&str; 12] = [
     "35=8|34=4|49=GX|52=20240102-09:30:04|56=AAA|37=1|11=a1|17=16|20=0|150=2|39=2|55=ESZ4|54=2|38=10|40=2|44=100.00|59=0|32=2|31=100.00|151=0|14=10|6=0|60=20240102-09:30:04|9001=FIFO|9002=6|9003=0|",
     "35=8|34=7|49=GX|52=20240102-09:30:04|56=DDD|37=5|11=d1|17=17|20=0|150=2|39=2|55=ESZ4|54=1|38=41|40=2|44=100.00|59=0|32=2|31=100.00|151=0|14=41|6=0|60=20240102-09:30:04|9001=FIFO|9002=6|9003=0|",
 ];
-
-#[test]
-fn threshold_lmm_fills(rt: HostRuntime) -> Result<(), Fail> {
-    expect_fills(&rt, THRESHOLD_LMM, &THRESHOLD_LMM_FILLS)
-}
 
 /// The letter K.
 const CONFIGURABLE: &str = r#"exchange = "GX"
@@ -302,11 +273,6 @@ const CONFIGURABLE_FILLS: [&str; 18] = [
     "35=8|34=10|49=GX|52=20240102-09:30:04|56=DDD|37=5|11=d1|17=23|20=0|150=2|39=2|55=ESZ4|54=1|38=41|40=2|44=100.00|59=0|32=1|31=100.00|151=0|14=41|6=0|60=20240102-09:30:04|9001=FIFO|9002=9|9003=0|",
 ];
 
-#[test]
-fn configurable_fills(rt: HostRuntime) -> Result<(), Fail> {
-    expect_fills(&rt, CONFIGURABLE, &CONFIGURABLE_FILLS)
-}
-
 /// The letter T without a lead market maker, which leaves FIFO.
 const NO_MAKER: &str = r#"exchange = "GX"
 firms = ["AAA", "BBB", "CCC", "DDD"]
@@ -318,11 +284,6 @@ tick = 1
 protection = 2
 algorithm = "T"
 "#;
-
-#[test]
-fn lmm_fifo_without_a_maker(rt: HostRuntime) -> Result<(), Fail> {
-    expect_fills(&rt, NO_MAKER, &FIFO_FILLS)
-}
 
 /// The letter Q without a lead market maker, which leaves the steps of O.
 const THRESHOLD_WITHOUT_MAKER: &str = r#"exchange = "GX"
@@ -340,6 +301,24 @@ least = 2
 "#;
 
 #[test]
-fn threshold_lmm_without_a_maker(rt: HostRuntime) -> Result<(), Fail> {
-    expect_fills(&rt, THRESHOLD_WITHOUT_MAKER, &THRESHOLD_FILLS)
+fn fills_of_each_letter(rt: HostRuntime) -> Result<(), Fail> {
+    let letters: [(&str, &str, &[&str]); 9] = [
+        ("fifo", FIFO, &FIFO_FILLS),
+        ("lmm fifo", LMM_FIFO, &LMM_FIFO_FILLS),
+        ("pro rata", PRO_RATA, &PRO_RATA_FILLS),
+        ("allocation", ALLOCATION, &ALLOCATION_FILLS),
+        ("threshold", THRESHOLD, &THRESHOLD_FILLS),
+        ("threshold lmm", THRESHOLD_LMM, &THRESHOLD_LMM_FILLS),
+        ("configurable", CONFIGURABLE, &CONFIGURABLE_FILLS),
+        ("lmm fifo without a maker", NO_MAKER, &FIFO_FILLS),
+        (
+            "threshold lmm without a maker",
+            THRESHOLD_WITHOUT_MAKER,
+            &THRESHOLD_FILLS,
+        ),
+    ];
+    for (name, product, fills) in letters {
+        expect_fills(&rt, name, product, fills)?;
+    }
+    Ok(())
 }

@@ -14,16 +14,6 @@ const UNKNOWN_ORDER_FIRM_AND_INSTRUMENT_REPORTS: [&str; 3] = [
     "35=8|34=2|49=GX|52=20240102-09:30:02|56=AAA|37=0|11=a1|17=1|20=0|150=8|39=8|103=1|55=NQZ4|54=1|38=1|40=2|59=0|151=0|14=0|6=0|60=20240102-09:30:02|58=SYMBOL|9003=1|",
 ];
 
-#[test]
-fn unknown_order_firm_and_instrument(rt: HostRuntime) -> Result<(), Fail> {
-    expect_reports(
-        &rt,
-        PRODUCT,
-        &UNKNOWN_ORDER_FIRM_AND_INSTRUMENT,
-        &UNKNOWN_ORDER_FIRM_AND_INSTRUMENT_REPORTS,
-    )
-}
-
 const SESSION_RULES: [&str; 10] = [
     "49=AAA|35=0|",
     "35=0|049=AAA|",
@@ -51,6 +41,22 @@ const SESSION_RULES_REPORTS: [&str; 10] = [
 ];
 
 #[test]
-fn session_rules(rt: HostRuntime) -> Result<(), Fail> {
-    expect_reports(&rt, PRODUCT, &SESSION_RULES, &SESSION_RULES_REPORTS)
+fn refused_messages(rt: HostRuntime) -> Result<(), Fail> {
+    expect_reports(
+        &rt,
+        &[
+            (
+                "unknown order firm and instrument",
+                PRODUCT,
+                &UNKNOWN_ORDER_FIRM_AND_INSTRUMENT,
+                &UNKNOWN_ORDER_FIRM_AND_INSTRUMENT_REPORTS,
+            ),
+            (
+                "session rules",
+                PRODUCT,
+                &SESSION_RULES,
+                &SESSION_RULES_REPORTS,
+            ),
+        ],
+    )
 }

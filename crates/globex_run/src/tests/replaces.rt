@@ -84,9 +84,35 @@ const REFUSALS_REPORTS: [&str; 8] = [
     "35=8|34=6|49=GX|52=20240102-09:30:06|56=AAA|37=0|11=a4|17=6|20=0|150=8|39=8|103=0|55=ESZ4|54=1|38=1|40=4|59=0|151=0|14=0|6=0|60=20240102-09:30:06|58=STOP REACHED|9003=1|",
 ];
 
+/// A stop that waits, until cancelled: a replace of its quantity and both prices, and one as a market order, which has no
+/// price, whatever stands in 44.
+const WAITING: [&str; 3] = [
+    "35=D|49=AAA|56=GX|34=1|52=20240102-09:30:01|11=r1|55=ESZ4|54=1|38=5|40=4|44=101.50|99=100.25|59=1|",
+    "35=G|49=AAA|56=GX|34=2|52=20240102-09:30:02|11=r2|41=r1|55=ESZ4|54=1|38=9|40=4|44=101.00|99=100.75|",
+    "35=G|49=AAA|56=GX|34=3|52=20240102-09:30:03|11=r3|41=r2|55=ESZ4|54=1|38=8|40=1|44=9x|",
+];
+
+/// The first is reported under both ids, and the second is of another order type.
+const WAITING_REPORTS: [&str; 3] = [
+    "35=8|34=1|49=GX|52=20240102-09:30:01|56=AAA|37=1|11=r1|17=1|20=0|150=0|39=0|55=ESZ4|54=1|38=5|40=4|44=101.50|99=100.25|59=1|151=5|14=0|6=0|60=20240102-09:30:01|9003=0|",
+    "35=8|34=2|49=GX|52=20240102-09:30:02|56=AAA|37=1|11=r2|41=r1|17=2|20=0|150=5|39=5|55=ESZ4|54=1|38=9|40=4|44=101.00|99=100.75|59=1|151=9|14=0|6=0|60=20240102-09:30:02|9003=0|",
+    "35=9|34=3|49=GX|52=20240102-09:30:03|56=AAA|37=1|11=r3|41=r2|39=0|434=2|102=2|58=MISMATCH|60=20240102-09:30:03|",
+];
+
 #[test]
 fn replaces(rt: HostRuntime) -> Result<(), Fail> {
-    expect_reports(&rt, PRODUCT, &PLACE, &PLACE_REPORTS)?;
-    expect_reports(&rt, PRODUCT, &TRADING, &TRADING_REPORTS)?;
-    expect_reports(&rt, PRODUCT, &REFUSALS, &REFUSALS_REPORTS)
+    expect_reports(
+        &rt,
+        &[
+            ("place is kept or lost", PRODUCT, &PLACE, &PLACE_REPORTS),
+            (
+                "trades and triggers a stop",
+                PRODUCT,
+                &TRADING,
+                &TRADING_REPORTS,
+            ),
+            ("refusals", PRODUCT, &REFUSALS, &REFUSALS_REPORTS),
+            ("a stop that waits", PRODUCT, &WAITING, &WAITING_REPORTS),
+        ],
+    )
 }

@@ -35,11 +35,6 @@ const LEAST_SHARE_REPORTS: [&str; 8] = [
     "35=8|34=3|49=GX|52=20240102-09:30:03|56=BBB|37=4|11=b1|17=8|20=0|150=2|39=2|55=ESZ4|54=1|38=10|40=2|44=100.00|59=0|32=5|31=100.00|151=0|14=10|6=0|60=20240102-09:30:03|9001=FIFO|9002=2|9003=0|",
 ];
 
-#[test]
-fn pro_rata_with_a_least_share(rt: HostRuntime) -> Result<(), Fail> {
-    expect_reports(&rt, PRO_RATA, &LEAST_SHARE, &LEAST_SHARE_REPORTS)
-}
-
 /// 40 percent by priority, the rest pro rata, and then FIFO.
 const SPLIT_STEPS: &str = r#"exchange = "GX"
 firms = ["AAA", "BBB", "CCC", "DDD"]
@@ -73,11 +68,6 @@ const SPLIT_REPORTS: [&str; 9] = [
     "35=8|34=5|49=GX|52=20240102-09:30:02|56=AAA|37=2|11=a2|17=8|20=0|150=2|39=2|55=ESZ4|54=2|38=20|40=2|44=100.00|59=0|32=14|31=100.00|151=0|14=20|6=0|60=20240102-09:30:02|9001=PRORATA|9002=3|9003=0|",
     "35=8|34=4|49=GX|52=20240102-09:30:02|56=BBB|37=3|11=b1|17=9|20=0|150=1|39=1|55=ESZ4|54=1|38=25|40=2|44=100.00|59=0|32=14|31=100.00|151=1|14=24|6=0|60=20240102-09:30:02|9001=PRORATA|9002=3|9003=0|",
 ];
-
-#[test]
-fn split_then_pro_rata(rt: HostRuntime) -> Result<(), Fail> {
-    expect_reports(&rt, SPLIT_STEPS, &SPLIT, &SPLIT_REPORTS)
-}
 
 /// Pro rata, then one lot each to those that got none, then FIFO.
 const LEVELING_STEPS: &str = r#"exchange = "GX"
@@ -115,11 +105,6 @@ const LEVELING_REPORTS: [&str; 11] = [
     "35=8|34=4|49=GX|52=20240102-09:30:04|56=BBB|37=5|11=b1|17=11|20=0|150=2|39=2|55=ESZ4|54=1|38=50|40=2|44=100.00|59=0|32=1|31=100.00|151=0|14=50|6=0|60=20240102-09:30:04|9001=LEVELING|9002=3|9003=0|",
 ];
 
-#[test]
-fn pro_rata_with_leveling(rt: HostRuntime) -> Result<(), Fail> {
-    expect_reports(&rt, LEVELING_STEPS, &LEVELING, &LEVELING_REPORTS)
-}
-
 /// A lead market maker, and then FIFO.
 const MAKER_STEPS: &str = r#"exchange = "GX"
 firms = ["AAA", "BBB", "CCC", "DDD"]
@@ -149,11 +134,6 @@ const MAKER_REPORTS: [&str; 7] = [
     "35=8|34=2|49=GX|52=20240102-09:30:02|56=AAA|37=1|11=a1|17=6|20=0|150=1|39=1|55=ESZ4|54=2|38=30|40=2|44=100.00|59=0|32=15|31=100.00|151=15|14=15|6=0|60=20240102-09:30:02|9001=FIFO|9002=2|9003=0|",
     "35=8|34=3|49=GX|52=20240102-09:30:02|56=CCC|37=3|11=c1|17=7|20=0|150=2|39=2|55=ESZ4|54=1|38=25|40=2|44=100.00|59=0|32=15|31=100.00|151=0|14=25|6=0|60=20240102-09:30:02|9001=FIFO|9002=2|9003=0|",
 ];
-
-#[test]
-fn lmm_before_fifo(rt: HostRuntime) -> Result<(), Fail> {
-    expect_reports(&rt, MAKER_STEPS, &MAKER, &MAKER_REPORTS)
-}
 
 /// Two lead market makers with one half each.
 const TWO_MAKERS_STEPS: &str = r#"exchange = "GX"
@@ -187,11 +167,6 @@ const TWO_MAKERS_REPORTS: [&str; 8] = [
     "35=8|34=3|49=GX|52=20240102-09:30:03|56=DDD|37=4|11=d1|17=8|20=0|150=2|39=2|55=ESZ4|54=1|38=20|40=2|44=100.00|59=0|32=10|31=100.00|151=0|14=20|6=0|60=20240102-09:30:03|9001=LMM|9002=2|9003=0|",
 ];
 
-#[test]
-fn two_market_makers_with_half_each(rt: HostRuntime) -> Result<(), Fail> {
-    expect_reports(&rt, TWO_MAKERS_STEPS, &TWO_MAKERS, &TWO_MAKERS_REPORTS)
-}
-
 /// TOP asks for 5 open lots and gives at most 8, then pro rata, then FIFO.
 const BETTERED_STEPS: &str = r#"exchange = "GX"
 firms = ["AAA", "BBB", "CCC", "DDD"]
@@ -224,11 +199,6 @@ const BETTERED_REPORTS: [&str; 8] = [
     "35=8|34=5|49=GX|52=20240102-09:30:03|56=AAA|37=3|11=a3|17=7|20=0|150=1|39=1|55=ESZ4|54=2|38=20|40=2|44=100.00|59=0|32=4|31=100.00|151=8|14=12|6=0|60=20240102-09:30:03|9001=PRORATA|9002=2|9003=0|",
     "35=8|34=3|49=GX|52=20240102-09:30:03|56=BBB|37=4|11=b1|17=8|20=0|150=2|39=2|55=ESZ4|54=1|38=12|40=2|44=100.00|59=0|32=4|31=100.00|151=0|14=12|6=0|60=20240102-09:30:03|9001=PRORATA|9002=2|9003=0|",
 ];
-
-#[test]
-fn threshold_top_is_bettered(rt: HostRuntime) -> Result<(), Fail> {
-    expect_reports(&rt, BETTERED_STEPS, &BETTERED, &BETTERED_REPORTS)
-}
 
 /// TOP, then pro rata with a least share of 2, then FIFO.
 const NO_HEIR_STEPS: &str = r#"exchange = "GX"
@@ -264,6 +234,42 @@ const NO_HEIR_REPORTS: [&str; 9] = [
 ];
 
 #[test]
-fn nobody_inherits_top(rt: HostRuntime) -> Result<(), Fail> {
-    expect_reports(&rt, NO_HEIR_STEPS, &NO_HEIR, &NO_HEIR_REPORTS)
+fn shares_of_each_step(rt: HostRuntime) -> Result<(), Fail> {
+    expect_reports(
+        &rt,
+        &[
+            (
+                "pro rata with a least share",
+                PRO_RATA,
+                &LEAST_SHARE,
+                &LEAST_SHARE_REPORTS,
+            ),
+            ("split then pro rata", SPLIT_STEPS, &SPLIT, &SPLIT_REPORTS),
+            (
+                "pro rata with leveling",
+                LEVELING_STEPS,
+                &LEVELING,
+                &LEVELING_REPORTS,
+            ),
+            ("lmm before fifo", MAKER_STEPS, &MAKER, &MAKER_REPORTS),
+            (
+                "two market makers with half each",
+                TWO_MAKERS_STEPS,
+                &TWO_MAKERS,
+                &TWO_MAKERS_REPORTS,
+            ),
+            (
+                "threshold top is bettered",
+                BETTERED_STEPS,
+                &BETTERED,
+                &BETTERED_REPORTS,
+            ),
+            (
+                "nobody inherits top",
+                NO_HEIR_STEPS,
+                &NO_HEIR,
+                &NO_HEIR_REPORTS,
+            ),
+        ],
+    )
 }

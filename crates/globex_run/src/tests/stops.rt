@@ -97,7 +97,17 @@ const TOO_LITTLE_REPORTS: [&str; 11] = [
 
 #[test]
 fn stops(rt: HostRuntime) -> Result<(), Fail> {
-    expect_reports(&rt, PRODUCT, &BOTH_SIDES, &BOTH_SIDES_REPORTS)?;
-    expect_reports(&rt, PRODUCT, &THREE, &THREE_REPORTS)?;
-    expect_reports(&rt, PRODUCT, &TOO_LITTLE, &TOO_LITTLE_REPORTS)
+    expect_reports(
+        &rt,
+        &[
+            ("both sides", PRODUCT, &BOTH_SIDES, &BOTH_SIDES_REPORTS),
+            ("three stops", PRODUCT, &THREE, &THREE_REPORTS),
+            (
+                "fill or kill that finds too little",
+                PRODUCT,
+                &TOO_LITTLE,
+                &TOO_LITTLE_REPORTS,
+            ),
+        ],
+    )
 }

@@ -1,0 +1,76 @@
+//! Inputs that end within their first frame, and inputs that no frame begins with.
+use super::{PRODUCT, bytes_of, frames_of, run};
+use crate::Outcome;
+use std::process::Abort;
+use std::test::Fail;
+
+/// Bytes, and the status of a run over them alone: 8 where they are the front of a frame, and 7 where they are of none.
+const FRONTS: [(&str, u8); 17] = [
+    ("8=FIX.4.2|9=", 8),
+    ("8=FIX.4.4", 7),
+    ("8=FIX.4.2|9=|", 7),
+    ("8=FIX.4.2|9=x", 7),
+    ("8=FIX.4.2|9=8x", 7),
+    ("8=FIX.4.2|9=401", 8),
+    ("8=FIX.4.2|9=401|", 8),
+    ("8=FIX.4.2|9=4010", 7),
+    ("8=FIX.4.2|9=4000", 8),
+    ("8=FIX.4.2|9=4001", 7),
+    ("8=FIX.4.2|9=00000", 8),
+    ("8=FIX.4.2|9=000000", 7),
+    ("8=FIX.4.2|9=000001", 8),
+    ("8=FIX.4.2|9=0000010", 7),
+    ("8=FIX.4.2|9=0|", 7),
+    ("8=FIX.4.2|9=3|ab|", 8),
+    ("8=FIX.4.2|9=3|abc", 7),
+];
+
+/// Looks for this status at the first of these bytes, with nothing sent.
+fn expect_front(
+    rt: &(impl Abort + AllocGlobal),
+    name: &str,
+    bytes: &[u8],
+    status: u8,
+) -> Result<(), Fail> {
+    let (got, station) = run(rt.alloc(), "run", PRODUCT, bytes, Vec::new(rt.alloc()))?;
+    let outcome = Outcome {
+        status,
+        at: 0,
+        messages: 0,
+    };
+    assert_eq!(rt; got, outcome, "{name}");
+    assert_eq!(rt; station.calls(), 0, "{name}");
+    Ok(())
+}
+
+#[test]
+fn fronts(rt: HostRuntime) -> Result<(), Fail> {
+    for (text, status) in FRONTS {
+        let bytes = bytes_of(rt.alloc(), text)?;
+        expect_front(&rt, text, bytes.as_slice(), status)?;
+    }
+    Ok(())
+}
+
+/// A body of 4,000 bytes, the most, is one field without a tag.
+#[test]
+fn frame_of_the_greatest_length(rt: HostRuntime) -> Result<(), Fail> {
+    let alloc = rt.alloc();
+    let mut frame: [u8; 4024] = [b'x'; 4024];
+    frame[..17].copy_from_slice(b"8=FIX.4.2\x019=4000\x01");
+    frame[4016] = 1;
+    frame[4017..].copy_from_slice(b"10=227\x01");
+    expect_front(&rt, "all but its last byte", &frame[..4023], 8)?;
+    let (got, station) = run(alloc, "run", PRODUCT, &frame, Vec::new(alloc))?;
+    let outcome = Outcome {
+        status: 0,
+        at: 0,
+        messages: 1,
+    };
+    assert_eq!(rt; got, outcome);
+    let reports = [
+        "35=3|34=1|49=GX|52=00000000-00:00:00|56=UNKNOWN|45=0|371=35|373=11|58=FIRST TAG|",
+    ];
+    assert_eq!(rt; station.output(), frames_of(alloc, &reports)?.as_slice());
+    Ok(())
+}
