@@ -4,3 +4,4 @@ pub mod Terms
 pub mod Taking
 pub mod Triggering
 pub mod Apart
+pub mod ComingIn
