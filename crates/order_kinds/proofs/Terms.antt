@@ -72,7 +72,7 @@ eq-false a b h = elim (eqb_tells a b) [ inl t ↦ absurd (let k : true ≡ false
 pub quantity-small : (most n : ℕ) → not (nat_le 1 n && nat_le n most) ≡ false → (1 ≤ n) × (n ≤ most)
 quantity-small most n h = (grind (arith, nat_tests), grind (arith, nat_tests))
 
-shown-within : (show n : ℕ) → nat_lt n show ≡ false → show ≤ n
+pub shown-within : (show n : ℕ) → nat_lt n show ≡ false → show ≤ n
 shown-within show n h = grind (arith, nat_tests)
 
 -- an order that is no stop limit order has no stop price
