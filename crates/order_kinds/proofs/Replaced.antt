@@ -1,5 +1,5 @@
 -- A replace: what is true of one that no rule refuses, what the order is given to come in again, and what all of it comes to.
-use Rattle.std.proofs.Common.{◌≡◌, ℕ, ◌+◌, ◌-◌, ◌<◌, ◌≤◌, Bool, true, false, not, ◌&&◌, List, [], ◌∷◌, Result, Ok, None, length, refl, sym, ap, subst, ◌∙◌, arith, inl, inr, ◌⊎◌, slice_index}
+use Rattle.std.proofs.Common.{◌≡◌, ℕ, ◌+◌, ◌-◌, ◌<◌, ◌≤◌, Bool, true, false, cond, not, ◌&&◌, List, [], ◌∷◌, Result, Ok, Err, Some, None, length, refl, sym, ap, subst, ◌∙◌, arith, inl, inr, ◌⊎◌, slice_index}
 use Rattle.std.specs.Prelude.{◌^◌, nat_lt, nat_le}
 use Rattle.std.proofs.lemmas.Bool.Decides.{nat_tests}
 use Rattle.gx_base.specs.declared.limits.TheConstants.{MOST_LOTS}
@@ -12,15 +12,17 @@ use Rattle.gx_base.specs.declared.order.Order.{Order}
 use Rattle.gx_base.specs.declared.order.Desk.{Desk}
 use Rattle.gx_base.specs.declared.order.Taker.{Taker}
 use Rattle.gx_base.specs.declared.event.Head.{Head}
+use Rattle.gx_base.specs.declared.event.Event.{Event}
 use Rattle.gx_base.specs.declared.event.Event.TheVariants.{Replaced}
+use Rattle.gx_base.specs.declared.event.ChangeFault.{ChangeFault}
 use Rattle.gx_base.specs.declared.event.ChangeFault.TheVariants as fault
 use Rattle.gx_base.specs.Emits.{EmitMeanings, Emits}
 use Rattle.product_file.specs.Products.{ProductLists}
 use Rattle.fix_request.specs.declared.request.Px.{Px}
 use Rattle.fix_request.specs.declared.request.ReplaceOrder.{ReplaceOrder}
 use Rattle.fix_request.specs.ValidRequests.{IsValidReplace}
-use Rattle.plain_book.specs.Orders.{HasSlot, order_of, is_live}
-use Rattle.plain_book.specs.Book.{Book, IsRight, IsResting, IsWaiting, live_orders, book_without}
+use Rattle.plain_book.specs.Orders.{HasSlot, order_of, slot_named, is_live}
+use Rattle.plain_book.specs.Book.{Book, IsRight, IsResting, IsWaiting, live_orders, book_without, book_changed, changed_to}
 use Rattle.plain_book.specs.Match.{next_head, report_counted}
 use Rattle.plain_book.specs.Matches.{CanTrade}
 use Rattle.plain_book.proofs.Levels.{order_of-left}
@@ -28,17 +30,20 @@ use Rattle.plain_book.proofs.Live.{fit_of}
 use Rattle.plain_book.proofs.TradedShares.{match_with}
 use Rattle.order_kinds.specs.State.{State}
 use Rattle.order_kinds.specs.Instruments.{ListedInstrument, instrument_of, price_at}
+use Rattle.order_kinds.specs.Reports.{unchanged}
+use Rattle.order_kinds.specs.Stops.{by_number}
+use Rattle.order_kinds.specs.Cores.{FitsProduct}
 use Rattle.order_kinds.specs.OrderRules.{is_quantity, has_off_tick, is_beyond_stop, is_reached_already, last_of}
 use Rattle.order_kinds.specs.NewOrders.{may_rest}
-use Rattle.order_kinds.specs.Replaces.{is_kind, is_same_order, replace_terms, new_price, least_kept, least_after, replaced_order, replaced_start, replaced_anew}
-use Rattle.order_kinds.specs.Inner.Apart.{ReplacedApart}
+use Rattle.order_kinds.specs.Replaces.{is_kind, is_same_order, replace_terms, new_price, least_kept, least_after, replaced_order, replaced_in_place, replaced_start, replaced_anew, keeps_place, replaced_by, replace_by}
+use Rattle.order_kinds.specs.Inner.Apart.{ReplacedApart, ReplaceApartBy, ReplaceApart}
 use Rattle.order_kinds.specs.Inner.Replacing.{IsAllowed}
 use Rattle.order_kinds.specs.Inner.Taking.{Takes, CountsRose, IsCounted, CanRest}
 use Rattle.order_kinds.specs.Inner.Triggering.{CanWait}
 use Rattle.order_kinds.specs.Inner.ComingIn.{CanComeIn, brought_in, BroughtApart, most_reports}
 use Rattle.order_kinds.proofs.Terms.{refused-then, found-then, quantity-small, shown-within, no-trigger, named-number}
 use Rattle.order_kinds.proofs.Accepted.{HasFewStops, has-room, rose-reported, counted_line, resting-life}
-use Rattle.order_kinds.proofs.LiveOrders.{IsFit, live-fits, fit-firm, fit-listed, left-unnamed, left-room, fewer-left}
+use Rattle.order_kinds.proofs.LiveOrders.{named-own, IsFit, live-fits, fit-firm, fit-listed, left-unnamed, left-room, fewer-left, changed-is}
 use Rattle.order_kinds.proofs.ReportedFirst.{IsNoFill, takes-reported}
 
 -- ---- no rule refuses
@@ -89,6 +94,44 @@ replace-allowed product request o state on valid own h =
       no_stop = λ other. no-trigger request.kind request.price request.trigger valid.prices (λ k. other (sym kind ∙ k));
     }, subst (λ (x : ListedInstrument). x.number < length product.names.instruments) here (named-number product request.named i valid.named found.1))
 
+-- so much is known of an order that was found, and of the instrument that its terms give
+pub found-allowed : (product : ProductLists) (request : ReplaceOrder) (s : ℕ) (old : State) (o : Order) (on : ListedInstrument) → IsRight old.book → FitsProduct product old → IsValidReplace product.names request
+    → slot_named request.sender.firm request.old (live_orders old.book) ≡ Some s → o ≡ order_of s (live_orders old.book) → replace_terms product request o old ≡ Ok on
+    → IsAllowed old.book request o × (on.number < length old.last)
+found-allowed product request s old o on right fits valid named was is =
+    let own : o.firm ≡ request.sender.firm = ap (λ (x : Order). x.firm) was ∙ named-own request.sender.firm request.old s (live_orders old.book) right.differ named in
+    let known = replace-allowed product request o old on valid own is in
+    (known.0, subst (λ (n : ℕ). on.number < n) (sym fits.prices) known.1)
+
+-- ---- the step, by what its rules say
+
+module _ (product : ProductLists) (request : ReplaceOrder) (s : ℕ) (old : State) (o : Order) (was : o ≡ order_of s (live_orders old.book)) where
+  abbrev Apart : Result ListedInstrument ChangeFault → Type 0
+  Apart terms = ReplaceApartBy terms request s old by_number
+
+  abbrev stepped : Result ListedInstrument ChangeFault → State × List Event
+  stepped terms = replaced_by terms by_number request s old
+
+  terms-are : (terms : Result ListedInstrument ChangeFault) → replace_terms product request o old ≡ terms → replace_terms product request (order_of s (live_orders old.book)) old ≡ terms
+  terms-are terms is = ap (λ (x : Order). replace_terms product request x old) (sym was) ∙ is
+
+  pub step-refused : (f : ChangeFault) → replace_terms product request o old ≡ Err f
+      → ReplaceApart (Some s) product request old by_number
+        × (replace_by (Some s) by_number product request old ≡ unchanged request.sender request.id request.old o.number o.filled true f old)
+  step-refused f is = (
+    subst Apart (sym (terms-are (Err f) is)) tt,
+    ap stepped (terms-are (Err f) is) ∙ ap (λ (x : Order). unchanged request.sender request.id request.old x.number x.filled true f old) (sym was),
+  )
+
+  pub step-in_place : (on : ListedInstrument) → replace_terms product request o old ≡ Ok on → keeps_place request o ≡ true
+      → ReplaceApart (Some s) product request old by_number × (replace_by (Some s) by_number product request old ≡ replaced_in_place request s old)
+  step-in_place on is keeps =
+      let stays : keeps_place request (order_of s (live_orders old.book)) ≡ true = ap (keeps_place request) (sym was) ∙ keeps in
+      (
+        subst Apart (sym (terms-are (Ok on) is)) (subst (λ (c : Bool). ReplacedApart c on request s old by_number) (sym stays) tt),
+        ap stepped (terms-are (Ok on) is) ∙ ap (λ (c : Bool). cond c (replaced_in_place request s old) (replaced_anew by_number on request s old)) stays,
+      )
+
 -- ---- it is changed where it stands
 
 least-none : (life : Life) (least quantity : ℕ) → (life ≡ Day) ⊎ (life ≡ Gtc) → least ≡ 0 → least_kept life least quantity ≡ 0
@@ -102,6 +145,22 @@ pub resting-least : (request : ReplaceOrder) (b : Book) (s : ℕ) → IsRight b 
 resting-least request b s right has =
     let fit = fit_of b.instruments s b.resting right.rest has in
     ap (least_after request) (order_of-left s b.resting b.waiting has) ∙ least-none (order_of s b.resting).life (order_of s b.resting).min request.quantity fit.fit.life fit.fit.no_min
+
+-- the order that is then in the book, and its report
+module _ (request : ReplaceOrder) (s : ℕ) (old : State) (b : Book) (prior after : Order) (least : ℕ) (head : Head) (has : HasSlot s (live_orders old.book))
+    (was : prior ≡ order_of s (live_orders old.book)) (is_least : least ≡ least_after request prior) (is_book : b ≡ book_changed s request.id request.quantity least old.book)
+    (is_order : after ≡ order_of s (live_orders b)) (is_head : head ≡ next_head old.desk prior.firm request.sender.time)
+  where
+    kept-order : after ≡ changed_to request.id request.quantity (least_after request prior) prior
+    kept-order =
+        is_order ∙ ap (λ (x : Book). order_of s (live_orders x)) is_book ∙ changed-is s request.id request.quantity least old.book has
+        ∙ ap (λ (o : Order). changed_to request.id request.quantity least o) (sym was) ∙ ap (λ (n : ℕ). changed_to request.id request.quantity n prior) is_least
+
+    pub kept-events : Replaced head after prior.id prior.quantity ∷ [] ≡ (replaced_in_place request s old).1
+    kept-events =
+        ap (λ (h : Head). Replaced h after prior.id prior.quantity ∷ []) is_head
+        ∙ ap (λ (o : Order). Replaced (next_head old.desk prior.firm request.sender.time) o prior.id prior.quantity ∷ []) kept-order
+        ∙ ap (λ (o : Order). Replaced (next_head old.desk o.firm request.sender.time) (changed_to request.id request.quantity (least_after request o) o) o.id o.quantity ∷ []) was
 
 -- ---- it comes in again
 

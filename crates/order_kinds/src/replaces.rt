@@ -258,6 +258,7 @@ pub(crate) fn apply_replace<B: Book, E: Emit>(
     ensures takes { Takes E.meanings (λ state. ReplaceApart (slot_named request.now.sender.firm request.now.old (live_orders state.book)) product.now request.now state) (λ naming. replace_step naming product.now request.now) state.old state.new out.old out.new }
     ensures rose { CountsRose (2 ^ 38) state.old.desk state.new.desk }
 {
+    product.limits();
     match state.book.find(request.sender.firm, &request.old) {
         Some(slot) => replace_order(state, product, request, slot, out),
         None => refused(request, 0, 0).report(ChangeFault::Unknown, &mut state.desk, out),
