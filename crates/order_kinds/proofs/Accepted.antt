@@ -16,7 +16,7 @@ use Rattle.product_file.specs.declared.limits.TheConstants.{MOST_ORDERS}
 use Rattle.product_file.specs.Products.{ProductLists}
 use Rattle.fix_request.specs.declared.request.NewOrder.{NewOrder}
 use Rattle.plain_book.specs.Book.{Book}
-use Rattle.plain_book.specs.Match.{MatchState, match_start, next_head, report_counted}
+use Rattle.plain_book.specs.Match.{next_head, report_counted}
 use Rattle.plain_book.specs.Matches.{CanTrade}
 use Rattle.plain_book.proofs.TradedShares.{match_with}
 use Rattle.order_kinds.specs.State.{State}

@@ -1,5 +1,5 @@
 -- One live order of a book: whose it is, what it is fit for, and the book that it leaves or in which it is changed.
-use Rattle.std.proofs.Common.{◌≡◌, ℕ, ◌<◌, ◌≤◌, Bool, true, false, cond, not, ◌&&◌, List, [], ◌∷◌, filter, length, Some, None, suc, refl, sym, ap, subst, ◌∙◌, arith, inl, inr, ◌⊎◌}
+use Rattle.std.proofs.Common.{◌≡◌, ℕ, ◌<◌, ◌≤◌, Bool, true, false, cond, not, List, [], ◌∷◌, filter, length, Some, None, suc, refl, sym, ap, subst, ◌∙◌, arith, inl, inr, ◌⊎◌}
 use Rattle.std.specs.Prelude.{◌==◌, bytes_eq}
 use Rattle.std.proofs.lemmas.Bool.Decides.{eqb_tells, Decides-eqb}
 use Rattle.gx_base.specs.declared.limits.TheConstants.{MOST_FIRMS}
@@ -9,7 +9,7 @@ use Rattle.plain_book.specs.Orders.{HasSlot, order_of, slot_of, slot_named, is_n
 use Rattle.plain_book.specs.Book.{Book, IsRight, IsResting, IsWaiting, AllDiffer, live_orders, book_without, book_changed, changed_to}
 use Rattle.plain_book.proofs.Pairs.{all-filter, all-append, all-with, none-any, any-none}
 use Rattle.plain_book.proofs.Levels.{renewed, and-left}
-use Rattle.plain_book.proofs.Live.{orders-at, first-has}
+use Rattle.plain_book.proofs.Live.{orders-at}
 use Rattle.plain_book.proofs.Right.{live-without, length-without, live-reordered}
 use Rattle.order_kinds.proofs.Numbering.{named-has}
 

@@ -1,9 +1,8 @@
 -- A replace: what is true of one that no rule refuses, what the order is given to come in again, and what all of it comes to.
-use Rattle.std.proofs.Common.{◌≡◌, ℕ, ◌+◌, ◌-◌, ◌<◌, ◌≤◌, Bool, true, false, cond, not, ◌&&◌, List, [], ◌∷◌, Result, Ok, Err, Some, None, length, refl, sym, ap, subst, ◌∙◌, arith, inl, inr, ◌⊎◌, slice_index}
+use Rattle.std.proofs.Common.{◌≡◌, ℕ, ◌-◌, ◌<◌, ◌≤◌, Bool, true, false, cond, not, ◌&&◌, List, [], ◌∷◌, Result, Ok, Err, Some, None, length, refl, sym, ap, subst, ◌∙◌, arith, inl, inr, ◌⊎◌}
 use Rattle.std.specs.Prelude.{◌^◌, nat_lt, nat_le}
 use Rattle.std.proofs.lemmas.Bool.Decides.{nat_tests}
 use Rattle.gx_base.specs.declared.limits.TheConstants.{MOST_LOTS}
-use Rattle.gx_base.specs.declared.price.Price.{Price}
 use Rattle.gx_base.specs.declared.order.Kind.{Kind}
 use Rattle.gx_base.specs.declared.order.Kind.TheVariants.{Limit, Market, StopLimit}
 use Rattle.gx_base.specs.declared.order.Life.{Life}
@@ -22,7 +21,7 @@ use Rattle.fix_request.specs.declared.request.Px.{Px}
 use Rattle.fix_request.specs.declared.request.ReplaceOrder.{ReplaceOrder}
 use Rattle.fix_request.specs.ValidRequests.{IsValidReplace}
 use Rattle.plain_book.specs.Orders.{HasSlot, order_of, slot_named, is_live}
-use Rattle.plain_book.specs.Book.{Book, IsRight, IsResting, IsWaiting, live_orders, book_without, book_changed, changed_to}
+use Rattle.plain_book.specs.Book.{Book, IsRight, live_orders, book_without, book_changed, changed_to}
 use Rattle.plain_book.specs.Match.{next_head, report_counted}
 use Rattle.plain_book.specs.Matches.{CanTrade}
 use Rattle.plain_book.proofs.Levels.{order_of-left}
@@ -42,7 +41,7 @@ use Rattle.order_kinds.specs.Inner.Taking.{Takes, CountsRose, IsCounted, CanRest
 use Rattle.order_kinds.specs.Inner.Triggering.{CanWait}
 use Rattle.order_kinds.specs.Inner.ComingIn.{CanComeIn, brought_in, BroughtApart, most_reports}
 use Rattle.order_kinds.proofs.Terms.{refused-then, found-then, quantity-small, shown-within, no-trigger, named-number}
-use Rattle.order_kinds.proofs.Accepted.{HasFewStops, has-room, rose-reported, counted_line, resting-life}
+use Rattle.order_kinds.proofs.Accepted.{HasFewStops, has-room, rose-reported, counted_line}
 use Rattle.order_kinds.proofs.LiveOrders.{named-own, IsFit, live-fits, fit-firm, fit-listed, left-unnamed, left-room, fewer-left, changed-is}
 use Rattle.order_kinds.proofs.ReportedFirst.{IsNoFill, takes-reported}
 
@@ -84,15 +83,17 @@ replace-allowed product request o state on valid own h =
     let show = refused-then (nat_lt request.quantity o.show) fault.Show _ on reached.1 in
     let is : Ok i ≡ Ok on = show.1 in
     let here : i ≡ on = cc in
-    let kind : request.kind ≡ o.kind = same-kind request.kind o.kind (all-three _ _ (is_kind request.kind o.kind) same.0) in
-    (record {
-      own = own;
-      unnamed = unnamed.0;
-      more = more-than request.quantity o.filled filled.0;
-      small = (quantity-small MOST_LOTS request.quantity quantity.0).1;
-      show = shown-within o.show request.quantity show.0;
-      no_stop = λ other. no-trigger request.kind request.price request.trigger valid.prices (λ k. other (sym kind ∙ k));
-    }, subst (λ (x : ListedInstrument). x.number < length product.names.instruments) here (named-number product request.named i valid.named found.1))
+    let kind : request.kind ≡ o.kind = same-kind request.kind o.kind (all-three _ _ (is_kind request.kind o.kind) same.0) in (
+      record {
+        own = own;
+        unnamed = unnamed.0;
+        more = more-than request.quantity o.filled filled.0;
+        small = (quantity-small MOST_LOTS request.quantity quantity.0).1;
+        show = shown-within o.show request.quantity show.0;
+        no_stop = λ other. no-trigger request.kind request.price request.trigger valid.prices (λ k. other (sym kind ∙ k));
+      },
+      subst (λ (x : ListedInstrument). x.number < length product.names.instruments) here (named-number product request.named i valid.named found.1),
+    )
 
 -- so much is known of an order that was found, and of the instrument that its terms give
 pub found-allowed : (product : ProductLists) (request : ReplaceOrder) (s : ℕ) (old : State) (o : Order) (on : ListedInstrument) → IsRight old.book → FitsProduct product old → IsValidReplace product.names request
@@ -117,7 +118,7 @@ module _ (product : ProductLists) (request : ReplaceOrder) (s : ℕ) (old : Stat
 
   pub step-refused : (f : ChangeFault) → replace_terms product request o old ≡ Err f
       → ReplaceApart (Some s) product request old by_number
-        × (replace_by (Some s) by_number product request old ≡ unchanged request.sender request.id request.old o.number o.filled true f old)
+      × (replace_by (Some s) by_number product request old ≡ unchanged request.sender request.id request.old o.number o.filled true f old)
   step-refused f is = (
     subst Apart (sym (terms-are (Err f) is)) tt,
     ap stepped (terms-are (Err f) is) ∙ ap (λ (x : Order). unchanged request.sender request.id request.old x.number x.filled true f old) (sym was),
@@ -126,8 +127,7 @@ module _ (product : ProductLists) (request : ReplaceOrder) (s : ℕ) (old : Stat
   pub step-in_place : (on : ListedInstrument) → replace_terms product request o old ≡ Ok on → keeps_place request o ≡ true
       → ReplaceApart (Some s) product request old by_number × (replace_by (Some s) by_number product request old ≡ replaced_in_place request s old)
   step-in_place on is keeps =
-      let stays : keeps_place request (order_of s (live_orders old.book)) ≡ true = ap (keeps_place request) (sym was) ∙ keeps in
-      (
+      let stays : keeps_place request (order_of s (live_orders old.book)) ≡ true = ap (keeps_place request) (sym was) ∙ keeps in (
         subst Apart (sym (terms-are (Ok on) is)) (subst (λ (c : Bool). ReplacedApart c on request s old by_number) (sym stays) tt),
         ap stepped (terms-are (Ok on) is) ∙ ap (λ (c : Bool). cond c (replaced_in_place request s old) (replaced_anew by_number on request s old)) stays,
       )

@@ -1,25 +1,22 @@
 -- An order is reported and comes in: the report before its trades changes nothing of what they do.
-use Rattle.std.proofs.Common.{◌≡◌, ℕ, ◌+◌, List, [], ◌∷◌, ◌++◌, length, Option, Some, None, refl, sym, ap, subst, ◌∙◌, append_assoc}
+use Rattle.std.proofs.Common.{◌≡◌, ℕ, ◌+◌, List, [], ◌∷◌, length, Option, Some, None, refl, sym, ap, subst, ◌∙◌}
 use Prim.Native.Nat.{zero, suc}
 use Rattle.gx_base.specs.declared.price.Price.{Price}
 use Rattle.gx_base.specs.declared.order.Kind.{Kind}
 use Rattle.gx_base.specs.declared.order.Kind.TheVariants.{Limit, Market, StopLimit}
-use Rattle.gx_base.specs.declared.order.Order.{Order}
-use Rattle.gx_base.specs.declared.order.Desk.{Desk}
 use Rattle.gx_base.specs.declared.order.Taker.{Taker}
 use Rattle.gx_base.specs.declared.event.Event.{Event}
-use Rattle.gx_base.specs.declared.event.Event.TheVariants.{Triggered}
 use Rattle.gx_base.specs.Emits.{EmitMeanings, Emits}
 use Rattle.gx_base.specs.EmitLaws.{emits_joined, emits_as}
 use Rattle.step_config.specs.declared.step.Step.{Step}
 use Rattle.plain_book.specs.declared.entry.Entry.{Entry}
-use Rattle.plain_book.specs.Book.{Book, AllDiffer, live_orders, book_without}
-use Rattle.plain_book.specs.Match.{MatchState, match_start, report_counted, next_head}
-use Rattle.plain_book.proofs.TradedShares.{match_with, with_events}
+use Rattle.plain_book.specs.Book.{AllDiffer, live_orders}
+use Rattle.plain_book.specs.Match.{MatchState, match_start}
+use Rattle.plain_book.proofs.TradedShares.{with_events}
 use Rattle.order_kinds.specs.Instruments.{ListedInstrument}
 use Rattle.order_kinds.specs.State.{State}
 use Rattle.order_kinds.specs.Entering.{entered, last_fill, last_after}
-use Rattle.order_kinds.specs.Stops.{Naming, fill_range, first_marked, next_stop, as_triggered, stop_triggered, stop_entered, stop_rounds, stops_entered, entered_with_stops, come_in_as, come_in}
+use Rattle.order_kinds.specs.Stops.{Naming, fill_range, first_marked, next_stop, stop_triggered, stop_entered, stop_rounds, entered_with_stops, come_in_as, come_in}
 use Rattle.order_kinds.specs.Accepting.{after_match}
 use Rattle.order_kinds.specs.Inner.Apart.{EnterApart, ComeApartAs, ComeApart}
 use Rattle.order_kinds.specs.Inner.ComingIn.{brought_in, BroughtApart}

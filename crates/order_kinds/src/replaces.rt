@@ -155,9 +155,7 @@ fn replace_in_place<B: Book, E: Emit>(
 {
     state.book.rules();
     let least = least_after(request, order);
-    state
-        .book
-        .change(slot, request.id, request.quantity, least);
+    state.book.change(slot, request.id, request.quantity, least);
     let head = count_report(&mut state.desk, order.firm, request.sender.time);
     out.put(&Event::Replaced {
         head,

@@ -1,4 +1,4 @@
-use Rattle.std.proofs.Common.{◌≡◌, Some, Ok, Err, true, sym, ap, subst, ◌∙◌}
+use Rattle.std.proofs.Common.{◌≡◌, Some, Err, true, sym, ap, subst, ◌∙◌}
 use Rattle.gx_base.specs.declared.order.Order.{Order}
 use Rattle.plain_book.specs.Orders.{HasSlot, order_of}
 use Rattle.plain_book.specs.Book.{IsRight, live_orders}
