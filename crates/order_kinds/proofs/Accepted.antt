@@ -2,6 +2,7 @@
 use Rattle.std.proofs.Common.{◌≡◌, ℕ, ◌+◌, ◌*◌, ◌≤◌, true, false, List, [], ◌∷◌, None, Result, Ok, Err, slice_index, slice_set, length, refl, sym, ap, subst, ◌∙◌, arith, inl, inr, ◌⊎◌}
 use Prim.Native.Nat.{zero, suc}
 use Rattle.std.specs.Prelude.{◌^◌}
+use Rattle.gx_base.specs.declared.limits.TheConstants.{MOST_LOTS}
 use Rattle.gx_base.specs.declared.order.Life.{Life}
 use Rattle.gx_base.specs.declared.order.Life.TheVariants.{Day, Gtc, Fak, Fok}
 use Rattle.gx_base.specs.declared.order.Kind.TheVariants.{StopLimit}
@@ -59,7 +60,7 @@ has-room b desk firm orders counted next few = record {
 }
 
 -- a report was counted, and then all that an order of so many lots and the stops reported
-pub rose-reported : (old : Desk) (firm : ℕ) (after : Desk) (leaves waiting : ℕ) → leaves ≤ 999999 → waiting ≤ MOST_ORDERS
+pub rose-reported : (old : Desk) (firm : ℕ) (after : Desk) (leaves waiting : ℕ) → leaves ≤ MOST_LOTS → waiting ≤ MOST_ORDERS
     → CountsRose (2 * leaves + 1 + 2000000 * waiting) (report_counted old firm) after → CountsRose (2 ^ 38) old after
 rose-reported old firm after leaves waiting small few rose = record {
   messages = rose.messages;
@@ -161,7 +162,7 @@ accepted-comes old terms new desk order head is asked counted few =
 pub accepted-rose : (old : State) (terms : Terms) (new : NewOrder) (desk after : Desk) (order : Order) (head : Head) → IsReported terms new old.desk desk order head → IsAccepted old terms new
     → HasFewStops old.book → CountsRose (most_reports (taker_with new order) old.book) desk after → CountsRose (2 ^ 38) (numbered_next old.desk) after
 accepted-rose old terms new desk after order head is asked few rose =
-    let small : order.leaves ≤ 999999 = omega (arith, ap (λ (o : Order). o.leaves) is.is_order, asked.small) in
+    let small : order.leaves ≤ MOST_LOTS = omega (arith, ap (λ (o : Order). o.leaves) is.is_order, asked.small) in
     rose-reported (numbered_next old.desk) new.sender.firm after order.leaves (length old.book.waiting) small few
     (subst (λ (d : Desk). CountsRose (most_reports (taker_with new order) old.book) d after) is.is_desk rose)
 

@@ -271,7 +271,7 @@ module _ (request : ReplaceOrder) (s : ℕ) (old : State) (right : IsRight old.b
 
     pub replaced-rose : IsAllowed old.book request before → HasFewStops old.book → (after : Desk) → CountsRose (most_reports (taker_again request order) book) desk after → CountsRose (2 ^ 38) old.desk after
     replaced-rose allowed few after rose =
-        let small : order.leaves ≤ 999999 = omega (arith, ap (λ (o : Order). o.leaves) same-order, allowed.small) in
+        let small : order.leaves ≤ MOST_LOTS = omega (arith, ap (λ (o : Order). o.leaves) same-order, allowed.small) in
         let fewer : HasFewStops book = subst HasFewStops (sym is.is_book) (few-left few) in
         rose-reported old.desk before.firm after order.leaves (length book.waiting) small fewer
         (subst (λ (d : Desk). CountsRose (most_reports (taker_again request order) book) d after) same-desk rose)
