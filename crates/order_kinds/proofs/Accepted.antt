@@ -1,31 +1,36 @@
--- A new order is accepted: what its entering is given, and what all of it comes to.
-use Rattle.std.proofs.Common.{◌≡◌, ℕ, ◌+◌, ◌*◌, ◌≤◌, true, false, List, [], ◌∷◌, Option, None, slice_index, slice_set, refl, sym, ap, subst, ◌∙◌, arith, inl, inr, ◌⊎◌}
+-- A new order is accepted: what its coming in is given, and what all of it comes to.
+use Rattle.std.proofs.Common.{◌≡◌, ℕ, ◌+◌, ◌*◌, ◌≤◌, true, false, List, [], ◌∷◌, None, Result, Ok, Err, slice_index, slice_set, length, refl, sym, ap, subst, ◌∙◌, arith, inl, inr, ◌⊎◌}
 use Prim.Native.Nat.{zero, suc}
-use Rattle.gx_base.specs.declared.price.Price.{Price}
+use Rattle.std.specs.Prelude.{◌^◌}
+use Rattle.gx_base.specs.declared.limits.TheConstants.{MOST_LOTS}
 use Rattle.gx_base.specs.declared.order.Life.{Life}
 use Rattle.gx_base.specs.declared.order.Life.TheVariants.{Day, Gtc, Fak, Fok}
+use Rattle.gx_base.specs.declared.order.Kind.TheVariants.{StopLimit}
 use Rattle.gx_base.specs.declared.order.Order.{Order}
 use Rattle.gx_base.specs.declared.order.Desk.{Desk}
 use Rattle.gx_base.specs.declared.order.Taker.{Taker}
 use Rattle.gx_base.specs.declared.event.Head.{Head}
+use Rattle.gx_base.specs.declared.event.NewFault.{NewFault}
 use Rattle.gx_base.specs.declared.event.Event.TheVariants.{Accepted}
 use Rattle.gx_base.specs.Emits.{EmitMeanings, Emits}
-use Rattle.gx_base.specs.EmitLaws.{emits_joined, emits_as}
-use Rattle.step_config.specs.declared.step.Step.{Step}
-use Rattle.step_config.specs.RightSteps.{AreRightSteps}
+use Rattle.product_file.specs.declared.limits.TheConstants.{MOST_ORDERS}
+use Rattle.product_file.specs.Products.{ProductLists}
 use Rattle.fix_request.specs.declared.request.NewOrder.{NewOrder}
-use Rattle.plain_book.specs.Book.{Book, IsRight}
-use Rattle.plain_book.specs.Match.{MatchState, match_start, next_head, report_counted}
-use Rattle.plain_book.specs.Matches.{match_at, CanTrade}
-use Rattle.plain_book.proofs.TradedShares.{with_events}
+use Rattle.plain_book.specs.Book.{Book}
+use Rattle.plain_book.specs.Match.{next_head, report_counted}
+use Rattle.plain_book.specs.Matches.{CanTrade}
+use Rattle.plain_book.proofs.TradedShares.{match_with}
 use Rattle.order_kinds.specs.State.{State}
-use Rattle.order_kinds.specs.NewOrders.{may_rest, least_of, Terms, order_on}
-use Rattle.order_kinds.specs.Entering.{entered, last_fill, last_after}
-use Rattle.order_kinds.specs.Accepting.{new_of, accepted}
+use Rattle.order_kinds.specs.NewOrders.{may_rest, Terms, terms_of, order_on}
+use Rattle.order_kinds.specs.Accepting.{refusal, refused, new_start, accepted, new_by, new_step}
+use Rattle.order_kinds.specs.Stops.{by_number}
 use Rattle.order_kinds.specs.Inner.Terms.{IsAccepted}
-use Rattle.order_kinds.specs.Inner.Taking.{Takes, TakesPart, CountsRose, IsCounted, CanRest, last_in_range}
-use Rattle.order_kinds.proofs.Entered.{entered-ignores}
-use Rattle.order_kinds.proofs.LastPrices.{last-entered}
+use Rattle.order_kinds.specs.Inner.Apart.{NewApart}
+use Rattle.order_kinds.specs.Inner.Taking.{Takes, CountsRose, IsCounted, CanRest}
+use Rattle.order_kinds.specs.Inner.Triggering.{CanWait, HasRoomToComeIn}
+use Rattle.order_kinds.specs.Inner.ComingIn.{CanComeIn, brought_in, BroughtApart, most_reports}
+use Rattle.order_kinds.proofs.TakenSteps.{takes-known}
+use Rattle.order_kinds.proofs.ReportedFirst.{IsNoFill, takes-reported}
 
 -- ---- counters
 
@@ -36,6 +41,34 @@ counted_line (x ∷ lines) zero zero = omega arith
 counted_line (x ∷ lines) zero (suc i) = omega arith
 counted_line (x ∷ lines) (suc firm) zero = omega arith
 counted_line (x ∷ lines) (suc firm) (suc i) = counted_line lines firm i
+
+abbrev pub HasFewStops : Book → Type 0
+HasFewStops b = length b.waiting ≤ MOST_ORDERS
+
+-- after one report there is room for all that a message can report
+pub has-room : (b : Book) (desk : Desk) (firm orders : ℕ) → IsCounted desk → orders ≤ desk.orders + 1 → HasFewStops b
+    → HasRoomToComeIn b (report_counted (record desk { orders = orders }) firm)
+has-room b desk firm orders counted next few = record {
+  messages = counted.messages;
+  orders = omega (arith, counted.orders, counted.messages, next);
+  counts = record {
+    trades = omega (arith, counted.counts.trades);
+    reports = omega (arith, counted.counts.reports);
+    lines = λ place. omega (arith, counted.counts.lines place, counted_line desk.lines firm place);
+  };
+  few = omega (arith, few);
+}
+
+-- a report was counted, and then all that an order of so many lots and the stops reported
+pub rose-reported : (old : Desk) (firm : ℕ) (after : Desk) (leaves waiting : ℕ) → leaves ≤ MOST_LOTS → waiting ≤ MOST_ORDERS
+    → CountsRose (2 * leaves + 1 + 2000000 * waiting) (report_counted old firm) after → CountsRose (2 ^ 38) old after
+rose-reported old firm after leaves waiting small few rose = record {
+  messages = rose.messages;
+  orders = rose.orders;
+  trades = omega (arith, rose.trades, small, few);
+  reports = omega (arith, rose.reports, small, few);
+  lines = λ place. omega (arith, rose.lines place, small, few, counted_line old.lines firm place);
+}
 
 abbrev pub numbered_next : Desk → Desk
 numbered_next desk = record desk { orders = desk.orders + 1 }
@@ -49,7 +82,7 @@ pub record IsReported (terms : Terms) (new : NewOrder) (old desk : Desk) (order 
   pub is_head : head ≡ next_head (numbered_next old) new.sender.firm new.sender.time
   pub is_desk : desk ≡ report_counted (numbered_next old) new.sender.firm
 
--- ---- it can be entered
+-- ---- it can come in
 
 can-trade : (old : State) (terms : Terms) (new : NewOrder) → IsAccepted old terms new → IsCounted old.desk
     → CanTrade old.book (report_counted (numbered_next old.desk) new.sender.firm) (taker_with new (order_on terms new (old.desk.orders + 1)))
@@ -66,28 +99,14 @@ can-trade old terms new asked counted = record {
   lines = λ i. omega (arith, counted.counts.lines i, asked.small, counted_line old.desk.lines new.sender.firm i);
 }
 
-pub accepted-can : (old : State) (terms : Terms) (new : NewOrder) (desk : Desk) (order : Order) (head : Head) → IsReported terms new old.desk desk order head → IsAccepted old terms new → IsCounted old.desk
-    → CanTrade old.book desk (taker_with new order)
-accepted-can old terms new desk order head is asked counted =
-    subst (λ (d : Desk). CanTrade old.book d (taker_with new order)) (sym is.is_desk)
-    (subst (λ (o : Order). CanTrade old.book (report_counted (numbered_next old.desk) new.sender.firm) (taker_with new o)) (sym is.is_order) (can-trade old terms new asked counted))
-
--- ---- what is left of it can come to rest
-
-resting-life : (life : Life) → may_rest life ≡ true → (life ≡ Day) ⊎ (life ≡ Gtc)
+pub resting-life : (life : Life) → may_rest life ≡ true → (life ≡ Day) ⊎ (life ≡ Gtc)
 resting-life Day h = inl refl
 resting-life Gtc h = inr refl
 resting-life Fak h = absurd (let k : false ≡ true = h in cc)
 resting-life Fok h = absurd (let k : false ≡ true = h in cc)
 
-resting-min : (life : Life) (new : NewOrder) → may_rest life ≡ true → least_of life new ≡ new.min
-resting-min Day new h = refl
-resting-min Gtc new h = refl
-resting-min Fak new h = absurd (let k : false ≡ true = h in cc)
-resting-min Fok new h = absurd (let k : false ≡ true = h in cc)
-
-rest-on : (old : State) (terms : Terms) (new : NewOrder) (number : ℕ) → IsAccepted old terms new → may_rest new.life ≡ true → CanRest old.book (order_on terms new number)
-rest-on old terms new number asked may = record {
+rest-on : (old : State) (terms : Terms) (new : NewOrder) (number : ℕ) → IsAccepted old terms new → (new.kind ≡ StopLimit → ⊥) → may_rest new.life ≡ true → CanRest old.book (order_on terms new number)
+rest-on old terms new number asked no_stop may = record {
   room = asked.spare;
   unnamed = asked.unnamed;
   fit = record {
@@ -95,8 +114,8 @@ rest-on old terms new number asked may = record {
     firm = asked.firm;
     kind = refl;
     life = resting-life new.life may;
-    no_trigger = refl;
-    no_min = resting-min new.life new may ∙ asked.no_min may;
+    no_trigger = asked.no_stop no_stop;
+    no_min = refl;
     whole = omega arith;
     some = asked.some;
     show = asked.show;
@@ -104,71 +123,78 @@ rest-on old terms new number asked may = record {
   };
 }
 
-pub accepted-rests : (old : State) (terms : Terms) (new : NewOrder) (desk : Desk) (order : Order) (head : Head) → IsReported terms new old.desk desk order head → IsAccepted old terms new
-    → may_rest order.life ≡ true → CanRest old.book order
-accepted-rests old terms new desk order head is asked =
-    subst (λ (o : Order). may_rest o.life ≡ true → CanRest old.book o) (sym is.is_order) (rest-on old terms new (old.desk.orders + 1) asked)
+wait-on : (old : State) (terms : Terms) (new : NewOrder) (number : ℕ) → IsAccepted old terms new → new.kind ≡ StopLimit → CanWait old.book (order_on terms new number)
+wait-on old terms new number asked stop = record {
+  room = asked.spare;
+  unnamed = asked.unnamed;
+  fit = record {
+    listed = asked.listed;
+    firm = asked.firm;
+    kind = stop;
+    unfilled = refl;
+    no_share = refl;
+    whole = refl;
+    some = asked.some;
+    show = asked.show;
+    small = asked.small;
+  };
+}
+
+come-on : (old : State) (terms : Terms) (new : NewOrder) → IsAccepted old terms new → IsCounted old.desk → HasFewStops old.book
+    → CanComeIn old.book (report_counted (numbered_next old.desk) new.sender.firm) (taker_with new (order_on terms new (old.desk.orders + 1)))
+come-on old terms new asked counted few = record {
+  waits = wait-on old terms new (old.desk.orders + 1) asked;
+  can = can-trade old terms new asked counted;
+  rests = rest-on old terms new (old.desk.orders + 1) asked;
+  some = asked.some;
+  no_range = refl;
+  room = has-room old.book old.desk new.sender.firm (old.desk.orders + 1) counted (omega arith) few;
+}
+
+pub accepted-comes : (old : State) (terms : Terms) (new : NewOrder) (desk : Desk) (order : Order) (head : Head) → IsReported terms new old.desk desk order head → IsAccepted old terms new → IsCounted old.desk
+    → HasFewStops old.book → CanComeIn old.book desk (taker_with new order)
+accepted-comes old terms new desk order head is asked counted few =
+    subst (λ (d : Desk). CanComeIn old.book d (taker_with new order)) (sym is.is_desk)
+    (subst (λ (o : Order). CanComeIn old.book (report_counted (numbered_next old.desk) new.sender.firm) (taker_with new o)) (sym is.is_order) (come-on old terms new asked counted few))
 
 -- ---- the counters after it
 
 pub accepted-rose : (old : State) (terms : Terms) (new : NewOrder) (desk after : Desk) (order : Order) (head : Head) → IsReported terms new old.desk desk order head → IsAccepted old terms new
-    → CountsRose (2 * order.leaves + 1) desk after → CountsRose 2000000 (numbered_next old.desk) after
-accepted-rose old terms new desk after order head is asked rose =
-    let leaves : order.leaves ≡ new.quantity = ap (λ (o : Order). o.leaves) is.is_order in
-    let counted : CountsRose (2 * order.leaves + 1) (report_counted (numbered_next old.desk) new.sender.firm) after = subst (λ (d : Desk). CountsRose (2 * order.leaves + 1) d after) is.is_desk rose in
-    record {
-      messages = counted.messages;
-      orders = counted.orders;
-      trades = omega (arith, counted.trades, leaves, asked.small);
-      reports = omega (arith, counted.reports, leaves, asked.small);
-      lines = λ i. omega (arith, counted.lines i, leaves, asked.small, counted_line old.desk.lines new.sender.firm i);
-    }
+    → HasFewStops old.book → CountsRose (most_reports (taker_with new order) old.book) desk after → CountsRose (2 ^ 38) (numbered_next old.desk) after
+accepted-rose old terms new desk after order head is asked few rose =
+    let small : order.leaves ≤ MOST_LOTS = omega (arith, ap (λ (o : Order). o.leaves) is.is_order, asked.small) in
+    rose-reported (numbered_next old.desk) new.sender.firm after order.leaves (length old.book.waiting) small few
+    (subst (λ (d : Desk). CountsRose (most_reports (taker_with new order) old.book) d after) is.is_desk rose)
+
+-- ---- it is refused
+
+pub takes-refusal : {E : Type 0} (m : EmitMeanings E) (product : ProductLists) (new : NewOrder) (old : State) (fault : NewFault) (desk : Desk) (a b : E) → terms_of product new old ≡ Err fault
+    → desk ≡ report_counted old.desk new.sender.firm → Emits m a b (refusal fault new old.desk ∷ [])
+    → Takes m (λ state. NewApart (terms_of product new state) new state) (λ naming. new_step naming product new) old (record old { desk = desk }) a b
+takes-refusal m product new old fault desk a b is counted emits =
+    takes-known m (λ state. NewApart (terms_of product new state) new state) (λ naming. new_step naming product new) old a b by_number (refused fault new old) (record old { desk = desk })
+    (subst (λ (r : Result Terms NewFault). NewApart r new old by_number) (sym is) tt)
+    (ap (λ (r : Result Terms NewFault). new_by by_number r new old) is)
+    (ap (λ (d : Desk). record old { desk = d }) counted)
+    emits
 
 -- ---- all of it
 
+accepted-is-no-fill : (head : Head) (order : Order) → IsNoFill (Accepted head order)
+accepted-is-no-fill head order = record { range = λ events. refl; last = λ events. refl }
+
 module _ {E : Type 0} (m : EmitMeanings E) (old : State) (terms : Terms) (new : NewOrder) (desk : Desk) (order : Order) (head : Head) (is : IsReported terms new old.desk desk order head) where
-  abbrev steps : List Step
-  steps = terms.instrument.rule.steps
-
-  abbrev start : MatchState
-  start = match_start old.book desk (taker_with new order)
-
-  abbrev entered_with : ℕ → Head → Order → Desk → MatchState
-  entered_with name h o d = entered name steps (with_events (Accepted h o ∷ []) (match_start old.book d (taker_with new o)))
-
-  new-entered : (name : ℕ) → with_events (Accepted head order ∷ []) (entered name steps start) ≡ new_of name terms new old
-  new-entered name =
-      let n = old.desk.orders + 1 in
+  starts : match_with old.book desk (taker_with new order) (Accepted head order ∷ []) ≡ new_start terms new old
+  starts =
+      let number = old.desk.orders + 1 in
       let h = next_head (numbered_next old.desk) new.sender.firm new.sender.time in
-      let o = order_on terms new n in
-      sym (entered-ignores name steps (Accepted head order ∷ []) start)
-      ∙ ap (λ (x : Head). entered_with name x order desk) is.is_head
-      ∙ ap (λ (x : Order). entered_with name h x desk) is.is_order
-      ∙ ap (λ (x : Desk). entered_with name h o x) is.is_desk
+      ap (λ (x : Head). match_with old.book desk (taker_with new order) (Accepted x order ∷ [])) is.is_head
+      ∙ ap (λ (x : Order). match_with old.book desk (taker_with new x) (Accepted h x ∷ [])) is.is_order
+      ∙ ap (λ (x : Desk). match_with old.book x (taker_with new (order_on terms new number)) (Accepted h (order_on terms new number) ∷ [])) is.is_desk
 
-  abbrev state_with : Book → List (Option Price) → Desk → State
-  state_with b l d = record { book = b; last = l; desk = d }
-
-  pub takes-accepted : (book : Book) (counted : Desk) (taker : Taker) (last : List (Option Price)) (a b c : E) → IsRight old.book → AreRightSteps steps
-      → Emits m a b (Accepted head order ∷ [])
-      → TakesPart m (λ name. entered name steps) (match_at old.book desk (taker_with new order) b) (match_at book counted taker c)
-      → last ≡ last_after terms.instrument.number (last_in_range taker.order.side taker.range) old.last
-      → Takes m (λ name. accepted name terms new) old (state_with book last counted) a c
-  takes-accepted book counted taker last a b c right steps-right puts takes is_last =
-      let name = takes.name in
-      let done = entered name steps start in
-      let end = new_of name terms new old in
-      let same = new-entered name in
-      let now = takes.now in
-      let last-same : last ≡ last_after terms.instrument.number (last_fill end.events) old.last =
-      is_last
-      ∙ ap (λ (t : Taker). last_after terms.instrument.number (last_in_range t.order.side t.range) old.last) now.taker
-      ∙ ap (λ (p : Option Price). last_after terms.instrument.number p old.last) (sym (last-entered name steps start right steps-right refl refl))
-      ∙ ap (λ (x : MatchState). last_after terms.instrument.number (last_fill x.events) old.last) same in
-      record {
-        name = name;
-        state = ap (λ (x : Book). state_with x last counted) (now.book ∙ ap (λ (x : MatchState). x.book) same)
-            ∙ ap (λ (x : List (Option Price)). state_with end.book x counted) last-same
-            ∙ ap (λ (x : Desk). state_with end.book (last_after terms.instrument.number (last_fill end.events) old.last) x) (now.desk ∙ ap (λ (x : MatchState). x.desk) same);
-        emits = emits_as m a c (Accepted head order ∷ done.events) end.events (ap (λ (x : MatchState). x.events) same) (emits_joined m a b c (Accepted head order ∷ []) done.events puts takes.emits);
-      }
+  pub takes-accepted : (after : State) (a b c : E) → Emits m a b (Accepted head order ∷ [])
+      → Takes m (BroughtApart terms.instrument (taker_with new order)) (λ naming. brought_in naming terms.instrument (taker_with new order)) (record old { desk = desk }) after b c
+      → Takes m (NewApart (Ok terms) new) (λ naming. accepted naming terms new) old after a c
+  takes-accepted after a b c puts takes =
+      let all = takes-reported m (Accepted head order) (accepted-is-no-fill head order) terms.instrument old (record old { desk = desk }) after (taker_with new order) (new_start terms new old) a b c starts refl puts takes in
+      record { naming = all.naming; apart = all.apart; state = all.state; emits = all.emits }

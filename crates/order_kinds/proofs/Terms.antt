@@ -5,23 +5,26 @@ use Rattle.std.proofs.lemmas.Bool.Decides.{eqb_tells, nat_tests}
 use Rattle.gx_base.specs.declared.limits.TheConstants.{MOST_LOTS}
 use Rattle.gx_base.specs.declared.price.Price.{Price}
 use Rattle.gx_base.specs.declared.order.Side.{Side}
+use Rattle.gx_base.specs.declared.order.Kind.{Kind}
+use Rattle.gx_base.specs.declared.order.Kind.TheVariants.{Limit, Market, StopLimit}
 use Rattle.gx_base.specs.declared.order.Slot.{Slot}
-use Rattle.gx_base.specs.declared.event.NewFault.{NewFault}
 use Rattle.gx_base.specs.declared.event.NewFault.TheVariants as fault
 use Rattle.product_file.specs.Products.{ProductLists, IsRightProduct}
 use Rattle.product_file.specs.declared.product.InstrumentRule.{InstrumentRule}
 use Rattle.fix_request.specs.declared.request.NewOrder.{NewOrder}
+use Rattle.fix_request.specs.declared.request.Px.{Px}
+use Rattle.fix_request.specs.declared.request.Px.TheVariants.{Absent}
 use Rattle.fix_request.specs.declared.request.Named.{Named}
 use Rattle.fix_request.specs.declared.request.Named.TheVariants.{Known, Unknown}
-use Rattle.fix_request.specs.ValidRequests.{IsListed, IsValidNew}
+use Rattle.fix_request.specs.ValidRequests.{IsListed, IsValidNew, HasPricesOf}
 use Rattle.plain_book.specs.declared.entry.Entry.{Entry}
 use Rattle.plain_book.specs.Orders.{slot_of, slot_named, is_named, is_live, is_on, side_of, price_of, best_of}
 use Rattle.plain_book.specs.Book.{IsRight, live_orders, slot_number}
 use Rattle.plain_book.proofs.Pairs.{all-filter}
 use Rattle.order_kinds.specs.State.{State}
-use Rattle.order_kinds.specs.Instruments.{ListedInstrument, instrument_of}
-use Rattle.order_kinds.specs.OrderRules.{◌>>=◌, refused_where, is_quantity, has_off_tick}
-use Rattle.order_kinds.specs.NewOrders.{has_bad_min, may_rest, limit_of, Terms, terms_of}
+use Rattle.order_kinds.specs.Instruments.{ListedInstrument, instrument_of, price_at}
+use Rattle.order_kinds.specs.OrderRules.{◌>>=◌, refused_where, is_quantity, has_off_tick, is_beyond_stop, is_reached_already, last_of, stop_price}
+use Rattle.order_kinds.specs.NewOrders.{has_bad_min, limit_of, Terms, terms_of}
 use Rattle.order_kinds.specs.Cores.{IsInRange, FitsProduct}
 use Rattle.order_kinds.specs.Inner.Terms.{ArePricesInRange, IsAccepted}
 
@@ -54,26 +57,29 @@ best-in-range instrument side es p h is = first-in-range (side_of instrument sid
 -- ---- no rule refuses
 
 -- the rule does not hold, and the others are next
-pub refused-then : {B : Type 0} (b : Bool) (f : NewFault) (rest : Unit {0} → Result B NewFault) (r : B) → (refused_where b f >>= rest) ≡ Ok r → (b ≡ false) × (rest tt ≡ Ok r)
+pub refused-then : {B F : Type 0} (b : Bool) (f : F) (rest : Unit {0} → Result B F) (r : B) → (refused_where b f >>= rest) ≡ Ok r → (b ≡ false) × (rest tt ≡ Ok r)
 refused-then true f rest r h = absurd (let k : Err f ≡ Ok r = h in cc)
 refused-then false f rest r h = (refl, h)
 
 -- it is found, and the other rules are next
-pub found-then : {A B : Type 0} (found : Option A) (f : NewFault) (rest : A → Result B NewFault) (r : B) → (ok_or found f >>= rest) ≡ Ok r → (x : A) × (found ≡ Some x) × (rest x ≡ Ok r)
+pub found-then : {A B F : Type 0} (found : Option A) (f : F) (rest : A → Result B F) (r : B) → (ok_or found f >>= rest) ≡ Ok r → (x : A) × (found ≡ Some x) × (rest x ≡ Ok r)
 found-then None f rest r h = absurd (let k : Err f ≡ Ok r = h in cc)
 found-then (Some x) f rest r h = (x, refl, h)
 
 eq-false : (a b : ℕ) → (a == b) ≡ false → a ≢ b
 eq-false a b h = elim (eqb_tells a b) [ inl t ↦ absurd (let k : true ≡ false = sym t.0 ∙ h in cc) | inr t ↦ t.1 ]
 
-quantity-small : (most n : ℕ) → not (nat_le 1 n && nat_le n most) ≡ false → (1 ≤ n) × (n ≤ most)
+pub quantity-small : (most n : ℕ) → not (nat_le 1 n && nat_le n most) ≡ false → (1 ≤ n) × (n ≤ most)
 quantity-small most n h = (grind (arith, nat_tests), grind (arith, nat_tests))
 
-shown-within : (show n : ℕ) → nat_lt n show ≡ false → show ≤ n
+pub shown-within : (show n : ℕ) → nat_lt n show ≡ false → show ≤ n
 shown-within show n h = grind (arith, nat_tests)
 
-none-least : (n least : ℕ) (may : Bool) → (nat_lt n least || (may && nat_lt 0 least)) ≡ false → may ≡ true → least ≡ 0
-none-least n least may h k = grind (arith, nat_tests)
+-- an order that is no stop limit order has no stop price
+pub no-trigger : (kind : Kind) (price trigger : Px) → HasPricesOf kind price trigger → (kind ≡ StopLimit → ⊥) → trigger ≡ Absent
+no-trigger Limit price trigger has other = has.1
+no-trigger Market price trigger has other = has.1
+no-trigger StopLimit price trigger has other = absurd (other refl)
 
 -- the instrument that is found is the one that is named
 pub named-number : (product : ProductLists) (named : Named) (found : ListedInstrument) → IsListed product.names named → instrument_of product named ≡ Some found → found.number < length product.names.instruments
@@ -92,8 +98,10 @@ terms-accepted product new state terms right valid fits book h =
     let found = found-then (instrument_of product new.named) fault.Symbol _ terms h in
     let unnamed = refused-then (is_live new.sender.firm new.id (live_orders state.book)) fault.Duplicate _ terms found.2 in
     let quantity = refused-then (not (is_quantity new.quantity)) fault.Quantity _ terms unnamed.1 in
-    let tick = refused-then (has_off_tick found.0 new) fault.Tick _ terms quantity.1 in
-    let least = refused-then (has_bad_min new) fault.MinQty _ terms tick.1 in
+    let tick = refused-then (has_off_tick found.0 new.price new.trigger) fault.Tick _ terms quantity.1 in
+    let stop = refused-then (is_beyond_stop new.side (price_at new.price) (price_at new.trigger)) fault.StopLimit _ terms tick.1 in
+    let reached = refused-then (is_reached_already new.side (price_at new.trigger) (last_of found.0.number state.last)) fault.StopReached _ terms stop.1 in
+    let least = refused-then (has_bad_min new) fault.MinQty _ terms reached.1 in
     let show = refused-then (nat_lt new.quantity new.show) fault.Show _ terms least.1 in
     let room = refused-then (length (live_orders state.book) == product.max_orders) fault.BookFull _ terms show.1 in
     let limit = found-then (limit_of new.kind found.0 new state.book) fault.NoMarket _ terms room.1 in
@@ -112,5 +120,5 @@ terms-accepted product new state terms right valid fits book h =
       some = small.0;
       small = small.1;
       show = shown-within new.show new.quantity show.0;
-      no_min = λ may. none-least new.quantity new.min (may_rest new.life) least.0 may;
+      no_stop = λ other. ap stop_price (no-trigger new.kind new.price new.trigger valid.prices other);
     }

@@ -3,4 +3,6 @@
 pub mod Terms
 pub mod Taking
 pub mod Triggering
+pub mod Replacing
 pub mod Apart
+pub mod ComingIn

@@ -7,10 +7,12 @@ ghost use Rattle.plain_book.specs.Match.{report_counted};
 ghost use Rattle.order_kinds.specs.NewOrders.{terms_of};
 ghost use Rattle.order_kinds.specs.Accepting.{refused_of, refusal, accepted, new_step};
 ghost use Rattle.order_kinds.specs.Cores.{FitsProduct};
-ghost use Rattle.order_kinds.specs.Inner.Terms.{terms_seen, IsAccepted};
+ghost use Rattle.order_kinds.specs.Inner.Terms.{listed_instrument, terms_seen, IsAccepted};
+ghost use Rattle.order_kinds.specs.Inner.ComingIn.{CanComeIn, brought_in, BroughtApart, most_reports};
 ghost use Rattle.order_kinds.specs.Inner.Apart.{NewApart};
 ghost use Rattle.order_kinds.specs.Inner.Taking.{Takes, CountsRose, IsCounted};
 
+use crate::instruments::Instrument;
 use crate::new_orders::Terms;
 use crate::state::{EngineState, set_last};
 use crate::stops::come_in;
@@ -49,8 +51,30 @@ fn refuse_new<E: Emit>(desk: &mut Desk, new: &NewOrder, fault: NewFault, out: &m
     });
 }
 
-/// A new order is accepted under the next number, reported, and comes in. The price of its last trade becomes that of its
-/// instrument.
+/// An order that was reported comes in. The price of its last trade becomes that of its instrument.
+pub(crate) fn bring_in<B: Book, E: Emit>(
+    state: &mut EngineState<B>,
+    instrument: &Instrument<'_>,
+    taker: Taker,
+    out: &mut E,
+)
+    requires can { CanComeIn state.old.book state.old.desk taker }
+    requires priced { instrument.now.number < length state.old.last }
+    ensures takes { let on = listed_instrument instrument.now in Takes E.meanings (BroughtApart on taker) (λ naming. brought_in naming on taker) state.old state.new out.old out.new }
+    ensures rose { CountsRose (most_reports taker state.old.book) state.old.desk state.new.desk }
+{
+    let mut taker = taker;
+    let last = come_in(
+        &mut state.book,
+        &mut state.desk,
+        &mut taker,
+        &instrument.rule.steps,
+        out,
+    );
+    set_last(&mut state.last, instrument.number, last);
+}
+
+/// A new order is accepted under the next number, reported, and comes in.
 fn accept_new<B: Book, E: Emit>(
     state: &mut EngineState<B>,
     terms: &Terms<'_>,
@@ -63,11 +87,8 @@ fn accept_new<B: Book, E: Emit>(
     ensures takes { Takes E.meanings (NewApart (Ok (terms_seen terms.now)) new.now) (λ naming. accepted naming (terms_seen terms.now) new.now) state.old state.new out.old out.new }
     ensures rose { CountsRose (2 ^ 38) (record state.old.desk { orders = state.old.desk.orders + 1 }) state.new.desk }
 {
-    let instrument = terms.instrument;
-    state.book.rules();
-    instrument.rule.steps.list();
     state.desk.orders += 1;
-    let mut taker = Taker {
+    let taker = Taker {
         order: terms.order(new, state.desk.orders),
         time: new.sender.time,
         range: None,
@@ -77,14 +98,7 @@ fn accept_new<B: Book, E: Emit>(
         head,
         order: taker.order,
     });
-    let last = come_in(
-        &mut state.book,
-        &mut state.desk,
-        &mut taker,
-        &instrument.rule.steps,
-        out,
-    );
-    set_last(&mut state.last, instrument.number, last);
+    bring_in(state, &terms.instrument, taker, out);
 }
 
 /// A new order is refused by the first rule that holds, or else accepted.

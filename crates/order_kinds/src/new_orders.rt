@@ -13,7 +13,7 @@ use crate::order_rules::{
 };
 use crate::state::EngineState;
 use fix_request::NewOrder;
-use gx_base::{Kind, Life, NewFault, Order, Price};
+use gx_base::{Kind, Life, NewFault, Order, Price, ShortId};
 use plain_book::{Book, opposite_side};
 use product_file::Product;
 
@@ -48,11 +48,11 @@ fn least_of(new: &NewOrder) -> u32
     }
 }
 
-/// Whether a live order of the firm has the id of a new one.
-fn has_id<B: Book>(book: &B, new: &NewOrder) -> bool
-    ensures { result ≡ is_live new.now.sender.firm new.now.id (live_orders (B.book book.now)) }
+/// Whether a live order of the firm has this id.
+pub(crate) fn has_id<B: Book>(book: &B, firm: u8, id: &ShortId) -> bool
+    ensures { result ≡ is_live firm id.now (live_orders (B.book book.now)) }
 {
-    book.find(new.sender.firm, &new.id).is_some()
+    book.find(firm, id).is_some()
 }
 
 /// The price at which a new order is entered: its own, or for a market order the protected limit. `None` for a market
@@ -87,7 +87,7 @@ impl<'a> Terms<'a> {
         let Some(instrument) = Instrument::named(product, new.named) else {
             return Err(NewFault::Symbol);
         };
-        if has_id(&state.book, new) {
+        if has_id(&state.book, new.sender.firm, &new.id) {
             return Err(NewFault::Duplicate);
         }
         if !is_quantity(new.quantity) {

@@ -1,20 +1,23 @@
 //! Replaces: refused, or the order is changed, where it stands or by coming in again.
-ghost use Rattle.std.specs.Prelude.{◌≡◌, ◌≤◌, ◌<◌, ◌^◌, length, Ok};
+ghost use Rattle.std.specs.Prelude.{◌≡◌, ◌≤◌, ◌<◌, ◌^◌, length, true, false, Some};
+ghost use Rattle.gx_base.specs.Emits.{Emits};
 ghost use Rattle.product_file.specs.declared.limits.TheConstants.{MOST_ORDERS};
 ghost use Rattle.fix_request.specs.ValidRequests.{IsValidReplace};
 ghost use Rattle.plain_book.specs.Orders.{HasSlot, order_of, slot_named, is_side};
 ghost use Rattle.plain_book.specs.Book.{live_orders};
-ghost use Rattle.order_kinds.specs.Replaces.{is_kind, is_same_order, replace_terms, new_price, least_after, keeps_place, replaced_order, replaced_in_place, replaced_anew, replaced, replace_step};
+ghost use Rattle.order_kinds.specs.Replaces.{is_kind, is_same_order, replace_terms, new_price, least_after, keeps_place, replaced_order, replaced_in_place, replaced_anew, replace_by, replace_step};
 ghost use Rattle.order_kinds.specs.Cores.{FitsProduct};
 ghost use Rattle.order_kinds.specs.Inner.Terms.{listed_instrument, map_instrument};
-ghost use Rattle.order_kinds.specs.Inner.Apart.{ReplaceApart};
+ghost use Rattle.order_kinds.specs.Inner.Replacing.{IsAllowed};
+ghost use Rattle.order_kinds.specs.Inner.Apart.{ReplacedApart, ReplaceApart};
 ghost use Rattle.order_kinds.specs.Inner.Taking.{Takes, CountsRose, IsCounted};
 
+use crate::accepting::bring_in;
 use crate::instruments::{Instrument, price_at};
+use crate::new_orders::has_id;
 use crate::order_rules::{has_off_tick, is_beyond_stop, is_quantity, is_reached_already, last_of};
 use crate::reports::RefusedChange;
-use crate::state::{EngineState, set_last};
-use crate::stops::come_in;
+use crate::state::EngineState;
 use fix_request::{Px, ReplaceOrder};
 use gx_base::{ChangeFault, Emit, Event, Kind, Life, Order, Price, Side, Slot, Taker};
 use plain_book::{Book, count_report};
@@ -93,7 +96,7 @@ fn terms_of<'a, B: Book>(
     if !is_same_order(&instrument, request, order) {
         return Err(ChangeFault::Mismatch);
     }
-    if state.book.find(request.sender.firm, &request.id).is_some() {
+    if has_id(&state.book, request.sender.firm, &request.id) {
         return Err(ChangeFault::Duplicate);
     }
     if !is_quantity(request.quantity) {
@@ -141,11 +144,18 @@ fn replace_in_place<B: Book, E: Emit>(
     slot: Slot,
     order: &Order,
     out: &mut E,
-) {
+)
+    requires live { HasSlot slot.0 (live_orders state.old.book) }
+    requires order { order.now ≡ order_of slot.0 (live_orders state.old.book) }
+    requires allowed { IsAllowed state.old.book request.now order.now }
+    requires lower { request.now.quantity ≤ order.now.quantity }
+    requires counted { IsCounted state.old.desk }
+    ensures state { state.new ≡ (replaced_in_place request.now slot.0 state.old).0 }
+    ensures emits { Emits E.meanings out.old out.new (replaced_in_place request.now slot.0 state.old).1 }
+{
+    state.book.rules();
     let least = least_after(request, order);
-    state
-        .book
-        .change(slot, request.id, request.quantity, least);
+    state.book.change(slot, request.id, request.quantity, least);
     let head = count_report(&mut state.desk, order.firm, request.sender.time);
     out.put(&Event::Replaced {
         head,
@@ -162,9 +172,18 @@ fn replace_anew<B: Book, E: Emit>(
     request: &ReplaceOrder,
     slot: Slot,
     out: &mut E,
-) {
+)
+    requires live { HasSlot slot.0 (live_orders state.old.book) }
+    requires allowed { IsAllowed state.old.book request.now (order_of slot.0 (live_orders state.old.book)) }
+    requires priced { instrument.now.number < length state.old.last }
+    requires counted { IsCounted state.old.desk }
+    requires few { length state.old.book.waiting ≤ MOST_ORDERS }
+    ensures takes { let on = listed_instrument instrument.now in Takes E.meanings (ReplacedApart false on request.now slot.0) (λ naming. replaced_anew naming on request.now slot.0) state.old state.new out.old out.new }
+    ensures rose { CountsRose (2 ^ 38) state.old.desk state.new.desk }
+{
+    state.book.rules();
     let order = state.book.remove(slot);
-    let mut taker = Taker {
+    let taker = Taker {
         order: replaced_order(request, &order),
         time: request.sender.time,
         range: None,
@@ -176,18 +195,14 @@ fn replace_anew<B: Book, E: Emit>(
         old: order.id,
         old_quantity: order.quantity,
     });
-    let last = come_in(
-        &mut state.book,
-        &mut state.desk,
-        &mut taker,
-        &instrument.rule.steps,
-        out,
-    );
-    set_last(&mut state.last, instrument.number, last);
+    bring_in(state, instrument, taker, out);
 }
 
 /// What is said of a refused replace of an order with this number, of which so much is filled.
-fn refused(request: &ReplaceOrder, number: u64, filled: u32) -> RefusedChange<'_> {
+fn refused(request: &ReplaceOrder, number: u64, filled: u32) -> RefusedChange<'_>
+    ensures change { result ≡ record { sender = result.sender; id = request.now.id; old = request.now.old; number = number; filled = filled; replace = true } }
+    ensures sender { result.sender.now ≡ request.now.sender }
+{
     RefusedChange {
         sender: &request.sender,
         id: request.id,
@@ -205,7 +220,16 @@ fn replace_order<B: Book, E: Emit>(
     request: &ReplaceOrder,
     slot: Slot,
     out: &mut E,
-) {
+)
+    requires named { slot_named request.now.sender.firm request.now.old (live_orders state.old.book) ≡ Some slot.0 }
+    requires valid { IsValidReplace product.now.names request.now }
+    requires fits { FitsProduct product.now state.old }
+    requires counted { IsCounted state.old.desk }
+    ensures takes { Takes E.meanings (ReplaceApart (Some slot.0) product.now request.now) (λ naming. replace_by (Some slot.0) naming product.now request.now) state.old state.new out.old out.new }
+    ensures rose { CountsRose (2 ^ 38) state.old.desk state.new.desk }
+{
+    product.limits();
+    state.book.rules();
     let order = state.book.order(slot);
     match terms_of(state, product, request, &order) {
         Err(fault) => {
@@ -229,10 +253,10 @@ pub(crate) fn apply_replace<B: Book, E: Emit>(
     requires valid { IsValidReplace product.now.names request.now }
     requires fits { FitsProduct product.now state.old }
     requires counted { IsCounted state.old.desk }
-    requires few { length state.old.book.waiting ≤ MOST_ORDERS }
     ensures takes { Takes E.meanings (λ state. ReplaceApart (slot_named request.now.sender.firm request.now.old (live_orders state.book)) product.now request.now state) (λ naming. replace_step naming product.now request.now) state.old state.new out.old out.new }
     ensures rose { CountsRose (2 ^ 38) state.old.desk state.new.desk }
 {
+    product.limits();
     match state.book.find(request.sender.firm, &request.old) {
         Some(slot) => replace_order(state, product, request, slot, out),
         None => refused(request, 0, 0).report(ChangeFault::Unknown, &mut state.desk, out),

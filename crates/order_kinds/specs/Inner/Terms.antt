@@ -1,7 +1,8 @@
 -- The terms of a new order, as the code holds them.
-use Rattle.std.specs.Prelude.{◌≡◌, ◌<◌, ◌≤◌, pos, ◌≤ℤ◌, true, false, List, length, Result, Ok, Err}
+use Rattle.std.specs.Prelude.{◌≡◌, ◌<◌, ◌≤◌, pos, ◌≤ℤ◌, false, List, length, Result, Ok, Err}
 use Rattle.std.specs.List.{AllByRecursion}
 use Rattle.gx_base.specs.declared.limits.TheConstants.{MOST_FIRMS, MOST_LOTS}
+use Rattle.gx_base.specs.declared.order.Kind.TheVariants.{StopLimit}
 use Rattle.gx_base.specs.declared.event.NewFault.{NewFault}
 use Rattle.gx_base.specs.declared.event.ChangeFault.{ChangeFault}
 use Rattle.product_file.specs.declared.product.InstrumentRule.{InstrumentRule}
@@ -13,7 +14,8 @@ use Rattle.order_kinds.specs.declared.instruments.Instrument.{Instrument}
 use Rattle.order_kinds.specs.declared.new_orders.Terms as code
 use Rattle.order_kinds.specs.Instruments.{ListedInstrument}
 use Rattle.order_kinds.specs.State.{State}
-use Rattle.order_kinds.specs.NewOrders.{Terms, may_rest}
+use Rattle.order_kinds.specs.NewOrders.{Terms}
+use Rattle.order_kinds.specs.OrderRules.{stop_price}
 use Rattle.order_kinds.specs.Cores.{IsInRange}
 
 -- the rule of an instrument that a product lists
@@ -41,7 +43,7 @@ abbrev pub ArePricesInRange : List Entry → Type 0
 ArePricesInRange es = AllByRecursion (λ (e : Entry). IsInRange e.order.price) es
 
 -- A new order that no rule refused, on these terms: its instrument is one of the book's and has a last trade price or none,
--- there is room for it, and it can be entered, and can come to rest where its life lets it.
+-- there is room for it, and where it is no stop limit order it has no stop price.
 pub record IsAccepted (state : State) (terms : Terms) (new : NewOrder) : Type 0 where
   pub listed : terms.instrument.number < state.book.instruments
   pub priced : terms.instrument.number < length state.last
@@ -51,4 +53,4 @@ pub record IsAccepted (state : State) (terms : Terms) (new : NewOrder) : Type 0 
   pub some : 1 ≤ new.quantity
   pub small : new.quantity ≤ MOST_LOTS
   pub show : new.show ≤ new.quantity
-  pub no_min : may_rest new.life ≡ true → new.min ≡ 0
+  pub no_stop : (new.kind ≡ StopLimit → ⊥) → stop_price new.trigger ≡ record { 0 = pos 0 }

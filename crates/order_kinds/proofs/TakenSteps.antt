@@ -1,0 +1,55 @@
+-- What a function did to its state is a step that was taken.
+use Rattle.std.proofs.Common.{◌≡◌, ℕ, Bool, List, [], ◌∷◌, Some, refl, sym, ap, subst, ◌∙◌}
+use Rattle.gx_base.specs.declared.order.Desk.{Desk}
+use Rattle.gx_base.specs.declared.event.Event.{Event}
+use Rattle.gx_base.specs.declared.event.ChangeFault.{ChangeFault}
+use Rattle.gx_base.specs.Emits.{EmitMeanings, Emits}
+use Rattle.gx_base.specs.EmitLaws.{emits_as}
+use Rattle.product_file.specs.Products.{ProductLists}
+use Rattle.fix_request.specs.declared.request.Sender.{Sender}
+use Rattle.fix_request.specs.declared.request.Refusal.{Refusal}
+use Rattle.fix_request.specs.declared.request.Request.{Request}
+use Rattle.fix_request.specs.declared.request.Request.TheVariants.{Refused}
+use Rattle.order_kinds.specs.declared.reports.RefusedChange.{RefusedChange}
+use Rattle.order_kinds.specs.State.{State}
+use Rattle.order_kinds.specs.Reports.{line_counted, change_refused, unchanged}
+use Rattle.order_kinds.specs.Stops.{Naming, by_number}
+use Rattle.order_kinds.specs.Cancels.{rejected, session_step}
+use Rattle.order_kinds.specs.Step.{request_step_as}
+use Rattle.order_kinds.specs.Inner.Apart.{StayApart}
+use Rattle.order_kinds.specs.Inner.Taking.{Takes}
+
+module _ {E : Type 0} (m : EmitMeanings E) (Apart : State → Naming → Type 0) (step : Naming → State → State × List Event) (old : State) (before after : E) where
+  -- what it comes to is known
+  pub takes-known : (naming : Naming) (made : State × List Event) (new : State) → Apart old naming → step naming old ≡ made → new ≡ made.0 → Emits m before after made.1 → Takes m Apart step old new before after
+  takes-known naming made new apart is same emits = record {
+    naming = naming;
+    apart = apart;
+    state = same ∙ sym (ap (λ (r : State × List Event). r.0) is);
+    emits = emits_as m before after made.1 (step naming old).1 (sym (ap (λ (r : State × List Event). r.1) is)) emits;
+  }
+
+  -- a change was refused
+  pub takes-refused : (change : RefusedChange) (sender : Sender) (id prior : List ℕ) (number filled : ℕ) (replace : Bool) (fault : ChangeFault) (desk : Desk)
+      → change ≡ record { sender = change.sender; id = id; old = prior; number = number; filled = filled; replace = replace }
+      → change.sender.now ≡ sender
+      → desk ≡ line_counted old.desk (Some change.sender.now.firm)
+      → Emits m before after (change_refused change.sender.now change.id change.old change.number change.filled change.replace fault old.desk ∷ [])
+      → Apart old by_number → step by_number old ≡ unchanged sender id prior number filled replace fault old
+      → Takes m Apart step old (record old { desk = desk }) before after
+  takes-refused change sender id prior number filled replace fault desk is from counted emits apart same =
+      takes-known by_number (unchanged sender id prior number filled replace fault old) (record old { desk = desk }) apart same
+      (ap (λ (d : Desk). record old { desk = d }) (counted ∙ ap (λ (s : Sender). line_counted old.desk (Some s.firm)) from))
+      (emits_as m before after _ _
+      (ap (λ (c : RefusedChange). change_refused change.sender.now c.id c.old c.number c.filled c.replace fault old.desk ∷ []) is
+      ∙ ap (λ (s : Sender). change_refused s id prior number filled replace fault old.desk ∷ []) from) emits)
+
+-- a message that a session rule refuses is reported, and changes nothing
+pub takes-rejected : {E : Type 0} (m : EmitMeanings E) (product : ProductLists) (request : Request) (refusal : Refusal) (old : State) (desk : Desk) (before after : E) → request ≡ Refused refusal
+    → desk ≡ line_counted old.desk refusal.firm → Emits m before after (rejected refusal old.desk ∷ [])
+    → Takes m (StayApart product request) (λ naming. request_step_as naming product request) old (record old { desk = desk }) before after
+takes-rejected m product request refusal old desk before after is counted emits =
+    let new : State = record old { desk = desk } in
+    subst (λ (r : Request). Takes m (StayApart product r) (λ naming. request_step_as naming product r) old new before after) (sym is)
+    (takes-known m (StayApart product (Refused refusal)) (λ naming. request_step_as naming product (Refused refusal)) old before after by_number (session_step refusal old) new tt refl
+    (ap (λ (d : Desk). record old { desk = d }) counted) emits)
