@@ -1,0 +1,1 @@
+-- The stops of a message, one after the other.
