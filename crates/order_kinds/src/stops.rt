@@ -111,7 +111,10 @@ fn enter_with_stops<B: Book, E: Emit>(
         ComesIn E.meanings (λ naming. EnterApart naming steps.now) (λ naming. entered_with_stops naming steps.now) before after result }
     ensures rose { CountsRose (2 * taker.old.order.leaves + 1 + 2000000 * length (B.book book.old).waiting) desk.old desk.new }
 {
+    steps.list();
+    book.rules();
     enter(book, desk, taker, steps, out);
+    book.rules();
     let mut trades = Trades::of(taker);
     if trades.range.is_none() {
         return None;
@@ -120,6 +123,7 @@ fn enter_with_stops<B: Book, E: Emit>(
     let mut stops = StopSearch::start(book, instrument);
     while let Some(slot) = stops.next_marked(book, trades.range) {
         trigger(book, desk, taker, slot, steps, out);
+        book.rules();
         if trades.add(taker) {
             stops = StopSearch::start(book, instrument);
         }
