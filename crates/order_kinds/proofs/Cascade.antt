@@ -83,7 +83,8 @@ entered-instrument name steps m =
 
 -- ---- one stop
 
-abbrev entry_in : ℕ → MatchState → Entry
+-- the waiting stop of a slot
+abbrev pub entry_in : ℕ → MatchState → Entry
 entry_in slot x = record { slot = slot; order = order_of slot x.book.waiting; is_top = false }
 
 triggered-ignores : (e : Entry) → IgnoresEvents (stop_triggered e)
@@ -140,7 +141,7 @@ same-stop None f g steps x h = refl
 same-stop (Some e) f g steps x h = ap (λ (n : ℕ). entered n steps (stop_triggered e x)) (h e.order.number)
 
 -- names of later orders do not matter
-rounds-same : (turns : ℕ) (f g : Naming) (steps : List Step) (m : MatchState) → ((k : ℕ) → k ≤ turns → (n : ℕ) → f k n ≡ g k n) → rounds turns f steps m ≡ rounds turns g steps m
+pub rounds-same : (turns : ℕ) (f g : Naming) (steps : List Step) (m : MatchState) → ((k : ℕ) → k ≤ turns → (n : ℕ) → f k n ≡ g k n) → rounds turns f steps m ≡ rounds turns g steps m
 rounds-same zero f g steps m h = ap (λ (n : ℕ). entered n steps m) (h 0 (omega arith) m.taker.order.number)
 rounds-same (suc turns) f g steps m h =
     let x = rounds turns f steps m in
@@ -148,7 +149,7 @@ rounds-same (suc turns) f g steps m h =
     ∙ ap (λ (y : MatchState). stop_entered (next_stop y) (g (turns + 1)) steps y) (rounds-same turns f g steps m (λ k le. h k (omega arith)))
 
 -- where no stop is marked, further turns do nothing
-rounds-done : (turns : ℕ) (naming : Naming) (steps : List Step) (m : MatchState) → next_stop (rounds turns naming steps m) ≡ None → (more : ℕ) → turns ≤ more → rounds more naming steps m ≡ rounds turns naming steps m
+pub rounds-done : (turns : ℕ) (naming : Naming) (steps : List Step) (m : MatchState) → next_stop (rounds turns naming steps m) ≡ None → (more : ℕ) → turns ≤ more → rounds more naming steps m ≡ rounds turns naming steps m
 rounds-done turns naming steps m none zero le = let e : zero ≡ turns = omega arith in ap (λ (n : ℕ). rounds n naming steps m) e
 rounds-done turns naming steps m none (suc more) le = elim (eqb_tells turns (suc more)) [
   | inl t ↦ ap (λ (n : ℕ). rounds n naming steps m) (sym t.1)

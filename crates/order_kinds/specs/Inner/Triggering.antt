@@ -95,4 +95,4 @@ pub record HasRoomToComeIn (b : Book) (desk : Desk) : Type 0 where
 pub record HasRoomToTrigger (desk : Desk) : Type 0 where
   pub messages : desk.messages ≤ MOST_MESSAGES
   pub orders : desk.orders ≤ MOST_MESSAGES
-  pub counts : AreCountsWithin (2 ^ 62) desk
+  pub counts : AreCountsWithin (MOST_MESSAGES * 2 ^ 38 + 2 ^ 39) desk

@@ -1,4 +1,3 @@
-use Rattle.order_kinds.proofs.Cascade.{rounds}
 use Rattle.std.proofs.Common.{◌≡◌, ℕ, true, false, Option, Some, None, sym, ap, subst, ◌∙◌, option_map}
 use Rattle.gx_base.specs.declared.price.Price.{Price}
 use Rattle.gx_base.specs.declared.order.Order.{Order}
