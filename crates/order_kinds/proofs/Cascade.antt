@@ -1,44 +1,33 @@
 -- The stops of a message: each is triggered in turn, until the prices of the message mark none that waits.
-use Rattle.std.proofs.Common.{◌≡◌, ◌≢◌, ℕ, ◌+◌, ◌*◌, ◌^◌, ◌≤◌, Bool, true, false, cond, List, [], ◌∷◌, ◌++◌, length, Option, Some, None, refl, sym, ap, subst, ◌∙◌, arith, inl, inr, append_assoc}
+use Rattle.std.proofs.Common.{◌≡◌, ◌≢◌, ℕ, ◌+◌, ◌≤◌, Bool, true, false, cond, List, [], ◌∷◌, ◌++◌, Option, Some, None, refl, sym, ap, ◌∙◌, arith, inl, inr, append_assoc}
 use Prim.Native.Nat.{zero, suc}
-use Rattle.std.specs.Prelude.{◌==◌, nat_lt, slice_index}
-use Rattle.std.specs.List.{AllByRecursion}
-use Rattle.std.proofs.lemmas.Bool.{ne_eqb}
-use Rattle.std.proofs.lemmas.Bool.Decides.{eqb_tells, Decides-eqb}
+use Rattle.std.specs.Prelude.{◌==◌, nat_lt}
+use Rattle.std.proofs.lemmas.Bool.Decides.{eqb_tells}
 use Rattle.std.proofs.lemmas.List.{append-nil}
 use Rattle.gx_base.specs.declared.price.Price.{Price}
 use Rattle.gx_base.specs.declared.order.Order.{Order}
-use Rattle.gx_base.specs.declared.order.Desk.{Desk}
 use Rattle.gx_base.specs.declared.order.Taker.{Taker}
 use Rattle.gx_base.specs.declared.event.Cause.TheVariants as cause
 use Rattle.gx_base.specs.declared.event.Event.{Event}
 use Rattle.gx_base.specs.declared.event.Event.TheVariants.{Triggered}
-use Rattle.gx_base.specs.Emits.{EmitMeanings, Emits}
 use Rattle.step_config.specs.declared.step.Step.{Step}
 use Rattle.step_config.specs.RightSteps.{AreRightSteps}
 use Rattle.plain_book.specs.declared.entry.Entry.{Entry}
-use Rattle.plain_book.specs.Orders.{HasSlot, order_of, slot_of, stops_of, without}
-use Rattle.plain_book.specs.Book.{Book, IsRight, AllDiffer, live_orders, book_placed, book_without}
+use Rattle.plain_book.specs.Orders.{order_of}
+use Rattle.plain_book.specs.Book.{IsRight, book_placed, book_without}
 use Rattle.plain_book.specs.Match.{MatchState, match_start, next_head, report_counted}
-use Rattle.plain_book.specs.Matches.{MatchAt, start_at, IsNow, CanTrade}
-use Rattle.plain_book.proofs.Levels.{AllDiffer-back}
-use Rattle.plain_book.proofs.Right.{right-without, length-without}
 use Rattle.plain_book.proofs.TradedShares.{match_with, with_events, IgnoresEvents}
 use Rattle.level_sweep.specs.Sweep.{sweep, with_resting}
 use Rattle.level_sweep.proofs.Resting.{rest-sweep}
 use Rattle.level_sweep.proofs.Swept.{sweep-order}
 use Rattle.order_kinds.specs.NewOrders.{may_rest}
 use Rattle.order_kinds.specs.Entering.{taker_cancelled, taker_rested, as_limit, top_min_of, finished, open_for, entered, last_fill}
-use Rattle.order_kinds.specs.Stops.{Naming, fill_range, first_marked, next_stop, as_triggered, stop_triggered, stop_entered, stop_rounds, entered_with_stops}
-use Rattle.order_kinds.specs.Inner.Apart.{EnterApart}
-use Rattle.order_kinds.specs.Inner.Taking.{TakesPart, CountsRose, last_in_range}
-use Rattle.order_kinds.specs.Inner.Triggering.{joined, later_price, ComesIn, IsPassed, IsFirstMarked, HasRoomToComeIn, HasRoomToTrigger, slot_entered}
-use Rattle.order_kinds.proofs.Counts.{rose-both, rose-within}
+use Rattle.order_kinds.specs.Stops.{Naming, fill_range, next_stop, as_triggered, stop_triggered, stop_entered, stop_rounds}
+use Rattle.order_kinds.specs.Inner.Taking.{last_in_range}
+use Rattle.order_kinds.specs.Inner.Triggering.{joined, later_price, slot_entered}
 use Rattle.order_kinds.proofs.Entered.{entered-ignores}
 use Rattle.order_kinds.proofs.FillRanges.{range-joined, last-joined, range-triggered, last-triggered, range-entered}
 use Rattle.order_kinds.proofs.LastPrices.{last-entered}
-use Rattle.order_kinds.proofs.Triggered.{Stands, stands-then, slot-live}
-use Rattle.order_kinds.proofs.Waiting.{stop-waits, stop-order, stop-instrument, stops-without}
 
 -- ---- what an order that is entered leaves
 

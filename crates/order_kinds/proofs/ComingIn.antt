@@ -1,5 +1,5 @@
 -- A stop limit order comes in: it waits.
-use Rattle.std.proofs.Common.{◌≡◌, ℕ, List, [], None, refl, sym, ap, subst}
+use Rattle.std.proofs.Common.{◌≡◌, ℕ, List, None, refl, sym, ap, subst}
 use Rattle.gx_base.specs.declared.order.Kind.{Kind}
 use Rattle.gx_base.specs.declared.order.Kind.TheVariants.{StopLimit}
 use Rattle.gx_base.specs.Emits.{EmitMeanings, Emits}

@@ -1,5 +1,5 @@
 -- How far the counters of reports, trades and lines rise.
-use Rattle.std.proofs.Common.{◌≡◌, ℕ, ◌+◌, ◌*◌, ◌≤◌, List, [], ◌∷◌, slice_index, slice_set, refl, ap, ◌∙◌, arith}
+use Rattle.std.proofs.Common.{ℕ, ◌+◌, ◌≤◌, List, [], ◌∷◌, slice_index, slice_set, refl, ◌∙◌, arith}
 use Prim.Native.Nat.{zero, suc}
 use Rattle.gx_base.specs.declared.order.Desk.{Desk}
 use Rattle.plain_book.specs.Match.{report_counted}

@@ -6,7 +6,7 @@ use Rattle.std.proofs.lemmas.Int.{ints}
 use Rattle.gx_base.specs.declared.price.Price.{Price}
 use Rattle.gx_base.specs.declared.order.Order.{Order}
 use Rattle.gx_base.specs.declared.event.Event.{Event}
-use Rattle.gx_base.specs.declared.event.Event.TheVariants.{Fill, Cancelled, Triggered}
+use Rattle.gx_base.specs.declared.event.Event.TheVariants.{Fill, Triggered}
 use Rattle.gx_base.specs.declared.event.Head.{Head}
 use Rattle.gx_base.specs.declared.event.Cause.{Cause}
 use Rattle.gx_base.specs.declared.event.Cause.TheVariants as cause
@@ -40,7 +40,6 @@ least-both a b c = grind (arith, ints)
 
 most-both : (a b c : ℤ) → cond (int_lt (cond (int_lt a b) b a) c) c (cond (int_lt a b) b a) ≡ cond (int_lt a (cond (int_lt b c) c b)) (cond (int_lt b c) c b) a
 most-both a b c = grind (arith, ints)
-
 
 -- a range, and one price more
 joined-one : (price : Price) (range : Option (Price × Price)) → joined range (Some (price, price)) ≡ lengthened price range

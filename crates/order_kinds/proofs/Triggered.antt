@@ -1,7 +1,6 @@
 -- A waiting stop is triggered: it can be entered and can come to rest, and what all of it comes to.
-use Rattle.std.proofs.Common.{◌≡◌, ℕ, ◌+◌, ◌*◌, ◌^◌, ◌<◌, ◌≤◌, true, false, List, [], ◌∷◌, ◌++◌, length, slice_index, Option, Some, None, refl, sym, ap, subst, ◌∙◌, arith, inl, inr, ◌⊎◌, append_assoc}
+use Rattle.std.proofs.Common.{◌≡◌, ℕ, ◌+◌, ◌*◌, ◌<◌, ◌≤◌, true, false, List, [], ◌∷◌, ◌++◌, length, None, refl, sym, ap, subst, ◌∙◌, arith, inl, inr, ◌⊎◌}
 use Rattle.std.proofs.lemmas.List.{append-nil}
-use Rattle.gx_base.specs.declared.price.Price.{Price}
 use Rattle.gx_base.specs.declared.limits.TheConstants.{MOST_FIRMS}
 use Rattle.gx_base.specs.declared.order.Life.{Life}
 use Rattle.gx_base.specs.declared.order.Life.TheVariants.{Day, Gtc, Fak, Fok}
@@ -9,7 +8,6 @@ use Rattle.gx_base.specs.declared.order.Order.{Order}
 use Rattle.gx_base.specs.declared.order.Desk.{Desk}
 use Rattle.gx_base.specs.declared.order.Taker.{Taker}
 use Rattle.gx_base.specs.declared.event.Head.{Head}
-use Rattle.gx_base.specs.declared.event.Event.{Event}
 use Rattle.gx_base.specs.declared.event.Event.TheVariants.{Triggered}
 use Rattle.gx_base.specs.Emits.{EmitMeanings, Emits}
 use Rattle.gx_base.specs.EmitLaws.{emits_joined, emits_as}
@@ -25,7 +23,6 @@ use Rattle.plain_book.proofs.Named.{Unnamed, unnamed-without}
 use Rattle.plain_book.proofs.Pairs.{any-none}
 use Rattle.plain_book.proofs.Right.{live-without, length-without}
 use Rattle.plain_book.proofs.TradedShares.{match_with, with_events, IgnoresEvents}
-use Rattle.order_kinds.specs.declared.core_state.TheConstants.{MOST_MESSAGES}
 use Rattle.order_kinds.specs.NewOrders.{may_rest}
 use Rattle.order_kinds.specs.Entering.{entered}
 use Rattle.order_kinds.specs.Stops.{as_triggered, stop_triggered}

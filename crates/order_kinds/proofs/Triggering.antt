@@ -1,12 +1,11 @@
 -- An order was entered, and some of the stops that its trades reach: what holds after each turn, and at the end.
-use Rattle.std.proofs.Common.{◌≡◌, ◌≢◌, ℕ, ◌+◌, ◌*◌, ◌^◌, ◌≤◌, Bool, true, false, cond, List, ◌∷◌, ◌++◌, length, Option, Some, None, refl, sym, ap, subst, ◌∙◌, arith, inl, inr, ◌⊎◌}
-use Prim.Native.Nat.{zero, suc}
-use Rattle.std.specs.Prelude.{◌==◌, slice_index}
+use Rattle.std.proofs.Common.{◌≡◌, ◌≢◌, ℕ, ◌+◌, ◌*◌, ◌≤◌, Bool, false, cond, List, ◌++◌, length, Option, Some, None, refl, sym, ap, subst, ◌∙◌, arith, inl, inr, ◌⊎◌}
+use Prim.Native.Nat.{suc}
+use Rattle.std.specs.Prelude.{◌==◌}
 use Rattle.std.proofs.lemmas.Bool.{ne_eqb}
 use Rattle.std.proofs.lemmas.Bool.Decides.{eqb_tells, leb_tells}
 use Rattle.gx_base.specs.declared.price.Price.{Price}
 use Rattle.gx_base.specs.declared.order.Order.{Order}
-use Rattle.gx_base.specs.declared.order.Desk.{Desk}
 use Rattle.gx_base.specs.declared.order.Taker.{Taker}
 use Rattle.gx_base.specs.Emits.{EmitMeanings, Emits}
 use Rattle.step_config.specs.declared.step.Step.{Step}
@@ -18,7 +17,6 @@ use Rattle.plain_book.specs.Match.{MatchState}
 use Rattle.plain_book.specs.Matches.{MatchAt, start_at, IsNow, CanTrade}
 use Rattle.plain_book.proofs.Levels.{AllDiffer-back, same}
 use Rattle.plain_book.proofs.Right.{right-without, length-without}
-use Rattle.order_kinds.specs.declared.core_state.TheConstants.{MOST_MESSAGES}
 use Rattle.order_kinds.specs.Entering.{entered, last_fill}
 use Rattle.order_kinds.specs.Stops.{Naming, fill_range, first_marked, next_stop, stop_triggered, stop_entered, entered_with_stops}
 use Rattle.order_kinds.specs.Inner.Apart.{EnterApart}
@@ -31,7 +29,7 @@ use Rattle.order_kinds.proofs.Triggered.{Stands, stands-then, slot-live}
 use Rattle.order_kinds.proofs.Waiting.{stop-waits, stop-order, stop-instrument, stops-without}
 use Rattle.order_kinds.proofs.Cascade.{rest-entered, entered-instrument, entry_in, slot-ignores, slot-range, slot-last, rounds, rounds-same, rounds-done}
 
--- the number k, with one number in its place at some n
+-- the same names, but for the order before which so many came in: it has this one
 named_at : ℕ → ℕ → Naming → Naming
 named_at turn name naming = λ k n. cond (k == turn) name (naming k n)
 

@@ -1,5 +1,5 @@
 -- The waiting stops of an instrument, looked through one after the other.
-use Rattle.std.proofs.Common.{◌≡◌, ℕ, ◌<◌, Bool, true, false, cond, not, List, [], ◌∷◌, ◌++◌, filter, length, Option, Some, None, refl, sym, ap, subst, ◌∙◌, arith, append_assoc, length-append}
+use Rattle.std.proofs.Common.{◌≡◌, ℕ, ◌<◌, Bool, true, false, cond, not, List, [], ◌∷◌, ◌++◌, filter, length, Option, Some, None, refl, sym, ap, subst, ◌∙◌, arith, append_assoc}
 use Prim.Native.Nat.{suc}
 use Rattle.std.specs.Prelude.{◌==◌}
 use Rattle.std.specs.List.{AllByRecursion}
@@ -13,7 +13,7 @@ use Rattle.plain_book.proofs.Filters.{filter-comm}
 use Rattle.plain_book.proofs.Levels.{HasSlot-filter, AllDiffer-filter, AllDiffer-back, HasSlot-middle, order_of-middle, order_of-filter, order_of-right, slots-apart, slot_after-middle, without-middle, same, other}
 use Rattle.plain_book.proofs.Pairs.{all-append, all-back, all-passing}
 use Rattle.order_kinds.specs.Stops.{is_marked, first_entry, first_marked}
-use Rattle.order_kinds.specs.Inner.Triggering.{IsUnmarked, IsPassed, IsFirstMarked, FindsMarked}
+use Rattle.order_kinds.specs.Inner.Triggering.{IsUnmarked, IsPassed, FindsMarked}
 
 -- ---- how many stops are still to be looked at
 

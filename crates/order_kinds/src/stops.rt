@@ -25,6 +25,7 @@ struct StopSearch {
 }
 
 impl StopSearch {
+    /// At the first stop that waits.
     fn start<B: Book>(book: &B, instrument: u8) -> StopSearch
         requires { instrument < (B.book book.now).instruments }
         ensures instrument { result.instrument ≡ instrument }

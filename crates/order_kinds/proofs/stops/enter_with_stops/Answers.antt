@@ -111,8 +111,11 @@ fewer g c =
     let l = c.loop-slot in
     let now = match_at (g.B.Book.book l.book) l.desk l.taker l.out in
     let after = match_at (g.B.Book.book c.trigger.new.book) c.trigger.new.desk c.trigger.new.taker c.trigger.new.out in
-    omega (arith, fewer-wait g.E.Emit.meanings c.args.steps.now before l.trades.range l.trades.last now l.invariant.has l.invariant.right c.in-Some.slot.0 (option_map slot_number c.next_marked.new.self.at)
-    (found _ _ _ _ _ _ c.in-Some.ensures.found l.invariant.searched) after c.trigger.ensures.takes)
+    omega (
+      arith,
+      fewer-wait g.E.Emit.meanings c.args.steps.now before l.trades.range l.trades.last now l.invariant.has l.invariant.right c.in-Some.slot.0 (option_map slot_number c.next_marked.new.self.at)
+          (found _ _ _ _ _ _ c.in-Some.ensures.found l.invariant.searched) after c.trigger.ensures.takes,
+    )
 
 pub loop-slot-smaller-then-add : goal.loop-slot-smaller-then-add
 loop-slot-smaller-then-add g c = fewer g (goal.at.loop-slot-smaller-then-add g c).After-add

@@ -1,4 +1,4 @@
-use Rattle.std.proofs.Common.{◌≡◌, ℕ, length, option_map}
+use Rattle.std.proofs.Common.{◌≡◌, length, option_map}
 use Rattle.plain_book.specs.Book.{IsRight, slot_number}
 use Rattle.plain_book.specs.Matches.{match_at}
 use Rattle.order_kinds.specs.Inner.Triggering.{IsPassed}

@@ -1,5 +1,4 @@
 use Rattle.std.proofs.Common.{◌≡◌, ap, ◌∙◌}
-use Rattle.gx_base.specs.declared.order.Order.{Order}
 use Rattle.gx_base.specs.EmitLaws.{emits_one}
 use Rattle.plain_book.specs.Orders.{order_of}
 use Rattle.plain_book.specs.Book.{live_orders}

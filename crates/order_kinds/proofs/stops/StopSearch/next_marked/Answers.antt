@@ -2,7 +2,6 @@ use Rattle.std.proofs.Common.{◌≡◌, ℕ, true, false, Option, Some, None, s
 use Rattle.gx_base.specs.declared.price.Price.{Price}
 use Rattle.gx_base.specs.declared.order.Order.{Order}
 use Rattle.plain_book.specs.Book.{slot_number}
-use Rattle.plain_book.specs.Orders.{stops_of}
 use Rattle.plain_book.proofs.Levels.{HasSlot-right}
 use Rattle.order_kinds.specs.OrderRules.{is_reached}
 use Rattle.order_kinds.specs.Stops.{is_marked, stop_end, first_marked}
