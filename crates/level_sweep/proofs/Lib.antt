@@ -10,5 +10,4 @@ pub mod Numbered
 pub mod Renamed
 pub mod Swept
 pub mod Standing
--- What the proofs of this crate alone cite.
-mod Resting
+pub mod Resting

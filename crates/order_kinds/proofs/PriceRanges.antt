@@ -18,7 +18,7 @@ int-same a b h k = grind (arith, ints)
 pub price-same : (p q : Price) → p.0 ≡ q.0 → p ≡ q
 price-same p q h = let mk : ℤ → Price = λ z. record { 0 = z } in ap mk h
 
-either-same : (b : Bool) (p : Price) → cond b p p ≡ p
+pub either-same : (b : Bool) (p : Price) → cond b p p ≡ p
 either-same true p = refl
 either-same false p = refl
 

@@ -1,15 +1,14 @@
 //! An order comes in: a stop limit order waits, any other is entered, and then each stop that a trade reaches.
-ghost use Rattle.std.specs.Prelude.{◌≡◌, pos, ◌≢◌, ◌≤◌, ◌<◌, ◌+◌, ◌*◌, ◌^◌, true, ℕ, length, option_map, Some, None};
+ghost use Rattle.std.specs.Prelude.{◌≡◌, pos, ◌≤◌, ◌<◌, ◌+◌, ◌*◌, true, ℕ, length, option_map, None};
 ghost use Rattle.gx_base.specs.declared.order.Kind.TheVariants.{StopLimit};
-ghost use Rattle.plain_book.specs.declared.entry.Entry.{Entry};
-ghost use Rattle.plain_book.specs.Orders.{HasSlot, stops_of, order_of};
-ghost use Rattle.plain_book.specs.Book.{slot_number};
+ghost use Rattle.plain_book.specs.Orders.{HasSlot, slot_of, stops_of};
+ghost use Rattle.plain_book.specs.Book.{IsRight, slot_number};
 ghost use Rattle.plain_book.specs.Matches.{match_at, CanTrade};
 ghost use Rattle.order_kinds.specs.NewOrders.{may_rest};
-ghost use Rattle.order_kinds.specs.Stops.{first_marked, stop_entered, entered_with_stops, come_in};
+ghost use Rattle.order_kinds.specs.Stops.{as_triggered, entered_with_stops, come_in};
 ghost use Rattle.order_kinds.specs.Inner.Taking.{TakesPart, CountsRose, CanRest};
 ghost use Rattle.order_kinds.specs.Inner.Apart.{EnterApart, ComeApart};
-ghost use Rattle.order_kinds.specs.Inner.Triggering.{ComesIn, IsPassed, CanWait, HasRoomToComeIn};
+ghost use Rattle.order_kinds.specs.Inner.Triggering.{ComesIn, IsPassed, FindsMarked, CanWait, HasRoomToComeIn, HasRoomToTrigger, slot_entered};
 
 use crate::entering::enter;
 use crate::trades::{PriceRange, Trades, is_marked};
@@ -17,27 +16,53 @@ use gx_base::{Desk, Emit, Event, Kind, Order, Price, Slot, Taker};
 use plain_book::{Book, count_report};
 use step_config::Steps;
 
+/// A look through the waiting stops of an instrument, from the front on.
+#[derive(Clone, Copy)]
+struct StopSearch {
+    instrument: u8,
+    /// The stop that is looked at next. `None` behind the last.
+    at: Option<Slot>,
+}
+
+impl StopSearch {
+    /// At the first stop that waits.
+    fn start<B: Book>(book: &B, instrument: u8) -> StopSearch
+        requires { instrument < (B.book book.now).instruments }
+        ensures instrument { result.instrument ≡ instrument }
+        ensures at { option_map slot_number result.at ≡ slot_of (stops_of instrument (B.book book.now).waiting) }
+    {
+        StopSearch {
+            instrument,
+            at: book.first_waiting(instrument),
+        }
+    }
+
+    /// The next waiting stop that a range marks, and the search goes on behind it. `None` where there is none.
+    fn next_marked<B: Book>(&mut self, book: &B, range: Option<PriceRange>) -> Option<Slot>
+        requires passed { IsPassed self.old.instrument range (B.book book.now).waiting (option_map slot_number self.old.at) }
+        ensures instrument { self.new.instrument ≡ self.old.instrument }
+        ensures found { FindsMarked self.old.instrument range (B.book book.now).waiting (option_map slot_number result) (option_map slot_number self.new.at) }
+    {
+        book.rules();
+        let range = range?;
+        while let Some(slot) = self.at {
+            self.at = book.next_waiting(slot);
+            if is_marked(range, &book.order(slot)) {
+                return Some(slot);
+            }
+        }
+        None
+    }
+}
+
 /// The stop as the limit order that it becomes.
 fn as_triggered(stop: &Order) -> Order
-    ensures { result ≡ record stop.now { kind = Kind.Limit; trigger = record { 0 = pos 0 } } }
+    ensures { result ≡ as_triggered stop.now }
 {
     let mut order = *stop;
     order.kind = Kind::Limit;
     order.trigger = Price(0);
     order
-}
-
-/// The next waiting stop that a range marks, from one of the waiting stops on, or `None` from behind the last.
-fn next_marked<B: Book>(book: &B, from: Option<Slot>, range: PriceRange) -> Option<Slot>
-{
-    let mut from = from;
-    while let Some(slot) = from {
-        if is_marked(range, &book.order(slot)) {
-            return Some(slot);
-        }
-        from = book.next_waiting(slot);
-    }
-    None
 }
 
 /// A waiting stop becomes a limit order, which is reported, and entered as the incoming order.
@@ -48,7 +73,15 @@ fn trigger<B: Book, E: Emit>(
     slot: Slot,
     steps: &Steps,
     out: &mut E,
-) {
+)
+    requires waits { HasSlot slot.0 (B.book book.old).waiting }
+    requires room { HasRoomToTrigger desk.old }
+    ensures takes { let before = match_at (B.book book.old) desk.old taker.old out.old in
+        let after = match_at (B.book book.new) desk.new taker.new out.new in
+        TakesPart E.meanings (λ name. slot_entered slot.0 name steps.now) before after }
+    ensures rose { CountsRose 2000000 desk.old desk.new }
+{
+    book.rules();
     taker.order = as_triggered(&book.remove(slot));
     taker.range = None;
     let head = count_report(desk, taker.order.firm, taker.time);
@@ -59,31 +92,8 @@ fn trigger<B: Book, E: Emit>(
     enter(book, desk, taker, steps, out);
 }
 
-/// Triggers and enters the next marked stop, until there is none. The waiting stops are looked through from the front again
-/// only where the range of prices has grown.
-fn trigger_stops<B: Book, E: Emit>(
-    book: &mut B,
-    desk: &mut Desk,
-    taker: &mut Taker,
-    trades: &mut Trades,
-    steps: &Steps,
-    out: &mut E,
-) {
-    let instrument = taker.order.instrument;
-    let mut from = book.first_waiting(instrument);
-    while let Some(range) = trades.range {
-        let Some(slot) = next_marked(book, from, range) else {
-            return;
-        };
-        from = book.next_waiting(slot);
-        trigger(book, desk, taker, slot, steps, out);
-        if trades.add(taker) {
-            from = book.first_waiting(instrument);
-        }
-    }
-}
-
-/// An order is entered, and then each stop that a trade of the message reaches. The answer is the price of the last trade,
+/// An order is entered, and then, one after the other, each stop that a trade of the message reaches. The waiting stops are
+/// looked through from the front again only where the range of prices has grown. The answer is the price of the last trade,
 /// if there was one.
 fn enter_with_stops<B: Book, E: Emit>(
     book: &mut B,
@@ -102,9 +112,23 @@ fn enter_with_stops<B: Book, E: Emit>(
         ComesIn E.meanings (λ naming. EnterApart naming steps.now) (λ naming. entered_with_stops naming steps.now) before after result }
     ensures rose { CountsRose (2 * taker.old.order.leaves + 1 + 2000000 * length (B.book book.old).waiting) desk.old desk.new }
 {
+    steps.list();
+    book.rules();
     enter(book, desk, taker, steps, out);
+    book.rules();
     let mut trades = Trades::of(taker);
-    trigger_stops(book, desk, taker, &mut trades, steps, out);
+    if trades.range.is_none() {
+        return None;
+    }
+    let instrument = taker.order.instrument;
+    let mut stops = StopSearch::start(book, instrument);
+    while let Some(slot) = stops.next_marked(book, trades.range) {
+        trigger(book, desk, taker, slot, steps, out);
+        book.rules();
+        if trades.add(taker) {
+            stops = StopSearch::start(book, instrument);
+        }
+    }
     trades.last
 }
 

@@ -69,7 +69,11 @@ impl Trades {
         let grown = least.0 < range.0.0 || range.1.0 < greatest.0;
         self.range = Some((
             if least.0 < range.0.0 { least } else { range.0 },
-            if range.1.0 < greatest.0 { greatest } else { range.1 },
+            if range.1.0 < greatest.0 {
+                greatest
+            } else {
+                range.1
+            },
         ));
         grown
     }

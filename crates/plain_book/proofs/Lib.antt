@@ -3,6 +3,7 @@ pub mod Filters
 pub mod Levels
 pub mod Pairs
 pub mod Live
+pub mod Named
 pub mod Walks
 pub mod TradedShares
 pub mod Matching
@@ -13,7 +14,6 @@ pub mod Right
 -- What the proofs of this crate alone cite.
 mod Before
 mod Mapped
-mod Named
 mod Settled
 mod Kept
 mod Trading

@@ -1,19 +1,20 @@
 -- What the functions do that trigger stops: how far the waiting ones are looked through, and what the trades so far come to.
-use Rattle.std.specs.Prelude.{◌≡◌, ℕ, ◌+◌, ◌*◌, ◌^◌, ◌≤◌, ◌<◌, false, int_lt, if◌then◌else◌, List, ◌++◌, length, slice_index, Option, Some, None}
+use Rattle.std.specs.Prelude.{◌≡◌, ℕ, ◌+◌, ◌*◌, ◌^◌, ◌≤◌, ◌<◌, false, int_lt, if◌then◌else◌, List, ◌∷◌, ◌++◌, length, Option, Some, None}
 use Rattle.std.specs.List.{AllByRecursion}
 use Rattle.gx_base.specs.declared.price.Price.{Price}
 use Rattle.gx_base.specs.declared.order.Order.{Order}
 use Rattle.gx_base.specs.declared.order.Desk.{Desk}
 use Rattle.gx_base.specs.Emits.{EmitMeanings, Emits}
+use Rattle.step_config.specs.declared.step.Step.{Step}
 use Rattle.plain_book.specs.declared.entry.Entry.{Entry}
-use Rattle.plain_book.specs.Orders.{slot_of, stops_of, is_live}
+use Rattle.plain_book.specs.Orders.{order_of, slot_of, stops_of, is_live}
 use Rattle.plain_book.specs.Book.{Book, IsFitToWait, live_orders}
 use Rattle.plain_book.specs.Match.{MatchState}
 use Rattle.plain_book.specs.Matches.{MatchAt, start_at, IsNow}
 use Rattle.order_kinds.specs.declared.core_state.TheConstants.{MOST_MESSAGES}
 use Rattle.order_kinds.specs.Cores.{AreCountsWithin}
-use Rattle.order_kinds.specs.Entering.{last_fill}
-use Rattle.order_kinds.specs.Stops.{Naming, is_marked}
+use Rattle.order_kinds.specs.Entering.{entered, last_fill}
+use Rattle.order_kinds.specs.Stops.{Naming, is_marked, first_marked, stop_triggered}
 
 -- ---- trades
 
@@ -53,6 +54,27 @@ pub record IsPassed (instrument : ℕ) (range : Option (Price × Price)) (waitin
   pub next : from ≡ slot_of back
   pub unmarked : AllByRecursion (IsUnmarked range) front
 
+-- a waiting stop of this slot is the first that the range marks, and behind it this one stands
+pub record IsFirstMarked (instrument : ℕ) (range : Option (Price × Price)) (waiting : List Entry) (slot : ℕ) (behind : Option ℕ) : Type 0 where
+  pub front : List Entry
+  pub stop : Entry
+  pub back : List Entry
+  pub whole : stops_of instrument waiting ≡ front ++ stop ∷ back
+  pub has : stop.slot ≡ slot
+  pub next : behind ≡ slot_of back
+  pub unmarked : AllByRecursion (IsUnmarked range) front
+  pub first : first_marked instrument range waiting ≡ Some stop
+
+-- the first stop that the range marks was found, and the one behind it, or there is none
+abbrev pub FindsMarked : ℕ → Option (Price × Price) → List Entry → Option ℕ → Option ℕ → Type 0
+FindsMarked instrument range waiting None next = first_marked instrument range waiting ≡ None
+FindsMarked instrument range waiting (Some slot) next = IsFirstMarked instrument range waiting slot next
+
+-- the waiting stop of a slot is triggered, and entered
+abbrev pub slot_entered : ℕ → ℕ → List Step → MatchState → MatchState
+slot_entered slot name steps m =
+    entered name steps (stop_triggered (record { slot = slot; order = order_of slot m.book.waiting; is_top = false }) m)
+
 -- ---- room
 
 -- a stop can wait
@@ -68,3 +90,9 @@ pub record HasRoomToComeIn (b : Book) (desk : Desk) : Type 0 where
   pub orders : desk.orders ≤ MOST_MESSAGES
   pub counts : AreCountsWithin (MOST_MESSAGES * 2 ^ 38 + 1) desk
   pub few : 2000000 * (length b.waiting + 1) ≤ 2 ^ 38
+
+-- each counter has room for the reports of one stop that is triggered
+pub record HasRoomToTrigger (desk : Desk) : Type 0 where
+  pub messages : desk.messages ≤ MOST_MESSAGES
+  pub orders : desk.orders ≤ MOST_MESSAGES
+  pub counts : AreCountsWithin (MOST_MESSAGES * 2 ^ 38 + 2 ^ 39) desk
