@@ -4,7 +4,6 @@ pub mod Streams
 mod Events
 mod Told
 mod Books
-mod Shares
 mod Trades
 mod Sweeps
 mod Entered

@@ -1,6 +1,6 @@
 -- A whole sweep keeps what has been told of the open orders: each of its trades is one of a live order of the other side, of
 -- no more lots than it shows and than are wanted.
-use Rattle.std.proofs.Common.{◌≡◌, ◌≢◌, ℕ, ◌*◌, ◌/◌, ◌≤◌, min, Bool, true, false, cond, not, List, [], ◌∷◌, filter, Option, Some, None, refl, sym, ap, subst, ◌∙◌, arith, inl, inr, ◌⊎◌}
+use Rattle.std.proofs.Common.{◌≡◌, ◌≢◌, ℕ, ◌*◌, ◌/◌, ◌≤◌, min, Bool, true, false, cond, not, List, [], ◌∷◌, filter, Option, Some, None, refl, sym, ap, subst, ◌∙◌, arith, inl, inr}
 use Prim.Native.Nat.{zero, suc}
 use Rattle.std.proofs.lemmas.Bool.Decides.{eqb_tells}
 use Rattle.std.specs.Prelude.{◌==◌, sum_by}
@@ -19,15 +19,16 @@ use Rattle.plain_book.specs.Orders.{Level, level_of, opposite, is_at, top_of, Ha
 use Rattle.plain_book.specs.Book.{AllDiffer}
 use Rattle.plain_book.specs.Match.{MatchState, Share, trade, is_prorata, book_marked, marked, trade_share, trade_shares}
 use Rattle.plain_book.specs.Steps.{facing, level_now, trade_head, fifo_rounds, prorata_share, prorata_shares, top_shares, lmm_shares, split_shares, leveling_shares}
-use Rattle.plain_book.proofs.Levels.{renewed, HasSlot-filter, HasSlot-left, HasSlot-right, AllDiffer-filter, order_of-filter, is_level-same, same}
+use Rattle.plain_book.proofs.Levels.{renewed, HasSlot-filter, AllDiffer-filter, order_of-filter, is_level-same, same}
 use Rattle.plain_book.proofs.Pairs.{all-with, all-both, all-filter, all-append, all-passing}
 use Rattle.plain_book.proofs.Live.{orders-at}
 use Rattle.plain_book.proofs.Tops.{at-slot}
 use Rattle.plain_book.proofs.TradedShares.{share-leaves}
 use Rattle.plain_book.proofs.Walks.{HasSlot-with_order}
 use Rattle.level_sweep.specs.Sweep.{step_of, wanted_step, level_match, next_price, match_next, sweep_rounds, sweep}
+use Rattle.level_sweep.proofs.StepShares.{AreApart, IsGiven, AreOf, AllShow, lots_of, lots-cons, spent-of, map-of, top-of, lmm-of, leveling-of, spent-wanted, split-part, top-wanted, lmm-fits, share-shown, prorata-wanted, ones-wanted}
+use Rattle.level_sweep.proofs.SlotsKept.{HasSlot-settled}
 use Rattle.balance_laws.proofs.Trades.{Shows, Rests, InMatch, resting-differ, trade-kept, marks-kept}
-use Rattle.balance_laws.proofs.Shares.{AreApart, IsGiven, AreOf, AllShow, lots_of, lots-cons, spent-of, map-of, top-of, lmm-of, leveling-of, spent-wanted, split-part, top-wanted, lmm-fits, share-shown, prorata-wanted, ones-wanted}
 
 -- ---- the order of a slot, while others trade
 
@@ -71,39 +72,6 @@ module _ (P : Order → Type 0) where
         | false ↦ elim [ true ↦ holds-placed t n (without s es) (λ is. absurd (other (sym is))) left | false ↦ holds-changed t s o es (λ is. absurd (other (sym is))) a ]
       ] in go (o.leaves == 0) (o.shown == 0)
 
-has-without : (t s : ℕ) (es : List Entry) → t ≢ s → HasSlot t es → HasSlot t (without s es)
-has-without t s [] other h = h
-has-without t s (e ∷ es) other h = elim (eqb_tells e.slot s) [
-  | inl u ↦ subst (λ (b : Bool). HasSlot t (cond (not b) (e ∷ without s es) (without s es))) (sym u.0) (elim h [ inl is ↦ absurd (other (sym is ∙ u.1)) | inr more ↦ has-without t s es other more ])
-  | inr u ↦ subst (λ (b : Bool). HasSlot t (cond (not b) (e ∷ without s es) (without s es))) (sym u.0) (elim h [ inl is ↦ inl is | inr more ↦ inr (has-without t s es other more) ])
-]
-
-has-half : (p : Entry → Bool) (t : ℕ) (es : List Entry) → HasSlot t es → HasSlot t (filter (λ e. not (p e)) es) ⊎ HasSlot t (filter p es)
-has-half p t [] h = absurd h
-has-half p t (e ∷ es) h =
-    let F = filter (λ x. not (p x)) es in
-    let G = filter p es in
-    let go : (b : Bool) → HasSlot t (cond (not b) (e ∷ F) F) ⊎ HasSlot t (cond b (e ∷ G) G) = elim [
-      | true ↦ elim h [ inl is ↦ inr (inl is) | inr more ↦ elim (has-half p t es more) [ inl f ↦ inl f | inr g ↦ inr (inr g) ] ]
-      | false ↦ elim h [ inl is ↦ inl (inl is) | inr more ↦ elim (has-half p t es more) [ inl f ↦ inl (inr f) | inr g ↦ inr g ] ]
-    ] in go (p e)
-
-has-placed : (t : ℕ) (n : Entry) (es : List Entry) → HasSlot t es → HasSlot t (placed n es)
-has-placed t n es h =
-    let p = is_at_earlier_level n in
-    let F = filter (λ e. not (p e)) es in
-    let G = filter p es in
-    elim (has-half p t es h) [ inl f ↦ HasSlot-left t F (n ∷ G) f | inr g ↦ HasSlot-right t F (n ∷ G) (inr g) ]
-
-has-settled : (t s : ℕ) (o : Order) (es : List Entry) → t ≢ s → HasSlot t es → HasSlot t (settled s o es)
-has-settled t s o es other h =
-    let n : Entry = record { slot = s; order = refreshed o; is_top = false } in
-    let left = has-without t s es other h in
-    let go : (x y : Bool) → HasSlot t (cond x (without s es) (cond y (placed n (without s es)) (with_order s o es))) = elim [
-      | true ↦ λ y. left
-      | false ↦ elim [ true ↦ has-placed t n (without s es) left | false ↦ HasSlot-with_order s t o es h ]
-    ] in go (o.leaves == 0) (o.shown == 0)
-
 module _ (P : Order → Type 0) where
   -- a mark of a share is not what P speaks of
   holds-marked : ((o : Order) (k : ℕ) → P o → P (record o { prorated = k })) → (step : StepName) (t s n : ℕ) (m : MatchState) → HoldsAt P t m.book.resting → HoldsAt P t (marked step s n m).book.resting
@@ -125,7 +93,7 @@ module _ (P : Order → Type 0) where
       let o : Order = filled_by n (order_of s k.book.resting) in
       let go : (c : Bool) → HoldsAt P t (cond c k (trade step s n k)).book.resting = elim [
         | true ↦ here
-        | false ↦ record { has = has-settled t s o k.book.resting other here.has; each = holds-settled P t s o k.book.resting other here.each }
+        | false ↦ record { has = HasSlot-settled t s o k.book.resting other here.has; each = holds-settled P t s o k.book.resting other here.each }
       ] in go (n == 0)
 
 -- ---- shares that are traded

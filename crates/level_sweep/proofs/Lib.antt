@@ -11,3 +11,7 @@ pub mod Renamed
 pub mod Swept
 pub mod Standing
 pub mod Resting
+pub mod SlotsKept
+pub mod Showing
+pub mod Parts
+pub mod StepShares

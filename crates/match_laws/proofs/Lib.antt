@@ -1,6 +1,4 @@
-mod Parts
 mod Lots
-mod Showing
 mod Done
 mod Tops
 mod Uncrossed

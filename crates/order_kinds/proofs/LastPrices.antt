@@ -1,7 +1,7 @@
 -- The last trade price of an order that is entered is an end of its price range: prices of a sweep never improve.
-use Rattle.std.proofs.Common.{◌≡◌, ◌≢◌, ℕ, ◌+◌, Bool, true, false, cond, not, List, [], ◌∷◌, ◌++◌, filter, Option, Some, None, refl, sym, ap, subst, ◌∙◌, inl, inr, ◌⊎◌}
+use Rattle.std.proofs.Common.{◌≡◌, ◌≢◌, ℕ, ◌+◌, Bool, true, false, cond, List, [], ◌∷◌, ◌++◌, filter, Option, Some, None, refl, sym, ap, subst, ◌∙◌, arith, inl, inr}
 use Prim.Native.Nat.{zero, suc}
-use Rattle.std.specs.Prelude.{◌==◌, min, nat_lt, sum_by}
+use Rattle.std.specs.Prelude.{◌==◌, ◌≤◌, min, nat_lt, sum_by}
 use Rattle.std.specs.List.{AllByRecursion}
 use Rattle.std.proofs.lemmas.Bool.Decides.{eqb_tells}
 use Rattle.gx_base.specs.declared.price.Price.{Price}
@@ -19,22 +19,23 @@ use Rattle.step_config.specs.declared.step.Step.{Step}
 use Rattle.step_config.specs.declared.step.Step.TheVariants.{Top, Lmm, Split, ProRata, Leveling, Fifo}
 use Rattle.step_config.specs.RightSteps.{IsRightStep, AreRightSteps}
 use Rattle.plain_book.specs.declared.entry.Entry.{Entry}
-use Rattle.plain_book.specs.Orders.{Level, level_of, opposite, is_on, is_at, is_better, is_within, side_of, price_of, best_of, top_of, HasSlot, order_of, without, with_order, placed, settled, refreshed, filled_by, is_at_earlier_level}
+use Rattle.plain_book.specs.Orders.{Level, level_of, opposite, is_on, is_at, is_better, is_within, side_of, price_of, best_of, top_of, HasSlot, order_of, filled_by}
 use Rattle.plain_book.specs.Book.{Book, IsRight, AllDiffer, book_traded}
 use Rattle.plain_book.specs.Match.{MatchState, Share, next_head, report, fill, taken_by, lengthened, trade, is_prorata, book_marked, marked, trade_share, trade_shares}
 use Rattle.plain_book.specs.Steps.{facing, level_now, trade_head, fifo_rounds, prorata_share, prorata_shares, top_shares, lmm_shares, split_shares, leveling_shares}
-use Rattle.plain_book.proofs.Levels.{HasSlot-filter, HasSlot-left, HasSlot-right, AllDiffer-filter, is_level-same}
+use Rattle.plain_book.proofs.Levels.{HasSlot-filter, AllDiffer-filter, is_level-same}
 use Rattle.plain_book.proofs.Walks.{HasSlot-with_order}
-use Rattle.plain_book.proofs.Pairs.{all-with, all-both, all-from}
+use Rattle.plain_book.proofs.Pairs.{all-with, all-both, all-filter, all-from}
 use Rattle.plain_book.proofs.Tops.{best-is-best}
 use Rattle.level_sweep.specs.Sweep.{step_of, wanted_step, level_match, facing_best, within_limit, next_price, match_next, sweep_rounds, sweep}
 use Rattle.level_sweep.proofs.EachTrade.{each-marked, each-share}
 use Rattle.level_sweep.proofs.EachOrder.{StaysTrue, AllStay, all-kept}
-use Rattle.level_sweep.proofs.Standing.{IsInOrder, OrderStays, order-kept, right-in-order}
+use Rattle.level_sweep.proofs.Showing.{IsShowing, AreShowing, ShowingStays, showing-kept, showing-right}
+use Rattle.level_sweep.proofs.SlotsKept.{HasSlot-settled}
+use Rattle.level_sweep.proofs.StepShares.{AreApart, IsGiven, AreOf, AllShow, spent-of, map-of, top-of, lmm-of, leveling-of, share-shown}
 use Rattle.order_kinds.specs.NewOrders.{may_rest}
 use Rattle.order_kinds.specs.Entering.{cancel_event, taker_cancelled, taker_rested, finished, open_for, entered, last_fill_from, last_fill}
 use Rattle.order_kinds.specs.Inner.Taking.{last_in_range}
-use Rattle.order_kinds.proofs.StepShares.{AreApart, AreOf, spent-of, map-of, top-of, lmm-of, leveling-of}
 use Rattle.order_kinds.proofs.PriceRanges.{price-same, IsEnd, end-first, end-next, end-again, end-none}
 
 -- ---- the price of the last fill
@@ -104,39 +105,6 @@ level-stands k s p es is d h = record { has = HasSlot-filter (is_at k) s es h; p
 
 -- ---- another order stays
 
-has-without : (t s : ℕ) (es : List Entry) → t ≢ s → HasSlot t es → HasSlot t (without s es)
-has-without t s [] other h = h
-has-without t s (e ∷ es) other h = elim (eqb_tells e.slot s) [
-  | inl u ↦ subst (λ (b : Bool). HasSlot t (cond (not b) (e ∷ without s es) (without s es))) (sym u.0) (elim h [ inl is ↦ absurd (other (sym is ∙ u.1)) | inr more ↦ has-without t s es other more ])
-  | inr u ↦ subst (λ (b : Bool). HasSlot t (cond (not b) (e ∷ without s es) (without s es))) (sym u.0) (elim h [ inl is ↦ inl is | inr more ↦ inr (has-without t s es other more) ])
-]
-
-has-half : (p : Entry → Bool) (t : ℕ) (es : List Entry) → HasSlot t es → HasSlot t (filter (λ e. not (p e)) es) ⊎ HasSlot t (filter p es)
-has-half p t [] h = absurd h
-has-half p t (e ∷ es) h =
-    let F = filter (λ x. not (p x)) es in
-    let G = filter p es in
-    let go : (b : Bool) → HasSlot t (cond (not b) (e ∷ F) F) ⊎ HasSlot t (cond b (e ∷ G) G) = elim [
-      | true ↦ elim h [ inl is ↦ inr (inl is) | inr more ↦ elim (has-half p t es more) [ inl f ↦ inl f | inr g ↦ inr (inr g) ] ]
-      | false ↦ elim h [ inl is ↦ inl (inl is) | inr more ↦ elim (has-half p t es more) [ inl f ↦ inl (inr f) | inr g ↦ inr g ] ]
-    ] in go (p e)
-
-has-placed : (t : ℕ) (n : Entry) (es : List Entry) → HasSlot t es → HasSlot t (placed n es)
-has-placed t n es h =
-    let p = is_at_earlier_level n in
-    let F = filter (λ e. not (p e)) es in
-    let G = filter p es in
-    elim (has-half p t es h) [ inl f ↦ HasSlot-left t F (n ∷ G) f | inr g ↦ HasSlot-right t F (n ∷ G) (inr g) ]
-
-has-settled : (t s : ℕ) (o : Order) (es : List Entry) → t ≢ s → HasSlot t es → HasSlot t (settled s o es)
-has-settled t s o es other h =
-    let n : Entry = record { slot = s; order = refreshed o; is_top = false } in
-    let left = has-without t s es other h in
-    let go : (x y : Bool) → HasSlot t (cond x (without s es) (cond y (placed n (without s es)) (with_order s o es))) = elim [
-      | true ↦ λ y. left
-      | false ↦ elim [ true ↦ has-placed t n (without s es) left | false ↦ HasSlot-with_order s t o es h ]
-    ] in go (o.leaves == 0) (o.shown == 0)
-
 has-marked : (step : StepName) (t s n : ℕ) (m : MatchState) → HasSlot t m.book.resting → HasSlot t (marked step s n m).book.resting
 has-marked step t s n m h =
     let go : (c : Bool) → HasSlot t (cond c (book_marked s n m.book) m.book).resting = elim [
@@ -150,7 +118,7 @@ has-share step t s n m other h =
     let here = has-marked step t s n m h in
     let go : (c : Bool) → HasSlot t (cond c k (trade step s n k)).book.resting = elim [
       | true ↦ here
-      | false ↦ has-settled t s (filled_by n (order_of s k.book.resting)) k.book.resting other here
+      | false ↦ HasSlot-settled t s (filled_by n (order_of s k.book.resting)) k.book.resting other here
     ] in go (n == 0)
 
 stands-marked : (step : StepName) (t s n : ℕ) (p : Price) (m : MatchState) → StandsAt t p m.book.resting → StandsAt t p (marked step s n m).book.resting
@@ -179,7 +147,7 @@ module _ (i : ℕ) (side : Side) where
   record TradesAt (p : Price) (m : MatchState) : Type 0 where
     instrument : m.taker.order.instrument ≡ i
     side_is : m.taker.order.side ≡ side
-    in_order : IsInOrder m.book.resting
+    showing : AreShowing m.book.resting
     none_better : AllByRecursion (NoBetter p) m.book.resting
     ends : IsEnd side p m.taker.range
     last : last_fill m.events ≡ last_in_range side m.taker.range
@@ -189,7 +157,7 @@ module _ (i : ℕ) (side : Side) where
     at-marked step s n m h = record {
       instrument = h.instrument;
       side_is = h.side_is;
-      in_order = each-marked OrderStays order-kept step s n m h.in_order;
+      showing = each-marked ShowingStays showing-kept step s n m h.showing;
       none_better = each-marked (AllStay (NoBetter p) (no-better p)) (all-kept (NoBetter p) (no-better p)) step s n m h.none_better;
       ends = h.ends;
       last = h.last;
@@ -209,7 +177,7 @@ module _ (i : ℕ) (side : Side) where
         record {
           instrument = h.instrument;
           side_is = h.side_is;
-          in_order = order-kept.trades step s n m h.in_order;
+          showing = showing-kept.trades step s n m h.showing;
           none_better = (all-kept (NoBetter p) (no-better p)).trades step s n m h.none_better;
           ends = subst (λ (q : Price). IsEnd side p (lengthened q m.taker.range)) (sym is) (end-again side p m.taker.range h.ends);
           last = last-reported n r step number taken (report (fill n r step number) (filled_by n resting) traded) ∙ ap (λ (q : Price). Some q) is ∙ sym h.ends ∙ ap (λ (q : Price). last_in_range side (lengthened q m.taker.range)) (sym is);
@@ -236,12 +204,12 @@ module _ (i : ℕ) (side : Side) where
         at-shares step xs k apart.1 left (at-share step x.0 x.1 m stands.0 h)
 
     now-stands : (m : MatchState) (s : ℕ) → TradesAt p m → HasSlot s (level_now p m) → StandsAt s p m.book.resting
-    now-stands m s h has = level-stands (facing p m.taker) s p m.book.resting refl h.in_order.differ has
+    now-stands m s h has = level-stands (facing p m.taker) s p m.book.resting refl h.showing.in_order.differ has
 
     at-level : (step : StepName) (xs : List Share) (m : MatchState) → TradesAt p m → AreOf (level_now p m) xs → TradesAt p (trade_shares step xs m)
     at-level step xs m h of =
         at-shares step xs m of.apart
-        (all-with (λ (x : Share). HasSlot x.0 (level_now p m)) (λ (x : Share). StandsAt x.0 p m.book.resting) (λ x has. now-stands m x.0 h has) xs of.within) h
+        (all-with (IsGiven (level_now p m)) (λ (x : Share). StandsAt x.0 p m.book.resting) (λ x given. now-stands m x.0 h given.0) xs of.within) h
 
     at-head : (es : List Entry) (m : MatchState) → ((s : ℕ) → HasSlot s es → StandsAt s p m.book.resting) → TradesAt p m → TradesAt p (trade_head es m)
     at-head [] m stands h = h
@@ -252,7 +220,12 @@ module _ (i : ℕ) (side : Side) where
     at-fifo (suc n) m h = at-fifo n (trade_head (level_now p m) m) (at-head (level_now p m) m (λ s has. now-stands m s h has) h)
 
     differ-now : (m : MatchState) → TradesAt p m → AllDiffer (level_now p m)
-    differ-now m h = AllDiffer-filter (is_at (facing p m.taker)) m.book.resting h.in_order.differ
+    differ-now m h = AllDiffer-filter (is_at (facing p m.taker)) m.book.resting h.showing.in_order.differ
+
+    show-now : (m : MatchState) → TradesAt p m → AllShow (level_now p m)
+    show-now m h =
+        all-filter (λ (e : Entry). 1 ≤ e.order.shown) (is_at (facing p m.taker)) m.book.resting
+        (all-with (λ (e : Entry). IsShowing e.order) (λ (e : Entry). 1 ≤ e.order.shown) (λ e shows. shows.0) m.book.resting h.showing.each)
 
     at-step : (step : Step) (m : MatchState) → IsRightStep step → TradesAt p m → TradesAt p (step_of step p m)
     at-step (Top rule) m right h =
@@ -265,10 +238,11 @@ module _ (i : ℕ) (side : Side) where
         let es = level_now p m in
         let xs = prorata_shares least q es in
         let total = sum_by (λ (e : Entry). e.order.shown) es in
-        let done : TradesAt p (trade_shares name.ProRata xs m) = at-level name.ProRata xs m h (map-of (λ (e : Entry). prorata_share least (min q total) total e.order.shown) es (differ-now m h)) in
+        let of : AreOf es xs = map-of (λ (e : Entry). prorata_share least (min q total) total e.order.shown) (λ e. share-shown least (min q total) total e.order.shown (omega arith)) es (differ-now m h) in
+        let done : TradesAt p (trade_shares name.ProRata xs m) = at-level name.ProRata xs m h of in
         let go : (c : Bool) → TradesAt p (cond c m (trade_shares name.ProRata xs m)) = elim [ true ↦ h | false ↦ done ] in
         go (q == 0)
-    at-step Leveling m right h = at-level name.Leveling (leveling_shares m.taker.order.leaves (level_now p m)) m h (leveling-of m.taker.order.leaves (level_now p m) (differ-now m h))
+    at-step Leveling m right h = at-level name.Leveling (leveling_shares m.taker.order.leaves (level_now p m)) m h (leveling-of m.taker.order.leaves (level_now p m) (show-now m h) (differ-now m h))
     at-step Fifo m right h = at-fifo m.taker.order.leaves m h
 
     at-wanted : (step : Step) (m : MatchState) → IsRightStep step → TradesAt p m → TradesAt p (wanted_step step p m)
@@ -289,7 +263,7 @@ module _ (i : ℕ) (side : Side) where
   record SweepsOn (m : MatchState) : Type 0 where
     instrument : m.taker.order.instrument ≡ i
     side_is : m.taker.order.side ≡ side
-    in_order : IsInOrder m.book.resting
+    showing : AreShowing m.book.resting
     ends : AllByRecursion (WouldEnd m.taker.range) m.book.resting
     last : last_fill m.events ≡ last_in_range side m.taker.range
 
@@ -310,8 +284,8 @@ module _ (i : ℕ) (side : Side) where
       record {
         instrument = h.instrument;
         side_is = h.side_is;
-        in_order = h.in_order;
-        none_better = best-is-best i d p m.book.resting h.in_order.ordered best;
+        showing = h.showing;
+        none_better = best-is-best i d p m.book.resting h.showing.in_order.ordered best;
         ends = first-ends m.taker.range d p m.book.resting h.ends best;
         last = h.last;
       }
@@ -320,7 +294,7 @@ module _ (i : ℕ) (side : Side) where
   on-again p m h = record {
     instrument = h.instrument;
     side_is = h.side_is;
-    in_order = h.in_order;
+    showing = h.showing;
     ends = all-with (NoBetter p) (WouldEnd m.taker.range) (λ e worse on. end-next side p e.order.price m.taker.range h.ends (worse on)) m.book.resting h.none_better;
     last = h.last;
   }
@@ -359,7 +333,7 @@ sweep-starts m right no-events no-range =
     record {
       instrument = refl;
       side_is = refl;
-      in_order = right-in-order m.book right;
+      showing = showing-right m.book right;
       ends = subst (λ (r : Option (Price × Price)). AllByRecursion (WouldEnd i side r) m.book.resting) (sym no-range) (all-from (WouldEnd i side None) (λ e on. end-first side e.order.price) m.book.resting);
       last = ap last_fill no-events ∙ sym (end-none side) ∙ ap (last_in_range side) (sym no-range);
     }

@@ -1,4 +1,4 @@
-use Rattle.match_laws.proofs.Showing.{showing-right}
+use Rattle.level_sweep.proofs.Showing.{showing-right}
 use Rattle.match_laws.proofs.Done.{fifo-stays, fifo-goes-on}
 use Rattle.match_laws.proofs.laws.fifo_goes_on.Goals as goal
 

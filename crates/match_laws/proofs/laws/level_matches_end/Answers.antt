@@ -1,4 +1,4 @@
-use Rattle.match_laws.proofs.Showing.{showing-right}
+use Rattle.level_sweep.proofs.Showing.{showing-right}
 use Rattle.match_laws.proofs.Done.{match-done}
 use Rattle.match_laws.proofs.laws.level_matches_end.Goals as goal
 

@@ -1,5 +1,5 @@
 use Rattle.match_laws.proofs.Done.{sweep-done}
-use Rattle.match_laws.proofs.Showing.{showing-right}
+use Rattle.level_sweep.proofs.Showing.{showing-right}
 use Rattle.match_laws.proofs.Uncrossed.{sweep-uncrossed, rested-uncrossed}
 use Rattle.match_laws.proofs.laws.no_book_is_crossed.Goals as goal
 

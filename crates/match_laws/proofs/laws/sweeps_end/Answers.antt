@@ -1,4 +1,4 @@
-use Rattle.match_laws.proofs.Showing.{showing-right}
+use Rattle.level_sweep.proofs.Showing.{showing-right}
 use Rattle.match_laws.proofs.Done.{sweep-done}
 use Rattle.match_laws.proofs.laws.sweeps_end.Goals as goal
 

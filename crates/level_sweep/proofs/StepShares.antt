@@ -18,6 +18,7 @@ use Rattle.plain_book.specs.Steps.{spent, top_shares, lmm_shares, prorata_share,
 use Rattle.plain_book.proofs.Filters.{filter-under}
 use Rattle.plain_book.proofs.Levels.{HasSlot-filter, AllDiffer-filter, order_of-filter, lacks, same}
 use Rattle.plain_book.proofs.Pairs.{all-with, all-append, all-filter}
+use Rattle.level_sweep.proofs.Parts.{parts-fit}
 
 -- each share is that of another order
 abbrev pub AreApart : List Share → Type 0
@@ -83,7 +84,7 @@ top-of most (Some s) q es d =
     let f = λ (e : Entry). min q (min e.order.shown most) in
     of-filter (is_slot s) es (map (λ (e : Entry). (e.slot, f e)) (filter (is_slot s) es)) d (map-of f (λ e. omega arith) (filter (is_slot s) es) (AllDiffer-filter (is_slot s) es d))
 
-abbrev is_left_out : Entry → Bool
+abbrev pub is_left_out : Entry → Bool
 is_left_out e = e.order.prorated == 0
 
 pub leveling-of : (q : ℕ) (es : List Entry) → AllShow es → AllDiffer es → AreOf es (ones q (filter is_left_out es))
@@ -128,13 +129,13 @@ of-halves p es xs ys d f g =
 
 -- ---- of the lead market makers
 
-abbrev firm_of : LmmShare → ℕ
+abbrev pub firm_of : LmmShare → ℕ
 firm_of s = s.firm
 
-abbrev is_of_firm : ℕ → Entry → Bool
+abbrev pub is_of_firm : ℕ → Entry → Bool
 is_of_firm firm e = e.order.firm == firm
 
-abbrev is_other : ℕ → Entry → Bool
+abbrev pub is_other : ℕ → Entry → Bool
 is_other firm e = not (is_of_firm firm e)
 
 other-firm : (a b : ℕ) (e : Entry) → (a == b) ≡ false → is_of_firm b e ≡ true → is_other a e ≡ true
@@ -144,18 +145,18 @@ other-firm a b e apart h = elim (eqb_tells e.order.firm a) [
 ]
 
 -- the shares of other firms do not look at the orders of this one
-lmm-others : (firm : ℕ) (fs : List LmmShare) (q : ℕ) (es : List Entry) → AllByRecursion (λ y. (firm == y) ≡ false) (map firm_of fs) → lmm_shares fs q (filter (is_other firm) es) ≡ lmm_shares fs q es
+pub lmm-others : (firm : ℕ) (fs : List LmmShare) (q : ℕ) (es : List Entry) → AllByRecursion (λ y. (firm == y) ≡ false) (map firm_of fs) → lmm_shares fs q (filter (is_other firm) es) ≡ lmm_shares fs q es
 lmm-others firm [] q es h = refl
 lmm-others firm (f ∷ fs) q es h =
     let n = q * f.percent / 100 in
     let same : filter (is_of_firm f.firm) (filter (is_other firm) es) ≡ filter (is_of_firm f.firm) es = filter-under (is_of_firm f.firm) (is_other firm) (λ e k. other-firm firm f.firm e h.0 k) es in
     ap (λ (x : List Entry). spent n x ++ lmm_shares fs q (filter (is_other firm) es)) same ∙ ap (λ (x : List Share). spent n (filter (is_of_firm f.firm) es) ++ x) (lmm-others firm fs q es h.1)
 
-distinct-first : (f : LmmShare) (fs : List LmmShare) → IsDistinct (λ a b. a == b) (map firm_of (f ∷ fs)) → AllByRecursion (λ y. (f.firm == y) ≡ false) (map firm_of fs)
+pub distinct-first : (f : LmmShare) (fs : List LmmShare) → IsDistinct (λ a b. a == b) (map firm_of (f ∷ fs)) → AllByRecursion (λ y. (f.firm == y) ≡ false) (map firm_of fs)
 unfolding IsDistinct
 distinct-first f fs d = d.0
 
-distinct-more : (f : LmmShare) (fs : List LmmShare) → IsDistinct (λ a b. a == b) (map firm_of (f ∷ fs)) → IsDistinct (λ a b. a == b) (map firm_of fs)
+pub distinct-more : (f : LmmShare) (fs : List LmmShare) → IsDistinct (λ a b. a == b) (map firm_of (f ∷ fs)) → IsDistinct (λ a b. a == b) (map firm_of fs)
 unfolding IsDistinct
 distinct-more f fs d = d.1
 
@@ -168,37 +169,6 @@ lmm-of (f ∷ fs) q es h d =
     let others : AreOf rest (lmm_shares fs q es) =
     subst (AreOf rest) (lmm-others f.firm fs q es (distinct-first f fs h)) (lmm-of fs q rest (distinct-more f fs h) (AllDiffer-filter (is_other f.firm) es d)) in
     of-halves p es (spent n (filter p es)) (lmm_shares fs q es) d (spent-of n (filter p es) (AllDiffer-filter p es d)) others
-
--- ---- parts that are rounded down add up to the whole at most
-
--- f is at most each one's part of the pool by weight
-module _ {X : Type 0} (f w : X → ℕ) (pool total : ℕ) (part : (x : X) → f x ≤ pool * w x / total) where
-  part-le : (x : X) → f x * total ≤ pool * w x
-  part-le x =
-      let h : total * f x ≤ total * (pool * w x / total) = mul-le-mul_left total (part x) in
-      omega (arith, h, div-mul-le_self (pool * w x) total)
-
-  parts-le : (xs : List X) → sum_by f xs * total ≤ pool * sum_by w xs
-  parts-le [] = omega arith
-  parts-le (x ∷ xs) = rw (sum_by-cons f x xs, sum_by-cons w x xs) (omega (arith, part-le x, parts-le xs))
-
-  part-none : total ≡ 0 → (x : X) → f x ≡ 0
-  part-none z x = omega (arith, part x, ap (λ (n : ℕ). pool * w x / n) z ∙ div-zero (pool * w x))
-
-  parts-none : total ≡ 0 → (xs : List X) → sum_by f xs ≡ 0
-  parts-none z [] = refl
-  parts-none z (x ∷ xs) = omega (arith, sum_by-cons f x xs, part-none z x, parts-none z xs)
-
-  -- all parts together are at most the pool
-  pub parts-fit : (xs : List X) → sum_by w xs ≤ total → sum_by f xs ≤ pool
-  parts-fit xs h = by-total total refl
-    where
-      by-total : (n : ℕ) → n ≡ total → sum_by f xs ≤ pool
-      by-total zero e = omega (arith, parts-none (sym e) xs)
-      by-total (suc n) e =
-          let most : pool * sum_by w xs ≤ pool * total = mul-le-mul_left pool h in
-          let all : sum_by f xs * total ≤ pool * total = omega (arith, parts-le xs, most) in
-          le_of_mul-le-mul_right all (omega (arith, e))
 
 -- ---- what shares add up to
 
@@ -241,7 +211,7 @@ one-wanted f q h s (e ∷ es) d =
       | inr t ↦ subst (λ (b : Bool). sum_by f (cond b (e ∷ F) F) ≤ q) (sym t.0) (one-wanted f q h s es d.1)
     ]
 
-abbrev top_share : ℕ → ℕ → Entry → ℕ
+abbrev pub top_share : ℕ → ℕ → Entry → ℕ
 top_share most q e = min q (min e.order.shown most)
 
 pub top-wanted : (most : ℕ) (top : Option ℕ) (q : ℕ) (es : List Entry) → AllDiffer es → lots_of (top_shares most top q es) ≤ q
@@ -255,7 +225,7 @@ percent_of s = s.percent
 abbrev part_in : ℕ → LmmShare → ℕ
 part_in q s = q * s.percent / 100
 
-lots-append : (xs ys : List Share) → lots_of (xs ++ ys) ≡ lots_of xs + lots_of ys
+pub lots-append : (xs ys : List Share) → lots_of (xs ++ ys) ≡ lots_of xs + lots_of ys
 lots-append xs ys = sum_by-append (λ (s : Share). s.1) xs ys
 
 lmm-wanted : (fs : List LmmShare) (q : ℕ) (es : List Entry) → lots_of (lmm_shares fs q es) ≤ sum_by (part_in q) fs

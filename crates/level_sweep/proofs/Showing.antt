@@ -42,11 +42,11 @@ shows = record {
   marks = λ n e x p q is. p;
 }
 
-abbrev ShowingStays : Relation
+abbrev pub ShowingStays : Relation
 ShowingStays a b = AreShowing a.book.resting → AreShowing b.book.resting
 
-showing : IsKept ShowingStays
-showing = record {
+pub showing-kept : IsKept ShowingStays
+showing-kept = record {
   same = λ m a. a;
   both = λ a b c h k x. k (h x);
   trades = λ step s n m a. record { each = (all-kept EntryShows shows).trades step s n m a.each; in_order = order-kept.trades step s n m a.in_order };
@@ -54,13 +54,13 @@ showing = record {
 }
 
 pub showing-head : (es : List Entry) (m : MatchState) → AreShowing m.book.resting → AreShowing (trade_head es m).book.resting
-showing-head es m a = each-head ShowingStays showing es m a
+showing-head es m a = each-head ShowingStays showing-kept es m a
 
 pub showing-wanted : (s : Step) (price : Price) (m : MatchState) → AreShowing m.book.resting → AreShowing (wanted_step s price m).book.resting
-showing-wanted s price m a = each-wanted ShowingStays showing s price m a
+showing-wanted s price m a = each-wanted ShowingStays showing-kept s price m a
 
 pub showing-match : (steps : List Step) (price : Price) (m : MatchState) → AreShowing m.book.resting → AreShowing (level_match steps price m).book.resting
-showing-match steps price m a = each-match ShowingStays showing steps price m a
+showing-match steps price m a = each-match ShowingStays showing-kept steps price m a
 
 -- a right book
 pub showing-right : (b : Book) → IsRight b → AreShowing b.resting
