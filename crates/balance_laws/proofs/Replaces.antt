@@ -25,12 +25,13 @@ use Rattle.order_kinds.specs.Instruments.{ListedInstrument, instrument_of, price
 use Rattle.order_kinds.specs.OrderRules.{is_quantity, has_off_tick, is_beyond_stop, is_reached_already, last_of}
 use Rattle.order_kinds.specs.Replaces.{is_same_order, replace_terms, new_price, least_after, is_same_price, keeps_place, replaced_order, replace_event, replaced_in_place, replaced_start, replaced_anew, replaced, replaced_by, replace_by, replace_step}
 use Rattle.order_kinds.specs.Stops.{by_number}
+use Rattle.order_kinds.proofs.Refusals.{refused-then, found-then}
 use Rattle.balance_laws.proofs.Events.{paired-append}
 use Rattle.balance_laws.proofs.Told.{Account, account, IsTold, told-shuffled, told-after}
 use Rattle.balance_laws.proofs.Books.{accounts, IsByNumber, changed-same}
 use Rattle.balance_laws.proofs.Trades.{Shows, Rests, InMatch}
 use Rattle.balance_laws.proofs.Entered.{rest-differ, told-out, come-in-kept}
-use Rattle.balance_laws.proofs.Requests.{TellsState, TellsStep, unchanged-kept, passes-then, found-then, instrument-right, named-has}
+use Rattle.balance_laws.proofs.Requests.{TellsState, TellsStep, unchanged-kept, instrument-right, named-has}
 
 -- ---- rules that refuse
 
@@ -48,14 +49,14 @@ record IsReplaced (instrument : ListedInstrument) (request : ReplaceOrder) (o : 
 terms-replaced : (product : ProductLists) (request : ReplaceOrder) (o : Order) (state : State) (instrument : ListedInstrument) → IsRightProduct product → replace_terms product request o state ≡ Ok instrument → IsReplaced instrument request o
 terms-replaced product request o state instrument right h =
     let found = found-then (instrument_of product request.named) fault.Mismatch _ instrument h in
-    let same = passes-then (not (is_same_order found.0 request o)) fault.Mismatch _ instrument found.2 in
-    let named = passes-then (is_live request.sender.firm request.id (live_orders state.book)) fault.Duplicate _ instrument same.1 in
-    let quantity = passes-then (not (is_quantity request.quantity)) fault.Quantity _ instrument named.1 in
-    let filled = passes-then (nat_le request.quantity o.filled) fault.Filled _ instrument quantity.1 in
-    let tick = passes-then (has_off_tick found.0 request.price request.trigger) fault.Tick _ instrument filled.1 in
-    let beyond = passes-then (is_beyond_stop request.side (price_at request.price) (price_at request.trigger)) fault.StopLimit _ instrument tick.1 in
-    let reached = passes-then (is_reached_already request.side (price_at request.trigger) (last_of found.0.number state.last)) fault.StopReached _ instrument beyond.1 in
-    let show = passes-then (nat_lt request.quantity o.show) fault.Show _ instrument reached.1 in
+    let same = refused-then (not (is_same_order found.0 request o)) fault.Mismatch _ instrument found.2 in
+    let named = refused-then (is_live request.sender.firm request.id (live_orders state.book)) fault.Duplicate _ instrument same.1 in
+    let quantity = refused-then (not (is_quantity request.quantity)) fault.Quantity _ instrument named.1 in
+    let filled = refused-then (nat_le request.quantity o.filled) fault.Filled _ instrument quantity.1 in
+    let tick = refused-then (has_off_tick found.0 request.price request.trigger) fault.Tick _ instrument filled.1 in
+    let beyond = refused-then (is_beyond_stop request.side (price_at request.price) (price_at request.trigger)) fault.StopLimit _ instrument tick.1 in
+    let reached = refused-then (is_reached_already request.side (price_at request.trigger) (last_of found.0.number state.last)) fault.StopReached _ instrument beyond.1 in
+    let show = refused-then (nat_lt request.quantity o.show) fault.Show _ instrument reached.1 in
     let is : Ok found.0 ≡ Ok instrument = show.1 in
     let here : found.0 ≡ instrument = cc in
     record {

@@ -1,7 +1,7 @@
 -- New orders, cancels and refused messages keep what has been told of the open orders.
-use Rattle.std.proofs.Common.{◌≡◌, ℕ, ◌+◌, Bool, true, false, not, List, [], ◌∷◌, ◌++◌, filter, Option, Some, None, Result, Ok, Err, option_map, slice_get, length, refl, subst, arith}
+use Rattle.std.proofs.Common.{◌≡◌, ℕ, ◌+◌, Bool, false, not, List, [], ◌∷◌, ◌++◌, filter, Option, Some, None, Result, Ok, Err, option_map, slice_get, length, refl, subst, arith}
 use Prim.Native.Nat.{zero, suc}
-use Rattle.std.specs.Prelude.{◌==◌, nat_lt, ok_or}
+use Rattle.std.specs.Prelude.{◌==◌, nat_lt}
 use Rattle.std.specs.List.{AllByRecursion}
 use Rattle.gx_base.specs.declared.order.Order.{Order}
 use Rattle.gx_base.specs.declared.event.Head.{Head}
@@ -30,13 +30,14 @@ use Rattle.plain_book.proofs.Live.{first-has}
 use Rattle.plain_book.proofs.Pairs.{all-filter}
 use Rattle.order_kinds.specs.State.{State}
 use Rattle.order_kinds.specs.Instruments.{ListedInstrument, instrument_of, price_at}
-use Rattle.order_kinds.specs.OrderRules.{◌>>=◌, refused_where, is_quantity, has_off_tick, is_beyond_stop, is_reached_already, last_of}
+use Rattle.order_kinds.specs.OrderRules.{is_quantity, has_off_tick, is_beyond_stop, is_reached_already, last_of}
 use Rattle.order_kinds.specs.NewOrders.{has_bad_min, limit_of, Terms, terms_of, order_on}
 use Rattle.order_kinds.specs.Reports.{change_refused, unchanged}
 use Rattle.order_kinds.specs.Accepting.{refusal, refused, new_start, accepted, new_by, new_step}
 use Rattle.order_kinds.specs.Cancels.{cancelled, cancel_by, cancel_step, order_cancelled, rejected, session_step}
 use Rattle.order_kinds.specs.Stops.{by_number}
 use Rattle.order_kinds.specs.Balance.{ArePaired}
+use Rattle.order_kinds.proofs.Refusals.{refused-then, found-then}
 use Rattle.balance_laws.proofs.Events.{paired-append}
 use Rattle.balance_laws.proofs.Told.{Account, account, IsTold, TellsNothing, told-none, told-after, unentered, told-numbered}
 use Rattle.balance_laws.proofs.Books.{accounts, IsByNumber}
@@ -76,18 +77,6 @@ session-kept events refusal state h =
     let now = event-kept events (rejected refusal state.desk) state (record { is = refl; lots = λ k. refl; adds = tt; filled = refl; cancelled = refl; enters = λ total. refl }) refl h in
     record { told = now.told; paired = now.paired; rest = now.rest; wait = now.wait }
 
--- ---- rules that refuse
-
--- the rule does not hold, and the others are next
-pub passes-then : {B F : Type 0} (b : Bool) (f : F) (rest : Unit {0} → Result B F) (r : B) → (refused_where b f >>= rest) ≡ Ok r → (b ≡ false) × (rest tt ≡ Ok r)
-passes-then true f rest r h = absurd (let k : Err f ≡ Ok r = h in cc)
-passes-then false f rest r h = (refl, h)
-
--- it is found, and the other rules are next
-pub found-then : {A B F : Type 0} (found : Option A) (f : F) (rest : A → Result B F) (r : B) → (ok_or found f >>= rest) ≡ Ok r → (x : A) × (found ≡ Some x) × (rest x ≡ Ok r)
-found-then None f rest r h = absurd (let k : Err f ≡ Ok r = h in cc)
-found-then (Some x) f rest r h = (x, refl, h)
-
 -- each rule of a product has right steps
 rule-right : (firms : ℕ) (rules : List InstrumentRule) (i : ℕ) (rule : InstrumentRule) → AllByRecursion (IsRightInstrument firms) rules → slice_get rules i ≡ Some rule → AreRightSteps rule.steps
 rule-right firms [] i rule all h = absurd (let k : None ≡ Some rule = h in cc)
@@ -111,14 +100,14 @@ instrument-right product (Known number) found right h =
 terms-right : (product : ProductLists) (new : NewOrder) (state : State) (terms : Terms) → IsRightProduct product → terms_of product new state ≡ Ok terms → AreRightSteps terms.instrument.rule.steps
 terms-right product new state terms right h =
     let found = found-then (instrument_of product new.named) fault.Symbol _ terms h in
-    let named = passes-then (is_live new.sender.firm new.id (live_orders state.book)) fault.Duplicate _ terms found.2 in
-    let quantity = passes-then (not (is_quantity new.quantity)) fault.Quantity _ terms named.1 in
-    let tick = passes-then (has_off_tick found.0 new.price new.trigger) fault.Tick _ terms quantity.1 in
-    let beyond = passes-then (is_beyond_stop new.side (price_at new.price) (price_at new.trigger)) fault.StopLimit _ terms tick.1 in
-    let reached = passes-then (is_reached_already new.side (price_at new.trigger) (last_of found.0.number state.last)) fault.StopReached _ terms beyond.1 in
-    let least = passes-then (has_bad_min new) fault.MinQty _ terms reached.1 in
-    let show = passes-then (nat_lt new.quantity new.show) fault.Show _ terms least.1 in
-    let room = passes-then (length (live_orders state.book) == product.max_orders) fault.BookFull _ terms show.1 in
+    let named = refused-then (is_live new.sender.firm new.id (live_orders state.book)) fault.Duplicate _ terms found.2 in
+    let quantity = refused-then (not (is_quantity new.quantity)) fault.Quantity _ terms named.1 in
+    let tick = refused-then (has_off_tick found.0 new.price new.trigger) fault.Tick _ terms quantity.1 in
+    let beyond = refused-then (is_beyond_stop new.side (price_at new.price) (price_at new.trigger)) fault.StopLimit _ terms tick.1 in
+    let reached = refused-then (is_reached_already new.side (price_at new.trigger) (last_of found.0.number state.last)) fault.StopReached _ terms beyond.1 in
+    let least = refused-then (has_bad_min new) fault.MinQty _ terms reached.1 in
+    let show = refused-then (nat_lt new.quantity new.show) fault.Show _ terms least.1 in
+    let room = refused-then (length (live_orders state.book) == product.max_orders) fault.BookFull _ terms show.1 in
     let limit = found-then (limit_of new.kind found.0 new state.book) fault.NoMarket _ terms room.1 in
     let made : Terms = record { instrument = found.0; limit = limit.0 } in
     let is : Ok made ≡ Ok terms = limit.2 in

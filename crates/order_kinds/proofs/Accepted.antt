@@ -1,10 +1,7 @@
 -- A new order is accepted: what its coming in is given, and what all of it comes to.
-use Rattle.std.proofs.Common.{◌≡◌, ℕ, ◌+◌, ◌*◌, ◌≤◌, true, false, List, [], ◌∷◌, None, Result, Ok, Err, slice_index, slice_set, length, refl, sym, ap, subst, ◌∙◌, arith, inl, inr, ◌⊎◌}
-use Prim.Native.Nat.{zero, suc}
+use Rattle.std.proofs.Common.{◌≡◌, ℕ, ◌+◌, ◌*◌, ◌≤◌, true, [], ◌∷◌, None, Result, Ok, Err, length, refl, sym, ap, subst, ◌∙◌, arith}
 use Rattle.std.specs.Prelude.{◌^◌}
 use Rattle.gx_base.specs.declared.limits.TheConstants.{MOST_LOTS}
-use Rattle.gx_base.specs.declared.order.Life.{Life}
-use Rattle.gx_base.specs.declared.order.Life.TheVariants.{Day, Gtc, Fak, Fok}
 use Rattle.gx_base.specs.declared.order.Kind.TheVariants.{StopLimit}
 use Rattle.gx_base.specs.declared.order.Order.{Order}
 use Rattle.gx_base.specs.declared.order.Desk.{Desk}
@@ -29,18 +26,12 @@ use Rattle.order_kinds.specs.Inner.Apart.{NewApart}
 use Rattle.order_kinds.specs.Inner.Taking.{Takes, CountsRose, IsCounted, CanRest}
 use Rattle.order_kinds.specs.Inner.Triggering.{CanWait, HasRoomToComeIn}
 use Rattle.order_kinds.specs.Inner.ComingIn.{CanComeIn, brought_in, BroughtApart, most_reports}
+use Rattle.order_kinds.proofs.Counts.{line-counted}
+use Rattle.order_kinds.proofs.Lives.{resting-life}
 use Rattle.order_kinds.proofs.TakenSteps.{takes-known}
 use Rattle.order_kinds.proofs.ReportedFirst.{IsNoFill, takes-reported}
 
 -- ---- counters
-
--- a count of one place raises no place by more than one
-pub counted_line : (lines : List ℕ) (firm i : ℕ) → slice_index (slice_set lines firm (slice_index lines firm + 1)) i ≤ slice_index lines i + 1
-counted_line [] firm i = omega arith
-counted_line (x ∷ lines) zero zero = omega arith
-counted_line (x ∷ lines) zero (suc i) = omega arith
-counted_line (x ∷ lines) (suc firm) zero = omega arith
-counted_line (x ∷ lines) (suc firm) (suc i) = counted_line lines firm i
 
 abbrev pub HasFewStops : Book → Type 0
 HasFewStops b = length b.waiting ≤ MOST_ORDERS
@@ -54,7 +45,7 @@ has-room b desk firm orders counted next few = record {
   counts = record {
     trades = omega (arith, counted.counts.trades);
     reports = omega (arith, counted.counts.reports);
-    lines = λ place. omega (arith, counted.counts.lines place, counted_line desk.lines firm place);
+    lines = λ place. omega (arith, counted.counts.lines place, line-counted desk.lines firm place);
   };
   few = omega (arith, few);
 }
@@ -67,7 +58,7 @@ rose-reported old firm after leaves waiting small few rose = record {
   orders = rose.orders;
   trades = omega (arith, rose.trades, small, few);
   reports = omega (arith, rose.reports, small, few);
-  lines = λ place. omega (arith, rose.lines place, small, few, counted_line old.lines firm place);
+  lines = λ place. omega (arith, rose.lines place, small, few, line-counted old.lines firm place);
 }
 
 abbrev pub numbered_next : Desk → Desk
@@ -96,14 +87,8 @@ can-trade old terms new asked counted = record {
   orders = omega (arith, counted.messages, counted.orders, asked.small);
   trades = omega (arith, counted.counts.trades, asked.small);
   reports = omega (arith, counted.counts.reports, asked.small);
-  lines = λ i. omega (arith, counted.counts.lines i, asked.small, counted_line old.desk.lines new.sender.firm i);
+  lines = λ i. omega (arith, counted.counts.lines i, asked.small, line-counted old.desk.lines new.sender.firm i);
 }
-
-pub resting-life : (life : Life) → may_rest life ≡ true → (life ≡ Day) ⊎ (life ≡ Gtc)
-resting-life Day h = inl refl
-resting-life Gtc h = inr refl
-resting-life Fak h = absurd (let k : false ≡ true = h in cc)
-resting-life Fok h = absurd (let k : false ≡ true = h in cc)
 
 rest-on : (old : State) (terms : Terms) (new : NewOrder) (number : ℕ) → IsAccepted old terms new → (new.kind ≡ StopLimit → ⊥) → may_rest new.life ≡ true → CanRest old.book (order_on terms new number)
 rest-on old terms new number asked no_stop may = record {

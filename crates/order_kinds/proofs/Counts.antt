@@ -6,7 +6,7 @@ use Rattle.plain_book.specs.Match.{report_counted}
 use Rattle.order_kinds.specs.Inner.Taking.{CountsRose}
 
 -- a count of one place raises no place by more than one
-line-counted : (lines : List ℕ) (firm i : ℕ) → slice_index (slice_set lines firm (slice_index lines firm + 1)) i ≤ slice_index lines i + 1
+pub line-counted : (lines : List ℕ) (firm i : ℕ) → slice_index (slice_set lines firm (slice_index lines firm + 1)) i ≤ slice_index lines i + 1
 line-counted [] firm i = omega arith
 line-counted (x ∷ lines) zero zero = omega arith
 line-counted (x ∷ lines) zero (suc i) = omega arith

@@ -23,7 +23,8 @@ use Rattle.order_kinds.specs.OrderRules.{is_quantity, has_off_tick, is_beyond_st
 use Rattle.order_kinds.specs.NewOrders.{Terms, terms_of, limit_of, has_bad_min}
 use Rattle.order_kinds.specs.State.{State}
 use Rattle.order_kinds.specs.Cores.{IsInRange}
-use Rattle.order_kinds.proofs.Terms.{refused-then, found-then, named-number}
+use Rattle.order_kinds.proofs.Refusals.{refused-then, found-then}
+use Rattle.order_kinds.proofs.Terms.{named-number}
 
 -- ---- the protected limit
 

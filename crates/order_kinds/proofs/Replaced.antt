@@ -1,5 +1,5 @@
 -- A replace: what is true of one that no rule refuses, what the order is given to come in again, and what all of it comes to.
-use Rattle.std.proofs.Common.{◌≡◌, ℕ, ◌-◌, ◌<◌, ◌≤◌, Bool, true, false, cond, not, ◌&&◌, List, [], ◌∷◌, Result, Ok, Err, Some, None, length, refl, sym, ap, subst, ◌∙◌, arith, inl, inr, ◌⊎◌}
+use Rattle.std.proofs.Common.{◌≡◌, ℕ, ◌<◌, ◌≤◌, Bool, true, false, cond, not, ◌&&◌, List, [], ◌∷◌, Result, Ok, Err, Some, None, length, refl, sym, ap, subst, ◌∙◌, arith, inl, inr, ◌⊎◌}
 use Rattle.std.specs.Prelude.{◌^◌, nat_lt, nat_le}
 use Rattle.std.proofs.lemmas.Bool.Decides.{nat_tests}
 use Rattle.gx_base.specs.declared.limits.TheConstants.{MOST_LOTS}
@@ -40,8 +40,10 @@ use Rattle.order_kinds.specs.Inner.Replacing.{IsAllowed}
 use Rattle.order_kinds.specs.Inner.Taking.{Takes, CountsRose, IsCounted, CanRest}
 use Rattle.order_kinds.specs.Inner.Triggering.{CanWait}
 use Rattle.order_kinds.specs.Inner.ComingIn.{CanComeIn, brought_in, BroughtApart, most_reports}
-use Rattle.order_kinds.proofs.Terms.{refused-then, found-then, quantity-small, shown-within, no-trigger, named-number}
-use Rattle.order_kinds.proofs.Accepted.{HasFewStops, has-room, rose-reported, counted_line}
+use Rattle.order_kinds.proofs.Counts.{line-counted}
+use Rattle.order_kinds.proofs.Refusals.{refused-then, found-then}
+use Rattle.order_kinds.proofs.Terms.{quantity-small, shown-within, no-trigger, named-number}
+use Rattle.order_kinds.proofs.Accepted.{HasFewStops, has-room, rose-reported}
 use Rattle.order_kinds.proofs.LiveOrders.{named-own, IsFit, live-fits, fit-firm, fit-listed, left-unnamed, left-room, fewer-left, changed-is}
 use Rattle.order_kinds.proofs.ReportedFirst.{IsNoFill, takes-reported}
 
@@ -199,7 +201,7 @@ module _ (request : ReplaceOrder) (s : ℕ) (old : State) (right : IsRight old.b
     orders = omega (arith, counted.messages, counted.orders, allowed.small);
     trades = omega (arith, counted.counts.trades, allowed.small);
     reports = omega (arith, counted.counts.reports, allowed.small);
-    lines = λ i. omega (arith, counted.counts.lines i, allowed.small, counted_line old.desk.lines before.firm i);
+    lines = λ i. omega (arith, counted.counts.lines i, allowed.small, line-counted old.desk.lines before.firm i);
   }
 
   rest-again : IsAllowed old.book request before → (before.kind ≡ StopLimit → ⊥) → may_rest before.life ≡ true → CanRest left (replaced_order request before)

@@ -1,6 +1,6 @@
 -- What is asked of a book for a new order, and what is true of one that no rule refuses.
-use Rattle.std.proofs.Common.{◌≡◌, ◌≢◌, ℕ, ◌<◌, ◌≤◌, Bool, true, false, cond, not, ◌&&◌, ◌||◌, List, [], ◌∷◌, filter, length, Option, Some, None, Result, Ok, Err, option_map, is_some, slice_get, refl, sym, ap, subst, ◌∙◌, arith, inl, inr}
-use Rattle.std.specs.Prelude.{◌==◌, nat_lt, nat_le, ok_or}
+use Rattle.std.proofs.Common.{◌≡◌, ◌≢◌, ℕ, ◌<◌, ◌≤◌, true, false, cond, not, ◌&&◌, ◌||◌, List, [], ◌∷◌, filter, length, Option, Some, None, Ok, option_map, is_some, slice_get, refl, sym, ap, subst, ◌∙◌, arith, inl, inr}
+use Rattle.std.specs.Prelude.{◌==◌, nat_lt, nat_le}
 use Rattle.std.proofs.lemmas.Bool.Decides.{eqb_tells, nat_tests}
 use Rattle.gx_base.specs.declared.limits.TheConstants.{MOST_LOTS}
 use Rattle.gx_base.specs.declared.price.Price.{Price}
@@ -23,10 +23,11 @@ use Rattle.plain_book.specs.Book.{IsRight, live_orders, slot_number}
 use Rattle.plain_book.proofs.Pairs.{all-filter}
 use Rattle.order_kinds.specs.State.{State}
 use Rattle.order_kinds.specs.Instruments.{ListedInstrument, instrument_of, price_at}
-use Rattle.order_kinds.specs.OrderRules.{◌>>=◌, refused_where, is_quantity, has_off_tick, is_beyond_stop, is_reached_already, last_of, stop_price}
+use Rattle.order_kinds.specs.OrderRules.{is_quantity, has_off_tick, is_beyond_stop, is_reached_already, last_of, stop_price}
 use Rattle.order_kinds.specs.NewOrders.{has_bad_min, limit_of, Terms, terms_of}
 use Rattle.order_kinds.specs.Cores.{IsInRange, FitsProduct}
 use Rattle.order_kinds.specs.Inner.Terms.{ArePricesInRange, IsAccepted}
+use Rattle.order_kinds.proofs.Refusals.{refused-then, found-then}
 
 -- ---- an order by its firm and id
 
@@ -55,16 +56,6 @@ pub best-in-range : (instrument : ℕ) (side : Side) (es : List Entry) (p : Pric
 best-in-range instrument side es p h is = first-in-range (side_of instrument side es) p (all-filter (λ (e : Entry). IsInRange e.order.price) (is_on instrument side) es h) is
 
 -- ---- no rule refuses
-
--- the rule does not hold, and the others are next
-pub refused-then : {B F : Type 0} (b : Bool) (f : F) (rest : Unit {0} → Result B F) (r : B) → (refused_where b f >>= rest) ≡ Ok r → (b ≡ false) × (rest tt ≡ Ok r)
-refused-then true f rest r h = absurd (let k : Err f ≡ Ok r = h in cc)
-refused-then false f rest r h = (refl, h)
-
--- it is found, and the other rules are next
-pub found-then : {A B F : Type 0} (found : Option A) (f : F) (rest : A → Result B F) (r : B) → (ok_or found f >>= rest) ≡ Ok r → (x : A) × (found ≡ Some x) × (rest x ≡ Ok r)
-found-then None f rest r h = absurd (let k : Err f ≡ Ok r = h in cc)
-found-then (Some x) f rest r h = (x, refl, h)
 
 eq-false : (a b : ℕ) → (a == b) ≡ false → a ≢ b
 eq-false a b h = elim (eqb_tells a b) [ inl t ↦ absurd (let k : true ≡ false = sym t.0 ∙ h in cc) | inr t ↦ t.1 ]

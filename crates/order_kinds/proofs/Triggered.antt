@@ -1,9 +1,7 @@
 -- A waiting stop is triggered: it can be entered and can come to rest, and what all of it comes to.
-use Rattle.std.proofs.Common.{◌≡◌, ℕ, ◌+◌, ◌*◌, ◌<◌, ◌≤◌, true, false, List, [], ◌∷◌, ◌++◌, length, None, refl, sym, ap, subst, ◌∙◌, arith, inl, inr, ◌⊎◌}
+use Rattle.std.proofs.Common.{◌≡◌, ℕ, ◌+◌, ◌*◌, ◌<◌, ◌≤◌, true, false, List, [], ◌∷◌, ◌++◌, length, None, refl, sym, ap, subst, ◌∙◌, arith}
 use Rattle.std.proofs.lemmas.List.{append-nil}
 use Rattle.gx_base.specs.declared.limits.TheConstants.{MOST_FIRMS}
-use Rattle.gx_base.specs.declared.order.Life.{Life}
-use Rattle.gx_base.specs.declared.order.Life.TheVariants.{Day, Gtc, Fak, Fok}
 use Rattle.gx_base.specs.declared.order.Order.{Order}
 use Rattle.gx_base.specs.declared.order.Desk.{Desk}
 use Rattle.gx_base.specs.declared.order.Taker.{Taker}
@@ -30,14 +28,9 @@ use Rattle.order_kinds.specs.Inner.Taking.{TakesPart, CountsRose, CanRest}
 use Rattle.order_kinds.specs.Inner.Triggering.{HasRoomToTrigger, slot_entered}
 use Rattle.order_kinds.proofs.Counts.{rose-counted, rose-both, rose-within}
 use Rattle.order_kinds.proofs.Entered.{entered-ignores}
+use Rattle.order_kinds.proofs.Lives.{resting-life}
 
 -- ---- the stop leaves
-
-resting-life : (life : Life) → may_rest life ≡ true → (life ≡ Day) ⊎ (life ≡ Gtc)
-resting-life Day h = inl refl
-resting-life Gtc h = inr refl
-resting-life Fak h = absurd (let k : false ≡ true = h in cc)
-resting-life Fok h = absurd (let k : false ≡ true = h in cc)
 
 module _ (b : Book) (right : IsRight b) (slot : ℕ) (waits : HasSlot slot b.waiting) where
   abbrev stop : Order
