@@ -1,6 +1,6 @@
 -- Prices that are within the price range, and what an accepted order has.
-use Rattle.std.proofs.Common.{◌≡◌, ℕ, zero, suc, ◌<◌, ◌≤◌, ◌*◌, ◌/◌, ℤ, pos, negsuc, Bool, true, false, cond, not, length, Option, Some, None, option_map, Result, Ok, refl, sym, subst, ◌∙◌, arith, inl, inr}
-use Rattle.std.specs.Prelude.{◌==◌, nat_lt, int_lt, neg_ℤ, unsigned_abs, unwrap_or}
+use Rattle.std.proofs.Common.{◌≡◌, ℕ, zero, suc, ◌<◌, ◌≤◌, ◌*◌, ◌/◌, ℤ, pos, negsuc, Bool, true, false, cond, length, Option, Some, None, option_map, Ok, refl, sym, subst, ◌∙◌, arith, inl, inr}
+use Rattle.std.specs.Prelude.{int_lt, neg_ℤ, unsigned_abs, unwrap_or}
 use Rattle.std.proofs.Math.Nat.{div-mul-le_self}
 use Rattle.std.proofs.lemmas.Bool.Decides.{leb_tells}
 use Rattle.gx_base.specs.declared.limits.TheConstants.{MOST_PRICE_UNITS}
@@ -8,22 +8,19 @@ use Rattle.gx_base.specs.declared.price.Price.{Price}
 use Rattle.gx_base.specs.declared.order.Side.{Side}
 use Rattle.gx_base.specs.declared.order.Kind.{Kind}
 use Rattle.gx_base.specs.declared.order.Kind.TheVariants.{Limit, Market, StopLimit}
-use Rattle.gx_base.specs.declared.event.NewFault.{NewFault}
-use Rattle.gx_base.specs.declared.event.NewFault.TheVariants as fault
 use Rattle.product_file.specs.Products.{ProductLists}
 use Rattle.product_file.specs.declared.product.InstrumentRule.{InstrumentRule}
 use Rattle.fix_request.specs.declared.request.Px.{Px}
 use Rattle.fix_request.specs.declared.request.Px.TheVariants.{Absent, At, Between}
 use Rattle.fix_request.specs.declared.request.NewOrder.{NewOrder}
 use Rattle.fix_request.specs.ValidRequests.{IsWithinLimit, IsValidNew}
-use Rattle.plain_book.specs.Orders.{is_live, best_of, opposite}
-use Rattle.plain_book.specs.Book.{Book, live_orders}
-use Rattle.order_kinds.specs.Instruments.{ListedInstrument, instrument_of, tick_of, price_at, greatest_price, within_range, beyond, protected_limit}
-use Rattle.order_kinds.specs.OrderRules.{is_quantity, has_off_tick, is_beyond_stop, is_reached_already, last_of}
-use Rattle.order_kinds.specs.NewOrders.{Terms, terms_of, limit_of, has_bad_min}
+use Rattle.plain_book.specs.Orders.{best_of, opposite}
+use Rattle.plain_book.specs.Book.{Book}
+use Rattle.order_kinds.specs.Instruments.{ListedInstrument, tick_of, price_at, greatest_price, within_range, beyond, protected_limit}
+use Rattle.order_kinds.specs.NewOrders.{Terms, terms_of, limit_of}
 use Rattle.order_kinds.specs.State.{State}
 use Rattle.order_kinds.specs.Cores.{IsInRange}
-use Rattle.order_kinds.proofs.Refusals.{refused-then, found-then}
+use Rattle.order_kinds.proofs.Refusals.{new-passes}
 use Rattle.order_kinds.proofs.Terms.{named-number}
 
 -- ---- the protected limit
@@ -89,24 +86,11 @@ pub record AreListedTerms (product : ProductLists) (terms : Terms) : Type 0 wher
 
 pub terms-listed : (product : ProductLists) (new : NewOrder) (state : State) (terms : Terms) → IsValidNew product.names new → terms_of product new state ≡ Ok terms → AreListedTerms product terms
 terms-listed product new state terms valid is =
-    let b = state.book in
-    let (i, named, asked) = found-then (instrument_of product new.named) fault.Symbol _ terms is in
-    let (live, after_live) = refused-then (is_live new.sender.firm new.id (live_orders b)) fault.Duplicate _ terms asked in
-    let (quantity, after_quantity) = refused-then (not (is_quantity new.quantity)) fault.Quantity _ terms after_live in
-    let (tick, after_tick) = refused-then (has_off_tick i new.price new.trigger) fault.Tick _ terms after_quantity in
-    let (beyond_stop, after_stop) = refused-then (is_beyond_stop new.side (price_at new.price) (price_at new.trigger)) fault.StopLimit _ terms after_tick in
-    let (reached, after_reached) = refused-then (is_reached_already new.side (price_at new.trigger) (last_of i.number state.last)) fault.StopReached _ terms after_stop in
-    let (least, after_least) = refused-then (has_bad_min new) fault.MinQty _ terms after_reached in
-    let (show, after_show) = refused-then (nat_lt new.quantity new.show) fault.Show _ terms after_least in
-    let (room, after_room) = refused-then (length (live_orders b) == product.max_orders) fault.BookFull _ terms after_show in
-    let (limit, priced, made) = found-then (limit_of new.kind i new b) fault.NoMarket _ terms after_room in
-    let on : Terms = record { instrument = i; limit = limit } in
-    let k : ◌≡◌ {A = Result Terms NewFault} (Ok on) (Ok terms) = made in
-    let same : on ≡ terms = cc in
-    subst (AreListedTerms product) same (record {
-      instrument = named-number product new.named i valid.named named;
-      limit = limit-range new.kind i new b limit valid.price priced;
-    })
+    let passes = new-passes product new state terms is in
+    record {
+      instrument = named-number product new.named terms.instrument valid.named passes.named;
+      limit = limit-range new.kind terms.instrument new state.book terms.limit valid.price passes.limit;
+    }
 
 -- ---- the prices of a message
 

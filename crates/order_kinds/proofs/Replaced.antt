@@ -1,6 +1,6 @@
 -- A replace: what is true of one that no rule refuses, what the order is given to come in again, and what all of it comes to.
 use Rattle.std.proofs.Common.{◌≡◌, ℕ, ◌<◌, ◌≤◌, Bool, true, false, cond, not, ◌&&◌, List, [], ◌∷◌, Result, Ok, Err, Some, None, length, refl, sym, ap, subst, ◌∙◌, arith, inl, inr, ◌⊎◌}
-use Rattle.std.specs.Prelude.{◌^◌, nat_lt, nat_le}
+use Rattle.std.specs.Prelude.{◌^◌, nat_le}
 use Rattle.std.proofs.lemmas.Bool.Decides.{nat_tests}
 use Rattle.gx_base.specs.declared.limits.TheConstants.{MOST_LOTS}
 use Rattle.gx_base.specs.declared.order.Kind.{Kind}
@@ -14,7 +14,6 @@ use Rattle.gx_base.specs.declared.event.Head.{Head}
 use Rattle.gx_base.specs.declared.event.Event.{Event}
 use Rattle.gx_base.specs.declared.event.Event.TheVariants.{Replaced}
 use Rattle.gx_base.specs.declared.event.ChangeFault.{ChangeFault}
-use Rattle.gx_base.specs.declared.event.ChangeFault.TheVariants as fault
 use Rattle.gx_base.specs.Emits.{EmitMeanings, Emits}
 use Rattle.product_file.specs.Products.{ProductLists}
 use Rattle.fix_request.specs.declared.request.Px.{Px}
@@ -28,20 +27,19 @@ use Rattle.plain_book.proofs.Levels.{order_of-left}
 use Rattle.plain_book.proofs.Live.{fit_of}
 use Rattle.plain_book.proofs.TradedShares.{match_with}
 use Rattle.order_kinds.specs.State.{State}
-use Rattle.order_kinds.specs.Instruments.{ListedInstrument, instrument_of, price_at}
+use Rattle.order_kinds.specs.Instruments.{ListedInstrument}
 use Rattle.order_kinds.specs.Reports.{unchanged}
 use Rattle.order_kinds.specs.Stops.{by_number}
 use Rattle.order_kinds.specs.Cores.{FitsProduct}
-use Rattle.order_kinds.specs.OrderRules.{is_quantity, has_off_tick, is_beyond_stop, is_reached_already, last_of}
 use Rattle.order_kinds.specs.NewOrders.{may_rest}
-use Rattle.order_kinds.specs.Replaces.{is_kind, is_same_order, replace_terms, new_price, least_kept, least_after, replaced_order, replaced_in_place, replaced_start, replaced_anew, keeps_place, replaced_by, replace_by}
+use Rattle.order_kinds.specs.Replaces.{is_kind, replace_terms, new_price, least_kept, least_after, replaced_order, replaced_in_place, replaced_start, replaced_anew, keeps_place, replaced_by, replace_by}
 use Rattle.order_kinds.specs.Inner.Apart.{ReplacedApart, ReplaceApartBy, ReplaceApart}
 use Rattle.order_kinds.specs.Inner.Replacing.{IsAllowed}
 use Rattle.order_kinds.specs.Inner.Taking.{Takes, CountsRose, IsCounted, CanRest}
 use Rattle.order_kinds.specs.Inner.Triggering.{CanWait}
 use Rattle.order_kinds.specs.Inner.ComingIn.{CanComeIn, brought_in, BroughtApart, most_reports}
 use Rattle.order_kinds.proofs.Counts.{line-counted}
-use Rattle.order_kinds.proofs.Refusals.{refused-then, found-then}
+use Rattle.order_kinds.proofs.Refusals.{replace-passes}
 use Rattle.order_kinds.proofs.Terms.{quantity-small, shown-within, no-trigger, named-number}
 use Rattle.order_kinds.proofs.Accepted.{HasFewStops, has-room, rose-reported}
 use Rattle.order_kinds.proofs.LiveOrders.{named-own, IsFit, live-fits, fit-firm, fit-listed, left-unnamed, left-room, fewer-left, changed-is}
@@ -73,28 +71,17 @@ more-than n filled h = grind (arith, nat_tests)
 pub replace-allowed : (product : ProductLists) (request : ReplaceOrder) (o : Order) (state : State) (on : ListedInstrument) → IsValidReplace product.names request → o.firm ≡ request.sender.firm
     → replace_terms product request o state ≡ Ok on → IsAllowed state.book request o × (on.number < length product.names.instruments)
 replace-allowed product request o state on valid own h =
-    let found = found-then (instrument_of product request.named) fault.Mismatch _ on h in
-    let i = found.0 in
-    let same = refused-then (not (is_same_order i request o)) fault.Mismatch _ on found.2 in
-    let unnamed = refused-then (is_live request.sender.firm request.id (live_orders state.book)) fault.Duplicate _ on same.1 in
-    let quantity = refused-then (not (is_quantity request.quantity)) fault.Quantity _ on unnamed.1 in
-    let filled = refused-then (nat_le request.quantity o.filled) fault.Filled _ on quantity.1 in
-    let tick = refused-then (has_off_tick i request.price request.trigger) fault.Tick _ on filled.1 in
-    let stop = refused-then (is_beyond_stop request.side (price_at request.price) (price_at request.trigger)) fault.StopLimit _ on tick.1 in
-    let reached = refused-then (is_reached_already request.side (price_at request.trigger) (last_of i.number state.last)) fault.StopReached _ on stop.1 in
-    let show = refused-then (nat_lt request.quantity o.show) fault.Show _ on reached.1 in
-    let is : Ok i ≡ Ok on = show.1 in
-    let here : i ≡ on = cc in
-    let kind : request.kind ≡ o.kind = same-kind request.kind o.kind (all-three _ _ (is_kind request.kind o.kind) same.0) in (
+    let passes = replace-passes product request o state on h in
+    let kind : request.kind ≡ o.kind = same-kind request.kind o.kind (all-three _ _ (is_kind request.kind o.kind) passes.same) in (
       record {
         own = own;
-        unnamed = unnamed.0;
-        more = more-than request.quantity o.filled filled.0;
-        small = (quantity-small MOST_LOTS request.quantity quantity.0).1;
-        show = shown-within o.show request.quantity show.0;
+        unnamed = passes.unnamed;
+        more = more-than request.quantity o.filled passes.filled;
+        small = (quantity-small MOST_LOTS request.quantity passes.quantity).1;
+        show = shown-within o.show request.quantity passes.show;
         no_stop = λ other. no-trigger request.kind request.price request.trigger valid.prices (λ k. other (sym kind ∙ k));
       },
-      subst (λ (x : ListedInstrument). x.number < length product.names.instruments) here (named-number product request.named i valid.named found.1),
+      named-number product request.named on valid.named passes.named,
     )
 
 -- so much is known of an order that was found, and of the instrument that its terms give

@@ -8,7 +8,6 @@ use Rattle.gx_base.specs.declared.order.Side.{Side}
 use Rattle.gx_base.specs.declared.order.Kind.{Kind}
 use Rattle.gx_base.specs.declared.order.Kind.TheVariants.{Limit, Market, StopLimit}
 use Rattle.gx_base.specs.declared.order.Slot.{Slot}
-use Rattle.gx_base.specs.declared.event.NewFault.TheVariants as fault
 use Rattle.product_file.specs.Products.{ProductLists, IsRightProduct}
 use Rattle.product_file.specs.declared.product.InstrumentRule.{InstrumentRule}
 use Rattle.fix_request.specs.declared.request.NewOrder.{NewOrder}
@@ -22,12 +21,12 @@ use Rattle.plain_book.specs.Orders.{slot_of, slot_named, is_named, is_live, is_o
 use Rattle.plain_book.specs.Book.{IsRight, live_orders, slot_number}
 use Rattle.plain_book.proofs.Pairs.{all-filter}
 use Rattle.order_kinds.specs.State.{State}
-use Rattle.order_kinds.specs.Instruments.{ListedInstrument, instrument_of, price_at}
-use Rattle.order_kinds.specs.OrderRules.{is_quantity, has_off_tick, is_beyond_stop, is_reached_already, last_of, stop_price}
-use Rattle.order_kinds.specs.NewOrders.{has_bad_min, limit_of, Terms, terms_of}
+use Rattle.order_kinds.specs.Instruments.{ListedInstrument, instrument_of}
+use Rattle.order_kinds.specs.OrderRules.{stop_price}
+use Rattle.order_kinds.specs.NewOrders.{Terms, terms_of}
 use Rattle.order_kinds.specs.Cores.{IsInRange, FitsProduct}
 use Rattle.order_kinds.specs.Inner.Terms.{ArePricesInRange, IsAccepted}
-use Rattle.order_kinds.proofs.Refusals.{refused-then, found-then}
+use Rattle.order_kinds.proofs.Refusals.{new-passes}
 
 -- ---- an order by its firm and id
 
@@ -86,30 +85,17 @@ named-number product (Known number) found listed h =
 pub terms-accepted : (product : ProductLists) (new : NewOrder) (state : State) (terms : Terms) → IsRightProduct product → IsValidNew product.names new → FitsProduct product state → IsRight state.book
     → terms_of product new state ≡ Ok terms → IsAccepted state terms new
 terms-accepted product new state terms right valid fits book h =
-    let found = found-then (instrument_of product new.named) fault.Symbol _ terms h in
-    let unnamed = refused-then (is_live new.sender.firm new.id (live_orders state.book)) fault.Duplicate _ terms found.2 in
-    let quantity = refused-then (not (is_quantity new.quantity)) fault.Quantity _ terms unnamed.1 in
-    let tick = refused-then (has_off_tick found.0 new.price new.trigger) fault.Tick _ terms quantity.1 in
-    let stop = refused-then (is_beyond_stop new.side (price_at new.price) (price_at new.trigger)) fault.StopLimit _ terms tick.1 in
-    let reached = refused-then (is_reached_already new.side (price_at new.trigger) (last_of found.0.number state.last)) fault.StopReached _ terms stop.1 in
-    let least = refused-then (has_bad_min new) fault.MinQty _ terms reached.1 in
-    let show = refused-then (nat_lt new.quantity new.show) fault.Show _ terms least.1 in
-    let room = refused-then (length (live_orders state.book) == product.max_orders) fault.BookFull _ terms show.1 in
-    let limit = found-then (limit_of new.kind found.0 new state.book) fault.NoMarket _ terms room.1 in
-    let made : Terms = record { instrument = found.0; limit = limit.0 } in
-    let is : Ok made ≡ Ok terms = limit.2 in
-    let same : made ≡ terms = cc in
-    let number : terms.instrument.number ≡ found.0.number = ap (λ (t : Terms). t.instrument.number) (sym same) in
-    let listed = named-number product new.named found.0 valid.named found.1 in
-    let small = quantity-small MOST_LOTS new.quantity quantity.0 in
+    let passes = new-passes product new state terms h in
+    let listed = named-number product new.named terms.instrument valid.named passes.named in
+    let small = quantity-small MOST_LOTS new.quantity passes.quantity in
     record {
-      listed = omega (arith, number, listed, fits.instruments);
-      priced = omega (arith, number, listed, fits.prices);
+      listed = omega (arith, listed, fits.instruments);
+      priced = omega (arith, listed, fits.prices);
       firm = omega (arith, valid.sender.firm, right.few_firms);
-      unnamed = unnamed.0;
-      spare = let some : length (live_orders state.book) ≢ product.max_orders = eq-false _ _ room.0 in omega (arith, some, book.few, fits.capacity);
+      unnamed = passes.unnamed;
+      spare = let some : length (live_orders state.book) ≢ product.max_orders = eq-false _ _ passes.room in omega (arith, some, book.few, fits.capacity);
       some = small.0;
       small = small.1;
-      show = shown-within new.show new.quantity show.0;
+      show = shown-within new.show new.quantity passes.show;
       no_stop = λ other. ap stop_price (no-trigger new.kind new.price new.trigger valid.prices other);
     }
