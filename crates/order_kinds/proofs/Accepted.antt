@@ -17,6 +17,7 @@ use Rattle.plain_book.specs.Book.{Book}
 use Rattle.plain_book.specs.Match.{next_head, report_counted}
 use Rattle.plain_book.specs.Matches.{CanTrade}
 use Rattle.plain_book.proofs.TradedShares.{match_with}
+use Rattle.plain_book.proofs.LineCounts.{line-counted}
 use Rattle.order_kinds.specs.State.{State}
 use Rattle.order_kinds.specs.NewOrders.{may_rest, Terms, terms_of, order_on}
 use Rattle.order_kinds.specs.Accepting.{refusal, refused, new_start, accepted, new_by, new_step}
@@ -26,7 +27,6 @@ use Rattle.order_kinds.specs.Inner.Apart.{NewApart}
 use Rattle.order_kinds.specs.Inner.Taking.{Takes, CountsRose, IsCounted, CanRest}
 use Rattle.order_kinds.specs.Inner.Triggering.{CanWait, HasRoomToComeIn}
 use Rattle.order_kinds.specs.Inner.ComingIn.{CanComeIn, brought_in, BroughtApart, most_reports}
-use Rattle.order_kinds.proofs.Counts.{line-counted}
 use Rattle.order_kinds.proofs.Lives.{resting-life}
 use Rattle.order_kinds.proofs.TakenSteps.{takes-known}
 use Rattle.order_kinds.proofs.ReportedFirst.{IsNoFill, takes-reported}

@@ -1,17 +1,9 @@
 -- How far the counters of reports, trades and lines rise.
-use Rattle.std.proofs.Common.{ℕ, ◌+◌, ◌≤◌, List, [], ◌∷◌, slice_index, slice_set, refl, ◌∙◌, arith}
-use Prim.Native.Nat.{zero, suc}
+use Rattle.std.proofs.Common.{ℕ, ◌+◌, ◌≤◌, refl, ◌∙◌, arith}
 use Rattle.gx_base.specs.declared.order.Desk.{Desk}
 use Rattle.plain_book.specs.Match.{report_counted}
+use Rattle.plain_book.proofs.LineCounts.{line-counted}
 use Rattle.order_kinds.specs.Inner.Taking.{CountsRose}
-
--- a count of one place raises no place by more than one
-pub line-counted : (lines : List ℕ) (firm i : ℕ) → slice_index (slice_set lines firm (slice_index lines firm + 1)) i ≤ slice_index lines i + 1
-line-counted [] firm i = omega arith
-line-counted (x ∷ lines) zero zero = omega arith
-line-counted (x ∷ lines) zero (suc i) = omega arith
-line-counted (x ∷ lines) (suc firm) zero = omega arith
-line-counted (x ∷ lines) (suc firm) (suc i) = line-counted lines firm i
 
 pub rose-counted : (desk : Desk) (firm : ℕ) → CountsRose 1 desk (report_counted desk firm)
 rose-counted desk firm = record {

@@ -26,6 +26,7 @@ use Rattle.plain_book.specs.Matches.{CanTrade}
 use Rattle.plain_book.proofs.Levels.{order_of-left}
 use Rattle.plain_book.proofs.Live.{fit_of}
 use Rattle.plain_book.proofs.TradedShares.{match_with}
+use Rattle.plain_book.proofs.LineCounts.{line-counted}
 use Rattle.order_kinds.specs.State.{State}
 use Rattle.order_kinds.specs.Instruments.{ListedInstrument}
 use Rattle.order_kinds.specs.Reports.{unchanged}
@@ -38,7 +39,6 @@ use Rattle.order_kinds.specs.Inner.Replacing.{IsAllowed}
 use Rattle.order_kinds.specs.Inner.Taking.{Takes, CountsRose, IsCounted, CanRest}
 use Rattle.order_kinds.specs.Inner.Triggering.{CanWait}
 use Rattle.order_kinds.specs.Inner.ComingIn.{CanComeIn, brought_in, BroughtApart, most_reports}
-use Rattle.order_kinds.proofs.Counts.{line-counted}
 use Rattle.order_kinds.proofs.Refusals.{replace-passes}
 use Rattle.order_kinds.proofs.Terms.{quantity-small, shown-within, no-trigger, named-number}
 use Rattle.order_kinds.proofs.Accepted.{HasFewStops, has-room, rose-reported}

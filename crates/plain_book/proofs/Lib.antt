@@ -11,6 +11,7 @@ pub mod Found
 pub mod Sorted
 pub mod Tops
 pub mod Right
+pub mod LineCounts
 -- What the proofs of this crate alone cite.
 mod Before
 mod Mapped

@@ -1,5 +1,5 @@
 -- The reports and the counters of a trade.
-use Rattle.std.proofs.Common.{◌≡◌, ℕ, zero, suc, ◌+◌, ◌-◌, ◌≤◌, List, [], ◌∷◌, slice_index, slice_set, Option, ap, ◌∙◌, arith, refl}
+use Rattle.std.proofs.Common.{◌≡◌, ℕ, ◌+◌, ◌-◌, ◌≤◌, List, [], ◌∷◌, slice_index, slice_set, Option, ap, ◌∙◌, arith, refl}
 use Rattle.gx_base.specs.declared.price.Price.{Price}
 use Rattle.gx_base.specs.declared.order.Order.{Order}
 use Rattle.gx_base.specs.declared.order.Desk.{Desk}
@@ -14,15 +14,8 @@ use Rattle.plain_book.specs.Orders.{HasSlot, order_of, filled_by}
 use Rattle.plain_book.specs.Book.{Book, book_traded}
 use Rattle.plain_book.specs.Match.{next_head, report_counted, fill, taken_by, book_marked}
 use Rattle.plain_book.specs.Matches.{CanTrade, KeepsRoom}
+use Rattle.plain_book.proofs.LineCounts.{line-counted}
 use Rattle.plain_book.proofs.Live.{unnamed-traded, unnamed-with_order}
-
--- a count of one place raises no place by more than one
-pub counted_line : (lines : List ℕ) (firm i : ℕ) → slice_index (slice_set lines firm (slice_index lines firm + 1)) i ≤ slice_index lines i + 1
-counted_line [] firm i = omega arith
-counted_line (x ∷ lines) zero zero = omega arith
-counted_line (x ∷ lines) zero (suc i) = omega arith
-counted_line (x ∷ lines) (suc firm) zero = omega arith
-counted_line (x ∷ lines) (suc firm) (suc i) = counted_line lines firm i
 
 -- the counters after a trade whose two reports go to these firms
 abbrev pub counted : Desk → ℕ → ℕ → Desk
@@ -37,7 +30,7 @@ keeps-traded desk a b wanted lots some le =
       fewer = omega arith;
       trades = omega arith;
       reports = omega arith;
-      lines = λ i. omega (arith, counted_line desk.lines a i, counted_line once b i);
+      lines = λ i. omega (arith, line-counted desk.lines a i, line-counted once b i);
     }
 
 -- the two reports of a trade

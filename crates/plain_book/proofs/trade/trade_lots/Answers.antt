@@ -7,7 +7,8 @@ use Rattle.plain_book.specs.Book.{Book, book_traded}
 use Rattle.plain_book.specs.Match.{report_counted}
 use Rattle.plain_book.specs.Matches.{CanTrade, KeepsRoom}
 use Rattle.plain_book.proofs.Live.{fit_of}
-use Rattle.plain_book.proofs.Trading.{counted_line, taker_after, keeps-traded, can-traded, two_fills}
+use Rattle.plain_book.proofs.LineCounts.{line-counted}
+use Rattle.plain_book.proofs.Trading.{taker_after, keeps-traded, can-traded, two_fills}
 use Rattle.plain_book.proofs.trade.trade_lots.Goals as goal
 
 pub count_report-head-requires-clause-firm : goal.count_report-head-requires-clause-firm
@@ -22,7 +23,7 @@ count_report-head-requires-2-clause-lines g c =
     let desk = c.args.desk.now in
     let firm = c.args.taker.now.order.firm in
     let is = ap (λ (d : Desk). slice_index d.lines firm) c.count_report-head.ensures.desk in
-    omega (arith, is, counted_line desk.lines c.trade-given.result.firm firm, c.requires.can.lines firm)
+    omega (arith, is, line-counted desk.lines c.trade-given.result.firm firm, c.requires.can.lines firm)
 
 pub returns : goal.returns
 returns g c =
