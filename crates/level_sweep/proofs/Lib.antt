@@ -13,5 +13,4 @@ pub mod Standing
 pub mod Resting
 pub mod SlotsKept
 pub mod Showing
-pub mod Parts
 pub mod StepShares

@@ -18,7 +18,7 @@ use Rattle.plain_book.specs.Steps.{spent, top_shares, lmm_shares, prorata_share,
 use Rattle.plain_book.proofs.Filters.{filter-under}
 use Rattle.plain_book.proofs.Levels.{HasSlot-filter, AllDiffer-filter, order_of-filter, lacks, same}
 use Rattle.plain_book.proofs.Pairs.{all-with, all-append, all-filter}
-use Rattle.level_sweep.proofs.Parts.{parts-fit}
+use Rattle.plain_book.proofs.Parts.{parts-fit}
 
 -- each share is that of another order
 abbrev pub AreApart : List Share → Type 0

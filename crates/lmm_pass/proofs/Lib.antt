@@ -1,5 +1,4 @@
 mod Others
-mod Parts
 mod Slots
 mod Spends
 mod UnderWay

@@ -16,12 +16,19 @@ use Rattle.plain_book.specs.Matches.{MatchAt, start_at, CanTrade, Matches}
 use Rattle.plain_book.specs.Shares.{shares_by}
 use Rattle.plain_book.specs.Steps.{facing, spent, lmm, lmm_shares}
 use Rattle.plain_book.proofs.TradedShares.{shares-ignore, shares-append}
+use Rattle.plain_book.proofs.Parts.{parts-fit}
 use Rattle.plain_book.proofs.Matching.{matches-none, matches-then, matches-as}
 use Rattle.lmm_pass.specs.Firms.{spending_on_firm}
 use Rattle.lmm_pass.proofs.Spends.{orders_of, spent_on, trade-spent, spent-leaves}
 use Rattle.lmm_pass.proofs.Others.{spent-others, shares-facing}
-use Rattle.lmm_pass.proofs.Parts.{part_in, parts-fit}
 use Rattle.lmm_pass.proofs.Unmoved.{firm_of, AreAsBefore, KeepsOthers, unmoved-start, unmoved-more, distinct-more}
+
+abbrev percent_of : LmmShare → ℕ
+percent_of s = s.percent
+
+-- the part of q that a lead market maker gets
+abbrev pub part_in : ℕ → LmmShare → ℕ
+part_in q s = q * s.percent / 100
 
 abbrev pub IsPercent : LmmShare → Type 0
 IsPercent s = (1 ≤ s.percent) × (s.percent ≤ 100)
@@ -52,7 +59,7 @@ module _ {E : Type 0} (m : EmitMeanings E) (price : Price) (shares : List LmmSha
     unmoved = unmoved-start shares level_before;
     firms = firms;
     percents = percents;
-    enough = parts-fit before.taker.order.leaves shares sum;
+    enough = parts-fit (part_in before.taker.order.leaves) percent_of before.taker.order.leaves 100 (λ s. omega arith) shares sum;
   }
 
   -- the walk of the next firm

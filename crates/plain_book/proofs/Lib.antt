@@ -12,6 +12,7 @@ pub mod Sorted
 pub mod Tops
 pub mod Right
 pub mod LineCounts
+pub mod Parts
 -- What the proofs of this crate alone cite.
 mod Before
 mod Mapped
