@@ -3,7 +3,7 @@
 use Rattle.std.proofs.Common.{◌≡◌, ◌≢◌, ℕ, ◌*◌, ◌/◌, ◌≤◌, min, Bool, true, false, cond, not, List, [], ◌∷◌, filter, Option, Some, None, refl, sym, ap, subst, ◌∙◌, arith, inl, inr}
 use Prim.Native.Nat.{zero, suc}
 use Rattle.std.proofs.lemmas.Bool.Decides.{eqb_tells}
-use Rattle.std.specs.Prelude.{◌==◌, sum_by}
+use Rattle.std.specs.Prelude.{◌==◌}
 use Rattle.std.specs.List.{AllByRecursion}
 use Rattle.gx_base.specs.declared.price.Price.{Price}
 use Rattle.gx_base.specs.declared.order.Side.{Side}
@@ -18,7 +18,7 @@ use Rattle.plain_book.specs.declared.entry.Entry.{Entry}
 use Rattle.plain_book.specs.Orders.{Level, level_of, opposite, is_at, top_of, HasSlot, order_of, without, with_order, placed, settled, refreshed, filled_by, is_at_earlier_level}
 use Rattle.plain_book.specs.Book.{AllDiffer}
 use Rattle.plain_book.specs.Match.{MatchState, Share, trade, is_prorata, book_marked, marked, trade_share, trade_shares}
-use Rattle.plain_book.specs.Steps.{facing, level_now, trade_head, fifo_rounds, prorata_share, prorata_shares, top_shares, lmm_shares, split_shares, leveling_shares}
+use Rattle.plain_book.specs.Steps.{facing, level_now, trade_head, fifo_rounds, prorata_shares, top_shares, lmm_shares, split_shares, leveling_shares}
 use Rattle.plain_book.proofs.Levels.{renewed, HasSlot-filter, AllDiffer-filter, order_of-filter, is_level-same, same}
 use Rattle.plain_book.proofs.Pairs.{all-with, all-both, all-filter, all-append, all-passing}
 use Rattle.plain_book.proofs.Live.{orders-at}
@@ -26,7 +26,7 @@ use Rattle.plain_book.proofs.Tops.{at-slot}
 use Rattle.plain_book.proofs.TradedShares.{share-leaves}
 use Rattle.plain_book.proofs.Walks.{HasSlot-with_order}
 use Rattle.level_sweep.specs.Sweep.{step_of, wanted_step, level_match, next_price, match_next, sweep_rounds, sweep}
-use Rattle.level_sweep.proofs.StepShares.{AreApart, IsGiven, AreOf, AllShow, lots_of, lots-cons, spent-of, map-of, top-of, lmm-of, leveling-of, spent-wanted, split-part, top-wanted, lmm-fits, share-shown, prorata-wanted, ones-wanted}
+use Rattle.level_sweep.proofs.StepShares.{AreApart, IsGiven, AreOf, AllShow, lots_of, lots-cons, spent-of, top-of, lmm-of, prorata-of, leveling-of, spent-wanted, split-part, top-wanted, lmm-fits, prorata-wanted, ones-wanted}
 use Rattle.level_sweep.proofs.SlotsKept.{HasSlot-settled}
 use Rattle.balance_laws.proofs.Trades.{Shows, Rests, InMatch, resting-differ, trade-kept, marks-kept}
 
@@ -202,9 +202,7 @@ module _ (before : List Event) (side : Side) (number : ℕ) where
         let q = m.taker.order.leaves in
         let es = level_now price m in
         let xs = prorata_shares least q es in
-        let total = sum_by (λ (e : Entry). e.order.shown) es in
-        let of : AreOf es xs = map-of (λ (e : Entry). prorata_share least (min q total) total e.order.shown) (λ e. share-shown least (min q total) total e.order.shown (omega arith)) es (level-differ m h) in
-        let done : IsMatched (trade_shares name.ProRata xs m) = matched-level name.ProRata xs m h of (prorata-wanted least q es) in
+        let done : IsMatched (trade_shares name.ProRata xs m) = matched-level name.ProRata xs m h (prorata-of least q es (level-differ m h)) (prorata-wanted least q es) in
         let go : (c : Bool) → IsMatched (cond c m (trade_shares name.ProRata xs m)) = elim [ true ↦ h | false ↦ done ] in
         go (q == 0)
     matched-step Leveling m right h =

@@ -58,7 +58,7 @@ pub spent-of : (n : ℕ) (es : List Entry) → AllDiffer es → AreOf es (spent 
 spent-of n [] d = record { within = tt; apart = tt }
 spent-of n (e ∷ es) d = let k = min n e.order.shown in of-cons k e es (spent (n - k) es) (omega arith) d.0 (spent-of (n - k) es d.1)
 
-pub map-of : (f : Entry → ℕ) → ((e : Entry) → f e ≤ e.order.shown) → (es : List Entry) → AllDiffer es → AreOf es (map (λ (e : Entry). (e.slot, f e)) es)
+map-of : (f : Entry → ℕ) → ((e : Entry) → f e ≤ e.order.shown) → (es : List Entry) → AllDiffer es → AreOf es (map (λ (e : Entry). (e.slot, f e)) es)
 map-of f h [] d = record { within = tt; apart = tt }
 map-of f h (e ∷ es) d = of-cons (f e) e es (map (λ (x : Entry). (x.slot, f x)) es) (h e) d.0 (map-of f h es d.1)
 
@@ -247,6 +247,11 @@ share-shown least pool (suc n) shown h =
     let le : pool * shown / suc n ≤ shown = le_of_mul-le-mul_right all (omega arith) in
     let go : (b : Bool) → cond b 0 (pool * shown / suc n) ≤ shown = elim [ true ↦ omega arith | false ↦ le ] in
     go (nat_lt (pool * shown / suc n) least)
+
+pub prorata-of : (least q : ℕ) (es : List Entry) → AllDiffer es → AreOf es (prorata_shares least q es)
+prorata-of least q es d =
+    let total = sum_by (λ (e : Entry). e.order.shown) es in
+    map-of (λ (e : Entry). prorata_share least (min q total) total e.order.shown) (λ e. share-shown least (min q total) total e.order.shown (omega arith)) es d
 
 share-part : (least pool total shown : ℕ) → prorata_share least pool total shown ≤ pool * shown / total
 share-part least pool total shown =

@@ -1,7 +1,7 @@
 -- The last trade price of an order that is entered is an end of its price range: prices of a sweep never improve.
-use Rattle.std.proofs.Common.{◌≡◌, ◌≢◌, ℕ, ◌+◌, Bool, true, false, cond, List, [], ◌∷◌, ◌++◌, filter, Option, Some, None, refl, sym, ap, subst, ◌∙◌, arith, inl, inr}
+use Rattle.std.proofs.Common.{◌≡◌, ◌≢◌, ℕ, ◌+◌, Bool, true, false, cond, List, [], ◌∷◌, ◌++◌, filter, Option, Some, None, refl, sym, ap, subst, ◌∙◌, inl, inr}
 use Prim.Native.Nat.{zero, suc}
-use Rattle.std.specs.Prelude.{◌==◌, ◌≤◌, min, nat_lt, sum_by}
+use Rattle.std.specs.Prelude.{◌==◌, ◌≤◌, min, nat_lt}
 use Rattle.std.specs.List.{AllByRecursion}
 use Rattle.std.proofs.lemmas.Bool.Decides.{eqb_tells}
 use Rattle.gx_base.specs.declared.price.Price.{Price}
@@ -22,7 +22,7 @@ use Rattle.plain_book.specs.declared.entry.Entry.{Entry}
 use Rattle.plain_book.specs.Orders.{Level, level_of, opposite, is_on, is_at, is_better, is_within, side_of, price_of, best_of, top_of, HasSlot, order_of, filled_by}
 use Rattle.plain_book.specs.Book.{Book, IsRight, AllDiffer, book_traded}
 use Rattle.plain_book.specs.Match.{MatchState, Share, next_head, report, fill, taken_by, lengthened, trade, is_prorata, book_marked, marked, trade_share, trade_shares}
-use Rattle.plain_book.specs.Steps.{facing, level_now, trade_head, fifo_rounds, prorata_share, prorata_shares, top_shares, lmm_shares, split_shares, leveling_shares}
+use Rattle.plain_book.specs.Steps.{facing, level_now, trade_head, fifo_rounds, prorata_shares, top_shares, lmm_shares, split_shares, leveling_shares}
 use Rattle.plain_book.proofs.Levels.{HasSlot-filter, AllDiffer-filter, is_level-same}
 use Rattle.plain_book.proofs.Walks.{HasSlot-with_order}
 use Rattle.plain_book.proofs.Pairs.{all-with, all-both, all-filter, all-from}
@@ -32,7 +32,7 @@ use Rattle.level_sweep.proofs.EachTrade.{each-marked, each-share}
 use Rattle.level_sweep.proofs.EachOrder.{StaysTrue, AllStay, all-kept}
 use Rattle.level_sweep.proofs.Showing.{IsShowing, AreShowing, ShowingStays, showing-kept, showing-right}
 use Rattle.level_sweep.proofs.SlotsKept.{HasSlot-settled}
-use Rattle.level_sweep.proofs.StepShares.{AreApart, IsGiven, AreOf, AllShow, spent-of, map-of, top-of, lmm-of, leveling-of, share-shown}
+use Rattle.level_sweep.proofs.StepShares.{AreApart, IsGiven, AreOf, AllShow, spent-of, top-of, lmm-of, prorata-of, leveling-of}
 use Rattle.order_kinds.specs.NewOrders.{may_rest}
 use Rattle.order_kinds.specs.Entering.{cancel_event, taker_cancelled, taker_rested, finished, open_for, entered, last_fill_from, last_fill}
 use Rattle.order_kinds.specs.Inner.Taking.{last_in_range}
@@ -237,9 +237,7 @@ module _ (i : ℕ) (side : Side) where
         let q = m.taker.order.leaves in
         let es = level_now p m in
         let xs = prorata_shares least q es in
-        let total = sum_by (λ (e : Entry). e.order.shown) es in
-        let of : AreOf es xs = map-of (λ (e : Entry). prorata_share least (min q total) total e.order.shown) (λ e. share-shown least (min q total) total e.order.shown (omega arith)) es (differ-now m h) in
-        let done : TradesAt p (trade_shares name.ProRata xs m) = at-level name.ProRata xs m h of in
+        let done : TradesAt p (trade_shares name.ProRata xs m) = at-level name.ProRata xs m h (prorata-of least q es (differ-now m h)) in
         let go : (c : Bool) → TradesAt p (cond c m (trade_shares name.ProRata xs m)) = elim [ true ↦ h | false ↦ done ] in
         go (q == 0)
     at-step Leveling m right h = at-level name.Leveling (leveling_shares m.taker.order.leaves (level_now p m)) m h (leveling-of m.taker.order.leaves (level_now p m) (show-now m h) (differ-now m h))
