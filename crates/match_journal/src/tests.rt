@@ -1,0 +1,1 @@
+//! Journals in memory, byte for byte, and what a crash after each call leaves.
