@@ -16,15 +16,13 @@ module _ {S : Type 0} (m : StationMeanings S) where
     pub read : m.holds s ≡ Some image
     pub has : Has image
 
-  -- From an image that a read gives. Where all is done a read gives one that has Last, and of an honest station nothing is
-  -- pending then. Where nothing was pending at the start, each image on the way has During, and nothing is sent.
+  -- From an image that a read gives to one that has Last, where all is done. Where nothing was pending at the start, a crash
+  -- on the way leaves what it could leave then, and else only images that have During; and nothing is sent.
   pub record Steps {T F : Type 0} (old new : S) (image : List ℕ) (During Last : List ℕ → Type 0) (result : Result T F) : Type 0 where
     pub ends : m.holds old ≡ Some image → OnOk result (HoldsOne (λ last. During last × Last last) new)
-    pub settles : m.is_honest old → m.holds old ≡ Some image → OnOk result (IsSettled m new)
     pub moments : m.is_honest old → Rests image old → AddsOnly m old new (λ left out. During left × (m.sent old ≡ Some out))
 
-  -- The same where writes may have been pending at the start: a crash may leave what it could leave then, and else only
-  -- images that have During.
+  -- The same where writes may have been pending at the start.
   pub record StepsFrom {T F : Type 0} (old new : S) (image : List ℕ) (During Last : List ℕ → Type 0) (result : Result T F) : Type 0 where
     pub ends : m.holds old ≡ Some image → OnOk result (HoldsOne (λ last. During last × Last last) new)
     pub moments : m.is_honest old → m.holds old ≡ Some image → AddsOnly m old new (λ left out. During left × (m.sent old ≡ Some out))

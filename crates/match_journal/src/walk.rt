@@ -116,6 +116,7 @@ impl Journal {
         ensures payload { OnOk result ((text image : List ℕ) (before after : List (List ℕ)) (gate : ℕ) → S.meanings.holds station.old ≡ Some image
             → (found : IsNext text image before after gate entry.now) → into.new ≡ found.payload) }
     {
+        prove!(entry.at < self.standing.known);
         match station.read(entry.at + HEAD as u64, into) {
             Ok(()) => Ok(()),
             Err(_) => Err(StoreFault),

@@ -18,6 +18,7 @@ module _ {S : Type 0} (m : StationMeanings S) where
     pub on_store : OnStore m old new result
     pub bytes_read : m.bytes_read new ≡ m.bytes_read old
     pub reach : m.reach old ≤ m.reach new
+    pub honest : m.is_honest old → m.is_honest new
 
   -- The bytes stand at a place of the image, or a write has failed. On the way a crash could leave what it could leave
   -- before, torn in the range.

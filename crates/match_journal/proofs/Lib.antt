@@ -1,0 +1,6 @@
+mod Torn
+mod Storing
+mod Stepping
+mod Records
+mod Appended
+mod Staging
