@@ -4,3 +4,4 @@ mod Stepping
 mod Records
 mod Appended
 mod Staging
+mod Walked
