@@ -5,3 +5,7 @@ mod Records
 mod Appended
 mod Staging
 mod Walked
+mod Texts
+mod Fronts
+mod Looking
+mod Pieces
