@@ -9,3 +9,6 @@ mod Texts
 mod Fronts
 mod Looking
 mod Pieces
+mod Created
+mod Creating
+mod Found

@@ -127,3 +127,8 @@ module _ {S : Type 0} (m : StationMeanings S) where
   pub settled_then : {T U F G : Type 0} (old mid new : S) (x : U) (r : Result T F) → Puts m {T = U} {F = G} old mid (Ok x) → OnOk r (m.is_honest mid → IsSettled m new) → OnOk r (m.is_honest old → IsSettled m new)
   settled_then old mid new x (Ok y) puts then = λ h. then (puts.honest h)
   settled_then old mid new x (Err e) puts then = tt
+
+  -- whatever was pending before
+  pub settled_later : {T F : Type 0} (old new : S) (r : Result T F) → OnOk r (m.is_honest old → IsSettled m new) → OnOk r (m.is_honest old → IsSettled m old → IsSettled m new)
+  settled_later old new (Ok x) settled = λ h before. settled h
+  settled_later old new (Err e) settled = tt

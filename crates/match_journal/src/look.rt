@@ -4,7 +4,7 @@ ghost use Rattle.gx_station.specs.Counts.{Rose};
 ghost use Rattle.match_journal.specs.Causes.{LooksOnly};
 ghost use Rattle.match_journal.specs.Standing.{at_first, IsStanding};
 ghost use Rattle.match_journal.specs.Opening.{Looks};
-ghost use Rattle.match_journal.specs.Inner.Fronts.{ClassAnswers, SameAnswers, FoundAnswers, least_length, least_of_class};
+ghost use Rattle.match_journal.specs.Inner.Fronts.{IsFront, FrontAnswers, EndAnswers, HoldAnswers, SameAnswers, FoundAnswers, has_closed_end, least_length, least_of_class};
 ghost use Rattle.match_journal.specs.declared.limits.TheConstants.{MOST_TEXT, MOST_LIMIT, LEAST_LIMIT, MOST_UNFINISHED};
 
 use crate::class::{Class, TEXT_AT, class_of};
@@ -20,39 +20,53 @@ pub(crate) struct Found {
     pub len: u64,
 }
 
-/// Reads what an image of `len` bytes is.
-fn read_class<S: Station>(station: &mut S, len: u64) -> Result<Class, StartFault>
+/// Reads what an image of `len` bytes is, but for the gate behind the text of a sealed one.
+fn read_front<S: Station>(station: &mut S, len: u64) -> Result<Class, StartFault>
     requires reach { len ≤ S.meanings.reach station.old }
-    ensures looks { LooksOnly S.meanings station.old station.new 14 }
+    ensures looks { LooksOnly S.meanings station.old station.new 13 }
     ensures reach { S.meanings.reach station.new ≡ S.meanings.reach station.old }
     ensures store { IsErrOf result StartFault.Store → Rose (S.meanings.store_faults station.old) (S.meanings.store_faults station.new) }
     ensures none { (IsErrOf result StartFault.Store → ⊥) → S.meanings.store_faults station.new ≡ S.meanings.store_faults station.old }
     ensures least { IfOk result (λ class. (least_length class ≤ len) × (least_length class ≤ MOST_UNFINISHED)) }
-    ensures class { (image : List ℕ) → S.meanings.holds station.old ≡ Some image → length image ≡ len → ClassAnswers image result }
+    ensures front { (image : List ℕ) → S.meanings.holds station.old ≡ Some image → length image ≡ len → FrontAnswers image result }
 {
     if len <= 1 {
         return Ok(Class::Empty);
     }
     let mut head = [0; TEXT_AT];
     let count = len.min(TEXT_AT as u64) as usize;
-    if station.read(0, &mut head[..count]).is_err() {
-        return Err(StartFault::Store);
+    match station.read(0, &mut head[..count]) {
+        Ok(()) => class_of(&head[..count], len),
+        Err(_) => Err(StartFault::Store),
     }
-    let class = match class_of(&head[..count], len) {
-        Ok(class) => class,
-        Err(fault) => return Err(fault),
-    };
-    let Class::Sealed(size) = class else {
-        return Ok(class);
-    };
-    let mut gate = [0; 1];
-    if station.read(TEXT_AT as u64 + size as u64, &mut gate).is_err() {
-        return Err(StartFault::Store);
+}
+
+/// Reads the gate behind the text of a sealed image, which is closed.
+fn read_end<S: Station>(station: &mut S, class: Class) -> Result<(), StartFault>
+    requires reach { least_length class ≤ S.meanings.reach station.old }
+    requires few { least_length class ≤ MOST_UNFINISHED }
+    ensures looks { LooksOnly S.meanings station.old station.new 1 }
+    ensures reach { S.meanings.reach station.new ≡ S.meanings.reach station.old }
+    ensures store { IsErrOf result StartFault.Store → Rose (S.meanings.store_faults station.old) (S.meanings.store_faults station.new) }
+    ensures none { (IsErrOf result StartFault.Store → ⊥) → S.meanings.store_faults station.new ≡ S.meanings.store_faults station.old }
+    ensures end { (image : List ℕ) → S.meanings.holds station.old ≡ Some image → IsFront image class → EndAnswers image class result }
+{
+    match class {
+        Class::Sealed(size) => {
+            let mut gate = [0; 1];
+            if station.read(TEXT_AT as u64 + size as u64, &mut gate).is_err() {
+                return Err(StartFault::Store);
+            }
+            if gate[0] == 0 {
+                Ok(())
+            } else {
+                Err(StartFault::NotAJournal(0))
+            }
+        }
+        Class::Empty => Ok(()),
+        Class::Blank => Ok(()),
+        Class::Open(_) => Ok(()),
     }
-    if gate[0] != 0 {
-        return Err(StartFault::NotAJournal(0));
-    }
-    Ok(class)
 }
 
 /// Holds the text of an image to the product.
@@ -73,6 +87,29 @@ fn same_text<S: Station>(station: &mut S, size: u32, product: &[u8]) -> Result<(
     }
 }
 
+/// Holds the text of an image, where its class has one, to the product.
+fn hold_text<S: Station>(
+    station: &mut S,
+    class: Class,
+    product: &[u8],
+) -> Result<(), StartFault>
+    requires reach { least_length class ≤ S.meanings.reach station.old }
+    requires few { least_length class ≤ MOST_UNFINISHED }
+    ensures looks { LooksOnly S.meanings station.old station.new MOST_TEXT }
+    ensures reach { S.meanings.reach station.new ≡ S.meanings.reach station.old }
+    ensures store { IsErrOf result StartFault.Store → Rose (S.meanings.store_faults station.old) (S.meanings.store_faults station.new) }
+    ensures none { (IsErrOf result StartFault.Store → ⊥) → S.meanings.store_faults station.new ≡ S.meanings.store_faults station.old }
+    ensures least { OnOk result (least_of_class (length product.now) class ≡ least_length class) }
+    ensures text { (image : List ℕ) → S.meanings.holds station.old ≡ Some image → IsFront image class → has_closed_end image class → HoldAnswers product.now image class result }
+{
+    match class {
+        Class::Sealed(size) => same_text(station, size, product),
+        Class::Open(size) => same_text(station, size, product),
+        Class::Empty => Ok(()),
+        Class::Blank => Ok(()),
+    }
+}
+
 /// Looks at the image, and adds nothing.
 pub(crate) fn look_at<S: Station>(station: &mut S, product: &[u8]) -> Result<Found, StartFault>
     ensures looks { LooksOnly S.meanings station.old station.new MOST_UNFINISHED }
@@ -85,15 +122,15 @@ pub(crate) fn look_at<S: Station>(station: &mut S, product: &[u8]) -> Result<Fou
     let Ok(len) = station.length() else {
         return Err(StartFault::Store);
     };
-    let class = match read_class(station, len) {
+    let class = match read_front(station, len) {
         Ok(class) => class,
         Err(fault) => return Err(fault),
     };
-    let size = match class {
-        Class::Empty | Class::Blank => return Ok(Found { class, len }),
-        Class::Sealed(size) | Class::Open(size) => size,
-    };
-    match same_text(station, size, product) {
+    match read_end(station, class) {
+        Ok(()) => {}
+        Err(fault) => return Err(fault),
+    }
+    match hold_text(station, class, product) {
         Ok(()) => Ok(Found { class, len }),
         Err(fault) => Err(fault),
     }

@@ -60,9 +60,9 @@ has_closed_end image class.Blank = Unit {0}
 has_closed_end image (class.Sealed size) = get_or image (13 + size) 0 ≡ 0
 has_closed_end image (class.Open size) = Unit {0}
 
-abbrev pub ClassAnswers : List ℕ → Result Class StartFault → Type 0
-ClassAnswers image (Ok c) = IsFront image c × has_closed_end image c
-ClassAnswers image (Err e) = IsFrontFault image e
+abbrev pub EndAnswers : List ℕ → Class → Result (Unit {0}) StartFault → Type 0
+EndAnswers image c (Ok t) = has_closed_end image c
+EndAnswers image c (Err e) = IsFrontFault image e
 
 -- ---- and the text
 
@@ -91,6 +91,10 @@ least_of_class count class.Empty = 0
 least_of_class count class.Blank = 1
 least_of_class count (class.Sealed size) = 14 + count
 least_of_class count (class.Open size) = 14 + count
+
+abbrev pub HoldAnswers : List ℕ → List ℕ → Class → Result (Unit {0}) StartFault → Type 0
+HoldAnswers product image c (Ok t) = IsOfClass product image c
+HoldAnswers product image c (Err e) = IsStartFault product image e
 
 pub record IsFound (product image : List ℕ) (found : Found) : Type 0 where
   pub class : IsOfClass product image found.class
