@@ -12,3 +12,4 @@ mod Pieces
 mod Created
 mod Creating
 mod Found
+mod Unique

@@ -21,5 +21,8 @@ mod walk;
 pub use entry::{Entry, EntryKind};
 pub use faults::{AppendFault, StartFault, StoreFault, WalkFault};
 pub use journal::Journal;
-
+pub use laws::{
+    a_gate_has_one_answer, an_image_has_one_answer, an_image_keeps_one_list,
+    the_first_gate_is_written_alone,
+};
 pub use limits::{LEAST_LIMIT, MOST_LIMIT, MOST_PAYLOAD, MOST_TEXT, MOST_UNFINISHED};
