@@ -1,15 +1,15 @@
 -- The images of a creation, from nothing to a journal.
-use Rattle.std.proofs.Common.{◌≡◌, ◌≢◌, inl, inr, ℕ, ◌+◌, ◌-◌, ◌<◌, ◌≤◌, max, List, [], ◌∷◌, ◌++◌, length, get_or, take, drop, refl, sym, ◌∙◌, ap, subst, arith, append_assoc, length-append, length-drop}
+use Rattle.std.proofs.Common.{◌≡◌, ◌≢◌, inl, inr, ℕ, ◌+◌, ◌-◌, ◌<◌, ◌≤◌, max, List, [], ◌∷◌, ◌++◌, length, get_or, drop, refl, sym, ◌∙◌, ap, subst, arith, append_assoc, length-append, length-drop}
 use Rattle.std.specs.Int.{w32, to_be_bytes}
 use Rattle.std.proofs.lemmas.List.{append-nil, drop_all, drop_more, drop-drop, take-append-drop, take_at, get_or-append_right}
 use Rattle.std.proofs.lemmas.Bool.{cases_eq}
 use Rattle.gx_station.specs.Disk.{Torn, written}
 use Rattle.match_journal.specs.Journal.{IsJournal, header, magic}
-use Rattle.match_journal.specs.Classes.{HasHeader, HasOpenGate, IsBlank, IsSealed, IsUnfinished, Keeps}
-use Rattle.match_journal.specs.Opening.{IsOpening, IsOpened}
+use Rattle.match_journal.specs.Classes.{HasHeader, IsBlank, IsSealed, IsUnfinished, Keeps}
+use Rattle.match_journal.specs.Opening.{IsOpened}
 use Rattle.match_journal.specs.Inner.Fronts.{IsClosed, IsMade}
-use Rattle.match_journal.specs.declared.limits.TheConstants.{MOST_TEXT, MOST_UNFINISHED, LEAST_LIMIT}
-use Rattle.match_journal.proofs.Records.{written_behind, torn_gate, written_gate, length-size, length-gate}
+use Rattle.match_journal.specs.declared.limits.TheConstants.{MOST_TEXT, MOST_UNFINISHED}
+use Rattle.match_journal.proofs.Records.{written_behind, torn_gate, written_gate, length-size}
 
 pub length-header : (text : List ℕ) → length (header text) ≡ 12 + length text
 length-header text = omega (arith, length-append magic (to_be_bytes w32 (length text) ++ text), length-append (to_be_bytes w32 (length text)) text, length-size (length text))
@@ -116,15 +116,18 @@ torn_first text limit known image left short fits ready torn =
       | inr shut ↦ elim (cases_eq gate 0) [
         | inl zero ↦ blank_new text limit left (inr (zero, few)) few
         | inr other ↦ record {
-          keeps = inr (refl, record {
-            unfinished = inr record {
-              not_closed = other;
-              not_open = shut;
-              header = subst (HasHeader text) (sym is) (has_header text ready.behind gate 0 short);
-              closed = ap (λ (l : List ℕ). get_or l (13 + length text) 0) is ∙ last_byte text ready.behind gate 0;
-            };
-            few = few;
-          });
+          keeps = inr (
+            refl,
+            record {
+              unfinished = inr record {
+                not_closed = other;
+                not_open = shut;
+                header = subst (HasHeader text) (sym is) (has_header text ready.behind gate 0 short);
+                closed = ap (λ (l : List ℕ). get_or l (13 + length text) 0) is ∙ last_byte text ready.behind gate 0;
+              };
+              few = few;
+            },
+          );
           few = few;
         }
       ]

@@ -1,9 +1,7 @@
 -- A creation over a station.
-use Rattle.std.proofs.Common.{◌≡◌, ℕ, ◌+◌, ◌<◌, ◌≤◌, max, List, [], ◌∷◌, ◌++◌, length, get_or, Some, Result, Ok, Err, OnOk, IsErr, refl, sym, ◌∙◌, ap, subst, arith}
+use Rattle.std.proofs.Common.{◌≡◌, ℕ, ◌+◌, ◌<◌, ◌≤◌, max, List, [], ◌∷◌, length, get_or, Some, Result, Ok, Err, OnOk, IsErr, sym, ◌∙◌, ap, subst, arith}
 use Rattle.gx_station.specs.Disk.{Torn, written}
-use Rattle.gx_station.specs.TornImages.{length-written}
 use Rattle.gx_station.specs.Stations.{StationMeanings}
-use Rattle.gx_station.specs.Honest.{IsSettled}
 use Rattle.match_journal.specs.Steps.{Steps, HoldsOne}
 use Rattle.match_journal.specs.Journal.{IsJournal}
 use Rattle.match_journal.specs.Classes.{IsSealed, Keeps}
@@ -12,7 +10,6 @@ use Rattle.match_journal.specs.Inner.Stores.{Stored}
 use Rattle.match_journal.specs.Inner.Fronts.{IsClosed, IsMade}
 use Rattle.match_journal.specs.declared.limits.TheConstants.{MOST_TEXT, MOST_UNFINISHED, LEAST_LIMIT}
 use Rattle.match_journal.proofs.Stepping.{steps_then, steps_err, steps_weaker, steps_none}
-use Rattle.match_journal.proofs.Storing.{not_ok}
 use Rattle.match_journal.proofs.Created.{IsNew, IsReady, heading, torn_empty, written_empty, torn_header, written_header, torn_first, written_first, empty_keeps, closed_keeps, closed_of, sealed_ready, none_kept, opened_keeps}
 
 opening_new : (text : List ℕ) (limit : ℕ) (image left : List ℕ) → IsNew text limit left → IsOpening text limit [] image left

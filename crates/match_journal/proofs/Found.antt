@@ -1,10 +1,10 @@
 -- What was found in an image, with the product that was handed in.
-use Rattle.std.proofs.Common.{◌≡◌, ◌≢◌, ◌⊎◌, inl, inr, ⊎_elim, ℕ, ◌+◌, ◌<◌, ◌≤◌, List, [], ◌∷◌, ◌++◌, length, get_or, take, drop, Option, Some, None, Result, Ok, Err, refl, sym, ◌∙◌, ap, subst, arith, append_assoc, length-drop}
+use Rattle.std.proofs.Common.{◌≡◌, ◌≢◌, ◌⊎◌, inl, inr, ⊎_elim, ℕ, ◌+◌, ◌<◌, List, ◌++◌, length, get_or, take, drop, Option, Some, None, Result, Ok, Err, refl, sym, ◌∙◌, ap, subst, arith, append_assoc, length-drop}
 use Rattle.std.specs.Int.{w32, to_be_bytes}
 use Rattle.std.proofs.Math.Seq.{take-add}
 use Rattle.std.proofs.lemmas.List.{drop-drop, length-take-le, get_or-take, get_or-drop}
 use Rattle.match_journal.specs.Journal.{magic, header}
-use Rattle.match_journal.specs.Classes.{HasHeader, HasOpenGate, IsBlank, IsSealed, IsForeignAt, HasOtherText, first_difference}
+use Rattle.match_journal.specs.Classes.{HasHeader, HasOpenGate, IsSealed, IsForeignAt, HasOtherText, first_difference}
 use Rattle.match_journal.specs.Opening.{IsStartFault}
 use Rattle.match_journal.specs.Inner.Fronts.{HasSize, IsFront, IsFrontFault, has_closed_end, TextAnswers, SameAnswers, HoldAnswers}
 use Rattle.match_journal.specs.declared.class.Class.{Class}
@@ -12,7 +12,7 @@ use Rattle.match_journal.specs.declared.class.Class.TheVariants as class
 use Rattle.match_journal.specs.declared.faults.StartFault.{StartFault}
 use Rattle.match_journal.specs.declared.faults.StartFault.TheVariants as fault
 use Rattle.match_journal.proofs.Walked.{one_size}
-use Rattle.match_journal.proofs.Fronts.{header_front, header_magic}
+use Rattle.match_journal.proofs.Fronts.{header_front}
 
 pub text_none : (text product : List ℕ) (found : Option ℕ) → found ≡ None → TextAnswers text product found → text ≡ product
 text_none text product found is answers = subst (TextAnswers text product) is answers

@@ -1,10 +1,10 @@
 -- What an image is, by its first thirteen bytes.
-use Rattle.std.proofs.Common.{◌≡◌, ◌≢◌, inl, inr, ⊎_elim, ℕ, ◌+◌, ◌<◌, ◌≤◌, List, [], ◌∷◌, ◌++◌, length, get_or, take, drop, Option, None, refl, sym, ◌∙◌, ap, subst, arith}
+use Rattle.std.proofs.Common.{◌≡◌, ◌≢◌, inl, ⊎_elim, ℕ, ◌+◌, ◌<◌, ◌≤◌, List, ◌++◌, length, get_or, take, drop, None, refl, sym, ◌∙◌, ap, arith}
 use Rattle.std.specs.Int.{w32, to_be_bytes}
 use Rattle.std.proofs.lemmas.List.{take-take, drop-take, drop-drop, get_or-take}
-use Rattle.match_journal.specs.Journal.{magic, header}
-use Rattle.match_journal.specs.Classes.{HasHeader, HasOpenGate, IsBlank, IsSealed, IsForeign, IsForeignAt, HasBadHeader, first_difference}
-use Rattle.match_journal.specs.Inner.Fronts.{IsSize, HasSize, SizeAnswers}
+use Rattle.match_journal.specs.Journal.{magic}
+use Rattle.match_journal.specs.Classes.{HasHeader, HasOpenGate, IsForeignAt, HasBadHeader, first_difference}
+use Rattle.match_journal.specs.Inner.Fronts.{IsSize, SizeAnswers}
 use Rattle.match_journal.proofs.Texts.{fd_take, fd_of_front, fd_front, fd_le}
 
 -- a header begins with the magic, and then comes the length of its text

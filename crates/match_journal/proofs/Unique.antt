@@ -1,13 +1,11 @@
 -- An image keeps one list of payloads, and one answer fits it.
-use Rattle.std.proofs.Common.{◌≡◌, ◌≢◌, ◌⊎◌, inl, inr, ⊎_elim, ℕ, ◌+◌, ◌<◌, ◌≤◌, ◌^◌, List, [], ◌∷◌, ◌++◌, length, get_or, take, drop, Option, Some, None, Result, Ok, Err, refl, sym, ◌∙◌, ap, subst, arith, append_assoc, length-drop}
-use Rattle.std.specs.Int.{w32, to_be_bytes}
+use Rattle.std.proofs.Common.{◌≡◌, ◌≢◌, ◌⊎◌, inl, inr, ⊎_elim, ℕ, ◌+◌, ◌<◌, ◌≤◌, List, [], ◌∷◌, ◌++◌, length, get_or, take, drop, Option, Some, None, Result, Ok, Err, refl, sym, ◌∙◌, ap, arith, append_assoc, length-drop}
 use Rattle.std.specs.List.{flat_map, AllByRecursion}
 use Rattle.std.proofs.lemmas.List.{take_at, drop_at, append_cancel_left, length-take, get_or-take, get_or-drop}
-use Rattle.match_journal.specs.Journal.{IsJournal, IsPayload, magic, header, open_record}
-use Rattle.match_journal.specs.Classes.{HasHeader, HasOpenGate, IsBlank, IsSealed, IsUnfinished, IsForeignAt, HasBadHeader, HasOtherText, Keeps, first_difference}
-use Rattle.match_journal.specs.Standing.{at_first}
+use Rattle.match_journal.specs.Journal.{IsJournal, IsPayload, header, open_record}
+use Rattle.match_journal.specs.Classes.{HasHeader, HasOpenGate, IsBlank, IsSealed, IsUnfinished, IsForeignAt, HasOtherText, Keeps, first_difference}
 use Rattle.match_journal.specs.Opening.{IsOpened, IsStartFault, Looks}
-use Rattle.match_journal.specs.Walking.{IsHead, IsBadHead, Walks}
+use Rattle.match_journal.specs.Walking.{IsHead, Walks}
 use Rattle.gx_station.specs.Disk.{Torn}
 use Rattle.match_journal.specs.declared.entry.Entry.{Entry}
 use Rattle.match_journal.specs.declared.entry.EntryKind.{EntryKind}

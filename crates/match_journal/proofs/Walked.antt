@@ -6,7 +6,6 @@ use Rattle.std.proofs.lemmas.List.{take_at, drop_at, drop-drop, get_or-drop}
 use Rattle.std.proofs.lemmas.Nat.{from_be_bytes-to_be_bytes_4}
 use Rattle.std.proofs.lemmas.Grind.{flat_map-append}
 use Rattle.match_journal.specs.Journal.{IsJournal, IsPayload, journal_front, header, open_record}
-use Rattle.match_journal.specs.Standing.{Fits}
 use Rattle.match_journal.specs.Walking.{IsHead, IsBadHead, IsNext, Walks, InOrder}
 use Rattle.match_journal.specs.declared.entry.Entry.{Entry}
 use Rattle.match_journal.specs.declared.standing.Standing.{Standing}

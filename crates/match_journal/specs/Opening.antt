@@ -1,5 +1,5 @@
 -- What an opening answers, and what a crash on the way leaves.
-use Rattle.std.specs.Prelude.{◌≡◌, ◌≢◌, ◌⊎◌, ℕ, ◌+◌, ◌≤◌, max, List, length, Option, Some, None, Result, Ok, Err}
+use Rattle.std.specs.Prelude.{◌≡◌, ◌⊎◌, ℕ, ◌+◌, ◌≤◌, max, List, length, Option, Some, None, Result, Ok, Err}
 use Rattle.match_journal.specs.Classes.{HasHeader, HasOpenGate, IsBlank, IsSealed, IsForeignAt, HasBadHeader, HasOtherText, Keeps}
 use Rattle.match_journal.specs.Standing.{at_first}
 use Rattle.match_journal.specs.declared.standing.Standing.{Standing}

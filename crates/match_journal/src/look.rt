@@ -54,7 +54,10 @@ fn read_end<S: Station>(station: &mut S, class: Class) -> Result<(), StartFault>
     match class {
         Class::Sealed(size) => {
             let mut gate = [0; 1];
-            if station.read(TEXT_AT as u64 + size as u64, &mut gate).is_err() {
+            if station
+                .read(TEXT_AT as u64 + size as u64, &mut gate)
+                .is_err()
+            {
                 return Err(StartFault::Store);
             }
             if gate[0] == 0 {
@@ -88,11 +91,7 @@ fn same_text<S: Station>(station: &mut S, size: u32, product: &[u8]) -> Result<(
 }
 
 /// Holds the text of an image, where its class has one, to the product.
-fn hold_text<S: Station>(
-    station: &mut S,
-    class: Class,
-    product: &[u8],
-) -> Result<(), StartFault>
+fn hold_text<S: Station>(station: &mut S, class: Class, product: &[u8]) -> Result<(), StartFault>
     requires reach { least_length class ≤ S.meanings.reach station.old }
     requires few { least_length class ≤ MOST_UNFINISHED }
     ensures looks { LooksOnly S.meanings station.old station.new MOST_TEXT }

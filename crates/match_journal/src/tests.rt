@@ -7,7 +7,8 @@ use std::alloc::{AllocError, Global};
 use std::process::Abort;
 use std::test::Fail;
 
-const PRODUCT: &[u8] = b"exchange = \"GX\"\nfirms = [\"AAA\", \"BBB\", \"CCC\", \"DDD\"]\n\n[[instrument]]\nname = \"ESZ4\"\ndecimals = 2\ntick = 1\nprotection = 2\nalgorithm = \"F\"\n";
+const PRODUCT: &[u8] =
+    b"exchange = \"GX\"\nfirms = [\"AAA\", \"BBB\", \"CCC\", \"DDD\"]\n\n[[instrument]]\nname = \"ESZ4\"\ndecimals = 2\ntick = 1\nprotection = 2\nalgorithm = \"F\"\n";
 
 const FIRST: &[u8] =
     b"8=FIX.4.2\x019=89\x0135=D\x0149=AAA\x0156=GX\x0134=1\x0152=20240102-09:30:00\x0111=a1\x0155=ESZ4\x0154=2\x0138=10\x0140=2\x0144=100.00\x0159=0\x0110=210\x01";
@@ -91,7 +92,14 @@ fn two_messages_in_one_record(rt: HostRuntime) -> Result<(), Fail> {
     assert_eq!(rt; journal.next_entry(&mut station), Ok(None));
     let both = joined(alloc, &[FIRST, SECOND])?;
     put(&rt, &mut journal, &mut station, both.as_slice());
-    let parts = [HEADER, PRODUCT, b"\x01M\x00\x00\x00\xDD", FIRST, SECOND, b"\x00"];
+    let parts = [
+        HEADER,
+        PRODUCT,
+        b"\x01M\x00\x00\x00\xDD",
+        FIRST,
+        SECOND,
+        b"\x00",
+    ];
     let one = joined(alloc, &parts)?;
     assert_eq!(rt; one.len(), 377);
     assert_eq!(rt; station.image(), one.as_slice());
@@ -140,8 +148,16 @@ fn records_are_read_in_their_order(rt: HostRuntime) -> Result<(), Fail> {
     let looked = Journal::look(&mut station, PRODUCT, LIMIT).expect(&rt, "an image that is opened");
     let mut journal = looked.expect(&rt, "a journal");
     let kind = EntryKind::Frames;
-    let first = Entry { at: 149, kind, length: 3 };
-    let second = Entry { at: 158, kind, length: 1 };
+    let first = Entry {
+        at: 149,
+        kind,
+        length: 3,
+    };
+    let second = Entry {
+        at: 158,
+        kind,
+        length: 1,
+    };
     assert_eq!(rt; journal.next_entry(&mut station), Ok(Some(first)));
     assert_eq!(rt; journal.next_entry(&mut station), Ok(Some(second)));
     assert!(rt; !journal.at_end());
@@ -164,21 +180,48 @@ fn images_by_their_class(rt: HostRuntime) -> Result<(), Fail> {
         (b"\x00hello", Ok(false)),
         (b"\xC8GXJOURN1\x00\x00\x00\x04text\x00", Ok(false)),
         (b"\xC8GXJOURN1\x00\x00\x00\x04text\x00behind", Ok(false)),
-        (b"\xC8GXJOURN1\x00\x00\x00\x04text\x01", Err(StartFault::NotAJournal(0))),
-        (b"\xC8GXJOURN1\x00\x00\x00\x04text", Err(StartFault::NotAJournal(0))),
-        (b"\xC8GXJOURN1\x00\x00\x00\x04tent\x00", Err(StartFault::ProductDiffers(15))),
+        (
+            b"\xC8GXJOURN1\x00\x00\x00\x04text\x01",
+            Err(StartFault::NotAJournal(0)),
+        ),
+        (
+            b"\xC8GXJOURN1\x00\x00\x00\x04text",
+            Err(StartFault::NotAJournal(0)),
+        ),
+        (
+            b"\xC8GXJOURN1\x00\x00\x00\x04tent\x00",
+            Err(StartFault::ProductDiffers(15)),
+        ),
         (b"hello", Err(StartFault::NotAJournal(0))),
         (b"\x01GXJ", Err(StartFault::NotAJournal(4))),
-        (b"\x01GXJOURN2\x00\x00\x00\x04text\x00", Err(StartFault::NotAJournal(8))),
-        (b"\x01gXJOURN1\x00\x00\x00\x04text\x00", Err(StartFault::NotAJournal(1))),
+        (
+            b"\x01GXJOURN2\x00\x00\x00\x04text\x00",
+            Err(StartFault::NotAJournal(8)),
+        ),
+        (
+            b"\x01gXJOURN1\x00\x00\x00\x04text\x00",
+            Err(StartFault::NotAJournal(1)),
+        ),
         (b"\x01GXJOURN1", Err(StartFault::Bad(9))),
         (b"\x01GXJOURN1\x00\x00\x00\x04text", Err(StartFault::Bad(9))),
-        (b"\x01GXJOURN1\x00\x01\x00\x01text\x00", Err(StartFault::Bad(9))),
+        (
+            b"\x01GXJOURN1\x00\x01\x00\x01text\x00",
+            Err(StartFault::Bad(9)),
+        ),
         (b"\x01GXJOURN1\x00\x00\x00\x04text\x00", Ok(true)),
         (b"\x01GXJOURN1\x00\x00\x00\x04text\xC8behind", Ok(true)),
-        (b"\x01GXJOURN1\x00\x00\x00\x04texu\x00", Err(StartFault::ProductDiffers(16))),
-        (b"\x01GXJOURN1\x00\x00\x00\x03tex\x00", Err(StartFault::ProductDiffers(16))),
-        (b"\x01GXJOURN1\x00\x00\x00\x05textt\x00", Err(StartFault::ProductDiffers(17))),
+        (
+            b"\x01GXJOURN1\x00\x00\x00\x04texu\x00",
+            Err(StartFault::ProductDiffers(16)),
+        ),
+        (
+            b"\x01GXJOURN1\x00\x00\x00\x03tex\x00",
+            Err(StartFault::ProductDiffers(16)),
+        ),
+        (
+            b"\x01GXJOURN1\x00\x00\x00\x05textt\x00",
+            Err(StartFault::ProductDiffers(17)),
+        ),
     ];
     for (image, want) in table {
         if image.len() <= 1000 {
@@ -200,7 +243,8 @@ fn other_journals(rt: HostRuntime) -> Result<(), Fail> {
     let alloc = rt.alloc();
     let mut made = station(alloc, b"", &[])?;
     let _ = opened(&rt, &mut made);
-    let other = b"exchange = \"GX\"\nfirms = [\"AAA\", \"BBB\", \"CCC\", \"DDD\"]\n\n[[instrument]]\nname = \"ESZ4\"\ndecimals = 2\ntick = 1\nprotection = 3\nalgorithm = \"F\"\n";
+    let other =
+        b"exchange = \"GX\"\nfirms = [\"AAA\", \"BBB\", \"CCC\", \"DDD\"]\n\n[[instrument]]\nname = \"ESZ4\"\ndecimals = 2\ntick = 1\nprotection = 3\nalgorithm = \"F\"\n";
     let refused = Journal::start(&mut made, other, LIMIT).map(|_| ());
     assert_eq!(rt; refused, Err(StartFault::ProductDiffers(131)));
     let image = joined(alloc, &[HEADER, PRODUCT, b"\x01M\x00\x00\x00\x64"])?;
@@ -245,7 +289,10 @@ fn a_look_does_not_sync(rt: HostRuntime) -> Result<(), Fail> {
     // A length, the head, and the text.
     assert_eq!(rt; station.calls(), 5);
     let left = station.crash_image(alloc, 5, 200)?;
-    assert_eq!(rt; left.as_slice(), b"\x01GXJOURN1\x00\x00\x00\x04text\xC8".as_slice());
+    assert_eq!(rt;
+        left.as_slice(),
+        b"\x01GXJOURN1\x00\x00\x00\x04text\xC8".as_slice()
+    );
     Ok(())
 }
 

@@ -38,10 +38,7 @@ fn entry_of(head: &[u8], at: u64, most: u64) -> Option<Entry>
 }
 
 /// Reads the head at the last gate met, at most six bytes.
-fn read_head<S: Station>(
-    station: &mut S,
-    standing: &Standing,
-) -> Result<Option<Entry>, WalkFault>
+fn read_head<S: Station>(station: &mut S, standing: &Standing) -> Result<Option<Entry>, WalkFault>
     requires stands { IsStanding standing.now }
     requires reach { standing.now.known ≤ S.meanings.reach station.old }
     ensures looks { LooksOnly S.meanings station.old station.new 6 }

@@ -1,4 +1,4 @@
-use Rattle.std.proofs.Common.{sym, ◌∙◌, subst, arith, length, take, drop, ◌≡◌, ◌+◌, Some}
+use Rattle.std.proofs.Common.{sym, ◌∙◌, subst, arith, length, take, drop, ◌≡◌, ◌+◌}
 use Rattle.std.specs.Prelude.{IfSome}
 use Rattle.match_journal.proofs.Stepping.{on_ok}
 use Rattle.match_journal.proofs.Found.{byte_read, held_end}

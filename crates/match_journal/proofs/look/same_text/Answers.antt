@@ -1,4 +1,3 @@
-use Rattle.std.proofs.Common.{ap, subst, sym, ◌∙◌, ◌+◌}
 use Rattle.match_journal.proofs.Found.{text_none, text_some}
 use Rattle.match_journal.proofs.look.same_text.Goals as goal
 

@@ -1,5 +1,5 @@
 use Rattle.match_journal.proofs.Storing.{stores_write}
-use Rattle.match_journal.proofs.Stepping.{stored, stored_none}
+use Rattle.match_journal.proofs.Stepping.{stored}
 use Rattle.match_journal.proofs.parts.store.Goals as goal
 
 pub returns : goal.returns

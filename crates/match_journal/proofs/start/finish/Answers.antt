@@ -1,4 +1,4 @@
-use Rattle.std.proofs.Common.{◌≤◌, length, sym, ◌∙◌, subst, arith}
+use Rattle.std.proofs.Common.{◌≤◌, length, subst, arith}
 use Rattle.match_journal.specs.Inner.Fronts.{IsOfClass, least_of_class}
 use Rattle.match_journal.specs.declared.limits.TheConstants.{LEAST_LIMIT}
 use Rattle.match_journal.proofs.Stepping.{settled_then, settled_later}

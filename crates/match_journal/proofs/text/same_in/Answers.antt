@@ -1,4 +1,4 @@
-use Rattle.std.proofs.Common.{arith, subst, sym, ◌≤◌, length}
+use Rattle.std.proofs.Common.{subst, sym, ◌≤◌, length}
 use Rattle.match_journal.proofs.Texts.{fd_le}
 use Rattle.match_journal.proofs.text.same_in.Goals as goal
 

@@ -1,5 +1,5 @@
 use Rattle.std.proofs.Common.{sym, ◌∙◌}
-use Rattle.match_journal.proofs.Stepping.{steps_ok, steps_failed, from_synced}
+use Rattle.match_journal.proofs.Stepping.{steps_ok, from_synced}
 use Rattle.match_journal.proofs.journal.Journal.start.Goals as goal
 
 pub returns-clause-starts : goal.returns-clause-starts
