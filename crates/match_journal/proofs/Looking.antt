@@ -42,6 +42,7 @@ module _ {S : Type 0} (m : StationMeanings S) where
   looks_then a b c x y first second = record {
     silent = silent_then a b c first.silent second.silent;
     keeps = keeps_then a b c first.keeps second.keeps;
+    images_stay = λ h image may. second.images_stay (first.keeps.moments.honest h) image (first.images_stay h image may);
     reach = omega (arith, first.reach, second.reach);
     bytes_read = reads_then x y (m.bytes_read a) (m.bytes_read b) (m.bytes_read c) first.bytes_read second.bytes_read;
   }
@@ -50,6 +51,7 @@ module _ {S : Type 0} (m : StationMeanings S) where
   looks_more a b x y le looks = record {
     silent = looks.silent;
     keeps = looks.keeps;
+    images_stay = looks.images_stay;
     reach = looks.reach;
     bytes_read = reads_more x y (m.bytes_read a) (m.bytes_read b) le looks.bytes_read;
   }

@@ -1,5 +1,5 @@
 -- What the calls of a journal do to a station besides its image.
-use Rattle.std.specs.Prelude.{◌≡◌, ℕ, ◌+◌, ◌≤◌, Option, Some, None}
+use Rattle.std.specs.Prelude.{◌≡◌, ℕ, ◌+◌, ◌≤◌, List, Option, Some, None}
 use Rattle.gx_station.specs.Stations.{StationMeanings}
 use Rattle.gx_station.specs.Honest.{KeepsImage}
 
@@ -17,9 +17,11 @@ module _ {S : Type 0} (m : StationMeanings S) where
     pub send_faults : m.send_faults new ≡ m.send_faults old
     pub store_faults : m.store_faults old ≤ m.store_faults new
 
-  -- Nothing was written or sent, and no image and no output was added. At most so many bytes were read.
+  -- Nothing was written, synced or sent: no image and no output was added, and what a crash could leave it still can. At most
+  -- so many bytes were read.
   pub record LooksOnly (old new : S) (most : ℕ) : Type 0 where
     pub silent : SendsNothing old new
     pub keeps : KeepsImage m old new
+    pub images_stay : m.is_honest old → (image : List ℕ) → m.may_leave old image → m.may_leave new image
     pub reach : m.reach old ≤ m.reach new
     pub bytes_read : ReadsAtMost most (m.bytes_read old) (m.bytes_read new)
