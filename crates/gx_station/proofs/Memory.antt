@@ -198,6 +198,11 @@ module _ (old new : MemoryStation) (call : Call) (first : new.first ≡ old.firs
         silent leaves;
   }
 
+-- a look settles nothing
+stays_looked : (old new : MemoryStation) (count : ℕ) → new.first ≡ old.first → new.done ≡ old.done ++ Looked count ∷ [] → (image : List ℕ) → Leaves (disk_after old.first old.done) image → Leaves (disk_after new.first new.done) image
+stays_looked old new count first done image leaves =
+    subst (λ (l : List ℕ). Leaves (disk_after l new.done) image) (sym first) (subst (λ (l : List Call). Leaves (disk_after old.first l) image) (sym done) (subst (λ d. Leaves d image) (sym (disk_more old.first old.done (Looked count))) leaves))
+
 on_store : {T F : Type 0} (old new : MemoryStation) (result : Result T F) → new.sent ≡ old.sent → new.send_faults ≡ old.send_faults → HasCause old.store_faults new.store_faults result → OnStore memory_meanings old new result
 on_store old new result sent send_faults cause = record { sent = ap Some sent; send_faults = send_faults; cause = cause }
 
@@ -205,6 +210,7 @@ pub memory_measures : {F : Type 0} (old new : MemoryStation) (fits : Bool) (resu
 memory_measures {F} old new fits (Ok len) few (room, goes, is) value = subst (λ n. Measures memory_meanings {F = F} old n (Ok len)) (sym is) record {
   on_store = on_store old (was_measured old) (Ok len) refl refl (went old.store_faults len);
   keeps = keeps_looked old (was_measured old) (Looked 0) refl refl refl refl (λ h. omega (arith, h.reach)) refl refl (λ image leaves. leaves);
+  images_stay = λ h. stays_looked old (was_measured old) 0 refl refl;
   bytes_read = ap Some (read_more old.done (Looked 0) ∙ omega arith);
   value = value;
   reach = ap (max old.reach) (sym value);
@@ -214,6 +220,7 @@ memory_measures {F} old new fits (Err e) few why value = ⊎_elim
     (λ refused. subst (λ n. Measures memory_meanings {F = F} old n (Err e)) (sym refused.1) record {
       on_store = on_store old (store_refused old) (Err e) refl refl (stopped old.store_faults e few);
       keeps = keeps_refused old;
+      images_stay = λ h image may. may;
       bytes_read = refl;
       value = tt;
       reach = tt;
@@ -222,6 +229,7 @@ memory_measures {F} old new fits (Err e) few why value = ⊎_elim
     (λ failed. subst (λ n. Measures memory_meanings {F = F} old n (Err e)) (sym failed.2) record {
       on_store = on_store old (store_failed old (Looked 0)) (Err e) refl refl (stopped old.store_faults e few);
       keeps = keeps_looked old (store_failed old (Looked 0)) (Looked 0) refl refl refl refl (λ h. h.reach) refl refl (λ image leaves. leaves);
+      images_stay = λ h. stays_looked old (store_failed old (Looked 0)) 0 refl refl;
       bytes_read = ap Some (read_more old.done (Looked 0) ∙ omega arith);
       value = tt;
       reach = tt;
@@ -233,6 +241,7 @@ pub memory_reads : {T F : Type 0} (old new : MemoryStation) (at : ℕ) (into : L
 memory_reads {T} {F} old new at into fits (Ok x) few (room, goes, is) value = subst (λ n. Reads memory_meanings {T = T} {F = F} old n at into (Ok x)) (sym is) record {
   on_store = on_store old (listed old (Looked (length into))) (Ok x) refl refl (went old.store_faults x);
   keeps = keeps_looked old (listed old (Looked (length into))) (Looked (length into)) refl refl refl refl (λ h. h.reach) refl refl (λ image leaves. leaves);
+  images_stay = λ h. stays_looked old (listed old (Looked (length into))) (length into) refl refl;
   reach = refl;
   bytes = value;
   bytes_read = ap Some (read_more old.done (Looked (length into)));
@@ -242,6 +251,7 @@ memory_reads {T} {F} old new at into fits (Err e) few why value = ⊎_elim
     (λ refused. subst (λ n. Reads memory_meanings {T = T} {F = F} old n at into (Err e)) (sym refused.1) record {
       on_store = on_store old (store_refused old) (Err e) refl refl (stopped old.store_faults e few);
       keeps = keeps_refused old;
+      images_stay = λ h image may. may;
       reach = refl;
       bytes = tt;
       bytes_read = tt;
@@ -250,6 +260,7 @@ memory_reads {T} {F} old new at into fits (Err e) few why value = ⊎_elim
     (λ failed. subst (λ n. Reads memory_meanings {T = T} {F = F} old n at into (Err e)) (sym failed.2) record {
       on_store = on_store old (store_failed old (Looked 0)) (Err e) refl refl (stopped old.store_faults e few);
       keeps = keeps_looked old (store_failed old (Looked 0)) (Looked 0) refl refl refl refl (λ h. h.reach) refl refl (λ image leaves. leaves);
+      images_stay = λ h. stays_looked old (store_failed old (Looked 0)) 0 refl refl;
       reach = refl;
       bytes = tt;
       bytes_read = tt;

@@ -5,7 +5,8 @@
 -- 1. At each moment image and output are told. What a read gives is one of the images that a crash now could leave. Since
 --    the present time there are just the pairs of such an image and what was sent (`IsHonestNow`).
 -- 2. Time never falls, and a pair that could once be left since some time stays one (`AddsOnly`).
--- 3. `length` and `read` add no image and no output (`KeepsImage`).
+-- 3. `length` and `read` add no image and no output (`KeepsImage`), and settle nothing: what a crash could leave, it still
+--    can (`Measures`, `Reads`).
 -- 4. A write, Ok or Failed, adds images that are one from before, torn in the written range, with what was sent as their
 --    output (`TearsImage`).
 -- 5. A sync, Ok or Failed, adds no image and no output (`KeepsImage`). After one that is Ok a crash leaves just what a

@@ -13,19 +13,21 @@ module _ {S : Type 0} (m : StationMeanings S) where
     pub send_faults : m.send_faults new ≡ m.send_faults old
     pub cause : HasCause (m.store_faults old) (m.store_faults new) result
 
-  -- the length was answered
+  -- the length was answered; what was pending still is
   pub record Measures {F : Type 0} (old new : S) (result : Result ℕ F) : Type 0 where
     pub on_store : OnStore old new result
     pub keeps : KeepsImage m old new
+    pub images_stay : m.is_honest old → (image : List ℕ) → m.may_leave old image → m.may_leave new image
     pub bytes_read : m.bytes_read new ≡ m.bytes_read old
     pub value : IfOk result (λ len. IfSome (m.holds old) (λ image. len ≡ length image))
     pub reach : IfOk result (λ len. m.reach new ≡ max (m.reach old) len)
     pub reach_err : OnErr result (m.reach new ≡ m.reach old)
 
-  -- the bytes at a place were read
+  -- the bytes at a place were read; what was pending still is
   pub record Reads {T F : Type 0} (old new : S) (at : ℕ) (into : List ℕ) (result : Result T F) : Type 0 where
     pub on_store : OnStore old new result
     pub keeps : KeepsImage m old new
+    pub images_stay : m.is_honest old → (image : List ℕ) → m.may_leave old image → m.may_leave new image
     pub reach : m.reach new ≡ m.reach old
     pub bytes : OnOk result (IfSome (m.holds old) (λ image. into ≡ take (length into) (drop at image)))
     pub bytes_read : OnOk result (m.bytes_read new ≡ option_map (λ n. n + length into) (m.bytes_read old))

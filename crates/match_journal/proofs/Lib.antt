@@ -1,0 +1,15 @@
+mod Torn
+mod Storing
+mod Stepping
+mod Records
+mod Appended
+mod Staging
+mod Walked
+mod Texts
+mod Fronts
+mod Looking
+mod Pieces
+mod Created
+mod Creating
+mod Found
+mod Unique

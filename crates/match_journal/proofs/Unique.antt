@@ -1,0 +1,198 @@
+-- An image keeps one list of payloads, and one answer fits it.
+use Rattle.std.proofs.Common.{◌≡◌, ◌≢◌, ◌⊎◌, inl, inr, ⊎_elim, ℕ, ◌+◌, ◌<◌, ◌≤◌, List, [], ◌∷◌, ◌++◌, length, get_or, take, drop, Option, Some, None, Result, Ok, Err, refl, sym, ◌∙◌, ap, arith, append_assoc, length-drop}
+use Rattle.std.specs.List.{flat_map, AllByRecursion}
+use Rattle.std.proofs.lemmas.List.{take_at, drop_at, append_cancel_left, length-take, get_or-take, get_or-drop}
+use Rattle.match_journal.specs.Journal.{IsJournal, IsPayload, header, open_record}
+use Rattle.match_journal.specs.Classes.{HasHeader, HasOpenGate, IsBlank, IsSealed, IsUnfinished, IsForeignAt, HasOtherText, Keeps, first_difference}
+use Rattle.match_journal.specs.Opening.{IsOpened, IsStartFault, Looks}
+use Rattle.match_journal.specs.Walking.{IsHead, Walks}
+use Rattle.gx_station.specs.Disk.{Torn}
+use Rattle.match_journal.specs.declared.entry.Entry.{Entry}
+use Rattle.match_journal.specs.declared.entry.EntryKind.{EntryKind}
+use Rattle.match_journal.specs.declared.entry.EntryKind.TheVariants as kind
+use Rattle.match_journal.specs.declared.standing.Standing.{Standing}
+use Rattle.match_journal.specs.declared.faults.WalkFault.{WalkFault}
+use Rattle.match_journal.specs.declared.faults.WalkFault.TheVariants as walk
+use Rattle.match_journal.specs.declared.faults.StartFault.{StartFault}
+use Rattle.match_journal.specs.declared.faults.StartFault.TheVariants as fault
+use Rattle.match_journal.proofs.Walked.{one_size}
+use Rattle.match_journal.proofs.Fronts.{header_front}
+use Rattle.match_journal.proofs.Created.{empty_keeps, closed_keeps, none_kept}
+
+-- ---- one list of payloads
+
+-- two lists whose fronts are as long
+same_front : (p q x y : List ℕ) → length p ≡ length q → p ++ x ≡ q ++ y → (p ≡ q) × (x ≡ y)
+same_front p q x y size e = (
+  sym (take_at p x (length q) size) ∙ ap (take (length q)) e ∙ take_at q y (length q) refl,
+  sym (drop_at p x (length q) size) ∙ ap (drop (length q)) e ∙ drop_at q y (length q) refl,
+)
+
+one_list : (ps qs : List (List ℕ)) (g h : ℕ) (x y : List ℕ) → AllByRecursion IsPayload ps → AllByRecursion IsPayload qs → g ≢ 1 → h ≢ 1 → flat_map open_record ps ++ g ∷ x ≡ flat_map open_record qs ++ h ∷ y → ps ≡ qs
+one_list [] [] g h x y sized sized' shut shut' e = refl
+one_list [] (q ∷ qs) g h x y sized sized' shut shut' e = absurd (shut (ap (λ (l : List ℕ). get_or l 0 0) e))
+one_list (p ∷ ps) [] g h x y sized sized' shut shut' e = absurd (shut' (sym (ap (λ (l : List ℕ). get_or l 0 0) e)))
+one_list (p ∷ ps) (q ∷ qs) g h x y sized sized' shut shut' e =
+    let size : length p ≡ length q = one_size (length p) (length q) (omega (arith, sized.0.few)) (omega (arith, sized'.0.few)) (ap (λ (l : List ℕ). take 4 (drop 2 l)) e) in
+    let rest : p ++ (flat_map open_record ps ++ g ∷ x) ≡ q ++ (flat_map open_record qs ++ h ∷ y) =
+    sym (append_assoc p (flat_map open_record ps) (g ∷ x)) ∙ ap (drop 6) e ∙ append_assoc q (flat_map open_record qs) (h ∷ y) in
+    let both = same_front p q _ _ size rest in
+    cc (both.0, one_list ps qs g h x y sized.1 sized'.1 shut shut' both.1)
+
+one_journal : (text : List ℕ) (limit : ℕ) (image : List ℕ) (ps qs : List (List ℕ)) → IsJournal text limit ps image → IsJournal text limit qs image → ps ≡ qs
+one_journal text limit image ps qs a b =
+    one_list ps qs a.gate b.gate a.behind b.behind a.sized b.sized a.closed b.closed (append_cancel_left (1 ∷ header text) _ _
+    (sym (append_assoc (1 ∷ header text) (flat_map open_record ps) (a.gate ∷ a.behind)) ∙ sym a.is ∙ b.is ∙ append_assoc (1 ∷ header text) (flat_map open_record qs) (b.gate ∷ b.behind)))
+
+unfinished_keeps : (text : List ℕ) (limit : ℕ) (image : List ℕ) (ps : List (List ℕ)) → Keeps text limit ps image → IsUnfinished text image → ps ≡ []
+unfinished_keeps text limit image ps keeps u = elim u.unfinished [
+  | inl blank ↦ elim blank [
+    | inl short ↦ empty_keeps text limit image ps keeps short
+    | inr closed ↦ closed_keeps text limit image ps keeps closed.0
+  ]
+  | inr sealed ↦ (none_kept text limit image ps keeps sealed.not_open).0
+]
+
+pub one_keeping : (text : List ℕ) (limit : ℕ) (image : List ℕ) (ps qs : List (List ℕ)) → Keeps text limit ps image → Keeps text limit qs image → ps ≡ qs
+one_keeping text limit image ps qs (inl a) (inl b) = one_journal text limit image ps qs a b
+one_keeping text limit image ps qs (inl a) (inr b) = unfinished_keeps text limit image ps (inl a) b.1 ∙ sym b.0
+one_keeping text limit image ps qs (inr a) (inl b) = a.0 ∙ sym (unfinished_keeps text limit image qs (inl b) a.1)
+one_keeping text limit image ps qs (inr a) (inr b) = a.0 ∙ sym b.0
+
+-- ---- one answer of an opening
+
+-- one image has one header
+one_header : (image a b : List ℕ) → HasHeader a image → HasHeader b image → a ≡ b
+one_header image a b x y =
+    let size : length a ≡ length b = one_size (length a) (length b) (omega (arith, x.few)) (omega (arith, y.few)) (ap (drop 8) (sym (header_front a image x) ∙ header_front b image y)) in
+    ap (drop 12) (sym x.stands ∙ ap (λ n. take (12 + n) (drop 1 image)) size ∙ y.stands)
+
+open_long : (image : List ℕ) → HasOpenGate image → 8 < length image
+open_long image j = omega (arith, ap length j.magic, length-take 8 (drop 1 image), length-drop 1 image)
+
+blank_not_open : (image : List ℕ) → IsBlank image → HasOpenGate image → ⊥
+blank_not_open image (inl short) j = omega (arith, short, open_long image j)
+blank_not_open image (inr closed) j = omega (arith, closed.0, j.opened)
+
+blank_not_sealed : (text image : List ℕ) → IsBlank image → IsSealed text image → ⊥
+blank_not_sealed text image (inl short) s = omega (arith, short, s.header.inside)
+blank_not_sealed text image (inr closed) s = s.not_closed closed.0
+
+module _ (product image : List ℕ) where
+  none_some : IsBlank image ⊎ IsSealed product image → IsOpened product image → ⊥
+  none_some (inl blank) opened = blank_not_open image blank opened.0
+  none_some (inr sealed) opened = sealed.not_open opened.0.opened
+
+  none_err : (e : StartFault) → IsBlank image ⊎ IsSealed product image → IsStartFault product image e → (e ≡ fault.Store → ⊥) → ⊥
+  none_err fault.Store none is told = told refl
+  none_err (fault.NotAJournal at) (inl blank) is told = is.foreign.not_blank blank
+  none_err (fault.NotAJournal at) (inr sealed) is told = is.foreign.not_sealed product sealed
+  none_err (fault.Bad at) (inl blank) is told = blank_not_open image blank is.journal
+  none_err (fault.Bad at) (inr sealed) is told = sealed.not_open is.journal.opened
+  none_err (fault.ProductDiffers at) (inl blank) is told = ⊎_elim (λ j. blank_not_open image blank j) (λ s. blank_not_sealed is.text image blank s) is.journal_or_sealed
+  none_err (fault.ProductDiffers at) (inr sealed) is told = is.other (one_header image is.text product is.header sealed.header)
+
+  some_err : (e : StartFault) → IsOpened product image → IsStartFault product image e → (e ≡ fault.Store → ⊥) → ⊥
+  some_err fault.Store opened is told = told refl
+  some_err (fault.NotAJournal at) opened is told = is.foreign.not_journal opened.0
+  some_err (fault.Bad at) opened is told = is.no_header product opened.1
+  some_err (fault.ProductDiffers at) opened is told = is.other (one_header image is.text product is.header opened.1)
+
+  foreign_differs : (at at' : ℕ) → IsForeignAt image at → HasOtherText product image at' → ⊥
+  foreign_differs at at' x y = ⊎_elim (λ j. x.foreign.not_journal j) (λ s. x.foreign.not_sealed y.text s) y.journal_or_sealed
+
+  one_place : (at at' : ℕ) → IsForeignAt image at → IsForeignAt image at' → at ≡ at'
+  one_place at at' x y = ⊎_elim
+      (λ p. ⊎_elim (λ q. p.1 ∙ sym q.1) (λ q. absurd (p.0 q.0)) y.place)
+      (λ p. ⊎_elim (λ q. absurd (q.0 p.0)) (λ q. p.1 ∙ sym q.1) y.place)
+      x.place
+
+  err_err : (e f : StartFault) → IsStartFault product image e → IsStartFault product image f → (e ≡ fault.Store → ⊥) → (f ≡ fault.Store → ⊥) → e ≡ f
+  err_err fault.Store f x y told told' = absurd (told refl)
+  err_err (fault.NotAJournal at) fault.Store x y told told' = absurd (told' refl)
+  err_err (fault.NotAJournal at) (fault.NotAJournal at') x y told told' = ap fault.NotAJournal (one_place at at' x y)
+  err_err (fault.NotAJournal at) (fault.Bad at') x y told told' = absurd (x.foreign.not_journal y.journal)
+  err_err (fault.NotAJournal at) (fault.ProductDiffers at') x y told told' = absurd (foreign_differs at at' x y)
+  err_err (fault.Bad at) fault.Store x y told told' = absurd (told' refl)
+  err_err (fault.Bad at) (fault.NotAJournal at') x y told told' = absurd (y.foreign.not_journal x.journal)
+  err_err (fault.Bad at) (fault.Bad at') x y told told' = ap fault.Bad (x.place ∙ sym y.place)
+  err_err (fault.Bad at) (fault.ProductDiffers at') x y told told' = absurd (x.no_header y.text y.header)
+  err_err (fault.ProductDiffers at) fault.Store x y told told' = absurd (told' refl)
+  err_err (fault.ProductDiffers at) (fault.NotAJournal at') x y told told' = absurd (foreign_differs at' at y x)
+  err_err (fault.ProductDiffers at) (fault.Bad at') x y told told' = absurd (y.no_header x.text x.header)
+  err_err (fault.ProductDiffers at) (fault.ProductDiffers at') x y told told' =
+      ap fault.ProductDiffers (x.place ∙ ap (λ (l : List ℕ). 13 + first_difference l product) (one_header image x.text y.text x.header y.header) ∙ sym y.place)
+
+  abbrev refusal : StartFault → Result (Option Standing) StartFault
+  refusal e = Err e
+
+  not_store : (e : StartFault) → (refusal e ≡ refusal fault.Store → ⊥) → e ≡ fault.Store → ⊥
+  not_store e told is = told (ap refusal is)
+
+  pub one_answer : (limit : ℕ) (a b : Result (Option Standing) StartFault) → Looks product limit image a → Looks product limit image b → (a ≡ Err fault.Store → ⊥) → (b ≡ Err fault.Store → ⊥) → a ≡ b
+  one_answer limit (Ok None) (Ok None) x y told told' = refl
+  one_answer limit (Ok None) (Ok (Some s)) x y told told' = absurd (none_some x y.0)
+  one_answer limit (Ok None) (Err e) x y told told' = absurd (none_err e x y (not_store e told'))
+  one_answer limit (Ok (Some s)) (Ok None) x y told told' = absurd (none_some y x.0)
+  one_answer limit (Ok (Some s)) (Ok (Some s')) x y told told' = ap (λ (s : Standing). Ok (Some s)) (x.1 ∙ sym y.1)
+  one_answer limit (Ok (Some s)) (Err e) x y told told' = absurd (some_err e x.0 y (not_store e told'))
+  one_answer limit (Err e) (Ok None) x y told told' = absurd (none_err e y x (not_store e told))
+  one_answer limit (Err e) (Ok (Some s)) x y told told' = absurd (some_err e y.0 x (not_store e told))
+  one_answer limit (Err e) (Err f) x y told told' = ap Err (err_err e f x y (not_store e told) (not_store f told'))
+
+-- ---- one answer at a gate
+
+head_opened : (image : List ℕ) (limit gate : ℕ) (entry : Entry) → IsHead image limit gate entry → get_or image gate 0 ≡ 1
+head_opened image limit gate entry head =
+    ap (λ k. get_or image k 0) zero_more ∙ sym (get_or-drop gate image 0 0) ∙ sym (get_or-take 6 (drop gate image) 0 0 (omega arith)) ∙ ap (λ (l : List ℕ). get_or l 0 0) head.stands
+  where
+    zero_more : gate ≡ gate + 0
+    zero_more = omega arith
+
+one_kind : (a b : EntryKind) → a ≡ b
+one_kind kind.Frames kind.Frames = refl
+
+one_entry : (image : List ℕ) (limit gate : ℕ) (a b : Entry) → IsHead image limit gate a → IsHead image limit gate b → a ≡ b
+one_entry image limit gate a b x y =
+    let size : a.length ≡ b.length = one_size a.length b.length (omega (arith, x.fits.few)) (omega (arith, y.fits.few)) (ap (drop 2) (sym x.stands ∙ y.stands)) in
+    let at : a.at ≡ b.at = x.at_is ∙ sym y.at_is in
+    let same : a.kind ≡ b.kind = one_kind a.kind b.kind in
+    λ i. record { at = at i; kind = same i; length = size i }
+
+pub one_walk : (image : List ℕ) (limit gate : ℕ) (a b : Result (Option Entry) WalkFault) → Walks image limit gate a → Walks image limit gate b → (a ≡ Err walk.Store → ⊥) → (b ≡ Err walk.Store → ⊥) → a ≡ b
+one_walk image limit gate (Err walk.Store) b x y told told' = absurd (told refl)
+one_walk image limit gate (Ok None) (Err walk.Store) x y told told' = absurd (told' refl)
+one_walk image limit gate (Ok None) (Ok None) x y told told' = refl
+one_walk image limit gate (Ok None) (Ok (Some e)) x y told told' = absurd (x (head_opened image limit gate e y))
+one_walk image limit gate (Ok None) (Err (walk.Bad at)) x y told told' = absurd (x y.opened)
+one_walk image limit gate (Ok (Some e)) (Err walk.Store) x y told told' = absurd (told' refl)
+one_walk image limit gate (Ok (Some e)) (Ok None) x y told told' = absurd (y (head_opened image limit gate e x))
+one_walk image limit gate (Ok (Some e)) (Ok (Some f)) x y told told' = ap (λ (e : Entry). Ok (Some e)) (one_entry image limit gate e f x y)
+one_walk image limit gate (Ok (Some e)) (Err (walk.Bad at)) x y told told' = absurd (y.no_head e x)
+one_walk image limit gate (Err (walk.Bad at)) (Err walk.Store) x y told told' = absurd (told' refl)
+one_walk image limit gate (Err (walk.Bad at)) (Ok None) x y told told' = absurd (y x.opened)
+one_walk image limit gate (Err (walk.Bad at)) (Ok (Some e)) x y told told' = absurd (x.no_head e y)
+one_walk image limit gate (Err (walk.Bad at)) (Err (walk.Bad at')) x y told told' = ap (λ k. Err (walk.Bad k)) (x.at_is ∙ sym y.at_is)
+
+-- ---- gate and header in one write
+
+-- this image keeps nothing
+none_200 : (text : List ℕ) (limit : ℕ) (ps : List (List ℕ)) → Keeps text limit ps (200 ∷ 200 ∷ []) → ⊥
+none_200 text limit ps (inl journal) = omega (arith, ap (λ (l : List ℕ). get_or l 0 0) journal.is)
+none_200 text limit ps (inr (none, u)) = elim u.unfinished [
+  | inl blank ↦ elim blank [
+    | inl short ↦ absurd (omega (arith, short))
+    | inr closed ↦ absurd (omega (arith, closed.0))
+  ]
+  | inr sealed ↦ absurd (omega (arith, sealed.header.inside))
+]
+
+torn_200 : (n : ℕ) → 2 ≤ n → Torn 0 n (0 ∷ []) (200 ∷ 200 ∷ [])
+torn_200 n two = record {
+  same = λ i lt outside. ⊎_elim (λ before. absurd (omega (arith, before))) (λ behind. absurd (omega (arith, behind, lt, two))) outside;
+  no_shorter = omega arith;
+  no_longer = omega (arith, two);
+}
+
+pub at_once_refuted : (text : List ℕ) (limit n : ℕ) → 2 ≤ n → ((left : List ℕ) → Torn 0 n (0 ∷ []) left → Keeps text limit [] left) → ⊥
+at_once_refuted text limit n two all = none_200 text limit [] (all (200 ∷ 200 ∷ []) (torn_200 n two))

@@ -1,0 +1,10 @@
+pub mod Standing
+pub mod Journal
+pub mod Classes
+pub mod Causes
+pub mod Steps
+pub mod StepLaws
+pub mod Opening
+pub mod Walking
+pub mod Appending
+pub mod Inner

@@ -1,0 +1,25 @@
+//! The head of a record.
+
+/// The kind of a record. There is one kind so far.
+#[derive(Clone, Copy, Debug, PartialEq, Eq)]
+pub enum EntryKind {
+    /// One or more messages.
+    Frames,
+}
+
+/// A record in a journal: the place of its gate, its kind, and how many bytes its payload has.
+#[derive(Clone, Copy, Debug, PartialEq, Eq)]
+pub struct Entry {
+    pub at: u64,
+    pub kind: EntryKind,
+    pub length: u32,
+}
+
+/// How many bytes stand before the payload: the gate, the kind and the length.
+pub(crate) const HEAD: usize = 6;
+
+/// How many bytes a record has besides its payload: its head, and the next gate.
+pub(crate) const AROUND: u64 = 7;
+
+/// The byte of a kind.
+pub(crate) const FRAMES: u8 = b'M';

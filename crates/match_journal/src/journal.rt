@@ -1,0 +1,90 @@
+//! A journal, and its places.
+ghost use Rattle.std.specs.Prelude.{◌≡◌, ◌+◌, ◌<◌, ◌≤◌, length, false};
+ghost use Rattle.match_journal.specs.Standing.{IsStanding, moved, at_first};
+ghost use Rattle.match_journal.specs.declared.limits.TheConstants.{MOST_LIMIT};
+
+use crate::class::TEXT_AT;
+use crate::entry::{Entry, HEAD};
+use crate::limits::MOST_PAYLOAD;
+use crate::standing::Standing;
+use std::marker::Model;
+
+/// How many bytes a record has at most, from its kind to the gate behind it.
+pub(crate) const RECORD: usize = MOST_PAYLOAD + HEAD;
+
+/// A place in the journal that a station's image is. It keeps the length of the image too, and asks for neither twice. No
+/// call but `append` changes the image of a journal that is open.
+#[derive(Drop)]
+pub struct Journal {
+    pub(crate) standing: Standing,
+    /// A record on its way out, from its kind to the gate behind it.
+    pub(crate) record: [u8; RECORD],
+}
+
+impl Model for Journal {
+    ghost use Rattle.match_journal.specs.declared.standing.Standing.{Standing};
+    ghost use Rattle.match_journal.specs.Standing.{IsStanding};
+
+    ghost Value = { Standing };
+
+    ghost view = { λ j. j.standing };
+
+    ghost invariant = { λ j. IsStanding j.standing };
+}
+
+impl Journal {
+    /// A journal that was just opened in an image of `known` bytes, at its first gate.
+    pub(crate) fn opened(product: &[u8], known: u64, limit: u64) -> Journal
+        requires known { 13 + length product.now < known }
+        requires most { limit ≤ MOST_LIMIT }
+        ensures { result ≡ at_first (13 + length product.now) known limit }
+    {
+        let first = TEXT_AT as u64 + product.len() as u64;
+        Journal {
+            standing: Standing {
+                first,
+                gate: first,
+                known,
+                limit,
+                is_at_end: false,
+                is_lost: false,
+            },
+            record: [0; RECORD],
+        }
+    }
+
+    /// The next entry is the first again.
+    pub fn rewind(&mut self)
+        ensures { self.new ≡ moved self.old self.old.first false }
+    {
+        self.standing.gate = self.standing.first;
+        self.standing.is_at_end = false;
+    }
+
+    /// The next entry is this one.
+    pub fn go_to(&mut self, entry: &Entry)
+        requires { entry.now.at + 7 + entry.now.length ≤ self.old.known }
+        ensures { self.new ≡ moved self.old entry.now.at false }
+    {
+        self.standing.gate = entry.at;
+        self.standing.is_at_end = false;
+    }
+
+    /// Whether the journal stands at the closed gate behind all records: from a `next_entry` that answers `None`, or an
+    /// `append` that is Ok, until the next `rewind`, `go_to`, or `next_entry` that answers an entry. Never again once an
+    /// `append` has failed.
+    pub fn at_end(&self) -> bool
+        ensures value { result ≡ self.now.is_at_end }
+        ensures stands { IsStanding self.now }
+    {
+        self.standing.is_at_end
+    }
+
+    /// The place of the last gate met.
+    pub fn end(&self) -> u64
+        ensures value { result ≡ self.now.gate }
+        ensures stands { IsStanding self.now }
+    {
+        self.standing.gate
+    }
+}

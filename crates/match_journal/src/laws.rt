@@ -1,0 +1,35 @@
+//! Laws of the definitions. The functions do nothing; what their contracts say is proved.
+ghost use Rattle.std.specs.Prelude.{◌≡◌, ℕ, ◌≤◌, List, [], ◌∷◌, Option, Result, Err};
+ghost use Rattle.gx_station.specs.Disk.{Torn};
+ghost use Rattle.match_journal.specs.Classes.{Keeps};
+ghost use Rattle.match_journal.specs.Opening.{Looks};
+ghost use Rattle.match_journal.specs.Walking.{Walks};
+ghost use Rattle.match_journal.specs.declared.standing.Standing.{Standing};
+ghost use Rattle.match_journal.specs.declared.entry.Entry.{Entry};
+ghost use Rattle.match_journal.specs.declared.faults.StartFault.{StartFault};
+ghost use Rattle.match_journal.specs.declared.faults.StartFault.TheVariants as start;
+ghost use Rattle.match_journal.specs.declared.faults.WalkFault.{WalkFault};
+ghost use Rattle.match_journal.specs.declared.faults.WalkFault.TheVariants as walk;
+
+/// An image keeps one list of payloads of a product, and no other.
+pub fn an_image_keeps_one_list()
+    ensures { (product image : List ℕ) (limit : ℕ) (first second : List (List ℕ)) → Keeps product limit first image → Keeps product limit second image → first ≡ second }
+{}
+
+/// One answer of an opening fits an image, besides a fault of the store. So each comes exactly where it fits.
+pub fn an_image_has_one_answer()
+    ensures { (product image : List ℕ) (limit : ℕ) (first second : Result (Option Standing) StartFault) → Looks product limit image first → Looks product limit image second
+        → (first ≡ Err start.Store → ⊥) → (second ≡ Err start.Store → ⊥) → first ≡ second }
+{}
+
+/// One answer of a walk fits a gate, besides a fault of the store. So each comes exactly where it fits.
+pub fn a_gate_has_one_answer()
+    ensures { (image : List ℕ) (limit gate : ℕ) (first second : Result (Option Entry) WalkFault) → Walks image limit gate first → Walks image limit gate second
+        → (first ≡ Err walk.Store → ⊥) → (second ≡ Err walk.Store → ⊥) → first ≡ second }
+{}
+
+/// Were the first gate written together with what stands behind it, over an image of one closed gate: not each image that a
+/// crash then leaves is one that a journal opens. So a creation takes a write and a sync for the gate alone.
+pub fn the_first_gate_is_written_alone()
+    ensures { (product : List ℕ) (limit n : ℕ) → 2 ≤ n → ((left : List ℕ) → Torn 0 n (0 ∷ []) left → Keeps product limit [] left) → ⊥ }
+{}

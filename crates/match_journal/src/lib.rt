@@ -1,0 +1,28 @@
+//! The journal of the engine in a station's image: each record is on the disk before its gate is opened, and the gate before
+//! the append is answered.
+#![tactic(auto)]
+
+mod append;
+mod class;
+mod entry;
+mod faults;
+mod journal;
+mod laws;
+mod limits;
+mod look;
+mod parts;
+mod standing;
+mod start;
+#[cfg(test)]
+mod tests;
+mod text;
+mod walk;
+
+pub use entry::{Entry, EntryKind};
+pub use faults::{AppendFault, StartFault, StoreFault, WalkFault};
+pub use journal::Journal;
+pub use laws::{
+    a_gate_has_one_answer, an_image_has_one_answer, an_image_keeps_one_list,
+    the_first_gate_is_written_alone,
+};
+pub use limits::{LEAST_LIMIT, MOST_LIMIT, MOST_PAYLOAD, MOST_TEXT, MOST_UNFINISHED};

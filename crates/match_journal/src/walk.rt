@@ -1,0 +1,122 @@
+//! Going over the records.
+ghost use Rattle.std.specs.Prelude.{◌≡◌, ℕ, ◌+◌, ◌<◌, ◌≤◌, List, ◌++◌, length, take, drop, min, Some, OnOk, IfOk, IfSome, IsErrOf};
+ghost use Rattle.gx_station.specs.Counts.{Rose};
+ghost use Rattle.gx_station.specs.StoreCalls.{OnStore};
+ghost use Rattle.match_journal.specs.Causes.{LooksOnly};
+ghost use Rattle.match_journal.specs.Journal.{IsJournal, journal_front};
+ghost use Rattle.match_journal.specs.Standing.{IsStanding, Fits};
+ghost use Rattle.match_journal.specs.Walking.{Walks, InOrder, IsNext, stands_then};
+ghost use Rattle.match_journal.specs.Inner.Heads.{HeadAnswers};
+
+use crate::entry::{AROUND, Entry, EntryKind, FRAMES, HEAD};
+use crate::faults::{StoreFault, WalkFault};
+use crate::journal::Journal;
+use crate::limits::MOST_PAYLOAD;
+use crate::standing::Standing;
+use gx_station::Station;
+
+/// The entry whose head these bytes are, behind an open gate at a place. `most` is where the image ends or, where that is
+/// less, the limit.
+fn entry_of(head: &[u8], at: u64, most: u64) -> Option<Entry>
+    ensures { HeadAnswers head.now at most result }
+{
+    if head.len() < HEAD || head[1] != FRAMES {
+        return None;
+    }
+    let length = u32::from_be_bytes([head[2], head[3], head[4], head[5]]);
+    if length == 0 || length as usize > MOST_PAYLOAD {
+        return None;
+    }
+    if most.saturating_sub(at) < AROUND + length as u64 {
+        return None;
+    }
+    Some(Entry {
+        at,
+        kind: EntryKind::Frames,
+        length,
+    })
+}
+
+/// Reads the head at the last gate met, at most six bytes.
+fn read_head<S: Station>(station: &mut S, standing: &Standing) -> Result<Option<Entry>, WalkFault>
+    requires stands { IsStanding standing.now }
+    requires reach { standing.now.known ≤ S.meanings.reach station.old }
+    ensures looks { LooksOnly S.meanings station.old station.new 6 }
+    ensures reach { S.meanings.reach station.new ≡ S.meanings.reach station.old }
+    ensures store { IsErrOf result WalkFault.Store → Rose (S.meanings.store_faults station.old) (S.meanings.store_faults station.new) }
+    ensures none { (IsErrOf result WalkFault.Store → ⊥) → S.meanings.store_faults station.new ≡ S.meanings.store_faults station.old }
+    ensures entry { IfOk result (λ found. IfSome found (λ entry. (entry.at ≡ standing.now.gate) × Fits standing.now.known standing.now.limit entry)) }
+    ensures walks { (image : List ℕ) → S.meanings.holds station.old ≡ Some image → length image ≡ standing.now.known → Walks image standing.now.limit standing.now.gate result }
+{
+    let gate = standing.gate;
+    let count = (standing.known - gate).min(HEAD as u64) as usize;
+    let mut head = [0; HEAD];
+    if station.read(gate, &mut head[..count]).is_err() {
+        return Err(WalkFault::Store);
+    }
+    if head[0] != 1 {
+        return Ok(None);
+    }
+    match entry_of(&head[..count], gate, standing.known.min(standing.limit)) {
+        Some(entry) => Ok(Some(entry)),
+        None => Err(WalkFault::Bad(gate)),
+    }
+}
+
+impl Journal {
+    /// The head of the next record, which is passed by; `None` exactly at a closed gate, and `Bad` exactly where the gate is
+    /// open and no good head stands there. Where each record is good, these are the records in their order. At most six bytes are
+    /// read, and the length of the image is not asked for.
+    pub fn next_entry<S: Station>(&mut self, station: &mut S) -> Result<Option<Entry>, WalkFault>
+        requires reach { self.old.known ≤ S.meanings.reach station.old }
+        ensures looks { LooksOnly S.meanings station.old station.new 6 }
+        ensures reach { S.meanings.reach station.new ≡ S.meanings.reach station.old }
+        ensures store { IsErrOf result WalkFault.Store → Rose (S.meanings.store_faults station.old) (S.meanings.store_faults station.new) }
+        ensures none { (IsErrOf result WalkFault.Store → ⊥) → S.meanings.store_faults station.new ≡ S.meanings.store_faults station.old }
+        ensures stands { IsStanding self.new }
+        ensures moves { self.new ≡ stands_then self.old result }
+        ensures entry { IfOk result (λ found. IfSome found (λ entry. (entry.at ≡ self.old.gate) × Fits self.old.known self.old.limit entry)) }
+        ensures walks { (image : List ℕ) → S.meanings.holds station.old ≡ Some image → length image ≡ self.old.known → Walks image self.old.limit self.old.gate result }
+        ensures in_order { (text image : List ℕ) (before after : List (List ℕ)) → S.meanings.holds station.old ≡ Some image → length image ≡ self.old.known
+            → IsJournal text self.old.limit (before ++ after) image → self.old.gate ≡ length (journal_front text before) → InOrder text image before after self.new.gate result }
+    {
+        match read_head(station, &self.standing) {
+            Ok(Some(entry)) => {
+                self.standing.gate += HEAD as u64 + entry.length as u64;
+                self.standing.is_at_end = false;
+                Ok(Some(entry))
+            }
+            Ok(None) => {
+                self.standing.is_at_end = !self.standing.is_lost;
+                Ok(None)
+            }
+            Err(fault) => Err(fault),
+        }
+    }
+
+    /// Fills `into` with the payload of an entry. Nothing else changes.
+    pub fn read_entry<S: Station>(
+        &mut self,
+        station: &mut S,
+        entry: &Entry,
+        into: &mut [u8],
+    ) -> Result<(), StoreFault>
+        requires size { length into.old ≡ entry.now.length }
+        requires inside { entry.now.at + 7 + entry.now.length ≤ self.old.known }
+        requires reach { self.old.known ≤ S.meanings.reach station.old }
+        ensures stays { self.new ≡ self.old }
+        ensures looks { LooksOnly S.meanings station.old station.new entry.now.length }
+        ensures reach { S.meanings.reach station.new ≡ S.meanings.reach station.old }
+        ensures on_store { OnStore S.meanings station.old station.new result }
+        ensures size { length into.new ≡ length into.old }
+        ensures bytes { OnOk result ((image : List ℕ) → S.meanings.holds station.old ≡ Some image → into.new ≡ take entry.now.length (drop (entry.now.at + 6) image)) }
+        ensures payload { OnOk result ((text image : List ℕ) (before after : List (List ℕ)) (gate : ℕ) → S.meanings.holds station.old ≡ Some image
+            → (found : IsNext text image before after gate entry.now) → into.new ≡ found.payload) }
+    {
+        prove!(entry.at < self.standing.known);
+        match station.read(entry.at + HEAD as u64, into) {
+            Ok(()) => Ok(()),
+            Err(_) => Err(StoreFault),
+        }
+    }
+}
