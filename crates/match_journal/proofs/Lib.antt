@@ -1,15 +1,14 @@
 mod Torn
 mod Storing
 mod Stepping
-mod Records
+pub mod Records
 mod Appended
 mod Staging
 mod Walked
 mod Texts
 mod Fronts
-mod Looking
 mod Pieces
 mod Created
 mod Creating
 mod Found
-mod Unique
+pub mod Unique

@@ -1,7 +1,8 @@
 -- An image keeps one list of payloads, and one answer fits it.
-use Rattle.std.proofs.Common.{◌≡◌, ◌≢◌, ◌⊎◌, inl, inr, ⊎_elim, ℕ, ◌+◌, ◌<◌, ◌≤◌, List, [], ◌∷◌, ◌++◌, length, get_or, take, drop, Option, Some, None, Result, Ok, Err, refl, sym, ◌∙◌, ap, arith, append_assoc, length-drop}
+use Rattle.std.proofs.Common.{◌≡◌, ◌≢◌, ◌⊎◌, inl, inr, ⊎_elim, ℕ, ◌+◌, ◌<◌, ◌≤◌, List, [], ◌∷◌, ◌++◌, length, get_or, take, drop, Option, Some, None, Result, Ok, Err, refl, sym, subst, ◌∙◌, ap, arith, append_assoc, length-drop}
+use Rattle.std.specs.Int.{w32, to_be_bytes}
 use Rattle.std.specs.List.{flat_map, AllByRecursion}
-use Rattle.std.proofs.lemmas.List.{take_at, drop_at, append_cancel_left, length-take, get_or-take, get_or-drop}
+use Rattle.std.proofs.lemmas.List.{take_at, drop_at, append_cancel_left, append-nil, length-take, get_or-take, get_or-drop}
 use Rattle.match_journal.specs.Journal.{IsJournal, IsPayload, header, open_record}
 use Rattle.match_journal.specs.Classes.{HasHeader, HasOpenGate, IsBlank, IsSealed, IsUnfinished, IsForeignAt, HasOtherText, Keeps, first_difference}
 use Rattle.match_journal.specs.Opening.{IsOpened, IsStartFault, Looks}
@@ -16,8 +17,9 @@ use Rattle.match_journal.specs.declared.faults.WalkFault.TheVariants as walk
 use Rattle.match_journal.specs.declared.faults.StartFault.{StartFault}
 use Rattle.match_journal.specs.declared.faults.StartFault.TheVariants as fault
 use Rattle.match_journal.proofs.Walked.{one_size}
-use Rattle.match_journal.proofs.Fronts.{header_front}
-use Rattle.match_journal.proofs.Created.{empty_keeps, closed_keeps, none_kept}
+use Rattle.match_journal.specs.declared.limits.TheConstants.{MOST_TEXT}
+use Rattle.match_journal.proofs.Fronts.{header_front, header_magic}
+use Rattle.match_journal.proofs.Created.{empty_keeps, closed_keeps, none_kept, has_header}
 
 -- ---- one list of payloads
 
@@ -139,6 +141,23 @@ module _ (product image : List ℕ) where
   one_answer limit (Err e) (Ok None) x y told told' = absurd (none_err e y x (not_store e told))
   one_answer limit (Err e) (Ok (Some s)) x y told told' = absurd (some_err e y.0 x (not_store e told))
   one_answer limit (Err e) (Err f) x y told told' = ap Err (err_err e f x y (not_store e told) (not_store f told'))
+
+-- ---- what keeps payloads is opened
+
+headed_opened : (text image behind : List ℕ) (last : ℕ) → length text ≤ MOST_TEXT → image ≡ 1 ∷ (header text ++ last ∷ behind) → IsOpened text image
+headed_opened text image behind last few is =
+    let h : HasHeader text image = subst (HasHeader text) (sym is) (has_header text behind 1 last few) in
+    (record { opened = ap (λ (l : List ℕ). get_or l 0 0) is; magic = header_magic text image h }, h)
+
+journal_opened : (text : List ℕ) (limit : ℕ) (image : List ℕ) (payloads : List (List ℕ)) → length text ≤ MOST_TEXT → IsJournal text limit payloads image → IsOpened text image
+journal_opened text limit image [] few j = headed_opened text image j.behind j.gate few (j.is ∙ ap (λ (l : List ℕ). 1 ∷ (l ++ j.gate ∷ j.behind)) (append-nil (header text)))
+journal_opened text limit image (p ∷ ps) few j =
+    headed_opened text image (77 ∷ (((to_be_bytes w32 (length p) ++ p) ++ flat_map open_record ps) ++ j.gate ∷ j.behind)) 1 few
+    (j.is ∙ ap (λ (l : List ℕ). 1 ∷ l) (append_assoc (header text) (open_record p ++ flat_map open_record ps) (j.gate ∷ j.behind)))
+
+pub not_refused : (product image : List ℕ) (limit : ℕ) (payloads : List (List ℕ)) (e : StartFault) → length product ≤ MOST_TEXT → Keeps product limit payloads image → IsStartFault product image e → (e ≡ fault.Store → ⊥) → ⊥
+not_refused product image limit payloads e few (inl journal) is told = some_err product image e (journal_opened product limit image payloads few journal) is told
+not_refused product image limit payloads e few (inr unfinished) is told = none_err product image e unfinished.1.unfinished is told
 
 -- ---- one answer at a gate
 

@@ -4,6 +4,7 @@ pub mod Classes
 pub mod Causes
 pub mod Steps
 pub mod StepLaws
+pub mod LookLaws
 pub mod Opening
 pub mod Walking
 pub mod Appending

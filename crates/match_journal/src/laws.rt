@@ -1,9 +1,10 @@
 //! Laws of the definitions. The functions do nothing; what their contracts say is proved.
-ghost use Rattle.std.specs.Prelude.{◌≡◌, ℕ, ◌≤◌, List, [], ◌∷◌, Option, Result, Err};
+ghost use Rattle.std.specs.Prelude.{◌≡◌, ℕ, ◌≤◌, List, [], ◌∷◌, length, Option, Result, Err};
 ghost use Rattle.gx_station.specs.Disk.{Torn};
 ghost use Rattle.match_journal.specs.Classes.{Keeps};
-ghost use Rattle.match_journal.specs.Opening.{Looks};
+ghost use Rattle.match_journal.specs.Opening.{Looks, IsStartFault};
 ghost use Rattle.match_journal.specs.Walking.{Walks};
+ghost use Rattle.match_journal.specs.declared.limits.TheConstants.{MOST_TEXT};
 ghost use Rattle.match_journal.specs.declared.standing.Standing.{Standing};
 ghost use Rattle.match_journal.specs.declared.entry.Entry.{Entry};
 ghost use Rattle.match_journal.specs.declared.faults.StartFault.{StartFault};
@@ -20,6 +21,12 @@ pub fn an_image_keeps_one_list()
 pub fn an_image_has_one_answer()
     ensures { (product image : List ℕ) (limit : ℕ) (first second : Result (Option Standing) StartFault) → Looks product limit image first → Looks product limit image second
         → (first ≡ Err start.Store → ⊥) → (second ≡ Err start.Store → ⊥) → first ≡ second }
+{}
+
+/// An image that keeps some payloads of a product, or none, is never refused.
+pub fn a_kept_image_is_not_refused()
+    ensures { (product image : List ℕ) (limit : ℕ) (payloads : List (List ℕ)) (fault : StartFault) → length product ≤ MOST_TEXT → Keeps product limit payloads image → IsStartFault product image fault
+        → (fault ≡ start.Store → ⊥) → ⊥ }
 {}
 
 /// One answer of a walk fits a gate, besides a fault of the store. So each comes exactly where it fits.

@@ -22,7 +22,7 @@ pub use entry::{Entry, EntryKind};
 pub use faults::{AppendFault, StartFault, StoreFault, WalkFault};
 pub use journal::Journal;
 pub use laws::{
-    a_gate_has_one_answer, an_image_has_one_answer, an_image_keeps_one_list,
-    the_first_gate_is_written_alone,
+    a_gate_has_one_answer, a_kept_image_is_not_refused, an_image_has_one_answer,
+    an_image_keeps_one_list, the_first_gate_is_written_alone,
 };
 pub use limits::{LEAST_LIMIT, MOST_LIMIT, MOST_PAYLOAD, MOST_TEXT, MOST_UNFINISHED};

@@ -1,5 +1,5 @@
 use Rattle.std.proofs.Common.{◌≡◌, take, drop, sym, ◌∙◌, ap, arith}
-use Rattle.match_journal.proofs.Looking.{looks_then, looks_more}
+use Rattle.match_journal.specs.LookLaws.{looks_then, looks_more}
 use Rattle.match_journal.proofs.Pieces.{piece_differs, piece_same, pieces_same, pieces_differ}
 use Rattle.match_journal.proofs.text.difference.Goals as goal
 
