@@ -1,7 +1,10 @@
+-- Offered to the crates above: what they may cite.
+pub mod Records
+pub mod Unique
+-- What the proofs of this crate alone cite.
 mod Torn
 mod Storing
 mod Stepping
-pub mod Records
 mod Appended
 mod Staging
 mod Walked
@@ -11,4 +14,3 @@ mod Pieces
 mod Created
 mod Creating
 mod Found
-pub mod Unique
