@@ -1,8 +1,8 @@
 //! An order comes in: a stop limit order waits, any other is entered, and then each stop that a trade reaches.
-ghost use Rattle.std.specs.Prelude.{◌≡◌, pos, ◌≤◌, ◌<◌, ◌+◌, ◌*◌, true, ℕ, length, option_map, None};
+ghost use Rattle.std.specs.Prelude.{◌≡◌, ◌≤◌, ◌<◌, ◌+◌, ◌*◌, true, length, option_map, None};
 ghost use Rattle.gx_base.specs.declared.order.Kind.TheVariants.{StopLimit};
 ghost use Rattle.plain_book.specs.Orders.{HasSlot, slot_of, stops_of};
-ghost use Rattle.plain_book.specs.Book.{IsRight, slot_number};
+ghost use Rattle.plain_book.specs.Book.{slot_number};
 ghost use Rattle.plain_book.specs.Matches.{match_at, CanTrade};
 ghost use Rattle.order_kinds.specs.NewOrders.{may_rest};
 ghost use Rattle.order_kinds.specs.Stops.{as_triggered, entered_with_stops, come_in};

@@ -1,5 +1,5 @@
 //! What the trades of a message come to.
-ghost use Rattle.std.specs.Prelude.{◌≡◌, false};
+ghost use Rattle.std.specs.Prelude.{◌≡◌, false, Some};
 ghost use Rattle.order_kinds.specs.OrderRules.{is_reached};
 ghost use Rattle.order_kinds.specs.Stops.{stop_end, is_marked};
 ghost use Rattle.order_kinds.specs.Inner.Taking.{last_in_range};
@@ -41,6 +41,31 @@ pub(crate) fn is_marked(range: PriceRange, stop: &Order) -> bool
     }
 }
 
+/// The range of some prices and of further ones.
+fn join(range: PriceRange, more: PriceRange) -> PriceRange
+    ensures { Some result ≡ joined (Some range) (Some more) }
+{
+    (
+        if more.0.0 < range.0.0 {
+            more.0
+        } else {
+            range.0
+        },
+        if range.1.0 < more.1.0 {
+            more.1
+        } else {
+            range.1
+        },
+    )
+}
+
+/// Whether further prices lie outside a range.
+fn is_outside(range: PriceRange, more: PriceRange) -> bool
+    ensures { result ≡ false → joined (Some range) (Some more) ≡ Some range }
+{
+    more.0.0 < range.0.0 || range.1.0 < more.1.0
+}
+
 impl Trades {
     /// The trades of the first order of a message.
     pub(crate) fn of(taker: &Taker) -> Trades
@@ -58,23 +83,15 @@ impl Trades {
         ensures last { self.new.last ≡ later_price self.old.last (last_in_range taker.now.order.side taker.now.range) }
         ensures grown { result ≡ false → self.new.range ≡ self.old.range }
     {
-        let Some((least, greatest)) = taker.range else {
+        let Some(more) = taker.range else {
             return false;
         };
         self.last = last_price(taker);
         let Some(range) = self.range else {
-            self.range = taker.range;
+            self.range = Some(more);
             return true;
         };
-        let grown = least.0 < range.0.0 || range.1.0 < greatest.0;
-        self.range = Some((
-            if least.0 < range.0.0 { least } else { range.0 },
-            if range.1.0 < greatest.0 {
-                greatest
-            } else {
-                range.1
-            },
-        ));
-        grown
+        self.range = Some(join(range, more));
+        is_outside(range, more)
     }
 }
