@@ -224,16 +224,15 @@ fn images_by_their_class(rt: HostRuntime) -> Result<(), Fail> {
         ),
     ];
     for (image, want) in table {
-        if image.len() <= 1000 {
-            let mut looked_at = station(rt.alloc(), image, &[])?;
-            let looked = Journal::look(&mut looked_at, b"text", LIMIT);
-            assert_eq!(rt; looked.map(|found| found.is_some()), want);
-            assert_eq!(rt; looked_at.image(), image);
-            let mut opened = station(rt.alloc(), image, &[])?;
-            let started = Journal::start(&mut opened, b"text", LIMIT);
-            assert_eq!(rt; started.map(|_| ()), want.map(|_| ()));
-            assert!(rt; want.is_ok() || opened.image() == image);
-        }
+        assert!(rt; image.len() <= 1000);
+        let mut looked_at = station(rt.alloc(), image, &[])?;
+        let looked = Journal::look(&mut looked_at, b"text", LIMIT);
+        assert_eq!(rt; looked.map(|found| found.is_some()), want);
+        assert_eq!(rt; looked_at.image(), image);
+        let mut opened = station(rt.alloc(), image, &[])?;
+        let started = Journal::start(&mut opened, b"text", LIMIT);
+        assert_eq!(rt; started.map(|_| ()), want.map(|_| ()));
+        assert!(rt; want.is_ok() || opened.image() == image);
     }
     Ok(())
 }
