@@ -174,6 +174,27 @@ sealed_ready text image sealed few = record {
   length_is = refl;
 }
 
+-- a sealed image whose first gate is opened is a journal, however long it is
+pub written_sealed : (text : List ℕ) (limit : ℕ) (image : List ℕ) → 13 + length text < limit → IsSealed text image → IsJournal text limit [] (written 0 (1 ∷ []) image)
+written_sealed text limit image fits sealed =
+    let behind = drop (14 + length text) image in
+    let first = get_or image 0 0 in
+    let is : image ≡ first ∷ (header text ++ 0 ∷ behind) = headed text image sealed.header ∙ ap (λ g. first ∷ (header text ++ g ∷ behind)) sealed.closed in
+    subst (IsJournal text limit []) (sym (ap (written 0 (1 ∷ [])) is ∙ written_gate [] first (header text ++ 0 ∷ behind) 1)) (made text limit behind fits)
+
+-- what a blank image keeps
+pub blank_keeps : (text : List ℕ) (limit : ℕ) (image : List ℕ) → IsBlank image → Keeps text limit [] image
+blank_keeps text limit image blank = inr (
+  refl,
+  record {
+    unfinished = inl blank;
+    few = elim blank [
+      | inl short ↦ omega (arith, short)
+      | inr closed ↦ closed.1
+    ];
+  },
+)
+
 pub opened_keeps : (text : List ℕ) (limit : ℕ) (image : List ℕ) (payloads : List (List ℕ)) → Keeps text limit payloads image → IsOpened text image → IsJournal text limit payloads image
 opened_keeps text limit image payloads (inl journal) opened = journal
 opened_keeps text limit image payloads (inr (none, unfinished)) opened = elim unfinished.unfinished [

@@ -10,7 +10,7 @@ use Rattle.match_journal.specs.Inner.Stores.{Stored}
 use Rattle.match_journal.specs.Inner.Fronts.{IsClosed, IsMade}
 use Rattle.match_journal.specs.declared.limits.TheConstants.{MOST_TEXT, MOST_UNFINISHED, LEAST_LIMIT}
 use Rattle.match_journal.proofs.Stepping.{steps_then, steps_err, steps_weaker, steps_none}
-use Rattle.match_journal.proofs.Created.{IsNew, IsReady, heading, torn_empty, written_empty, torn_header, written_header, torn_first, written_first, empty_keeps, closed_keeps, closed_of, sealed_ready, none_kept, opened_keeps}
+use Rattle.match_journal.proofs.Created.{IsNew, IsReady, heading, torn_empty, written_empty, torn_header, written_header, torn_first, written_first, empty_keeps, closed_keeps, closed_of, sealed_ready, written_sealed, none_kept, opened_keeps}
 
 opening_new : (text : List ℕ) (limit : ℕ) (image left : List ℕ) → IsNew text limit left → IsOpening text limit [] image left
 opening_new text limit image left new = record { keeps = new.keeps; no_longer = omega (arith, new.few) }
@@ -81,6 +81,14 @@ module _ {S : Type 0} (m : StationMeanings S) (text : List ℕ) (limit : ℕ) (s
   sealed_done old new image payloads r sealed keeps stored =
       let none = none_kept text limit image payloads keeps sealed.not_open in
       none_kept_steps old new image payloads _ r none.0 (ready_steps old new image _ r (sealed_ready text image sealed none.1.few) stored)
+
+  -- it is made a journal, however long it is
+  pub sealed_made : {T F : Type 0} (old new : S) (image : List ℕ) (r : Result T F) → IsSealed text image → m.holds old ≡ Some image → Stored m old new 0 (1 ∷ []) r → OnOk r (HoldsOne m (IsJournal text limit []) new)
+  sealed_made {T} {F} old new image r sealed read stored = ended r ((stored.steps image).ends read)
+    where
+      ended : (r : Result T F) → OnOk r (HoldsOne m (λ last. Torn 0 1 image last × (last ≡ written 0 (1 ∷ []) image)) new) → OnOk r (HoldsOne m (IsJournal text limit []) new)
+      ended (Ok x) held = record { image = held.image; read = held.read; has = subst (IsJournal text limit []) (sym held.has.1) (written_sealed text limit image in_limit sealed) }
+      ended (Err e) held = tt
 
   pub open_done : {T F : Type 0} (old : S) (image : List ℕ) (payloads : List (List ℕ)) (r : Result T F) → IsOpened text image → Keeps text limit payloads image → Finishes old old image payloads r
   open_done old image payloads r opened keeps =

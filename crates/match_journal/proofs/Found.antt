@@ -1,12 +1,12 @@
 -- What was found in an image, with the product that was handed in.
-use Rattle.std.proofs.Common.{◌≡◌, ◌≢◌, ◌⊎◌, inl, inr, ⊎_elim, ℕ, ◌+◌, ◌<◌, List, ◌++◌, length, get_or, take, drop, Option, Some, None, Result, Ok, Err, refl, sym, ◌∙◌, ap, subst, arith, append_assoc, length-drop}
+use Rattle.std.proofs.Common.{◌≡◌, ◌≢◌, ◌⊎◌, inl, inr, ⊎_elim, ℕ, ◌+◌, ◌<◌, List, ◌++◌, length, get_or, take, drop, true, Option, Some, None, Result, Ok, Err, refl, sym, ◌∙◌, ap, subst, arith, append_assoc, length-drop}
 use Rattle.std.specs.Int.{w32, to_be_bytes}
 use Rattle.std.proofs.Math.Seq.{take-add}
 use Rattle.std.proofs.lemmas.List.{drop-drop, length-take-le, get_or-take, get_or-drop}
 use Rattle.match_journal.specs.Journal.{magic, header}
 use Rattle.match_journal.specs.Classes.{HasHeader, HasOpenGate, IsSealed, IsForeignAt, HasOtherText, first_difference}
 use Rattle.match_journal.specs.Opening.{IsStartFault}
-use Rattle.match_journal.specs.Inner.Fronts.{HasSize, IsFront, IsFrontFault, has_closed_end, TextAnswers, SameAnswers, HoldAnswers}
+use Rattle.match_journal.specs.Inner.Fronts.{IsOfClass, is_sealed, HasSize, IsFront, IsFrontFault, has_closed_end, TextAnswers, SameAnswers, HoldAnswers}
 use Rattle.match_journal.specs.declared.class.Class.{Class}
 use Rattle.match_journal.specs.declared.class.Class.TheVariants as class
 use Rattle.match_journal.specs.declared.faults.StartFault.{StartFault}
@@ -117,3 +117,10 @@ byte_read image into at is some =
 
 pub held_end : (image : List ℕ) (c : Class) (size : ℕ) → c ≡ class.Sealed size → IsFront image c → get_or image (13 + size) 0 ≢ 0 → IsForeignAt image 0
 held_end image c size is front not_closed = open_end image size (subst (IsFront image) is front) not_closed
+
+-- the class of a sealed image
+pub sealed_class : (product image : List ℕ) (c : Class) → IsOfClass product image c → IsSealed product image → is_sealed c ≡ true
+sealed_class product image class.Empty is sealed = absurd (omega (arith, is, sealed.header.inside))
+sealed_class product image class.Blank is sealed = absurd (sealed.not_closed is.0)
+sealed_class product image (class.Sealed size) is sealed = refl
+sealed_class product image (class.Open size) is sealed = absurd (sealed.not_open is.0.opened)

@@ -1,5 +1,6 @@
 -- Offered to the crates above: what they may cite.
 pub mod Records
+pub mod Walked
 pub mod Unique
 -- What the proofs of this crate alone cite.
 mod Torn
@@ -7,7 +8,6 @@ mod Storing
 mod Stepping
 mod Appended
 mod Staging
-mod Walked
 mod Texts
 mod Fronts
 mod Pieces

@@ -24,7 +24,7 @@ use Rattle.match_journal.proofs.Created.{empty_keeps, closed_keeps, none_kept, h
 -- ---- one list of payloads
 
 -- two lists whose fronts are as long
-same_front : (p q x y : List ℕ) → length p ≡ length q → p ++ x ≡ q ++ y → (p ≡ q) × (x ≡ y)
+pub same_front : (p q x y : List ℕ) → length p ≡ length q → p ++ x ≡ q ++ y → (p ≡ q) × (x ≡ y)
 same_front p q x y size e = (
   sym (take_at p x (length q) size) ∙ ap (take (length q)) e ∙ take_at q y (length q) refl,
   sym (drop_at p x (length q) size) ∙ ap (drop (length q)) e ∙ drop_at q y (length q) refl,
@@ -149,7 +149,7 @@ headed_opened text image behind last few is =
     let h : HasHeader text image = subst (HasHeader text) (sym is) (has_header text behind 1 last few) in
     (record { opened = ap (λ (l : List ℕ). get_or l 0 0) is; magic = header_magic text image h }, h)
 
-journal_opened : (text : List ℕ) (limit : ℕ) (image : List ℕ) (payloads : List (List ℕ)) → length text ≤ MOST_TEXT → IsJournal text limit payloads image → IsOpened text image
+pub journal_opened : (text : List ℕ) (limit : ℕ) (image : List ℕ) (payloads : List (List ℕ)) → length text ≤ MOST_TEXT → IsJournal text limit payloads image → IsOpened text image
 journal_opened text limit image [] few j = headed_opened text image j.behind j.gate few (j.is ∙ ap (λ (l : List ℕ). 1 ∷ (l ++ j.gate ∷ j.behind)) (append-nil (header text)))
 journal_opened text limit image (p ∷ ps) few j =
     headed_opened text image (77 ∷ (((to_be_bytes w32 (length p) ++ p) ++ flat_map open_record ps) ++ j.gate ∷ j.behind)) 1 few

@@ -18,11 +18,11 @@ use Rattle.match_journal.proofs.Records.{journal_front-push, length-record}
 abbrev from_gate : (after : List (List ℕ)) (gate : ℕ) (behind : List ℕ) → List ℕ
 from_gate after gate behind = flat_map open_record after ++ gate ∷ behind
 
-front-split : (text : List ℕ) (before after : List (List ℕ)) → journal_front text (before ++ after) ≡ journal_front text before ++ flat_map open_record after
+pub front-split : (text : List ℕ) (before after : List (List ℕ)) → journal_front text (before ++ after) ≡ journal_front text before ++ flat_map open_record after
 front-split text before after =
     ap (λ (l : List ℕ). 1 ∷ (header text ++ l)) (flat_map-append open_record before after) ∙ sym (append_assoc (1 ∷ header text) (flat_map open_record before) (flat_map open_record after))
 
-all-behind : (P : List ℕ → Type 0) (xs ys : List (List ℕ)) → AllByRecursion P (xs ++ ys) → AllByRecursion P ys
+pub all-behind : (P : List ℕ → Type 0) (xs ys : List (List ℕ)) → AllByRecursion P (xs ++ ys) → AllByRecursion P ys
 all-behind P [] ys all = all
 all-behind P (x ∷ xs) ys all = all-behind P xs ys all.1
 

@@ -1,10 +1,11 @@
 -- Steps, one after the other.
-use Rattle.std.specs.Prelude.{ℕ, List}
-use Rattle.std.proofs.Common.{inl, inr, ⊎_elim, ◌∙◌, arith}
+use Rattle.std.specs.Prelude.{◌≡◌, ℕ, List, Some}
+use Rattle.std.proofs.Common.{inl, inr, ⊎_elim, sym, subst, ◌∙◌, arith}
+use Rattle.std.proofs.lemmas.Option.{same_Some}
 use Rattle.gx_station.specs.Stations.{StationMeanings}
 use Rattle.gx_station.specs.Moments.{AddsOnly}
-use Rattle.gx_station.specs.Honest.{KeepsImage}
-use Rattle.match_journal.specs.Steps.{Rests}
+use Rattle.gx_station.specs.Honest.{IsHonestNow, KeepsImage}
+use Rattle.match_journal.specs.Steps.{Rests, HoldsOne}
 
 module _ {S : Type 0} (m : StationMeanings S) where
   -- one call more, whose pairs are of the kind that was added before
@@ -29,3 +30,20 @@ module _ {S : Type 0} (m : StationMeanings S) where
   -- a look at the image, or a sync, leaves it at rest
   pub rests_kept : (a b : S) (image : List ℕ) → KeepsImage m a b → m.is_honest a → Rests m image a → Rests m image b
   rests_kept a b image keeps h rests = record { read = keeps.holds ∙ rests.read; settled = λ left may. keeps.holds ∙ rests.settled left (keeps.images h left may) }
+
+  -- Where nothing was pending, and only images that have During were added, a read gives such an image, whatever the calls on
+  -- the way answered.
+  pub steps_hold : ((s : S) → m.is_honest s → IsHonestNow m s) → (a b : S) (image : List ℕ) (During : List ℕ → Type 0) → During image → m.is_honest a → Rests m image a → AddsOnly m a b (λ left out. During left × (m.sent a ≡ Some out)) → HoldsOne m During b
+  steps_hold now a b image During here h rests adds =
+      let then = now b (adds.honest h) in
+      let last = then.known_image.0 in
+      let left = then.counts_now (m.time a) last then.known_output.0 adds.later (then.as_read last then.known_image.1) then.known_output.1 in
+      record {
+        image = last;
+        read = then.known_image.1;
+        has =
+            ⊎_elim
+            (λ early. subst During (same_Some image last (sym rests.read ∙ rests.settled last ((now a h).only_now last then.known_output.0 early).0)) here)
+            (λ during. during.0)
+            (adds.adds h (m.time a) last then.known_output.0 (omega arith) left);
+      }

@@ -1,5 +1,5 @@
 //! Opening for writing: a blank image, and a sealed one of the product, is made a journal, one step after the other.
-ghost use Rattle.std.specs.Prelude.{◌≡◌, ℕ, ◌+◌, ◌<◌, ◌≤◌, max, List, [], ◌++◌, length, Some, true, OnOk, IfOk, IfErr, IsErrOf};
+ghost use Rattle.std.specs.Prelude.{◌≡◌, ◌⊎◌, ℕ, ◌+◌, ◌<◌, ◌≤◌, max, List, [], ◌++◌, length, Some, true, OnOk, IfOk, IfErr, IsErrOf};
 ghost use Rattle.gx_station.specs.Counts.{Rose};
 ghost use Rattle.gx_station.specs.Honest.{KeepsImage, IsSettled};
 ghost use Rattle.gx_station.specs.StoreCalls.{OnStore};
@@ -8,10 +8,10 @@ ghost use Rattle.match_journal.specs.Steps.{Steps, StepsFrom, HoldsOne};
 ghost use Rattle.match_journal.specs.Standing.{IsStanding, at_first};
 ghost use Rattle.std.specs.Int.{w32, to_be_bytes};
 ghost use Rattle.match_journal.specs.Journal.{IsJournal, magic};
-ghost use Rattle.match_journal.specs.Classes.{HasOpenGate, Keeps};
+ghost use Rattle.match_journal.specs.Classes.{HasOpenGate, IsBlank, IsSealed, Keeps};
 ghost use Rattle.match_journal.specs.Opening.{Starts, IsOpening, IsRefusal};
 ghost use Rattle.match_journal.specs.Inner.Stores.{Puts};
-ghost use Rattle.match_journal.specs.Inner.Fronts.{IsFound, IsClosed, IsMade, least_of_class, is_open};
+ghost use Rattle.match_journal.specs.Inner.Fronts.{IsFound, IsClosed, IsMade, least_of_class, is_open, is_sealed};
 ghost use Rattle.match_journal.specs.declared.limits.TheConstants.{MOST_TEXT, MOST_LIMIT, LEAST_LIMIT, MOST_UNFINISHED};
 
 use crate::class::{Class, MAGIC};
@@ -54,6 +54,8 @@ fn finish<S: Station>(station: &mut S, found: &Found, product: &[u8]) -> Result<
     ensures settled { OnOk result (S.meanings.is_honest station.old → IsSettled S.meanings station.old → IsSettled S.meanings station.new) }
     ensures opened { is_open found.now.class ≡ true → station.new ≡ station.old }
     ensures known { (image : List ℕ) → IsFound product.now image found.now → S.meanings.holds station.old ≡ Some image → OnOk result (HoldsOne S.meanings (λ last. length last ≡ max found.now.len (14 + length product.now)) station.new) }
+    ensures makes { (image : List ℕ) (limit : ℕ) → LEAST_LIMIT ≤ limit → is_sealed found.now.class ≡ true → IsSealed product.now image → S.meanings.holds station.old ≡ Some image
+        → OnOk result (HoldsOne S.meanings (IsJournal product.now limit []) station.new) }
     ensures steps { (image : List ℕ) (limit : ℕ) (payloads : List (List ℕ)) → LEAST_LIMIT ≤ limit → IsFound product.now image found.now → Keeps product.now limit payloads image
         → Steps S.meanings station.old station.new image (IsOpening product.now limit payloads image) (IsJournal product.now limit payloads) result }
 {
@@ -99,6 +101,11 @@ impl Journal {
         // An image that keeps some payloads is opened by images that keep the same.
         ensures starts { (image : List ℕ) (payloads : List (List ℕ)) → Keeps product.now limit payloads image
             → StepsFrom S.meanings station.old station.new image (IsOpening product.now limit payloads image) (IsJournal product.now limit payloads) result }
+        // A blank image, and a sealed one of this product, are made a journal that keeps nothing.
+        ensures makes { (image : List ℕ) → S.meanings.holds station.old ≡ Some image → IsBlank image ⊎ IsSealed product.now image → OnOk result (HoldsOne S.meanings (IsJournal product.now limit []) station.new) }
+        // Whatever the answer, a read gives an image that keeps the same then.
+        ensures keeps { (image : List ℕ) (payloads : List (List ℕ)) → S.meanings.is_honest station.old → S.meanings.holds station.old ≡ Some image → Keeps product.now limit payloads image
+            → HoldsOne S.meanings (IsOpening product.now limit payloads image) station.new }
         // Whatever the image was, nothing is pending at the end.
         ensures settles { OnOk result (S.meanings.is_honest station.old → IsSettled S.meanings station.new) }
         // A journal stays as it is, also one with a bad record; and so does what is refused.

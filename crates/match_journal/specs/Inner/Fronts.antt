@@ -110,6 +110,12 @@ is_open class.Blank = false
 is_open (class.Sealed size) = false
 is_open (class.Open size) = true
 
+abbrev pub is_sealed : Class → Bool
+is_sealed class.Empty = false
+is_sealed class.Blank = false
+is_sealed (class.Sealed size) = true
+is_sealed (class.Open size) = false
+
 -- ---- a creation
 
 -- the first gate is closed, and what stands behind it means nothing yet

@@ -2,7 +2,7 @@ use Rattle.std.proofs.Common.{◌≤◌, length, subst, arith}
 use Rattle.match_journal.specs.Inner.Fronts.{IsOfClass, least_of_class}
 use Rattle.match_journal.specs.declared.limits.TheConstants.{LEAST_LIMIT}
 use Rattle.match_journal.proofs.Stepping.{settled_then, settled_later}
-use Rattle.match_journal.proofs.Creating.{empty_stopped, empty_done, empty_long, blank_done, blank_long, sealed_done, sealed_long, open_done}
+use Rattle.match_journal.proofs.Creating.{empty_stopped, empty_done, empty_long, blank_done, blank_long, sealed_done, sealed_made, sealed_long, open_done}
 use Rattle.match_journal.proofs.start.finish.Goals as goal
 
 pub returns-in_err-store-in-Empty-clause-steps : goal.returns-in_err-store-in-Empty-clause-steps
@@ -38,6 +38,9 @@ pub returns-in-Sealed-clause-known : goal.returns-in-Sealed-clause-known
 returns-in-Sealed-clause-known g c = λ image found read.
     let sealed = subst (IsOfClass c.args.product.now image) c.in-Sealed.is found.class in
     sealed_long g.S.Station.meanings c.args.station.now c.store-in-Sealed.new.station image _ _ (omega (arith, sealed.header.inside)) read (omega (arith, found.len, sealed.header.inside)) c.store-in-Sealed.ensures
+
+pub returns-in-Sealed-clause-makes : goal.returns-in-Sealed-clause-makes
+returns-in-Sealed-clause-makes g c = λ image limit fits is sealed read. sealed_made g.S.Station.meanings c.args.product.now limit c.requires.short fits c.args.station.now c.store-in-Sealed.new.station image _ sealed read c.store-in-Sealed.ensures
 
 pub returns-in-Sealed-clause-steps : goal.returns-in-Sealed-clause-steps
 returns-in-Sealed-clause-steps g c = λ image limit payloads fits found keeps.
