@@ -1,0 +1,43 @@
+-- Applying one frame after the other.
+use Rattle.std.proofs.Common.{◌≡◌, ℕ, ◌+◌, ◌≤◌, ◌∷◌, List, length, refl, sym, subst, ◌∙◌, ap, arith, length-append}
+use Rattle.fix_frame.specs.Grammar.{IsFrame, BeginsWithNone}
+use Rattle.fix_frame.specs.Stream.{messages_of, rest_of}
+use Rattle.fix_frame.specs.StreamLaws.{messages_of-frame-append, rest_of-frame-append}
+use Rattle.fix_frame.specs.FrameLaws.{frame_least}
+use Rattle.fix_frame.specs.FrontLaws.{unfinished_none}
+use Rattle.fix_frame.specs.Framing.{Framing, GivesFrame, GivesNext, given_bytes}
+use Rattle.fix_frame.specs.FramingLaws.{bytes_given}
+use Rattle.fix_frame.specs.declared.next.Next.{Next}
+use Rattle.fix_frame.specs.declared.next.Next.TheVariants.{Frame, More, Bad}
+use Rattle.fix_request.specs.Requests.{request_of}
+use Rattle.fix_request.specs.declared.request.Request.{Request}
+use Rattle.product_file.specs.Products.{ProductLists}
+use Rattle.order_kinds.specs.State.{State}
+use Rattle.order_kinds.specs.Step.{with_message, request_step, state_after}
+
+module _ (old new : Framing) (start end : ℕ) (gives : GivesFrame old new start end) where
+  pub messages_left : messages_of old.rest ≡ gives.frame ∷ messages_of new.rest
+  messages_left = ap messages_of gives.front ∙ messages_of-frame-append gives.frame new.rest gives.is_frame
+
+  pub rest_left : rest_of old.rest ≡ rest_of new.rest
+  rest_left = ap rest_of gives.front ∙ rest_of-frame-append gives.frame new.rest gives.is_frame
+
+  pub least_left : 22 + length new.rest ≤ length old.rest
+  least_left = omega (arith, ap length gives.front, length-append gives.frame new.rest, frame_least gives.frame gives.is_frame)
+
+  pub lent_is_frame : (bytes : List ℕ) → bytes ≡ given_bytes new start end → IsFrame bytes
+  lent_is_frame bytes is = subst IsFrame (sym (is ∙ bytes_given old new start end gives)) gives.is_frame
+
+  -- the state after all messages is the same once the first was applied
+  pub state_left : (product : ProductLists) (bytes : List ℕ) (request : Request) (s then : State) → bytes ≡ given_bytes new start end → request ≡ request_of product bytes → then ≡ (request_step product request (with_message s)).0
+      → state_after product then (messages_of new.rest) ≡ state_after product s (messages_of old.rest)
+  state_left product bytes request s then bytes_are asked did =
+      ap (λ (t : State). state_after product t (messages_of new.rest))
+      (did ∙ ap (λ (r : Request). (request_step product r (with_message s)).0) (asked ∙ ap (request_of product) (bytes_are ∙ bytes_given old new start end gives)))
+      ∙ ap (state_after product s) (sym messages_left)
+
+-- no frame is left
+pub none_left : (old new : Framing) (next : Next) → ((start end : ℕ) → next ≡ Frame start end → ⊥) → GivesNext old new next → (new ≡ old) × BeginsWithNone old.rest
+none_left old new (Frame start end) no_frame gives = absurd (no_frame start end refl)
+none_left old new More no_frame gives = (gives.0, unfinished_none old.rest gives.1)
+none_left old new (Bad at) no_frame gives = (gives.0, gives.2.none)

@@ -1,0 +1,142 @@
+-- One answer of a recovery fits an image.
+use Rattle.std.proofs.Common.{◌≡◌, ◌≢◌, ◌⊎◌, inl, inr, ⊎_elim, ℕ, List, [], ◌∷◌, ◌++◌, length, get_or, take, drop, Option, Some, None, Result, Ok, Err, refl, sym, subst, ◌∙◌, ap, arith, append_assoc, append-nil}
+use Rattle.std.specs.List.{flat_map, AllByRecursion}
+use Rattle.std.proofs.lemmas.List.{append_cancel_left}
+use Rattle.match_journal.specs.Journal.{IsJournal, IsPayload, journal_front, header, open_record}
+use Rattle.match_journal.specs.Walking.{IsHead}
+use Rattle.match_journal.specs.declared.entry.Entry.{Entry}
+use Rattle.match_journal.specs.declared.faults.WalkFault.{WalkFault}
+use Rattle.match_journal.proofs.Walked.{one_size}
+use Rattle.match_journal.proofs.Unique.{same_front, one_walk, one_keeping}
+use Rattle.product_file.specs.Products.{ProductLists}
+use Rattle.order_kinds.specs.State.{State}
+use Rattle.book_recovery.specs.Kept.{IsWhole, AreWhole, messages_in}
+use Rattle.book_recovery.specs.BadPlaces.{BeginsWithRecords, HasBadHeadAt, HasBadPayloadAt, IsBadPlace}
+use Rattle.book_recovery.specs.Recovering.{IsRecovered, Recovers}
+use Rattle.book_recovery.specs.declared.recovery.Recovered.{Recovered}
+use Rattle.book_recovery.specs.declared.recovery.RecoverFault.{RecoverFault}
+use Rattle.book_recovery.specs.declared.recovery.RecoverFault.TheVariants as fault
+use Rattle.book_recovery.proofs.Images.{journal_begins, gate_closed, good_head}
+
+-- ---- of the records with which one image begins, some lists are the front of others
+
+abbrev IsBehind : List (List ℕ) → List (List ℕ) → Type 0
+IsBehind xs ys = (more : List (List ℕ)) × (ys ≡ xs ++ more)
+
+cons_behind : (p q : List ℕ) (ps qs : List (List ℕ)) → p ≡ q → IsBehind ps qs → IsBehind (p ∷ ps) (q ∷ qs)
+cons_behind p q ps qs same (more, is) = (more, ap (λ (l : List (List ℕ)). q ∷ l) is ∙ ap (λ (x : List ℕ). x ∷ (ps ++ more)) (sym same))
+
+along : (ps qs : List (List ℕ)) (x y : List ℕ) → AllByRecursion IsPayload ps → AllByRecursion IsPayload qs → flat_map open_record ps ++ x ≡ flat_map open_record qs ++ y → IsBehind ps qs ⊎ IsBehind qs ps
+along [] qs x y sized sized' e = inl (qs, refl)
+along (p ∷ ps) [] x y sized sized' e = inr (p ∷ ps, refl)
+along (p ∷ ps) (q ∷ qs) x y sized sized' e =
+    let size : length p ≡ length q = one_size (length p) (length q) (omega (arith, sized.0.few)) (omega (arith, sized'.0.few)) (ap (λ (l : List ℕ). take 4 (drop 2 l)) e) in
+    let rest : p ++ (flat_map open_record ps ++ x) ≡ q ++ (flat_map open_record qs ++ y) =
+    sym (append_assoc p (flat_map open_record ps) x) ∙ ap (drop 6) e ∙ append_assoc q (flat_map open_record qs) y in
+    let both = same_front p q _ _ size rest in
+    ⊎_elim (λ b. inl (cons_behind p q ps qs both.0 b)) (λ b. inr (cons_behind q p qs ps (sym both.0) b)) (along ps qs x y sized.1 sized'.1 both.1)
+
+begins_along : (text : List ℕ) (limit : ℕ) (ps qs : List (List ℕ)) (image : List ℕ) → BeginsWithRecords text limit ps image → BeginsWithRecords text limit qs image → IsBehind ps qs ⊎ IsBehind qs ps
+begins_along text limit ps qs image a b =
+    along ps qs a.rest b.rest a.sized b.sized (append_cancel_left (1 ∷ header text) _ _
+    (sym (append_assoc (1 ∷ header text) (flat_map open_record ps) a.rest) ∙ sym a.is ∙ b.is ∙ append_assoc (1 ∷ header text) (flat_map open_record qs) b.rest))
+
+-- ---- the place of a bad head
+
+-- none stands where a record follows
+followed : (text : List ℕ) (limit : ℕ) (image : List ℕ) (at : ℕ) (bad : HasBadHeadAt text limit image at) (p : List ℕ) (more : List (List ℕ)) → BeginsWithRecords text limit (bad.before ++ p ∷ more) image → ⊥
+followed text limit image at bad p more begins = bad.bad.no_head _ (good_head text limit bad.before p more image begins)
+
+same_place : (text : List ℕ) (limit : ℕ) (image : List ℕ) (at at' : ℕ) (a : HasBadHeadAt text limit image at) (b : HasBadHeadAt text limit image at') → IsBehind a.before b.before → at ≡ at'
+same_place text limit image at at' a b ([], is) =
+    a.bad.at_is ∙ ap (λ (l : List (List ℕ)). length (journal_front text l)) (sym (is ∙ append-nil a.before)) ∙ sym b.bad.at_is
+same_place text limit image at at' a b (p ∷ more, is) =
+    absurd (followed text limit image at a p more (subst (λ (l : List (List ℕ)). BeginsWithRecords text limit l image) is b.begins))
+
+one_bad_head : (text : List ℕ) (limit : ℕ) (image : List ℕ) (at at' : ℕ) → HasBadHeadAt text limit image at → HasBadHeadAt text limit image at' → at ≡ at'
+one_bad_head text limit image at at' a b =
+    ⊎_elim (λ t. same_place text limit image at at' a b t) (λ t. sym (same_place text limit image at' at b a t)) (begins_along text limit a.before b.before image a.begins b.begins)
+
+-- at an open gate is no closed one
+not_both : (image : List ℕ) (limit gate : ℕ) (entry : Entry) → IsHead image limit gate entry → get_or image gate 0 ≢ 1 → ⊥
+not_both image limit gate entry head shut =
+    let none : Result (Option Entry) WalkFault = Ok None in
+    let same : none ≡ Ok (Some entry) = one_walk image limit gate none (Ok (Some entry)) shut head (λ e. cc e) (λ e. cc e) in
+    cc same
+
+-- a journal has no bad head
+bad_behind : (text : List ℕ) (limit : ℕ) (ps : List (List ℕ)) (image : List ℕ) (at : ℕ) → IsJournal text limit ps image → (bad : HasBadHeadAt text limit image at) → IsBehind ps bad.before → ⊥
+bad_behind text limit ps image at journal bad ([], is) =
+    gate_closed text limit ps image journal (ap (λ (l : List (List ℕ)). get_or image (length (journal_front text l)) 0) (sym (is ∙ append-nil ps)) ∙ bad.bad.opened)
+bad_behind text limit ps image at journal bad (p ∷ more, is) =
+    not_both image limit (length (journal_front text ps)) _ (good_head text limit ps p more image (subst (λ (l : List (List ℕ)). BeginsWithRecords text limit l image) is bad.begins)) (gate_closed text limit ps image journal)
+
+bad_before : (text : List ℕ) (limit : ℕ) (ps : List (List ℕ)) (image : List ℕ) (at : ℕ) → IsJournal text limit ps image → (bad : HasBadHeadAt text limit image at) → IsBehind bad.before ps → ⊥
+bad_before text limit ps image at journal bad ([], is) = bad_behind text limit ps image at journal bad ([], sym (append-nil ps ∙ is ∙ append-nil bad.before))
+bad_before text limit ps image at journal bad (p ∷ more, is) =
+    followed text limit image at bad p more (subst (λ (l : List (List ℕ)). BeginsWithRecords text limit l image) is (journal_begins text limit ps image journal))
+
+no_bad_head : (text : List ℕ) (limit : ℕ) (ps : List (List ℕ)) (image : List ℕ) (at : ℕ) → IsJournal text limit ps image → HasBadHeadAt text limit image at → ⊥
+no_bad_head text limit ps image at journal bad =
+    ⊎_elim (λ t. bad_behind text limit ps image at journal bad t) (λ t. bad_before text limit ps image at journal bad t) (begins_along text limit ps bad.before image (journal_begins text limit ps image journal) bad.begins)
+
+-- ---- the place of a bad payload
+
+one_journal : (text : List ℕ) (limit : ℕ) (image : List ℕ) (ps qs : List (List ℕ)) → IsJournal text limit ps image → IsJournal text limit qs image → ps ≡ qs
+one_journal text limit image ps qs a b = one_keeping text limit image ps qs (inl a) (inl b)
+
+not_all_whole : (before : List (List ℕ)) (p : List ℕ) (more : List (List ℕ)) → AreWhole (before ++ p ∷ more) → IsWhole p
+not_all_whole [] p more all = all.0
+not_all_whole (x ∷ before) p more all = not_all_whole before p more all.1
+
+no_bad_payload : (text : List ℕ) (limit : ℕ) (ps : List (List ℕ)) (image : List ℕ) (at : ℕ) → IsJournal text limit ps image → AreWhole ps → HasBadPayloadAt text limit image at → ⊥
+no_bad_payload text limit ps image at journal whole bad =
+    bad.not_whole (not_all_whole bad.before bad.payload bad.behind (subst AreWhole (one_journal text limit image ps (bad.before ++ bad.payload ∷ bad.behind) journal bad.heads) whole))
+
+-- the first list up to one that is not whole
+first_broken : (xs ys : List (List ℕ)) (p q : List ℕ) (more more' : List (List ℕ)) → AreWhole xs → AreWhole ys → (IsWhole p → ⊥) → (IsWhole q → ⊥) → xs ++ p ∷ more ≡ ys ++ q ∷ more' → xs ≡ ys
+first_broken [] [] p q more more' all all' broken broken' e = refl
+first_broken [] (y ∷ ys) p q more more' all all' broken broken' e = let same : p ≡ y = cc e in absurd (broken (subst IsWhole (sym same) all'.0))
+first_broken (x ∷ xs) [] p q more more' all all' broken broken' e = let same : x ≡ q = cc e in absurd (broken' (subst IsWhole same all.0))
+first_broken (x ∷ xs) (y ∷ ys) p q more more' all all' broken broken' e =
+    let same : x ≡ y = cc e in
+    let rest : xs ++ p ∷ more ≡ ys ++ q ∷ more' = cc e in
+    let behind = first_broken xs ys p q more more' all.1 all'.1 broken broken' rest in
+    cc (same, behind)
+
+one_bad_payload : (text : List ℕ) (limit : ℕ) (image : List ℕ) (at at' : ℕ) → HasBadPayloadAt text limit image at → HasBadPayloadAt text limit image at' → at ≡ at'
+one_bad_payload text limit image at at' a b =
+    let same = first_broken a.before b.before a.payload b.payload a.behind b.behind a.whole b.whole a.not_whole b.not_whole
+    (one_journal text limit image (a.before ++ a.payload ∷ a.behind) (b.before ++ b.payload ∷ b.behind) a.heads b.heads) in
+    a.place ∙ ap (λ (l : List (List ℕ)). length (journal_front text l)) same ∙ sym b.place
+
+-- ---- one answer
+
+one_place : (text : List ℕ) (limit : ℕ) (image : List ℕ) (at at' : ℕ) → IsBadPlace text limit image at → IsBadPlace text limit image at' → at ≡ at'
+one_place text limit image at at' (inl a) (inl b) = one_bad_head text limit image at at' a b
+one_place text limit image at at' (inl a) (inr b) = absurd (no_bad_head text limit _ image at b.heads a)
+one_place text limit image at at' (inr a) (inl b) = absurd (no_bad_head text limit _ image at' a.heads b)
+one_place text limit image at at' (inr a) (inr b) = one_bad_payload text limit image at at' a b
+
+-- a journal of whole payloads has none
+pub no_bad_place : (text : List ℕ) (limit : ℕ) (payloads : List (List ℕ)) (image : List ℕ) (at : ℕ) → IsJournal text limit payloads image → AreWhole payloads → IsBadPlace text limit image at → ⊥
+no_bad_place text limit payloads image at journal whole (inl bad) = no_bad_head text limit payloads image at journal bad
+no_bad_place text limit payloads image at journal whole (inr bad) = no_bad_payload text limit payloads image at journal whole bad
+
+module _ (product : ProductLists) (text image : List ℕ) (limit gate gate' : ℕ) (state state' : State) where
+  same_recovered : (r r' : Recovered) → IsRecovered product text limit image gate state r → IsRecovered product text limit image gate' state' r' → r ≡ r'
+  same_recovered r r' a b =
+      let same = one_journal text limit image a.payloads b.payloads a.journal.journal b.journal.journal in
+      let messages : r.messages ≡ r'.messages = a.messages ∙ ap (λ (l : List (List ℕ)). length (messages_in l)) same ∙ sym b.messages in
+      let entries : r.entries ≡ r'.entries = a.entries ∙ ap length same ∙ sym b.entries in
+      let image_at : r.image_at ≡ r'.image_at = a.image_at ∙ sym b.image_at in
+      λ i. record { messages = messages i; entries = entries i; image_at = image_at i }
+
+  pub one_recovery : (a b : Result Recovered RecoverFault) → Recovers product text limit image gate state a → Recovers product text limit image gate' state' b → (a ≡ Err fault.Store → ⊥) → (b ≡ Err fault.Store → ⊥) → a ≡ b
+  one_recovery (Err fault.Store) b x y told told' = absurd (told refl)
+  one_recovery (Ok r) (Err fault.Store) x y told told' = absurd (told' refl)
+  one_recovery (Ok r) (Ok r') x y told told' = ap Ok (same_recovered r r' x y)
+  one_recovery (Ok r) (Err (fault.Bad at)) x y told told' = absurd (no_bad_place text limit x.payloads image at x.journal.journal x.whole y)
+  one_recovery (Err (fault.Bad at)) (Err fault.Store) x y told told' = absurd (told' refl)
+  one_recovery (Err (fault.Bad at)) (Ok r) x y told told' = absurd (no_bad_place text limit y.payloads image at y.journal.journal y.whole x)
+  one_recovery (Err (fault.Bad at)) (Err (fault.Bad at')) x y told told' = ap (λ k. Err (fault.Bad k)) (one_place text limit image at at' x y)

@@ -1,0 +1,25 @@
+-- A journal that has moved, and moves again.
+use Rattle.std.proofs.Common.{◌≡◌, ℕ, ◌+◌, Bool, false, Option, Some, None, Ok, not, sym, ◌∙◌, ap, ap₂, subst}
+use Rattle.std.specs.Prelude.{IfSome}
+use Rattle.match_journal.specs.Standing.{moved}
+use Rattle.match_journal.specs.Walking.{stands_then}
+use Rattle.match_journal.specs.declared.entry.Entry.{Entry}
+use Rattle.match_journal.specs.declared.standing.Standing.{Standing}
+
+pub moved_itself : (s x : Standing) (gate : ℕ) (ends : Bool) → x ≡ moved s gate ends → x ≡ moved s x.gate x.is_at_end
+moved_itself s x gate ends is = is ∙ ap₂ (moved s) (sym (ap (λ (t : Standing). t.gate) is)) (sym (ap (λ (t : Standing). t.is_at_end) is))
+
+pub moved_then : (s x y : Standing) (gate : ℕ) (ends : Bool) → x ≡ moved s x.gate x.is_at_end → y ≡ moved x gate ends → y ≡ moved s y.gate y.is_at_end
+moved_then s x y gate ends same is = moved_itself s y gate ends (is ∙ ap (λ (t : Standing). moved t gate ends) same)
+
+-- the head of a record was passed
+pub some_moved : (x y : Standing) (found : Option Entry) (entry : Entry) → found ≡ Some entry → y ≡ stands_then x (Ok found) → y ≡ moved x (x.gate + 6 + entry.length) false
+some_moved x y found entry is then = subst (λ (o : Option Entry). y ≡ stands_then x (Ok o)) is then
+
+-- the gate is closed
+pub none_moved : (x y : Standing) (found : Option Entry) → found ≡ None → y ≡ stands_then x (Ok found) → y ≡ moved x x.gate (not x.is_lost)
+none_moved x y found is then = subst (λ (o : Option Entry). y ≡ stands_then x (Ok o)) is then
+
+-- what holds of the entry that was found
+pub entry_found : (P : Entry → Type 0) (found : Option Entry) (entry : Entry) → found ≡ Some entry → IfSome found P → P entry
+entry_found P found entry is told = subst (λ (o : Option Entry). IfSome o P) is told

@@ -1,0 +1,38 @@
+use Rattle.std.proofs.Common.{sym, ◌∙◌, ap, arith, length}
+use Rattle.fix_frame.specs.Framing.{Framing}
+use Rattle.fix_frame.specs.StreamLaws.{messages_of-none, rest_of-none}
+use Rattle.order_kinds.specs.State.{state_numbered}
+use Rattle.order_kinds.specs.Step.{state_after}
+use Rattle.book_recovery.proofs.Applying.{messages_left, rest_left, least_left, state_left, none_left}
+use Rattle.book_recovery.proofs.replay.apply_frames.Goals as goal
+
+pub frames-preserved : goal.frames-preserved
+frames-preserved g c =
+    let gives = c.in-Frame.ensures.front in
+    let before = c.frames.invariant in
+    let steps = c.apply.ensures.step before.numbered in
+    record {
+      rest = sym (rest_left c.frames.framer c.next.new.self c.in-Frame.start c.in-Frame.end gives) ∙ before.rest;
+      state = state_left c.frames.framer c.next.new.self c.in-Frame.start c.in-Frame.end gives c.args.product.now c.frame.result.now c.read_request-request.result (state_numbered c.frames.core) (state_numbered c.apply.new.self) c.frame.ensures c.read_request-request.ensures.request steps.state ∙ before.state;
+      count = omega (arith, before.count, c.apply.ensures.count, ap length (messages_left c.frames.framer c.next.new.self c.in-Frame.start c.in-Frame.end gives));
+      few = omega (arith, before.few, c.apply.ensures.count, least_left c.frames.framer c.next.new.self c.in-Frame.start c.in-Frame.end gives);
+      fits = c.apply.ensures.fits;
+      numbered = steps.numbered;
+    }
+
+pub returns : goal.returns
+returns g c =
+    let before = c.frames.invariant in
+    let none = none_left c.frames.framer c.next.new.self c.next.result c.in_default.not-Frame c.next.ensures.front in
+    let no_message = messages_of-none c.frames.framer.rest none.1 in
+    record {
+      rest = ap (λ (f : Framing). f.rest) none.0 ∙ sym (rest_of-none c.frames.framer.rest none.1) ∙ before.rest;
+      state = sym (ap (state_after c.args.product.now (state_numbered c.frames.core)) no_message) ∙ before.state;
+      count = omega (arith, before.count, ap length no_message);
+      few = omega (arith, before.few);
+      fits = before.fits;
+      numbered = before.numbered;
+    }
+
+pub frames-smaller : goal.frames-smaller
+frames-smaller g c = omega (arith, least_left c.frames.framer c.next.new.self c.in-Frame.start c.in-Frame.end c.in-Frame.ensures.front)

@@ -1,0 +1,35 @@
+-- The place that is answered for a journal with a bad record: the gate of the first record with a bad head; and where no
+-- head is bad, that of the first record whose payload is not whole frames (our own rule).
+use Rattle.std.specs.Prelude.{◌≡◌, ◌⊎◌, ℕ, ◌<◌, ◌≤◌, List, ◌∷◌, ◌++◌, length}
+use Rattle.std.specs.List.{AllByRecursion}
+use Rattle.match_journal.specs.Journal.{IsJournal, IsPayload, journal_front}
+use Rattle.match_journal.specs.Walking.{IsBadHead}
+use Rattle.book_recovery.specs.Kept.{IsWhole, AreWhole}
+
+-- The first records of a journal of this text have good heads and these payloads, and the gate behind them is inside the
+-- image.
+pub record BeginsWithRecords (text : List ℕ) (limit : ℕ) (payloads : List (List ℕ)) (image : List ℕ) : Type 0 where
+  pub rest : List ℕ
+  pub is : image ≡ journal_front text payloads ++ rest
+  pub gate_inside : 1 ≤ length rest
+  pub sized : AllByRecursion IsPayload payloads
+  pub in_limit : length (journal_front text payloads) < limit
+
+-- behind some records with good heads comes one with a bad head
+pub record HasBadHeadAt (text : List ℕ) (limit : ℕ) (image : List ℕ) (at : ℕ) : Type 0 where
+  pub before : List (List ℕ)
+  pub begins : BeginsWithRecords text limit before image
+  pub bad : IsBadHead image limit (length (journal_front text before)) at
+
+-- no head is bad, and behind some whole payloads comes one that is not
+pub record HasBadPayloadAt (text : List ℕ) (limit : ℕ) (image : List ℕ) (at : ℕ) : Type 0 where
+  pub before : List (List ℕ)
+  pub payload : List ℕ
+  pub behind : List (List ℕ)
+  pub heads : IsJournal text limit (before ++ payload ∷ behind) image
+  pub whole : AreWhole before
+  pub not_whole : IsWhole payload → ⊥
+  pub place : at ≡ length (journal_front text before)
+
+abbrev pub IsBadPlace : List ℕ → ℕ → List ℕ → ℕ → Type 0
+IsBadPlace text limit image at = HasBadHeadAt text limit image at ⊎ HasBadPayloadAt text limit image at

@@ -1,0 +1,4 @@
+pub mod Kept
+pub mod BadPlaces
+pub mod Recovering
+pub mod Inner

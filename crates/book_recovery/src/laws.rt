@@ -1,0 +1,15 @@
+//! Laws of the definitions. The functions do nothing; what their contracts say is proved.
+ghost use Rattle.std.specs.Prelude.{◌≡◌, ℕ, List, Result, Err};
+ghost use Rattle.product_file.specs.Products.{ProductLists};
+ghost use Rattle.order_kinds.specs.State.{State};
+ghost use Rattle.book_recovery.specs.Recovering.{Recovers};
+ghost use Rattle.book_recovery.specs.declared.recovery.Recovered.{Recovered};
+ghost use Rattle.book_recovery.specs.declared.recovery.RecoverFault.{RecoverFault};
+ghost use Rattle.book_recovery.specs.declared.recovery.RecoverFault.TheVariants as fault;
+
+/// One answer of a recovery fits an image, besides a fault of the store. So each comes exactly where it fits, and `Bad` at one
+/// place.
+pub fn an_image_is_recovered_one_way()
+    ensures { (product : ProductLists) (text image : List ℕ) (limit gate gate' : ℕ) (state state' : State) (first second : Result Recovered RecoverFault)
+        → Recovers product text limit image gate state first → Recovers product text limit image gate' state' second → (first ≡ Err fault.Store → ⊥) → (second ≡ Err fault.Store → ⊥) → first ≡ second }
+{}

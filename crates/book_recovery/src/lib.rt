@@ -1,0 +1,11 @@
+//! Recovery: the state of the engine from a journal, by replaying its records.
+#![tactic(auto)]
+
+mod laws;
+mod recovery;
+mod replay;
+mod scratch;
+
+pub use laws::an_image_is_recovered_one_way;
+pub use recovery::{RecoverFault, Recovered, SHORTEST_FRAME, recover};
+pub use scratch::Scratch;

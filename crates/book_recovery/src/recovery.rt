@@ -1,0 +1,109 @@
+//! The state of a journal.
+ghost use Rattle.std.specs.Prelude.{◌≡◌, ℕ, ◌+◌, ◌*◌, ◌<◌, ◌≤◌, List, [], false, true, length, Some, OnOk, IfOk, IsErrOf};
+ghost use Rattle.gx_station.specs.Counts.{Rose};
+ghost use Rattle.match_journal.specs.Opening.{IsOpened};
+ghost use Rattle.match_journal.specs.Standing.{IsStanding, moved};
+ghost use Rattle.match_journal.specs.declared.limits.TheConstants.{LEAST_LIMIT};
+ghost use Rattle.order_kinds.specs.State.{empty_state, state_numbered};
+ghost use Rattle.order_kinds.specs.Cores.{FitsProduct, AreNumbered};
+ghost use Rattle.book_recovery.specs.BadPlaces.{BeginsWithRecords};
+ghost use Rattle.book_recovery.specs.Recovering.{ReadsOnly, Recovers};
+ghost use Rattle.book_recovery.specs.Inner.Counting.{Counts};
+
+use crate::replay::replay_records;
+use crate::scratch::Scratch;
+use gx_station::Station;
+use match_journal::{Journal, WalkFault};
+use order_kinds::Core;
+use plain_book::Book;
+use product_file::Product;
+use thiserror::Error;
+
+/// How many bytes a frame has at least.
+pub const SHORTEST_FRAME: u64 = 22;
+
+/// What a journal keeps: how many messages, in how many records, and the gate of the last book image, which no journal has
+/// yet.
+#[derive(Clone, Copy, Debug, PartialEq, Eq)]
+pub struct Recovered {
+    pub messages: u64,
+    pub entries: u64,
+    pub image_at: Option<u64>,
+}
+
+/// Why nothing was recovered.
+#[derive(Clone, Copy, Debug, Error, PartialEq, Eq)]
+pub enum RecoverFault {
+    #[error("a call on the store has failed")]
+    Store,
+    /// With the place of the first bad record.
+    #[error("the journal is bad, at {0}")]
+    Bad(u64),
+}
+
+/// Goes over the heads of all records, from the first on, and answers how many there are.
+fn count_records<S: Station>(station: &mut S, journal: &mut Journal) -> Result<u64, RecoverFault>
+    requires reach { journal.old.known ≤ S.meanings.reach station.old }
+    ensures reads { ReadsOnly S.meanings station.old station.new }
+    ensures reach { S.meanings.reach station.new ≡ S.meanings.reach station.old }
+    ensures store { IsErrOf result RecoverFault.Store → Rose (S.meanings.store_faults station.old) (S.meanings.store_faults station.new) }
+    ensures none { (IsErrOf result RecoverFault.Store → ⊥) → S.meanings.store_faults station.new ≡ S.meanings.store_faults station.old }
+    ensures stands { IsStanding journal.new }
+    ensures same { journal.new ≡ moved journal.old journal.new.gate journal.new.is_at_end }
+    ensures counts { (text image : List ℕ) → S.meanings.holds station.old ≡ Some image → length image ≡ journal.old.known → BeginsWithRecords text journal.old.limit [] image → journal.old.first ≡ 13 + length text
+        → Counts text journal.old.limit image journal.new.gate result }
+{
+    journal.rewind();
+    let mut count = 0;
+    'heads: loop {
+        match journal.next_entry(station) {
+            Ok(Some(_)) => count += 1,
+            Ok(None) => return Ok(count),
+            Err(WalkFault::Store) => return Err(RecoverFault::Store),
+            Err(WalkFault::Bad(at)) => return Err(RecoverFault::Bad(at)),
+        }
+    }
+}
+
+/// Brings a new core to the state after all messages that a journal keeps, by applying each, and reports nothing. It begins at
+/// the first record, wherever the journal stands, and goes over all heads before it reads a payload. `Ok` leaves the journal
+/// at its end.
+///
+/// `Store` comes only where the count of store faults rose. `Bad` comes exactly where a record is bad, with the place of the
+/// first one with a bad head, or else of the first one whose payload is not whole frames. After a fault nothing is told of the
+/// content of the core, and `Core::clear` makes it as new. Nothing is written, synced or sent.
+pub fn recover<S: Station, B: Book>(
+    station: &mut S,
+    journal: &mut Journal,
+    product: &Product,
+    scratch: &mut Scratch,
+    core: &mut Core<B>,
+) -> Result<Recovered, RecoverFault>
+    requires new { core.old ≡ empty_state product.now }
+    requires reach { journal.old.known ≤ S.meanings.reach station.old }
+    requires in_limit { journal.old.first < journal.old.limit }
+    requires not_lost { journal.old.is_lost ≡ false }
+    ensures reads { ReadsOnly S.meanings station.old station.new }
+    ensures store { IsErrOf result RecoverFault.Store → Rose (S.meanings.store_faults station.old) (S.meanings.store_faults station.new) }
+    ensures none { (IsErrOf result RecoverFault.Store → ⊥) → S.meanings.store_faults station.new ≡ S.meanings.store_faults station.old }
+    ensures stands { IsStanding journal.new }
+    ensures same { (journal.new.first ≡ journal.old.first) × (journal.new.known ≡ journal.old.known) × (journal.new.limit ≡ journal.old.limit) }
+    ensures reach { journal.new.known ≤ S.meanings.reach station.new }
+    ensures at_end { OnOk result (journal.new.is_at_end ≡ true) }
+    ensures in_limit { OnOk result (journal.new.gate < journal.new.limit) }
+    ensures fits { FitsProduct product.now core.new }
+    ensures numbered { OnOk result (AreNumbered core.new) }
+    ensures counts { IfOk result (λ recovered. recovered.messages ≡ core.new.desk.messages) }
+    // Each message has the bytes of a frame, so there is room in the count of messages for those that still fit the journal.
+    ensures few { OnOk result (core.new.desk.messages * SHORTEST_FRAME ≤ journal.new.gate) }
+    ensures recovers { (text image : List ℕ) → S.meanings.holds station.old ≡ Some image → length image ≡ journal.old.known → LEAST_LIMIT ≤ journal.old.limit → IsOpened text image → journal.old.first ≡ 13 + length text
+        → Recovers product.now text journal.old.limit image journal.new.gate (state_numbered core.new) result }
+{
+    let entries = count_records(station, journal)?;
+    replay_records(station, journal, product, scratch, core)?;
+    Ok(Recovered {
+        messages: core.messages(),
+        entries,
+        image_at: None,
+    })
+}
