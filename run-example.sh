@@ -38,8 +38,9 @@ shown() {
 8=FIX.4.2|/g'
 }
 
-# Runs over the product and the orders in the folder.
+# Runs over the product and the orders in the folder, from a new journal on.
 serve() {
+    rm -f -- "$folder/journal.gxj"
     (cd "$folder" && "$program" run <orders >reports)
     status=$?
     [ "$status" -eq 0 ] || fail "the program ended with status $status"

@@ -1,5 +1,5 @@
-//! The program `globex`: reads `product.toml` and standard input, and sends to standard output. It opens `journal.gxj`,
-//! which is neither read nor written yet.
+//! The program `globex`: reads `product.toml` and standard input, sends to standard output, and keeps its journal in
+//! `journal.gxj`.
 #![tactic(auto)]
 
 use globex_run::{Outcome, globex};

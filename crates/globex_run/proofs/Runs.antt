@@ -1,121 +1,149 @@
 -- What a call did, from the way that it ended.
-use Rattle.std.proofs.Common.{◌≡◌, ◌≢◌, ◌⊎◌, inl, inr, ℕ, nat_lt, ◌<◌, List, [], ◌++◌, length, Some, Result, Ok, Err, refl, sym, ap, subst, ◌∙◌, length-append, arith}
+use Rattle.std.proofs.Common.{◌≡◌, ◌⊎◌, inl, inr, ℕ, nat_lt, ◌<◌, ◌≤◌, List, [], ◌++◌, length, Some, Result, Ok, Err, sym, ap, subst, ◌∙◌, length-append, arith}
 use Rattle.std.proofs.lemmas.Bool.{cases_lt, cond-true, lt-ltb}
 use Rattle.std.proofs.lemmas.List.{append-nil}
+use Rattle.gx_station.specs.Stations.{StationMeanings}
+use Rattle.gx_station.specs.Honest.{IsHonestNow}
+use Rattle.fix_frame.specs.Stream.{messages_of}
 use Rattle.product_file.specs.Products.{ProductLists}
 use Rattle.product_file.specs.ProductTexts.{product_of}
 use Rattle.product_file.specs.declared.faults.ProductFault.{ProductFault}
 use Rattle.product_file.specs.declared.faults.ProductFault.TheVariants.{TooLong}
+use Rattle.order_kinds.specs.Balance.{IsBalanced}
+use Rattle.balance_laws.proofs.Streams.{streams-balance}
 use Rattle.globex_run.specs.Outside.{SourceAt, Outside, IsQuiet}
-use Rattle.globex_run.specs.Outcomes.{outcome_of}
 use Rattle.globex_run.specs.ProductTexts.{TakesAtMost, IsProductText, IsRefusedAt}
-use Rattle.globex_run.specs.RunResult.{ServingResult, RunResult, CanBeServed}
+use Rattle.globex_run.specs.RunResult.{EndsAs}
+use Rattle.globex_run.specs.Headline.{Premises, SendsExactlyTheReports, EndsOtherwise, LeavesCrashPrefixes, BeforeTheFirstSync, KeepsEveryReported, HasNoRoom, messages_counted, CanBeServed, IsServed}
+use Rattle.globex_run.specs.Inner.ProductReading.{TakesNone}
+use Rattle.globex_run.specs.Inner.Sessions.{SessionFrom, SessionResult}
 use Rattle.globex_run.specs.Inner.Statuses.{outcome_without}
-use Rattle.globex_run.specs.Inner.ProductReading.{TakesNone, TakesProduct}
-use Rattle.globex_run.specs.Inner.Serving.{CausedBy}
 use Rattle.globex_run.specs.declared.outcome.Outcome.{Outcome}
 use Rattle.globex_run.specs.declared.product_text.NoProduct.{NoProduct}
 use Rattle.globex_run.specs.declared.product_text.NoProduct.TheVariants.{NoMemory, Unread, Refused}
-use Rattle.globex_run.specs.declared.serve.Ending.{Ending}
-use Rattle.globex_run.specs.declared.serve.Ending.TheVariants.{Done, ReadFault, SendFault, BadFrame, Truncated, Full}
-use Rattle.globex_run.proofs.Complete.{serves-all, left_parts, nil_from_end}
+use Rattle.globex_run.proofs.Told.{outside_of, left_parts, nil_from_end, same-taken}
+use Rattle.globex_run.proofs.Headlines as headline
+use Rattle.globex_run.proofs.Complete.{served}
 
 -- ---- the product's text
 
+-- a text that is too long gives no product
 too_long : (text : List ℕ) (product : ProductLists) → product_of text ≡ Ok product → 65536 < length text → ⊥
 unfolding product_of
 too_long text product is long =
     let e : Err TooLong ≡ Ok product = sym (cond-true (nat_lt 65536 (length text)) _ _ (lt-ltb 65536 (length text) long)) ∙ is in cc e
 
 -- a text that gives a product is not too long
-pub few-of-product : {P : Type 0} (before after : SourceAt P) (product : ProductLists) → TakesProduct before after (Ok product) → TakesAtMost 65536 before after
-few-of-product before after product took = record {
-  text = took.0;
-  left = took.1.left;
-  few = elim (cases_lt 65536 (length took.0)) [
-    | inl long ↦ absurd (too_long took.0 product took.2 long)
-    | inr few ↦ few
-  ];
-}
+pub short-text : (text : List ℕ) (product : ProductLists) → product_of text ≡ Ok product → length text ≤ 65536
+short-text text product is =
+    elim (cases_lt 65536 (length text)) [
+      | inl long ↦ absurd (too_long text product is long)
+      | inr few ↦ few
+    ]
+
+-- so no more was taken than a text may have
+pub few-of-product : {P : Type 0} (before after : SourceAt P) (text : List ℕ) (product : ProductLists) → IsProductText before after text → product_of text ≡ Ok product → TakesAtMost 65536 before after
+few-of-product before after text product took gives = record { text = text; left = took.left; few = short-text text product gives }
 
 -- a text that gives a product was taken whole
-whole-text : {P : Type 0} (before after : SourceAt P) (taken text : List ℕ) (product : ProductLists) → IsProductText before after taken → before.left ≡ Some text → product_of text ≡ Ok product → product_of taken ≡ Ok product
+whole-text : {P : Type 0} (before after : SourceAt P) (taken text : List ℕ) (product : ProductLists) → IsProductText before after taken → before.left ≡ Some text → product_of text ≡ Ok product → taken ≡ text
 whole-text before after taken text product was emits is =
     let parts = left_parts after.left text taken (sym emits ∙ was.left) in
     elim (cases_lt 65536 (length taken)) [
       | inl long ↦ absurd (too_long text product is (omega (arith, long, ap (λ (l : List ℕ). length l) parts.2, length-append taken parts.0)))
       | inr few ↦
           let none : parts.0 ≡ [] = nil_from_end after.left parts.0 parts.1 (was.whole few) in
-          let same : taken ≡ text = sym (append-nil taken) ∙ ap (λ (l : List ℕ). taken ++ l) (sym none) ∙ sym parts.2 in
-          ap product_of same ∙ is
+          sym (append-nil taken) ∙ ap (λ (l : List ℕ). taken ++ l) (sym none) ∙ sym parts.2
     ]
 
+-- a text gives one product
 one_product : (r : Result ProductLists ProductFault) (p q : ProductLists) → r ≡ Ok p → r ≡ Ok q → p ≡ q
 one_product r p q a b = cc
 
-module _ {P I S : Type 0} (before after : Outside P I S) where
-  -- ---- no product was taken
+-- where a run can be served, and no read of the product failed, none is taken only for want of memory
+pub memory-without : {P I S : Type 0} (m : StationMeanings S) (before after : Outside P I S) (reason : NoProduct) (o : Outcome) → TakesNone before.product after.product reason → o ≡ outcome_without reason → (can : CanBeServed m before) → IsQuiet before after → (o.status ≡ 1) ⊎ IsServed can.bytes o.status
+memory-without m before after NoMemory o took made can quiet = inl (ap (λ (x : Outcome). x.status) made)
+memory-without m before after Unread o took made can quiet = absurd (quiet.product took.1)
+memory-without m before after (Refused rule) o took made can quiet =
+    absurd (subst (λ (r : Result ProductLists ProductFault). IsRefusedAt rule r) (ap product_of (whole-text before.product after.product took.0 can.text can.product took.1 can.text_known can.gives) ∙ can.gives) took.2)
 
-  -- what a run did that took none, and left the streams as they were
-  pub result-without : (reason : NoProduct) (o : Outcome) → TakesNone before.product after.product reason → o ≡ outcome_without reason → after.streams ≡ before.streams → o.status ≢ 1 → RunResult before after o
-  result-without NoMemory o took made same other = absurd (other (ap (λ (x : Outcome). x.status) made))
-  result-without Unread o took made same other = inl (record {
-    status = ap (λ (x : Outcome). x.status) made;
-    nowhere = ap (λ (x : Outcome). x.at) made;
-    none = ap (λ (x : Outcome). x.messages) made;
-    taken = took.0;
-    rose = took.1;
-    untouched = same;
-  })
-  result-without (Refused rule) o took made same other = inr (inl (record {
-    status = ap (λ (x : Outcome). x.status) made;
-    none = ap (λ (x : Outcome). x.messages) made;
-    text = took.0;
-    taken = took.1;
-    refused = subst (λ (n : ℕ). IsRefusedAt n (product_of took.0)) (sym (ap (λ (x : Outcome). x.at) made)) took.2;
-    untouched = same;
-  }))
+-- ---- a product was taken, and its text lent to its session
 
-  -- where a run could be served, and no read of the product failed, it is want of memory alone
-  pub memory-without : (reason : NoProduct) (o : Outcome) → TakesNone before.product after.product reason → o ≡ outcome_without reason → CanBeServed before → IsQuiet before after → (o.status ≡ 0) ⊎ (o.status ≡ 1)
-  memory-without NoMemory o took made can quiet = inr (ap (λ (x : Outcome). x.status) made)
-  memory-without Unread o took made can quiet = absurd (quiet.product took.1)
-  memory-without (Refused rule) o took made can quiet =
-      absurd (subst (λ (r : Result ProductLists ProductFault). IsRefusedAt rule r) (whole-text before.product after.product took.0 can.text can.product took.1 can.product_known can.gives) took.2)
+module _ {P I S : Type 0} (m : StationMeanings S) (p q : SourceAt P) (i j : SourceAt I) (old new : S) (outcome : Outcome) (text lent : List ℕ) (same : lent ≡ text) (product : ProductLists) (took : IsProductText p q text) (gives : product_of text ≡ Ok product) where
+  abbrev entry : Outside P I S
+  entry = outside_of m p i old
 
-  -- ---- a product was taken, and served
+  abbrev exit : Outside P I S
+  exit = outside_of m q j new
 
-  messages-of : (ending : Ending) (count : ℕ) → (outcome_of ending count).messages ≡ count
-  messages-of Done count = refl
-  messages-of (ReadFault place) count = refl
-  messages-of SendFault count = refl
-  messages-of (BadFrame place) count = refl
-  messages-of (Truncated place) count = refl
-  messages-of (Full place) count = refl
+  -- the session of a product
+  abbrev Session : ProductLists → List ℕ → Type 0
+  Session lists bytes = SessionResult m lists bytes entry.streams exit.streams outcome
 
-  module _ (product : ProductLists) (took : TakesProduct before.product after.product (Ok product)) (ending : Ending) (count : ℕ) (serving : ServingResult product before.streams after.streams ending count) (o : Outcome) (made : o ≡ outcome_of ending count) where
-    counts : count ≡ o.messages
-    counts = sym (ap (λ (x : Outcome). x.messages) made ∙ messages-of ending count)
+  -- the session is that of the product that is told
+  told-session : (told : List ℕ) (lists : ProductLists) → p.left ≡ Some told → product_of told ≡ Ok lists → Session product lent → Session lists told
+  told-session told lists known are session =
+      let whole : text ≡ told = whole-text p q text told lists took known are in
+      let one : product ≡ lists = one_product (product_of text) product lists gives (ap product_of whole ∙ are) in
+      subst (λ (l : List ℕ). Session lists l) (same ∙ whole) (subst (λ (x : ProductLists). Session x lent) one session)
 
-    pub result-served : RunResult before after o
-    result-served = inr (inr (record {
-      text = took.0;
-      taken = took.1;
-      product = product;
-      gives = took.2;
-      ending = ending;
-      is = made ∙ ap (outcome_of ending) counts;
-      serving = subst (λ (n : ℕ). ServingResult product before.streams after.streams ending n) counts serving;
-    }))
+  module _ (session : Session product lent) (given : Premises m entry exit outcome.status) where
+    -- that of the product of the premises
+    told : Session given.product given.text
+    told = told-session given.text given.product given.text_known given.gives session
 
-    -- a good input is served to its end
-    pub all-served : CausedBy ending before.streams after.streams → CanBeServed before → IsQuiet before after → (o.status ≡ 0) ⊎ (o.status ≡ 1)
-    all-served cause can quiet =
-        let right : product_of took.0 ≡ Ok can.product = whole-text before.product after.product took.0 can.text can.product took.1 can.product_known can.gives in
-        let same : product ≡ can.product = one_product (product_of took.0) product can.product took.2 right in
-        let done : ending ≡ Done =
-        serves-all can.product before.streams after.streams ending count (subst (λ (p : ProductLists). ServingResult p before.streams after.streams ending count) same serving)
-        can.frames can.are_frames can.few can.input_known
-        (λ place is. quiet.input (subst (λ (e : Ending). CausedBy e before.streams after.streams) is cause).0)
-        (λ is. quiet.station (subst (λ (e : Ending). CausedBy e before.streams after.streams) is cause).1) in
-        inl (ap (λ (x : Outcome). x.status) (made ∙ ap (λ (e : Ending). outcome_of e count) done))
+    -- the bytes taken are those of the premises
+    taken_is : told.serving.taken ≡ given.taken
+    taken_is = same-taken i.left j.left given.taken told.serving.taken given.rest given.input_known given.input_left told.serving.took
+
+    -- what it came to from the image of entry
+    from : SessionFrom m given.product given.text entry.streams exit.streams given.image given.startable.payloads given.kept given.taken told.ending outcome.messages
+    from =
+        subst (λ (l : List ℕ). SessionFrom m given.product given.text entry.streams exit.streams given.image given.startable.payloads given.kept l told.ending outcome.messages) taken_is
+        (told.from given.image given.kept given.honest given.image_known given.startable)
+
+    -- why it ended
+    ends : EndsAs entry.streams exit.streams told.ending outcome.messages given.taken
+    ends = subst (λ (l : List ℕ). EndsAs entry.streams exit.streams told.ending outcome.messages l) taken_is told.serving.ends
+
+    -- the messages counted are no more than were read
+    some : outcome.messages ≤ length (messages_of given.taken)
+    some = subst (λ (l : List ℕ). outcome.messages ≤ length (messages_of l)) taken_is told.serving.some
+
+    -- ---- the clauses, one by one
+
+    -- status 0
+    pub run-exactly : outcome.status ≡ 0 → SendsExactlyTheReports m entry exit outcome given
+    run-exactly none = headline.exactly m p q i j old new outcome given told.ending told.is ends from none
+
+    -- any other status
+    pub run-otherwise : EndsOtherwise m entry exit outcome given
+    run-otherwise = headline.otherwise m p q i j old new outcome given told.ending told.is some ends from
+
+    -- at every moment
+    pub run-every-moment : LeavesCrashPrefixes m entry exit outcome given
+    run-every-moment = headline.every-moment m p q i j old new outcome given told.ending from
+
+    -- before the first sync
+    pub run-first-sync : IsHonestNow m old → BeforeTheFirstSync m entry exit outcome given
+    run-first-sync now = headline.first-sync m p q i j old new outcome given told.ending from now
+
+    -- with every message
+    pub run-every-message : IsHonestNow m old → KeepsEveryReported m entry exit outcome given
+    run-every-message now = headline.every-message m p q i j old new outcome given told.ending from now
+
+    -- the quantities add up
+    pub run-balanced : IsBalanced given.product (given.kept ++ messages_counted m entry exit outcome given)
+    run-balanced = streams-balance given.product (given.kept ++ messages_counted m entry exit outcome given) told.right
+
+    -- status 12
+    pub run-full : outcome.status ≡ 12 → HasNoRoom m entry exit outcome given
+    run-full twelve = headline.full m p q i j old new outcome given told.ending told.is ends from twelve
+
+  -- a good run is served to its end
+  pub run-all : Session product lent → (can : CanBeServed m entry) → IsQuiet entry exit → IsServed can.bytes outcome.status
+  run-all session can quiet =
+      let good = told-session can.text can.product can.text_known can.gives session in
+      let parts = left_parts j.left can.bytes good.serving.taken (sym can.input_known ∙ good.serving.took) in
+      served m p q i j old new outcome can quiet good.serving.taken parts.0 parts.1 parts.2
+      good.ending good.is good.cause good.serving.ends (good.from can.image can.kept can.honest can.image_known can.startable)

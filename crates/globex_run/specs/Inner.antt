@@ -1,6 +1,8 @@
--- What the private functions promise each other: the reads, one frame, what holds between two messages. A reader need not
--- believe any of it: `globex` speaks only of the files beside this one.
+-- What the private functions promise each other: the reads, the opening, one frame, what holds between two messages. A reader
+-- need not believe any of it: `globex` speaks only of the files beside this one.
 pub mod ProductReading
 pub mod Statuses
+pub mod Recording
 pub mod Serving
+pub mod Sessions
 pub mod Buffers

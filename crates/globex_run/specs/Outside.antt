@@ -10,13 +10,16 @@ pub record SourceAt (P : Type 0) : Type 0 where
   pub left : Option (List ℕ)
   pub faults : ℕ
 
--- a station: all that was sent, where that is told, and how many sends have failed
+-- a station: the image as a read gives it and all that was sent, where these are told, and how many calls on the image and
+-- how many sends have failed
 pub record StationAt (S : Type 0) : Type 0 where
   pub object : S
+  pub image : Option (List ℕ)
   pub sent : Option (List ℕ)
-  pub faults : ℕ
+  pub store_faults : ℕ
+  pub send_faults : ℕ
 
--- the input, of which the messages are read, and the station, to which their reports are sent
+-- the input, of which the messages are read, and the station, which keeps them and to which their reports are sent
 pub record Streams (I S : Type 0) : Type 0 where
   pub input : SourceAt I
   pub station : StationAt S
@@ -31,7 +34,8 @@ abbrev pub source_at : {P : Type 0} → SourceMeanings P → P → SourceAt P
 source_at m source = record { object = source; left = m.left source; faults = m.faults source }
 
 abbrev pub station_at : {S : Type 0} → StationMeanings S → S → StationAt S
-station_at m station = record { object = station; sent = m.sent station; faults = m.send_faults station }
+station_at m station =
+    record { object = station; image = m.holds station; sent = m.sent station; store_faults = m.store_faults station; send_faults = m.send_faults station }
 
 abbrev pub streams_at : {I S : Type 0} → SourceMeanings I → StationMeanings S → I → S → Streams I S
 streams_at inputs stations input station = record { input = source_at inputs input; station = station_at stations station }
@@ -48,4 +52,5 @@ NoFault before now = Rose before now → ⊥
 pub record IsQuiet {P I S : Type 0} (before after : Outside P I S) : Type 0 where
   pub product : NoFault before.product.faults after.product.faults
   pub input : NoFault before.streams.input.faults after.streams.input.faults
-  pub station : NoFault before.streams.station.faults after.streams.station.faults
+  pub store : NoFault before.streams.station.store_faults after.streams.station.store_faults
+  pub sends : NoFault before.streams.station.send_faults after.streams.station.send_faults

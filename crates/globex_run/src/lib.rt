@@ -1,10 +1,15 @@
-//! A run: messages in, reports out.
+//! A run: messages in, reports out, and each message kept in a journal before it is answered.
 #![tactic(auto)]
 
+mod buffers;
+mod ending;
+mod open;
 mod outcome;
 mod product_text;
 mod run;
 mod serve;
+mod serve_frame;
+mod session;
 #[cfg(test)]
 mod tests;
 mod words;

@@ -37,17 +37,28 @@ fn read_text<P: Source>(room: &mut Vec<u8>, source: &mut P) -> Result<usize, Fai
     Ok(len)
 }
 
-/// Takes the product from its source.
-pub fn take_product<P: Source>(alloc: Global, source: &mut P) -> Result<Product, NoProduct>
+/// A product, with the text that it was read from.
+#[derive(Drop)]
+pub struct ProductAndText {
+    pub product: Product,
+    pub text: Vec<u8>,
+}
+
+/// Takes the product and its text from their source.
+pub fn take_product<P: Source>(alloc: Global, source: &mut P) -> Result<ProductAndText, NoProduct>
     ensures { TakesProduct (source_at P.meanings source.old) (source_at P.meanings source.new) result }
 {
-    let Ok(mut room) = vec![in alloc; 0; MOST_TAKEN] else {
+    let Ok(mut text) = vec![in alloc; 0; MOST_TAKEN] else {
         return Err(NoProduct::NoMemory);
     };
-    let Ok(len) = read_text(&mut room, source) else {
+    let Ok(len) = read_text(&mut text, source) else {
         return Err(NoProduct::Unread);
     };
-    or_reason(read_product(alloc, &room.as_slice()[..len]))
+    text.truncate(len);
+    match or_reason(read_product(alloc, &text)) {
+        Ok(product) => Ok(ProductAndText { product, text }),
+        Err(reason) => Err(reason),
+    }
 }
 
 /// The product that was read, or why its text gives none.

@@ -1,6 +1,7 @@
 //! Runs over a source and a station in memory. Each file has tables of cases, and few tests that go through them.
 mod displays;
 mod fronts;
+mod journals;
 mod kinds;
 mod letters;
 mod levels;
@@ -13,7 +14,7 @@ mod runs;
 mod shares;
 mod stops;
 
-ghost use Rattle.std.specs.Prelude.{◌≤◌};
+ghost use Rattle.std.specs.Prelude.{◌≤◌, length};
 ghost use Rattle.std.specs.List.{AllByRecursion};
 
 use crate::{Outcome, globex};
@@ -101,7 +102,17 @@ fn run_over(
     Ok(globex(alloc, words.as_slice(), product, input, station))
 }
 
-/// Runs the command of a word over this product and this input, read in these pieces. No call fails.
+/// How many bytes the image of a station may have, and all writes together.
+const ROOM: usize = 16_384;
+
+/// A station over this image whose calls of these numbers fail.
+fn station_over(alloc: Global, image: &[u8], fail: Vec<u64>) -> Result<MemStation, AllocError>
+    requires { length image.now ≤ ROOM }
+{
+    MemStation::new(alloc, image.to_vec(alloc)?, ROOM, 65_536, 1_000, fail)
+}
+
+/// Runs the command of a word over this product and this input, read in these pieces, and an empty image. No call fails.
 fn run(
     alloc: Global,
     word: &str,
@@ -114,7 +125,7 @@ fn run(
     let product = product.as_bytes().to_vec(alloc)?;
     let mut product = MemSource::new(alloc, product, Vec::new(alloc), Vec::new(alloc))?;
     let mut source = MemSource::new(alloc, input.to_vec(alloc)?, pieces, Vec::new(alloc))?;
-    let mut station = MemStation::new(alloc, Vec::new(alloc), 0, 65_536, 100, Vec::new(alloc))?;
+    let mut station = station_over(alloc, b"", Vec::new(alloc))?;
     let outcome = run_over(alloc, word, &mut product, &mut source, &mut station)?;
     Ok((outcome, station))
 }

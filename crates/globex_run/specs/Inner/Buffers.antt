@@ -4,7 +4,7 @@ use Rattle.gx_station.specs.declared.source.TheConstants.{LEAST_READ}
 use Rattle.product_file.specs.Products.{ProductLists}
 use Rattle.order_kinds.specs.State.{empty_state}
 use Rattle.globex_run.specs.Inner.Serving.{IsEmptyFramer}
-use Rattle.globex_run.specs.declared.run.Buffers.{Buffers}
+use Rattle.globex_run.specs.declared.buffers.Buffers.{Buffers}
 
 pub record AreNew (product : ProductLists) (buffers : Buffers) : Type 0 where
   pub core : buffers.core ≡ empty_state product

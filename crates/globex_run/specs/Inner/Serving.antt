@@ -1,21 +1,23 @@
 -- What the steps of serving do: reading, serving one frame, and all that was served so far.
-use Rattle.std.specs.Prelude.{◌≡◌, ℕ, ◌+◌, ◌<◌, ◌≤◌, List, ◌++◌, length, Result, Ok, Err, IfOk, OnErr, []}
+use Rattle.std.specs.Prelude.{◌≡◌, ◌≢◌, ◌⊎◌, ℕ, ◌+◌, ◌<◌, List, [], ◌∷◌, ◌++◌, length, Result, Ok, Err, IfOk, OnErr}
 use Rattle.std.specs.List.{concat}
-use Rattle.gx_base.specs.KnownBytes.{IsKnownPrefix}
 use Rattle.gx_station.specs.Counts.{Rose, HasCause}
 use Rattle.gx_station.specs.Sources.{and_left, IsAtEnd}
-use Rattle.gx_station.specs.Stations.{sent_and}
+use Rattle.gx_station.specs.Stations.{StationMeanings, sent_and}
 use Rattle.fix_frame.specs.Framing.{Framing}
-use Rattle.fix_frame.specs.Stream.{messages_of, rest_of}
-use Rattle.product_file.specs.Products.{ProductLists, IsRightProduct}
-use Rattle.order_kinds.specs.State.{State, empty_state}
-use Rattle.order_kinds.specs.Step.{step_of, state_after, reports_of, lines_of}
-use Rattle.globex_run.specs.Outside.{SourceAt, StationAt, Streams}
-use Rattle.globex_run.specs.declared.serve.TheConstants.{MESSAGE_LIMIT}
-use Rattle.globex_run.specs.declared.serve.Unserved.{Unserved}
-use Rattle.globex_run.specs.declared.serve.Unserved.TheVariants as unserved
-use Rattle.globex_run.specs.declared.serve.Ending.{Ending}
-use Rattle.globex_run.specs.declared.serve.Ending.TheVariants.{ReadFault, SendFault, Full}
+use Rattle.fix_frame.specs.Grammar.{IsFrame, IsUnfinished, IsRefused}
+use Rattle.match_journal.specs.Journal.{IsJournal}
+use Rattle.match_journal.specs.Steps.{HoldsOne}
+use Rattle.match_journal.specs.declared.standing.Standing.{Standing}
+use Rattle.book_recovery.specs.Kept.{messages_in}
+use Rattle.product_file.specs.Products.{ProductLists}
+use Rattle.order_kinds.specs.State.{State}
+use Rattle.globex_run.specs.Outside.{SourceAt, Streams}
+use Rattle.globex_run.specs.Inner.Recording.{reports_from, RestsAtEnd, Serves, AllKept, Served}
+use Rattle.globex_run.specs.declared.serve_frame.Unserved.{Unserved}
+use Rattle.globex_run.specs.declared.serve_frame.Unserved.TheVariants as unserved
+use Rattle.globex_run.specs.declared.ending.Ending.{Ending}
+use Rattle.globex_run.specs.declared.ending.Ending.TheVariants.{Done, ReadFault, StoreFault, SendFault, BadFrame, Truncated, NotAJournal, JournalBad, ProductDiffers, Full}
 
 -- bytes were read from a source into a framer; at the end of the source, or after a fault, there are none
 pub record TakesMore {I F : Type 0} (before after : SourceAt I) (held holds : Framing) (result : Result ℕ F) : Type 0 where
@@ -28,33 +30,50 @@ pub record TakesMore {I F : Type 0} (before after : SourceAt I) (held holds : Fr
   pub end : IfOk result (λ n. n ≡ 0 → IsAtEnd before.left)
   pub cause : HasCause before.faults after.faults result
 
--- a frame was served, and its reports were sent; or it was not, and nothing was; or a send has failed, after a part of
--- the reports
-abbrev pub ServesFrame : {S : Type 0} → ProductLists → State → State → StationAt S → StationAt S → List ℕ → Result (Unit {0}) Unserved → Type 0
-ServesFrame product old new before after frame (Ok t) =
-    (new ≡ (step_of product old frame).0)
-    × (old.desk.messages < MESSAGE_LIMIT)
-    × (new.desk.messages ≡ old.desk.messages + 1)
-    × (after.sent ≡ sent_and before.sent (lines_of product (step_of product old frame).1))
-    × (after.faults ≡ before.faults)
-ServesFrame product old new before after frame (Err unserved.Full) =
-    (new ≡ old) × (after ≡ before) × (MESSAGE_LIMIT ≤ old.desk.messages)
-ServesFrame product old new before after frame (Err unserved.SendFailed) =
-    (old.desk.messages < MESSAGE_LIMIT)
-    × (new.desk.messages ≡ old.desk.messages + 1)
-    × IsKnownPrefix after.sent (sent_and before.sent (lines_of product (step_of product old frame).1))
-    × Rose before.faults after.faults
+-- ---- one frame
+
+module _ {S : Type 0} (m : StationMeanings S) (product : ProductLists) (limit : ℕ) where
+  -- an append has failed: nothing was sent, and the image keeps the records before, or those and this one
+  pub record FailsToKeep (old new : S) (gate : ℕ) (frame : List ℕ) : Type 0 where
+    pub rose : Rose (m.store_faults old) (m.store_faults new)
+    pub sent : m.sent new ≡ m.sent old
+    pub send_faults : m.send_faults new ≡ m.send_faults old
+    pub keeps : (text : List ℕ) (kept : List (List ℕ)) (most : ℕ) → RestsAtEnd m text limit kept gate most old → HoldsOne m (λ image. IsJournal text limit kept image ⊎ IsJournal text limit (kept ++ frame ∷ []) image) new
+
+  -- a send has failed behind the append: the record is kept, and a part of its reports was sent
+  pub record FailsToSend (old new : S) (gate end : ℕ) (state then : State) (frame : List ℕ) : Type 0 where
+    pub rose : Rose (m.send_faults old) (m.send_faults new)
+    pub store_faults : m.store_faults new ≡ m.store_faults old
+    pub all_kept : AllKept m limit old new gate end (frame ∷ [])
+    pub count : then.desk.messages ≡ state.desk.messages + 1
+
+  -- Whatever happened to one frame, and how far it came: it was kept and served; or there was no room for it, and nothing was
+  -- done; or an append or a send has failed.
+  abbrev pub AnswersFrame : S → S → Standing → Standing → State → State → List ℕ → Result (Unit {0}) Unserved → Type 0
+  AnswersFrame old new journal after state then frame (Ok t) =
+      Serves m product limit old new journal.gate state (frame ∷ []) × Served m product limit old new journal.gate after.gate state then (frame ∷ [])
+  AnswersFrame old new journal after state then frame (Err unserved.Full) =
+      (new ≡ old) × (after ≡ journal) × (then ≡ state) × (limit < journal.gate + 7 + length frame)
+  AnswersFrame old new journal after state then frame (Err unserved.StoreFault) =
+      Serves m product limit old new journal.gate state (frame ∷ []) × (then ≡ state) × FailsToKeep old new journal.gate frame
+  AnswersFrame old new journal after state then frame (Err unserved.SendFault) =
+      Serves m product limit old new journal.gate state (frame ∷ []) × FailsToSend old new journal.gate after.gate state then frame
 
 -- how serving ends at a frame at this place
 abbrev pub ending_at : Unserved → ℕ → Ending
 ending_at unserved.Full place = Full place
-ending_at unserved.SendFailed place = SendFault
+ending_at unserved.StoreFault place = StoreFault
+ending_at unserved.SendFault place = SendFault
 
--- Which count of faults rose: at a read fault that of the input, at a send fault that of the sends, and else none.
+-- ---- all frames
+
+-- Which count of faults rose: at a read fault that of the input, at a store fault and a send fault that of such calls, and
+-- else none.
 abbrev pub CausedBy : {I S : Type 0} → Ending → Streams I S → Streams I S → Type 0
-CausedBy (ReadFault place) before after = Rose before.input.faults after.input.faults × (after.station.faults ≡ before.station.faults)
-CausedBy SendFault before after = (after.input.faults ≡ before.input.faults) × Rose before.station.faults after.station.faults
-CausedBy _ before after = (after.input.faults ≡ before.input.faults) × (after.station.faults ≡ before.station.faults)
+CausedBy (ReadFault place) before after = Rose before.input.faults after.input.faults × (after.station.store_faults ≡ before.station.store_faults) × (after.station.send_faults ≡ before.station.send_faults)
+CausedBy StoreFault before after = (after.input.faults ≡ before.input.faults) × Rose before.station.store_faults after.station.store_faults × (after.station.send_faults ≡ before.station.send_faults)
+CausedBy SendFault before after = (after.input.faults ≡ before.input.faults) × (after.station.store_faults ≡ before.station.store_faults) × Rose before.station.send_faults after.station.send_faults
+CausedBy _ before after = (after.input.faults ≡ before.input.faults) × (after.station.store_faults ≡ before.station.store_faults) × (after.station.send_faults ≡ before.station.send_faults)
 
 -- nothing was taken yet
 pub record IsEmptyFramer (f : Framing) : Type 0 where
@@ -62,18 +81,51 @@ pub record IsEmptyFramer (f : Framing) : Type 0 where
   pub rest : f.rest ≡ []
   pub offset : f.offset ≡ 0
 
--- Some messages were read and served, and the framer holds what was read behind them. The reports sent are theirs, and
--- no fault has come.
-pub record IsServed {I S : Type 0} (product : ProductLists) (before after : Streams I S) (framing : Framing) (state : State) : Type 0 where
+-- The last of the records added was not kept, or nobody knows: all before it are kept and served.
+pub record LastUnkept {S : Type 0} (m : StationMeanings S) (product : ProductLists) (limit : ℕ) (old new : S) (gate : ℕ) (state then : State) (added : List (List ℕ)) : Type 0 where
   pub served : List (List ℕ)
-  pub right : IsRightProduct product
-  pub left : before.input.left ≡ and_left (concat served ++ framing.rest) after.input.left
-  -- they are the first messages, however the stream goes on
-  pub messages : (more : List ℕ) → messages_of ((concat served ++ framing.rest) ++ more) ≡ served ++ messages_of (framing.rest ++ more)
-  pub behind : (more : List ℕ) → rest_of ((concat served ++ framing.rest) ++ more) ≡ rest_of (framing.rest ++ more)
-  pub offset : framing.offset ≡ length (concat served)
-  pub is_state : state ≡ state_after product (empty_state product) served
-  pub count : state.desk.messages ≡ length served
-  pub sent : after.station.sent ≡ sent_and before.station.sent (reports_of product served)
-  pub reads : after.input.faults ≡ before.input.faults
-  pub sends : after.station.faults ≡ before.station.faults
+  pub last : List ℕ
+  pub are : added ≡ served ++ last ∷ []
+  pub sent : m.sent new ≡ sent_and (m.sent old) (reports_from product state (messages_in served))
+  pub count : then.desk.messages ≡ state.desk.messages + length (messages_in served)
+  pub keeps : (text : List ℕ) (kept : List (List ℕ)) (most : ℕ) → RestsAtEnd m text limit kept gate most old → HoldsOne m (λ image. IsJournal text limit (kept ++ served) image ⊎ IsJournal text limit (kept ++ added) image) new
+
+-- all records are kept, and of the reports of the last a part was sent
+pub record LastUnsent {S : Type 0} (m : StationMeanings S) (limit : ℕ) (old new : S) (gate end : ℕ) (state then : State) (added : List (List ℕ)) : Type 0 where
+  pub all_kept : AllKept m limit old new gate end added
+  pub count : then.desk.messages ≡ state.desk.messages + length (messages_in added)
+
+-- the next message in a record of its own would end past the limit
+pub record HasNoRoomAt (limit end : ℕ) (behind : List ℕ) : Type 0 where
+  pub frame : List ℕ
+  pub more : List ℕ
+  pub is_frame : IsFrame frame
+  pub front : behind ≡ frame ++ more
+  pub too_long : limit < end + 7 + length frame
+
+module _ {I S : Type 0} (m : StationMeanings S) (product : ProductLists) (limit : ℕ) (before after : Streams I S) (gate end : ℕ) (state then : State) where
+  -- Why serving ended that added these records, where these bytes were read behind them.
+  abbrev pub EndsServing : Ending → List (List ℕ) → List ℕ → Type 0
+  EndsServing Done added behind =
+      Served m product limit before.station.object after.station.object gate end state then added × IsAtEnd after.input.left × (behind ≡ [])
+  EndsServing (ReadFault place) added behind =
+      Served m product limit before.station.object after.station.object gate end state then added × (place ≡ length (concat added ++ behind)) × IsUnfinished behind
+  EndsServing StoreFault added behind = LastUnkept m product limit before.station.object after.station.object gate state then added
+  EndsServing SendFault added behind = LastUnsent m limit before.station.object after.station.object gate end state then added
+  EndsServing (BadFrame place) added behind =
+      Served m product limit before.station.object after.station.object gate end state then added × (place ≡ length (concat added)) × IsRefused behind
+  EndsServing (Truncated place) added behind =
+      Served m product limit before.station.object after.station.object gate end state then added × IsAtEnd after.input.left × (place ≡ length (concat added)) × IsUnfinished behind × (behind ≢ [])
+  EndsServing (NotAJournal place) added behind = ⊥
+  EndsServing (JournalBad place) added behind = ⊥
+  EndsServing (ProductDiffers place) added behind = ⊥
+  EndsServing (Full place) added behind =
+      Served m product limit before.station.object after.station.object gate end state then added × (place ≡ length (concat added)) × HasNoRoomAt limit end behind
+
+  -- the bytes read are those of the records added, and then some
+  pub record ServesInput (ending : Ending) : Type 0 where
+    pub added : List (List ℕ)
+    pub behind : List ℕ
+    pub took : before.input.left ≡ and_left (concat added ++ behind) after.input.left
+    pub serves : Serves m product limit before.station.object after.station.object gate state added
+    pub ends : EndsServing ending added behind

@@ -12,9 +12,13 @@ status_number status.NoMemory = 1
 status_number status.BadWords = 2
 status_number status.Product = 3
 status_number status.ReadFault = 4
+status_number status.StoreFault = 5
 status_number status.SendFault = 6
 status_number status.BadFrame = 7
 status_number status.Truncated = 8
+status_number status.NotAJournal = 9
+status_number status.JournalBad = 10
+status_number status.ProductDiffers = 11
 status_number status.JournalFull = 12
 
 abbrev pub outcome_with : Status → ℕ → ℕ → Outcome

@@ -39,7 +39,7 @@ fn expect_front(
         messages: 0,
     };
     assert_eq!(rt; got, outcome, "{name}");
-    assert_eq!(rt; station.calls(), 0, "{name}");
+    assert_eq!(rt; station.output(), b"".as_slice(), "{name}");
     Ok(())
 }
 

@@ -1,20 +1,27 @@
-use Rattle.std.proofs.Common.{◌≡◌, ◌≤◌, ◌+◌, ◌-◌, ◌*◌, [], length, vec_len}
+use Rattle.std.proofs.Common.{◌≡◌, ◌<◌, ◌≤◌, ◌+◌, ◌-◌, ◌*◌, [], true, length, vec_len}
 use Rattle.order_kinds.specs.Cores.{FitsProduct, AreNumbered}
 use Rattle.order_kinds.specs.State.{state_numbered}
-use Rattle.globex_run.specs.Outside.{streams_at}
-use Rattle.globex_run.specs.Inner.Serving.{IsServed}
+use Rattle.globex_run.specs.Outside.{source_at, streams_at}
+use Rattle.globex_run.proofs.Turns.{IsServing}
 use Rattle.globex_run.proofs.serve.serve.Given as goal
 
 abbrev pub invariant-turns : goal.invariant-turns
-invariant-turns g l = record {
-  run : IsServed l.product (streams_at g.I.Source.meanings g.S.Station.meanings l.fn.input l.fn.station) (streams_at g.I.Source.meanings g.S.Station.meanings l.input l.station) l.framer (state_numbered l.core);
-  fits : FitsProduct l.product l.core;
-  numbered : AreNumbered l.core;
-  chunk : vec_len l.chunk ≡ 4096;
-  buffer : l.buffer ≡ [];
-  offset : l.framer.offset ≤ l.core.desk.messages * 8192;
-  few : l.core.desk.messages ≤ 10000;
-}
+invariant-turns g l =
+    let m = g.S.Station.meanings in
+    let inputs = g.I.Source.meanings in
+    record {
+      turn : IsServing m l.product l.fn.journal.limit (streams_at inputs m l.fn.input l.fn.station) (source_at inputs l.input) l.station l.fn.journal.gate l.journal.gate (state_numbered l.fn.core) (state_numbered l.core) l.framer;
+      limit : l.journal.limit ≡ l.fn.journal.limit;
+      at_end : l.journal.is_at_end ≡ true;
+      reach : l.journal.known ≤ m.reach l.station;
+      in_limit : l.journal.gate < l.journal.limit;
+      few : l.core.desk.messages * 22 ≤ l.journal.gate;
+      fits : FitsProduct l.product l.core;
+      numbered : AreNumbered l.core;
+      chunk : vec_len l.chunk ≡ 4096;
+      buffer : l.buffer ≡ [];
+      offset : l.framer.offset ≤ l.journal.gate;
+    }
 
 abbrev pub decreases-turns : goal.decreases-turns
-decreases-turns g l = (10000 - l.core.desk.messages) * 8193 + (8192 - length l.framer.rest)
+decreases-turns g l = (l.journal.limit - l.journal.gate) * 8193 + (8192 - length l.framer.rest)

@@ -1,0 +1,114 @@
+-- Records that are added to a journal, and the messages in them.
+use Rattle.std.proofs.Common.{◌≡◌, ℕ, ◌+◌, ◌≤◌, List, [], ◌∷◌, ◌++◌, length, take, refl, sym, ap, ◌∙◌, append_assoc, length-append, arith}
+use Rattle.std.specs.List.{concat, AllByRecursion}
+use Rattle.std.proofs.lemmas.List.Folds.{concat-append}
+use Rattle.std.proofs.lemmas.List.Sums.{sum_by-append, sum_by-cons}
+use Rattle.std.proofs.Math.Seq.{take-append_seam}
+use Rattle.fix_frame.specs.Stream.{messages_of, rest_of}
+use Rattle.fix_frame.specs.StreamLaws.{messages_of-append, rest_of-append, concat-messages_of-whole}
+use Rattle.match_journal.specs.Journal.{IsPayload}
+use Rattle.book_recovery.specs.Kept.{AreWhole, messages_in}
+use Rattle.globex_run.specs.Journals.{records_length}
+use Rattle.globex_run.proofs.Folds.{messages_in-append}
+
+-- ---- lists of which something holds
+
+-- it holds of two such lists, one behind the other
+pub all_append : {X : Type 0} (P : X → Type 0) (xs ys : List X) → AllByRecursion P xs → AllByRecursion P ys → AllByRecursion P (xs ++ ys)
+all_append P [] ys all more = more
+all_append P (x ∷ xs) ys all more = (all.0, all_append P xs ys all.1 more)
+
+-- and of the front of one
+pub all_front : {X : Type 0} (P : X → Type 0) (xs ys : List X) → AllByRecursion P (xs ++ ys) → AllByRecursion P xs
+all_front P [] ys all = tt
+all_front P (x ∷ xs) ys all = (all.0, all_front P xs ys all.1)
+
+-- and of what stands behind it
+pub all_back : {X : Type 0} (P : X → Type 0) (xs ys : List X) → AllByRecursion P (xs ++ ys) → AllByRecursion P ys
+all_back P [] ys all = all
+all_back P (x ∷ xs) ys all = all_back P xs ys all.1
+
+-- ---- the messages in whole payloads
+
+-- a whole payload, and then other bytes
+whole_then : (payload more : List ℕ) → rest_of payload ≡ [] → (messages_of (payload ++ more) ≡ messages_of payload ++ messages_of more) × (rest_of (payload ++ more) ≡ rest_of more)
+whole_then payload more whole = (
+  messages_of-append payload more ∙ ap (λ (l : List ℕ). messages_of payload ++ messages_of (l ++ more)) whole,
+  rest_of-append payload more ∙ ap (λ (l : List ℕ). rest_of (l ++ more)) whole,
+)
+
+-- whole payloads, and then other bytes
+pub payloads_then : (added : List (List ℕ)) (behind : List ℕ) → AreWhole added → (messages_of (concat added ++ behind) ≡ messages_in added ++ messages_of behind) × (rest_of (concat added ++ behind) ≡ rest_of behind)
+payloads_then [] behind whole = (refl, refl)
+payloads_then (x ∷ added) behind whole =
+    let more = payloads_then added behind whole.1 in
+    let first = whole_then x (concat added ++ behind) whole.0.no_rest in
+    let parts = append_assoc x (concat added) behind in (
+      ap messages_of parts ∙ first.0 ∙ ap (λ (l : List (List ℕ)). messages_of x ++ l) more.0 ∙ sym (append_assoc (messages_of x) (messages_in added) (messages_of behind)),
+      ap rest_of parts ∙ first.1 ∙ more.1,
+    )
+
+-- the messages of whole payloads are all their bytes
+pub payloads_joined : (added : List (List ℕ)) → AreWhole added → concat (messages_in added) ≡ concat added
+payloads_joined [] whole = refl
+payloads_joined (x ∷ added) whole =
+    concat-append (messages_of x) (messages_in added) ∙ ap (λ (l : List ℕ). l ++ concat (messages_in added)) (concat-messages_of-whole x whole.0.no_rest) ∙ ap (λ (l : List ℕ). x ++ l) (payloads_joined added whole.1)
+
+-- the messages in the first of the records added are the first of all messages
+module _ (taken behind : List ℕ) (added served others : List (List ℕ)) (whole : AreWhole added) (are : taken ≡ concat added ++ behind) (parts : added ≡ served ++ others) where
+  -- all messages: those in the first records, and then the others
+  in_parts : messages_of taken ≡ messages_in served ++ (messages_in others ++ messages_of behind)
+  in_parts =
+      ap messages_of are
+      ∙ (payloads_then added behind whole).0
+      ∙ ap (λ (l : List (List ℕ)). messages_in l ++ messages_of behind) parts
+      ∙ ap (λ (l : List (List ℕ)). l ++ messages_of behind) (messages_in-append served others)
+      ∙ append_assoc (messages_in served) (messages_in others) (messages_of behind)
+
+  -- so many messages are those in the first records
+  pub first_served : take (length (messages_in served)) (messages_of taken) ≡ messages_in served
+  first_served =
+      ap (λ (l : List (List ℕ)). take (length (messages_in served)) l) in_parts
+      ∙ take-append_seam (messages_in served) (messages_in others ++ messages_of behind)
+
+  -- they are no more than all messages
+  pub within_served : length (messages_in served) ≤ length (messages_of taken)
+  within_served = omega (arith, ap (λ (l : List (List ℕ)). length l) in_parts, length-append (messages_in served) (messages_in others ++ messages_of behind))
+
+-- ---- how long records are
+
+-- a gate, a kind, four bytes for the length, and the payload
+abbrev record_length : List ℕ → ℕ
+record_length payload = length payload + 6
+
+-- records behind records
+pub records_length-append : (xs ys : List (List ℕ)) → records_length (xs ++ ys) ≡ records_length xs + records_length ys
+records_length-append xs ys = sum_by-append record_length xs ys
+
+-- a record, and then others
+pub records_length-cons : (x : List ℕ) (xs : List (List ℕ)) → records_length (x ∷ xs) ≡ (length x + 6) + records_length xs
+records_length-cons x xs = sum_by-cons record_length x xs
+
+-- one record
+pub one_record : (x : List ℕ) → records_length (x ∷ []) ≡ length x + 6
+one_record x = omega (arith, records_length-cons x [])
+
+-- records are no shorter than their payloads
+concat_below : (frames : List (List ℕ)) → length (concat frames) ≤ records_length frames
+concat_below [] = omega arith
+concat_below (f ∷ frames) = omega (arith, concat_below frames, records_length-cons f frames, length-append f (concat frames))
+
+-- one record is no longer than a record for each of its messages
+one_below : (frames : List (List ℕ)) → 1 ≤ length (concat frames) → length (concat frames) + 6 ≤ records_length frames
+one_below [] some = absurd (omega (arith, some))
+one_below (f ∷ frames) some = omega (arith, concat_below frames, records_length-cons f frames, length-append f (concat frames))
+
+-- nor are any records, as none is empty
+pub each_alone : (added : List (List ℕ)) → AreWhole added → AllByRecursion IsPayload added → records_length added ≤ records_length (messages_in added)
+each_alone [] whole sized = omega arith
+each_alone (x ∷ added) whole sized =
+    let all : concat (messages_of x) ≡ x = concat-messages_of-whole x whole.0.no_rest in
+    let long : length (concat (messages_of x)) ≡ length x = ap (λ (l : List ℕ). length l) all in
+    let some : 1 ≤ length x = sized.0.some in
+    let here : length (concat (messages_of x)) + 6 ≤ records_length (messages_of x) = one_below (messages_of x) (omega (arith, long, some)) in
+    omega (arith, here, long, each_alone added whole.1 sized.1, records_length-cons x added, records_length-append (messages_of x) (messages_in added))

@@ -1,0 +1,194 @@
+-- One frame: its record is added, and then the reports of its message are sent.
+use Rattle.std.proofs.Common.{◌≡◌, ◌⊎◌, inl, inr, ⊎_elim, ℕ, ◌+◌, ◌<◌, ◌≤◌, ◌↔◌, max, true, false, List, [], ◌∷◌, ◌++◌, length, Some, Result, Ok, IsErrOf, refl, sym, ◌∙◌, ap, subst, arith, append-nil}
+use Rattle.std.specs.Result.{is_err}
+use Rattle.std.proofs.lemmas.Bool.{cases_lt}
+use Rattle.gx_base.specs.KnownBytes.{IsKnownPrefix, known_itself, known_then}
+use Rattle.gx_station.specs.Counts.{Rose}
+use Rattle.gx_station.specs.Stations.{StationMeanings, IsBetween, sent_and}
+use Rattle.gx_station.specs.Honest.{IsHonestNow, IsSettled}
+use Rattle.gx_station.specs.Moments.{AddsOnly}
+use Rattle.gx_station.specs.Quiet.{Sends}
+use Rattle.gx_station.specs.SendLaws.{sends_as}
+use Rattle.fix_frame.specs.Grammar.{IsFrame}
+use Rattle.match_journal.specs.Journal.{IsJournal}
+use Rattle.match_journal.specs.Appending.{IsJournalTo, IsBeforeOrAfter, IsAdded}
+use Rattle.match_journal.specs.declared.faults.AppendFault.{AppendFault}
+use Rattle.match_journal.specs.declared.faults.AppendFault.TheVariants.{Full}
+use Rattle.match_journal.specs.Causes.{SendsNothing}
+use Rattle.match_journal.specs.Steps.{Steps, HoldsOne}
+use Rattle.match_journal.specs.StepLaws.{adds_then, adds_weaker, steps_hold}
+use Rattle.fix_request.specs.Requests.{request_of}
+use Rattle.fix_request.specs.declared.request.Request.{Request}
+use Rattle.product_file.specs.Products.{ProductLists}
+use Rattle.order_kinds.specs.State.{State}
+use Rattle.order_kinds.specs.Step.{with_message, request_step, lines_of}
+use Rattle.book_recovery.specs.Kept.{messages_in}
+use Rattle.globex_run.specs.Inner.Recording.{reports_from, IsRecordCrash, RestsAtEnd, AllKept, Serves, Served}
+use Rattle.globex_run.specs.Inner.Serving.{FailsToKeep, FailsToSend}
+use Rattle.globex_run.proofs.FrameRecords.{frame_whole, frame_message, request_state, request_reports}
+use Rattle.globex_run.proofs.SentReports.{on_ok, on_err, known_more, sends_at_most}
+
+-- where an append did not find too little room, there was room
+pub has_room : {T : Type 0} (r : Result T AppendFault) (limit end : ℕ) → (IsErrOf r Full ↔ (limit < end)) → (IsErrOf r Full → ⊥) → end ≤ limit
+has_room r limit end full other = elim (cases_lt limit end) [
+  | inl long ↦ absurd (other (full.1 long))
+  | inr short ↦ short
+]
+
+module _ {S : Type 0} (m : StationMeanings S) (product : ProductLists) (limit : ℕ) (first : S) (gate : ℕ) (state : State) (frame : List ℕ) (is : IsFrame frame) (fits : gate + 7 + length frame ≤ limit) where
+  abbrev next : ℕ
+  next = gate + 6 + length frame
+
+  abbrev its_reports : List ℕ
+  its_reports = reports_from product state (messages_in (frame ∷ []))
+
+  -- what a crash since then leaves
+  abbrev Left : List ℕ → List (List ℕ) → ℕ → List ℕ → List ℕ → Type 0
+  Left text kept most = IsRecordCrash product state text limit kept (frame ∷ []) most (m.sent first)
+
+  -- nothing was sent yet
+  unsent : (out xs : List ℕ) → m.sent first ≡ Some out → IsBetween (m.sent first) out (sent_and (m.sent first) xs)
+  unsent out xs sent = record {
+    low = subst (λ o. IsKnownPrefix (m.sent first) o) sent (known_itself (m.sent first));
+    high = subst (λ o. IsKnownPrefix o (sent_and (m.sent first) xs)) sent (known_more (m.sent first) xs);
+  }
+
+  -- while the record is added
+  appending : (text : List ℕ) (kept : List (List ℕ)) (most : ℕ) (image left out : List ℕ) → length image ≤ most → IsBeforeOrAfter text limit kept frame image next left → m.sent first ≡ Some out → Left text kept most left out
+  appending text kept most image left out short here sent = ⊎_elim
+      (λ before. record {
+        count = 0;
+        within = omega arith;
+        keeps = inl (subst (λ (l : List (List ℕ)). IsJournal text limit l left) (sym (append-nil kept)) before);
+        sent_is = unsent out [] sent;
+        no_longer = omega (arith, here.no_longer, short, fits);
+      })
+      (λ after. record {
+        count = 1;
+        within = omega arith;
+        keeps = inl after;
+        sent_is = unsent out its_reports sent;
+        no_longer = omega (arith, here.no_longer, short, fits);
+      })
+      here.keeps
+
+  -- what appending says
+  abbrev Appends : {T F : Type 0} → S → Result T F → Type 0
+  Appends mid r = (text image : List ℕ) (payloads : List (List ℕ)) → IsJournalTo text limit payloads gate image
+      → Steps m first mid image (IsBeforeOrAfter text limit payloads frame image next) (IsAdded text limit payloads frame image next) r
+
+  -- what is added of pairs on the way
+  adds_appended : {T F : Type 0} (mid : S) (r : Result T F) → Appends mid r → (text : List ℕ) (kept : List (List ℕ)) (most : ℕ) → RestsAtEnd m text limit kept gate most first → AddsOnly m first mid (Left text kept most)
+  adds_appended mid r appends text kept most at =
+      let steps = appends text at.image kept at.journal in
+      adds_weaker m first mid _ _ (λ h left out pair. appending text kept most at.image left out at.short pair.0 pair.1) (steps.moments at.honest at.rests)
+
+  -- the append has failed
+  module _ {T F : Type 0} (mid : S) (r : Result T F) (appends : Appends mid r) (silent : SendsNothing m first mid) (now : (s : S) → m.is_honest s → IsHonestNow m s) where
+    unkept_serves : Serves m product limit first mid gate state (frame ∷ [])
+    unkept_serves = record {
+      whole = frame_whole frame is;
+      part = subst (λ o. IsKnownPrefix o (sent_and (m.sent first) its_reports)) (sym silent.sent) (known_more (m.sent first) its_reports);
+      adds = adds_appended mid r appends;
+    }
+
+    -- the earlier records are kept, or this one too
+    unkept_holds : (text : List ℕ) (kept : List (List ℕ)) (most : ℕ) → RestsAtEnd m text limit kept gate most first → HoldsOne m (λ image. IsJournal text limit kept image ⊎ IsJournal text limit (kept ++ frame ∷ []) image) mid
+    unkept_holds text kept most at =
+        let steps = appends text at.image kept at.journal in
+        let here : IsBeforeOrAfter text limit kept frame at.image next at.image = record { keeps = inl at.journal.journal; no_longer = omega arith } in
+        let held = steps_hold m now first mid at.image (IsBeforeOrAfter text limit kept frame at.image next) here at.honest at.rests (steps.moments at.honest at.rests) in
+        record { image = held.image; read = held.read; has = held.has.keeps }
+
+    pub answers_unkept : Rose (m.store_faults first) (m.store_faults mid) → Serves m product limit first mid gate state (frame ∷ []) × (state ≡ state) × FailsToKeep m product limit first mid gate frame
+    answers_unkept rose = (unkept_serves, refl, record { rose = rose; sent = silent.sent; send_faults = silent.send_faults; keeps = unkept_holds })
+
+  -- the record is kept, and nothing is pending; then the reports are sent, or a part of them
+  module _ {T F T' F' : Type 0} (mid : S) (x : T) (appends : Appends {T = T} {F = F} mid (Ok x)) (settles : m.is_honest first → IsSettled m mid) (silent : SendsNothing m first mid) (store : m.store_faults mid ≡ m.store_faults first) (last : S) (r' : Result T' F') (request : Request) (read : request ≡ request_of product frame) (by_request : Sends m mid last (lines_of product (request_step product request (with_message state)).1) r') where
+    -- what is sent are the reports of the record
+    sends : Sends m mid last its_reports r'
+    sends = sends_as m mid last (lines_of product (request_step product request (with_message state)).1) its_reports r' (request_reports product state frame is request read) by_request
+
+    -- where the append is done
+    at_mid : (text : List ℕ) (kept : List (List ℕ)) (most : ℕ) → RestsAtEnd m text limit kept gate most first → RestsAtEnd m text limit (kept ++ frame ∷ []) next (max most limit) mid
+    at_mid text kept most at =
+        let steps = appends text at.image kept at.journal in
+        let done = steps.ends at.rests.read in
+        record {
+          honest = (steps.moments at.honest at.rests).honest at.honest;
+          image = done.image;
+          rests = record { read = done.read; settled = settles at.honest };
+          journal = done.has.1.journal;
+          short = omega (arith, done.has.0.no_longer, at.short, fits);
+        }
+
+    -- no more than the reports was sent
+    high : IsKnownPrefix (m.sent last) (sent_and (m.sent first) its_reports)
+    high = subst (λ o. IsKnownPrefix (m.sent last) (sent_and o its_reports)) silent.sent (sends_at_most m mid last its_reports r' sends)
+
+    -- while the reports are sent
+    sending : (text : List ℕ) (kept : List (List ℕ)) (most : ℕ) → RestsAtEnd m text limit kept gate most first → (left out : List ℕ) → m.may_leave mid left × IsBetween (m.sent mid) out (m.sent last) → Left text kept most left out
+    sending text kept most at left out pair =
+        let here = at_mid text kept most at in
+        let same : here.image ≡ left = cc (here.rests.settled left pair.0, here.rests.read) in
+        record {
+          count = 1;
+          within = omega arith;
+          keeps = inl (subst (λ (l : List ℕ). IsJournal text limit (kept ++ frame ∷ []) l) same here.journal.journal);
+          sent_is = record {
+            low = subst (λ o. IsKnownPrefix o (Some out)) silent.sent pair.1.low;
+            high = known_then (Some out) (m.sent last) (sent_and (m.sent first) its_reports) pair.1.high high;
+          };
+          no_longer = omega (arith, ap length same, here.short);
+        }
+
+    kept_serves : Serves m product limit first last gate state (frame ∷ [])
+    kept_serves = record {
+      whole = frame_whole frame is;
+      part = high;
+      adds = λ text kept most at. adds_then m first mid last _ _ (λ h. sending text kept most at) (adds_appended {T = T} {F = F} mid (Ok x) appends text kept most at) sends.quiet.moments;
+    }
+
+    -- sends change no image
+    all_kept : AllKept m limit first last gate next (frame ∷ [])
+    all_kept = record {
+      at_end = λ text kept most at.
+          let here = at_mid text kept most at in
+          record {
+            honest = sends.quiet.moments.honest here.honest;
+            image = here.image;
+            rests = record { read = sends.quiet.holds ∙ here.rests.read; settled = λ left may. sends.quiet.holds ∙ here.rests.settled left (sends.quiet.no_image_more here.honest left may) };
+            journal = here.journal;
+            short = here.short;
+          };
+      grown = omega arith;
+    }
+
+    -- the gate and the state after the frame
+    module _ (end : ℕ) (then : State) (end_is : end ≡ next) (count : then.desk.messages ≡ state.desk.messages + 1) where
+      kept_at : AllKept m limit first last gate end (frame ∷ [])
+      kept_at = subst (λ e. AllKept m limit first last gate e (frame ∷ [])) (sym end_is) all_kept
+
+      pub answers_served : is_err r' ≡ false → then ≡ (request_step product request (with_message state)).0 → Serves m product limit first last gate state (frame ∷ []) × Served m product limit first last gate end state then (frame ∷ [])
+      answers_served ok by_step = (
+        kept_serves,
+        record {
+          all_kept = kept_at;
+          sent = on_ok r' ok sends.all ∙ ap (λ o. sent_and o its_reports) silent.sent;
+          store_faults = sends.quiet.store_faults ∙ store;
+          send_faults = on_ok r' ok sends.cause.ok ∙ silent.send_faults;
+          is_state = by_step ∙ request_state product state frame is request read;
+          count = count ∙ ap (λ (frames : List (List ℕ)). state.desk.messages + length frames) (sym (frame_message frame is));
+        },
+      )
+
+      pub answers_unsent : is_err r' ≡ true → Serves m product limit first last gate state (frame ∷ []) × FailsToSend m product limit first last gate end state then frame
+      answers_unsent err = (
+        kept_serves,
+        record {
+          rose = subst (λ faults. Rose faults (m.send_faults last)) silent.send_faults (on_err r' err sends.cause.failed);
+          store_faults = sends.quiet.store_faults ∙ store;
+          all_kept = kept_at;
+          count = count;
+        },
+      )

@@ -1,0 +1,313 @@
+-- A session from the image of entry on: its journal is opened, and the input served.
+use Rattle.std.proofs.Common.{◌≡◌, ◌⊎◌, inl, inr, ⊎_elim, ℕ, ◌+◌, ◌-◌, ◌≤◌, max, List, [], ◌∷◌, ◌++◌, length, take, Option, Some, None, Result, Ok, Err, IfSome, refl, sym, ap, subst, ◌∙◌, arith}
+use Rattle.std.specs.List.{concat}
+use Rattle.std.proofs.lemmas.List.{append-nil}
+use Rattle.gx_base.specs.KnownBytes.{IsKnownPrefix, known_itself}
+use Rattle.gx_station.specs.Counts.{Rose}
+use Rattle.gx_station.specs.Sources.{SourceMeanings}
+use Rattle.gx_station.specs.Stations.{StationMeanings, sent_and}
+use Rattle.gx_station.specs.Moments.{AddsOnly}
+use Rattle.match_journal.specs.Causes.{SendsNothing}
+use Rattle.match_journal.specs.Classes.{Keeps, IsBlank, IsSealed}
+use Rattle.match_journal.specs.Opening.{IsOpening}
+use Rattle.match_journal.specs.Steps.{HoldsOne}
+use Rattle.match_journal.specs.StepLaws.{adds_then, adds_weaker}
+use Rattle.match_journal.specs.declared.standing.Standing.{Standing}
+use Rattle.book_recovery.specs.Kept.{AreWhole, messages_in}
+use Rattle.book_recovery.specs.Recovering.{state_kept}
+use Rattle.match_journal.specs.declared.limits.TheConstants.{MOST_UNFINISHED}
+use Rattle.product_file.specs.declared.limits.TheConstants.{LEAST_JOURNAL}
+use Rattle.product_file.specs.Products.{ProductLists, IsRightProduct}
+use Rattle.order_kinds.specs.State.{State}
+use Rattle.globex_run.specs.Outside.{Streams, streams_at}
+use Rattle.globex_run.specs.Outcomes.{outcome_of}
+use Rattle.globex_run.specs.Journals.{AnswersImage, IsGoodJournal}
+use Rattle.globex_run.specs.RunResult.{EndsAs}
+use Rattle.globex_run.specs.Inner.Recording.{reports_from, IsRecordCrash, Serves, AllKept, Served}
+use Rattle.globex_run.specs.Inner.Serving.{CausedBy, EndsServing, ServesInput}
+use Rattle.globex_run.specs.Inner.Sessions.{ending_without, AnswersOpening, IsRefused, Opens, IsAllServed, EndsSession, SessionFrom, SessionResult}
+use Rattle.globex_run.specs.declared.ending.Ending.{Ending}
+use Rattle.globex_run.specs.declared.ending.Ending.TheVariants.{Done, ReadFault, StoreFault, SendFault, BadFrame, Truncated, NotAJournal, JournalBad, ProductDiffers, Full}
+use Rattle.globex_run.specs.declared.outcome.Outcome.{Outcome}
+use Rattle.globex_run.specs.declared.open.Unopened.{Unopened}
+use Rattle.globex_run.specs.declared.open.Unopened.TheVariants as unopened
+use Rattle.globex_run.proofs.Lists.{and_left-none}
+use Rattle.globex_run.proofs.SentReports.{known_more}
+use Rattle.globex_run.proofs.TakenBytes.{taken_by}
+
+-- one of two holds of the image that a read gives
+holds_either : {S : Type 0} (m : StationMeanings S) (P Q : List ℕ → Type 0) (s : S) → HoldsOne m (λ image. P image ⊎ Q image) s → HoldsOne m P s ⊎ HoldsOne m Q s
+holds_either m P Q s holds = ⊎_elim
+    (λ p. inl record { image = holds.image; read = holds.read; has = p })
+    (λ q. inr record { image = holds.image; read = holds.read; has = q })
+    holds.has
+
+holds_weaker : {S : Type 0} (m : StationMeanings S) (P Q : List ℕ → Type 0) (s : S) → ((image : List ℕ) → P image → Q image) → HoldsOne m P s → HoldsOne m Q s
+holds_weaker m P Q s weaker holds = record { image = holds.image; read = holds.read; has = weaker holds.image holds.has }
+
+module _ {I S : Type 0} (inputs : SourceMeanings I) (m : StationMeanings S) (product : ProductLists) (text image : List ℕ) (payloads kept : List (List ℕ)) (old : S) (large : LEAST_JOURNAL ≤ product.journal_limit) where
+  abbrev Crash : List (List ℕ) → List ℕ → List ℕ → Type 0
+  Crash added = IsRecordCrash product (state_kept product kept) text product.journal_limit payloads added (length image) (m.sent old)
+
+  -- while the journal is opened
+  opening_crash : (added : List (List ℕ)) (left out : List ℕ) → IsOpening text product.journal_limit payloads image left → m.sent old ≡ Some out → Crash added left out
+  opening_crash added left out here sent = record {
+    count = 0;
+    within = omega arith;
+    keeps = subst (λ (ps : List (List ℕ)). Keeps text product.journal_limit ps left) (sym (append-nil payloads)) here.keeps;
+    sent_is = record {
+      low = subst (λ o. IsKnownPrefix (m.sent old) o) sent (known_itself (m.sent old));
+      high = subst (λ o. IsKnownPrefix o (sent_and (m.sent old) [])) sent (known_more (m.sent old) []);
+    };
+    no_longer = omega (arith, here.no_longer, large);
+  }
+
+  opening_adds : (added : List (List ℕ)) (new : S) → AddsOnly m old new (λ left out. IsOpening text product.journal_limit payloads image left × (m.sent old ≡ Some out)) → AddsOnly m old new (Crash added)
+  opening_adds added new adds = adds_weaker m old new _ _ (λ h left out pair. opening_crash added left out pair.0 pair.1) adds
+
+  -- the journal was not opened
+  pub from_unopened : (input : I) (new : S) (state : State) → Opens m product text old new image payloads state (Err unopened.Store) → m.sent new ≡ m.sent old
+      → SessionFrom m product text (streams_at inputs m input old) (streams_at inputs m input new) image payloads kept [] StoreFault 0
+  from_unopened input new state opens silent =
+      let same : payloads ≡ payloads ++ [] = sym (append-nil payloads) in
+      record {
+        added = [];
+        behind = [];
+        are = refl;
+        whole = tt;
+        part = subst (λ o. IsKnownPrefix o (sent_and (m.sent old) [])) (sym silent) (known_more (m.sent old) []);
+        adds = opening_adds [] new opens.moments;
+        ends = record {
+          served = [];
+          others = [];
+          are = refl;
+          sent = silent ∙ sent_and_itself (m.sent old);
+          keeps = inl (holds_weaker m _ _ new (λ left here. subst (λ (ps : List (List ℕ)). Keeps text product.journal_limit ps left) same here.keeps) opens.keeps);
+          messages = refl;
+        };
+      }
+    where
+      sent_and_itself : (sent : Option (List ℕ)) → sent ≡ sent_and sent []
+      sent_and_itself None = refl
+      sent_and_itself (Some out) = ap Some (sym (append-nil out))
+
+  -- the journal was opened, and the input served
+  module _ (mid : S) (state : State) (journal : Standing) (opens : Opens m product text old mid image payloads state (Ok journal)) (silent : m.sent mid ≡ m.sent old) (state_is : state ≡ state_kept product kept)
+      (input input' : I) (new : S) (end : ℕ) (then : State) (added : List (List ℕ)) (behind : List ℕ) (serves : Serves m product product.journal_limit mid new journal.gate state added) (count : ℕ) (counted : then.desk.messages ≡ state.desk.messages + count) where
+    abbrev most : ℕ
+    most = max (length image) MOST_UNFINISHED
+
+    sent_as : (messages : List (List ℕ)) → sent_and (m.sent mid) (reports_from product state messages) ≡ sent_and (m.sent old) (reports_from product (state_kept product kept) messages)
+    sent_as messages = ap (λ o. sent_and o (reports_from product state messages)) silent ∙ ap (λ (s : State). sent_and (m.sent old) (reports_from product s messages)) state_is
+
+    part : IsKnownPrefix (m.sent new) (sent_and (m.sent old) (reports_from product (state_kept product kept) (messages_in added)))
+    part = subst (λ o. IsKnownPrefix (m.sent new) o) (sent_as (messages_in added)) serves.part
+
+    crash : (left out : List ℕ) → IsRecordCrash product state text product.journal_limit payloads added most (m.sent mid) left out → Crash added left out
+    crash left out here = record {
+      count = here.count;
+      within = here.within;
+      keeps = here.keeps;
+      sent_is = record {
+        low = subst (λ o. IsKnownPrefix o (Some out)) silent here.sent_is.low;
+        high = subst (λ o. IsKnownPrefix (Some out) o) (sent_as (messages_in (take here.count added))) here.sent_is.high;
+      };
+      no_longer = omega (arith, here.no_longer, large);
+    }
+
+    adds : AddsOnly m old new (Crash added)
+    adds = adds_then m old mid new _ _ (λ h left out here. crash left out here) (opening_adds added mid opens.moments) (serves.adds text payloads most opens.at_end)
+
+    all_kept : AllKept m product.journal_limit mid new journal.gate end added → HoldsOne m (Keeps text product.journal_limit (payloads ++ added)) new
+    all_kept kept_all =
+        let rests = kept_all.at_end text payloads most opens.at_end in
+        record { image = rests.image; read = rests.rests.read; has = inl rests.journal.journal }
+
+    abbrev at_entry : Streams I S
+    at_entry = streams_at inputs m input old
+
+    abbrev at_exit : Streams I S
+    at_exit = streams_at inputs m input' new
+
+    all_served : Served m product product.journal_limit mid new journal.gate end state then added → IsAllServed m product text at_entry at_exit payloads kept added count
+    all_served served = record { sent = served.sent ∙ sent_as (messages_in added); keeps = all_kept served.all_kept; messages = omega (arith, served.count, counted) }
+
+    ends_session : (ending : Ending) → EndsServing m product product.journal_limit (streams_at inputs m input mid) at_exit journal.gate end state then ending added behind → EndsSession m product text at_entry at_exit ending count payloads kept added behind
+    ends_session Done ends = all_served ends.0
+    ends_session (ReadFault place) ends = all_served ends.0
+    ends_session StoreFault ends = record {
+      served = ends.served;
+      others = ends.last ∷ [];
+      are = ends.are;
+      sent = ends.sent ∙ sent_as (messages_in ends.served);
+      keeps = holds_either m _ _ new (holds_weaker m _ _ new (λ left. ⊎_elim (λ journal. inl (inl journal)) (λ journal. inr (inl journal))) (ends.keeps text payloads most opens.at_end));
+      messages = omega (arith, ends.count, counted);
+    }
+    ends_session SendFault ends = record { keeps = all_kept ends.all_kept; messages = omega (arith, ends.count, counted) }
+    ends_session (BadFrame place) ends = all_served ends.0
+    ends_session (Truncated place) ends = all_served ends.0
+    ends_session (NotAJournal place) ends = ends
+    ends_session (JournalBad place) ends = ends
+    ends_session (ProductDiffers place) ends = ends
+    ends_session (Full place) ends =
+        let rests = ends.0.all_kept.at_end text payloads most opens.at_end in (
+          all_served ends.0,
+          record {
+            end = end;
+            end_is = omega (arith, ends.0.all_kept.grown, opens.at_end.journal.gate_is);
+            journal = record { image = rests.image; read = rests.rests.read; has = rests.journal };
+            no_room = ends.2;
+          },
+        )
+
+    pub from_opened : (ending : Ending) → EndsServing m product product.journal_limit (streams_at inputs m input mid) at_exit journal.gate end state then ending added behind
+        → SessionFrom m product text at_entry at_exit image payloads kept (concat added ++ behind) ending count
+    from_opened ending ends = record { added = added; behind = behind; are = refl; whole = serves.whole; part = part; adds = adds; ends = ends_session ending ends }
+
+-- ---- what else a session tells
+
+module _ {I S : Type 0} (inputs : SourceMeanings I) (m : StationMeanings S) (product : ProductLists) (text : List ℕ) (old : S) where
+  -- what holds of the image, where that is told
+  pub where_told : (told : Option (List ℕ)) (P : List ℕ → Type 0) → ((image : List ℕ) → told ≡ Some image → P image) → IfSome told P
+  where_told None P says = tt
+  where_told (Some image) P says = says image refl
+
+  -- opening raised no count of faults
+  pub caused_by : (ending : Ending) (mid : S) (input : I) (after : Streams I S) → m.store_faults mid ≡ m.store_faults old → m.send_faults mid ≡ m.send_faults old → CausedBy ending (streams_at inputs m input mid) after → CausedBy ending (streams_at inputs m input old) after
+  caused_by Done mid input after store send cause = (cause.0, cause.1 ∙ store, cause.2 ∙ send)
+  caused_by (ReadFault place) mid input after store send cause = (cause.0, cause.1 ∙ store, cause.2 ∙ send)
+  caused_by StoreFault mid input after store send cause = (cause.0, subst (λ k. Rose k after.station.store_faults) store cause.1, cause.2 ∙ send)
+  caused_by SendFault mid input after store send cause = (cause.0, cause.1 ∙ store, subst (λ k. Rose k after.station.send_faults) send cause.2)
+  caused_by (BadFrame place) mid input after store send cause = (cause.0, cause.1 ∙ store, cause.2 ∙ send)
+  caused_by (Truncated place) mid input after store send cause = (cause.0, cause.1 ∙ store, cause.2 ∙ send)
+  caused_by (NotAJournal place) mid input after store send cause = (cause.0, cause.1 ∙ store, cause.2 ∙ send)
+  caused_by (JournalBad place) mid input after store send cause = (cause.0, cause.1 ∙ store, cause.2 ∙ send)
+  caused_by (ProductDiffers place) mid input after store send cause = (cause.0, cause.1 ∙ store, cause.2 ∙ send)
+  caused_by (Full place) mid input after store send cause = (cause.0, cause.1 ∙ store, cause.2 ∙ send)
+
+  -- what was opened stays what it was, however serving ends
+  pub answers_by : (limit : ℕ) (mid : Streams I S) (after : Streams I S) (gate end : ℕ) (state then : State) (added : List (List ℕ)) (behind image : List ℕ) (ending : Ending) → EndsServing m product limit mid after gate end state then ending added behind
+      → (IsBlank image ⊎ IsSealed text image) ⊎ IsGoodJournal text product.journal_limit image → AnswersImage text product.journal_limit image ending
+  answers_by limit mid after gate end state then added behind image Done ends was = was
+  answers_by limit mid after gate end state then added behind image (ReadFault place) ends was = was
+  answers_by limit mid after gate end state then added behind image StoreFault ends was = tt
+  answers_by limit mid after gate end state then added behind image SendFault ends was = was
+  answers_by limit mid after gate end state then added behind image (BadFrame place) ends was = was
+  answers_by limit mid after gate end state then added behind image (Truncated place) ends was = was
+  answers_by limit mid after gate end state then added behind image (NotAJournal place) ends was = absurd ends
+  answers_by limit mid after gate end state then added behind image (JournalBad place) ends was = absurd ends
+  answers_by limit mid after gate end state then added behind image (ProductDiffers place) ends was = absurd ends
+  answers_by limit mid after gate end state then added behind image (Full place) ends was = was
+
+  -- the journal was not opened, and the store has failed or the image was refused
+  module _ (input : I) (new : S) (send : m.send_faults new ≡ m.send_faults old) where
+    pub caused_unopened : (reason : Unopened) → (reason ≡ unopened.Store → Rose (m.store_faults old) (m.store_faults new)) → ((reason ≡ unopened.Store → ⊥) → m.store_faults new ≡ m.store_faults old)
+        → CausedBy (ending_without reason) (streams_at inputs m input old) (streams_at inputs m input new)
+    caused_unopened unopened.Store store none = (refl, store refl, send)
+    caused_unopened (unopened.NotAJournal at) store none = (refl, none (λ e. cc e), send)
+    caused_unopened (unopened.Bad at) store none = (refl, none (λ e. cc e), send)
+    caused_unopened (unopened.ProductDiffers at) store none = (refl, none (λ e. cc e), send)
+
+    pub ends_unopened : (reason : Unopened) → EndsAs (streams_at inputs m input old) (streams_at inputs m input new) (ending_without reason) 0 []
+    ends_unopened unopened.Store = tt
+    ends_unopened (unopened.NotAJournal at) = record { none = refl; nothing = refl; input = refl }
+    ends_unopened (unopened.Bad at) = record { none = refl; nothing = refl; input = refl }
+    ends_unopened (unopened.ProductDiffers at) = record { none = refl; nothing = refl; input = refl }
+
+    pub from_unopened_by : (image : List ℕ) (payloads kept : List (List ℕ)) (state : State) (reason : Unopened) → LEAST_JOURNAL ≤ product.journal_limit → m.sent new ≡ m.sent old → Opens m product text old new image payloads state (Err reason)
+        → SessionFrom m product text (streams_at inputs m input old) (streams_at inputs m input new) image payloads kept [] (ending_without reason) 0
+    from_unopened_by image payloads kept state unopened.Store large silent opens = from_unopened inputs m product text image payloads kept old large input new state opens silent
+    from_unopened_by image payloads kept state (unopened.NotAJournal at) large silent opens = absurd (opens.accepted tt)
+    from_unopened_by image payloads kept state (unopened.Bad at) large silent opens = absurd (opens.accepted tt)
+    from_unopened_by image payloads kept state (unopened.ProductDiffers at) large silent opens = absurd (opens.accepted tt)
+
+-- ---- the outcome
+
+-- an outcome tells its count, whatever the ending
+count_told : (ending : Ending) (count : ℕ) → (outcome_of ending count).messages ≡ count
+count_told Done count = refl
+count_told (ReadFault place) count = refl
+count_told StoreFault count = refl
+count_told SendFault count = refl
+count_told (BadFrame place) count = refl
+count_told (Truncated place) count = refl
+count_told (NotAJournal place) count = refl
+count_told (JournalBad place) count = refl
+count_told (ProductDiffers place) count = refl
+count_told (Full place) count = refl
+
+count_is : (outcome : Outcome) (ending : Ending) (count : ℕ) → outcome ≡ outcome_of ending count → outcome.messages ≡ count
+count_is outcome ending count is = ap (λ (o : Outcome). o.messages) is ∙ count_told ending count
+
+-- a status that refuses the image comes only where it was refused
+pub refused_by : (reason : Unopened) (outcome : Outcome) → outcome ≡ outcome_of (ending_without reason) 0 → (outcome.status ≡ 9) ⊎ ((outcome.status ≡ 10) ⊎ (outcome.status ≡ 11)) → IsRefused {J = Standing} (Err reason)
+refused_by unopened.Store outcome is refused =
+    let status : outcome.status ≡ 5 = ap (λ (o : Outcome). o.status) is in
+    ⊎_elim (λ e. omega (arith, e, status)) (λ other. ⊎_elim (λ e. omega (arith, e, status)) (λ e. omega (arith, e, status)) other) refused
+refused_by (unopened.NotAJournal at) outcome is refused = tt
+refused_by (unopened.Bad at) outcome is refused = tt
+refused_by (unopened.ProductDiffers at) outcome is refused = tt
+
+-- serving counts no fewer messages than before
+pub no_fewer : {I S : Type 0} (m : StationMeanings S) (product : ProductLists) (limit : ℕ) (mid after : Streams I S) (gate end : ℕ) (state then : State) (added : List (List ℕ)) (behind : List ℕ) (ending : Ending) → EndsServing m product limit mid after gate end state then ending added behind
+    → state.desk.messages ≤ then.desk.messages
+no_fewer m product limit mid after gate end state then added behind Done ends = omega (arith, ends.0.count)
+no_fewer m product limit mid after gate end state then added behind (ReadFault place) ends = omega (arith, ends.0.count)
+no_fewer m product limit mid after gate end state then added behind StoreFault ends = omega (arith, ends.count)
+no_fewer m product limit mid after gate end state then added behind SendFault ends = omega (arith, ends.count)
+no_fewer m product limit mid after gate end state then added behind (BadFrame place) ends = omega (arith, ends.0.count)
+no_fewer m product limit mid after gate end state then added behind (Truncated place) ends = omega (arith, ends.0.count)
+no_fewer m product limit mid after gate end state then added behind (NotAJournal place) ends = absurd ends
+no_fewer m product limit mid after gate end state then added behind (JournalBad place) ends = absurd ends
+no_fewer m product limit mid after gate end state then added behind (ProductDiffers place) ends = absurd ends
+no_fewer m product limit mid after gate end state then added behind (Full place) ends = omega (arith, ends.0.count)
+
+module _ {I S : Type 0} (inputs : SourceMeanings I) (m : StationMeanings S) (product : ProductLists) (text : List ℕ) (old mid : S) (input : I) (state : State) (right : IsRightProduct product) (silent : SendsNothing m old mid) where
+  -- what opening ensures of an image that keeps whole payloads
+  abbrev pub OpensAs : Result Standing Unopened → Type 0
+  OpensAs result = (image : List ℕ) (payloads : List (List ℕ)) → m.is_honest old → m.holds old ≡ Some image → Keeps text product.journal_limit payloads image → AreWhole payloads → Opens m product text old mid image payloads state result
+
+  pub unopened_session : (reason : Unopened) (outcome : Outcome) → outcome ≡ outcome_of (ending_without reason) 0 → (reason ≡ unopened.Store → Rose (m.store_faults old) (m.store_faults mid)) → ((reason ≡ unopened.Store → ⊥) → m.store_faults mid ≡ m.store_faults old)
+      → ((image : List ℕ) → m.holds old ≡ Some image → AnswersImage text product.journal_limit image (ending_without reason)) → OpensAs (Err reason) → SessionResult m product text (streams_at inputs m input old) (streams_at inputs m input mid) outcome
+  unopened_session reason outcome is store none answers opens =
+      let count = count_is outcome (ending_without reason) 0 is in
+      record {
+        right = right;
+        ending = ending_without reason;
+        is = is ∙ ap (outcome_of (ending_without reason)) (sym count);
+        cause = caused_unopened inputs m product text old input mid silent.send_faults reason store none;
+        image = where_told inputs m product text old (m.holds old) _ answers;
+        serving = record {
+          taken = [];
+          took = and_left-none (inputs.left input);
+          some = omega (arith, count);
+          ends = subst (λ n. EndsAs (streams_at inputs m input old) (streams_at inputs m input mid) (ending_without reason) n []) (sym count) (ends_unopened inputs m product text old input mid silent.send_faults reason);
+        };
+        from = λ image kept honest read startable.
+            subst (λ n. SessionFrom m product text (streams_at inputs m input old) (streams_at inputs m input mid) image startable.payloads kept [] (ending_without reason) n) (sym count)
+            (from_unopened_by inputs m product text old input mid silent.send_faults image startable.payloads kept state reason right.least_limit silent.sent (opens image startable.payloads honest read startable.keeps startable.whole));
+      }
+
+  pub opened_session : (journal : Standing) (limit_is : journal.limit ≡ product.journal_limit) (store : m.store_faults mid ≡ m.store_faults old) (answers : (image : List ℕ) → m.holds old ≡ Some image → AnswersOpening text product.journal_limit image (Ok journal)) (opens : OpensAs (Ok journal)) (input' : I) (new : S) (end : ℕ)
+      (then : State) (ending : Ending) → ServesInput m product journal.limit (streams_at inputs m input mid) (streams_at inputs m input' new) journal.gate end state then ending → CausedBy ending (streams_at inputs m input mid) (streams_at inputs m input' new)
+      → (outcome : Outcome) (counts : ℕ) → counts ≡ then.desk.messages - state.desk.messages → outcome ≡ outcome_of ending counts → SessionResult m product text (streams_at inputs m input old) (streams_at inputs m input' new) outcome
+  opened_session journal limit_is store answers opens input' new end then ending serves cause outcome counts more is =
+      let before = streams_at inputs m input mid in
+      let after = streams_at inputs m input' new in
+      let served = subst (λ k. ServesInput m product k before after journal.gate end state then ending) limit_is serves in
+      let count = count_is outcome ending counts is in
+      let counted : then.desk.messages ≡ state.desk.messages + outcome.messages =
+      omega (arith, count, more, no_fewer m product product.journal_limit before after journal.gate end state then served.added served.behind ending served.ends) in
+      let taken = taken_by m product product.journal_limit (streams_at inputs m input old) before after journal.gate end state then served.added served.behind served.serves.whole outcome.messages counted ending served.ends in
+      record {
+        right = right;
+        ending = ending;
+        is = is ∙ ap (outcome_of ending) (sym count);
+        cause = caused_by inputs m product text old ending mid input after store silent.send_faults cause;
+        image = where_told inputs m product text old (m.holds old) _ (λ image read. answers_by inputs m product text old product.journal_limit before after journal.gate end state then served.added served.behind image ending served.ends (answers image read));
+        serving = record { taken = concat served.added ++ served.behind; took = served.took; some = taken.0; ends = taken.1 };
+        from = λ image kept honest read startable.
+            let from_image = opens image startable.payloads honest read startable.keeps startable.whole in
+            from_opened inputs m product text image startable.payloads kept old right.least_limit mid state journal from_image silent.sent (from_image.is_state ∙ ap (state_kept product) (sym startable.are)) input input' new end then served.added served.behind served.serves outcome.messages counted ending
+            served.ends;
+      }

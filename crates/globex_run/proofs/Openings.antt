@@ -1,0 +1,143 @@
+-- A journal is opened, and then recovered.
+use Rattle.std.proofs.Common.{◌≡◌, ◌⊎◌, inl, inr, ⊎_elim, ℕ, ◌+◌, ◌≤◌, List, [], length, Some, Result, Ok, Err, sym, ap, subst, ◌∙◌, arith}
+use Rattle.gx_station.specs.Stations.{StationMeanings}
+use Rattle.gx_station.specs.Moments.{AddsOnly}
+use Rattle.gx_station.specs.Honest.{KeepsImage, IsSettled}
+use Rattle.match_journal.specs.Journal.{IsJournal}
+use Rattle.match_journal.specs.Classes.{HasOpenGate, HasBadHeader, IsBlank, IsSealed, Keeps}
+use Rattle.match_journal.specs.Opening.{IsOpened, IsOpening}
+use Rattle.match_journal.specs.Appending.{IsJournalTo}
+use Rattle.match_journal.specs.Standing.{at_first}
+use Rattle.match_journal.specs.Steps.{StepsFrom, HoldsOne}
+use Rattle.match_journal.specs.StepLaws.{adds_then, rests_kept}
+use Rattle.match_journal.specs.LookLaws.{keeps_then}
+use Rattle.match_journal.specs.declared.limits.TheConstants.{MOST_TEXT, LEAST_LIMIT}
+use Rattle.match_journal.specs.declared.standing.Standing.{Standing}
+use Rattle.match_journal.specs.declared.faults.StartFault.{StartFault}
+use Rattle.product_file.specs.Products.{ProductLists}
+use Rattle.order_kinds.specs.State.{State}
+use Rattle.book_recovery.specs.Kept.{AreWhole, messages_in}
+use Rattle.book_recovery.specs.BadPlaces.{IsBadPlace}
+use Rattle.book_recovery.specs.Recovering.{state_kept, Recovers}
+use Rattle.book_recovery.specs.declared.recovery.Recovered.{Recovered}
+use Rattle.book_recovery.specs.declared.recovery.RecoverFault.{RecoverFault}
+use Rattle.book_recovery.specs.declared.recovery.RecoverFault.TheVariants as fault
+use Rattle.globex_run.specs.Journals.{IsGoodJournal}
+use Rattle.globex_run.specs.Inner.Sessions.{Opens}
+use Rattle.globex_run.specs.declared.open.Unopened.TheVariants as unopened
+use Rattle.match_journal.proofs.Unique.{journal_opened, one_keeping}
+use Rattle.book_recovery.proofs.OneWay.{no_bad_place}
+
+-- a look behind other calls adds no image and no output
+pub adds_looked : {S : Type 0} (m : StationMeanings S) (a b c : S) (P : List ℕ → List ℕ → Type 0) → AddsOnly m a b P → KeepsImage m b c → AddsOnly m a c P
+adds_looked m a b c P adds keeps = adds_then m a b c P _ (λ h left out none. absurd none) adds keeps.moments
+
+pub holds_looked : {S : Type 0} (m : StationMeanings S) (b c : S) (Has : List ℕ → Type 0) → HoldsOne m Has b → KeepsImage m b c → HoldsOne m Has c
+holds_looked m b c Has holds keeps = record { image = holds.image; read = keeps.holds ∙ holds.read; has = holds.has }
+
+module _ {S : Type 0} (m : StationMeanings S) (text : List ℕ) (old mid : S) where
+  -- what an opening within a limit ensures of the images that keep some payloads
+  abbrev pub StartsWithin : Result Standing StartFault → ℕ → Type 0
+  StartsWithin result limit = (image : List ℕ) (payloads : List (List ℕ)) → Keeps text limit payloads image → StepsFrom m old mid image (IsOpening text limit payloads image) (IsJournal text limit payloads) result
+
+  abbrev pub KeepsWithin : ℕ → Type 0
+  KeepsWithin limit = (image : List ℕ) (payloads : List (List ℕ)) → m.is_honest old → m.holds old ≡ Some image → Keeps text limit payloads image → HoldsOne m (IsOpening text limit payloads image) mid
+
+  -- an opening makes a journal of a creation that a crash has cut, or that was not begun
+  abbrev pub MakesWithin : ℕ → Type 0
+  MakesWithin limit = (image : List ℕ) → m.holds old ≡ Some image → IsBlank image ⊎ IsSealed text image → HoldsOne m (IsJournal text limit []) mid
+
+module _ {S : Type 0} (m : StationMeanings S) (product : ProductLists) (text : List ℕ) (old mid : S) (limit : ℕ) (same : limit ≡ product.journal_limit) (image : List ℕ) (read : m.holds old ≡ Some image) where
+  -- the store failed before a journal was opened
+  pub opens_stopped : (result : Result Standing StartFault) → StartsWithin m text old mid result limit → KeepsWithin m text old mid limit → (payloads : List (List ℕ)) (state : State) → m.is_honest old → Keeps text product.journal_limit payloads image
+      → Opens m product text old mid image payloads state (Err unopened.Store)
+  opens_stopped result starts holds payloads state honest keeps = record {
+    accepted = λ no. no;
+    moments = (subst (StartsWithin m text old mid result) same starts image payloads keeps).moments honest read;
+    keeps = subst (KeepsWithin m text old mid) same holds image payloads honest read keeps;
+    at_end = tt;
+    is_state = tt;
+  }
+
+  module _ (journal : Standing) (starts : StartsWithin m text old mid (Ok journal) limit) where
+    steps : (payloads : List (List ℕ)) → Keeps text product.journal_limit payloads image → StepsFrom m {F = StartFault} old mid image (IsOpening text product.journal_limit payloads image) (IsJournal text product.journal_limit payloads) (Ok journal)
+    steps payloads keeps = subst (StartsWithin m text old mid (Ok journal)) same starts image payloads keeps
+
+    -- the store failed while the journal was recovered
+    pub opens_unread : (new : S) (looks : KeepsImage m mid new) → KeepsWithin m text old mid limit → (payloads : List (List ℕ)) (state : State) → m.is_honest old → Keeps text product.journal_limit payloads image
+        → Opens m product text old new image payloads state (Err unopened.Store)
+    opens_unread new looks holds payloads state honest keeps = record {
+      accepted = λ no. no;
+      moments = adds_looked m old mid new _ ((steps payloads keeps).moments honest read) looks;
+      keeps = holds_looked m mid new _ (subst (KeepsWithin m text old mid) same holds image payloads honest read keeps) looks;
+      at_end = tt;
+      is_state = tt;
+    }
+
+    -- what a recovery answers over the image of the opened journal
+    module _ (short : length text ≤ MOST_TEXT) (least : LEAST_LIMIT ≤ limit) (place : journal ≡ at_first (13 + length text) journal.known limit) (long : (before after : List ℕ) → m.holds old ≡ Some before → m.holds mid ≡ Some after → length after ≡ journal.known) (gate : ℕ) (state : State) (result : Result Recovered RecoverFault)
+        (recovers : (text' image' : List ℕ) → m.holds mid ≡ Some image' → length image' ≡ journal.known → LEAST_LIMIT ≤ journal.limit → IsOpened text' image' → journal.first ≡ 13 + length text' → Recovers product text' journal.limit image' gate state result) where
+      limit_is : journal.limit ≡ product.journal_limit
+      limit_is = ap (λ (s : Standing). s.limit) place ∙ same
+
+      answered : (last : List ℕ) → m.holds mid ≡ Some last → IsOpened text last → Recovers product text product.journal_limit last gate state result
+      answered last held opened =
+          subst (λ k. Recovers product text k last gate state result) limit_is
+          (recovers text last held (long image last read held) (omega (arith, least, ap (λ (s : Standing). s.limit) place)) opened (ap (λ (s : Standing). s.first) place))
+
+      -- a journal of whole payloads is not bad
+      not_bad : (payloads : List (List ℕ)) (at : ℕ) → result ≡ Err (fault.Bad at) → HoldsOne m (IsJournal text product.journal_limit payloads) mid → AreWhole payloads → ⊥
+      not_bad payloads at is last whole =
+          no_bad_place text product.journal_limit payloads last.image at last.has whole
+          (subst (Recovers product text product.journal_limit last.image gate state) is (answered last.image last.read (journal_opened text product.journal_limit last.image payloads short last.has)))
+
+      pub kept_not_bad : (payloads : List (List ℕ)) (at : ℕ) → result ≡ Err (fault.Bad at) → Keeps text product.journal_limit payloads image → AreWhole payloads → ⊥
+      kept_not_bad payloads at is keeps whole =
+          let last = (steps payloads keeps).ends read in
+          not_bad payloads at is (record { image = last.image; read = last.read; has = last.has.1 }) whole
+
+      -- a journal that is bad was one before
+      module _ (at : ℕ) (is : result ≡ Err (fault.Bad at)) (was : (IsBlank image ⊎ IsSealed text image) ⊎ IsOpened text image) (makes : MakesWithin m text old mid limit) where
+        was_opened : IsOpened text image
+        was_opened = ⊎_elim (λ unfinished. absurd (not_bad [] at is (subst (MakesWithin m text old mid) same makes image read unfinished) tt)) (λ opened. opened) was
+
+        module _ (stayed : (before : List ℕ) → m.holds old ≡ Some before → HasOpenGate before → KeepsImage m old mid) where
+          pub bad_stays : (new : S) → KeepsImage m mid new → KeepsImage m old new
+          bad_stays new looks = keeps_then m old mid new (stayed image read was_opened.0) looks
+
+          pub bad_answers : (told : ℕ) → at ≡ told → HasBadHeader image told ⊎ (IsOpened text image × IsBadPlace text product.journal_limit image told)
+          bad_answers told told_is =
+              let found = subst (Recovers product text product.journal_limit image gate state) is (answered image ((stayed image read was_opened.0).holds ∙ read) was_opened) in
+              inr (was_opened, subst (IsBadPlace text product.journal_limit image) told_is found)
+
+      -- a journal whose records were all replayed is a good one
+      pub good_answers : (recovered : Recovered) → result ≡ Ok recovered → (IsBlank image ⊎ IsSealed text image) ⊎ IsOpened text image → ((before : List ℕ) → m.holds old ≡ Some before → HasOpenGate before → KeepsImage m old mid)
+          → (IsBlank image ⊎ IsSealed text image) ⊎ IsGoodJournal text product.journal_limit image
+      good_answers recovered is was stayed = ⊎_elim
+          (λ unfinished. inl unfinished)
+          (λ opened.
+          let found = subst (Recovers product text product.journal_limit image gate state) is (answered image ((stayed image read opened.0).holds ∙ read) opened) in
+          inr record { payloads = found.payloads; journal = found.journal.journal; whole = found.whole })
+          was
+
+      -- every record was replayed
+      pub opens_recovered : (new : S) (looks : KeepsImage m mid new) → KeepsWithin m text old mid limit → (then : Standing) (recovered : Recovered) → then.gate ≡ gate → result ≡ Ok recovered → (m.is_honest old → IsSettled m mid) → (payloads : List (List ℕ)) → m.is_honest old
+          → Keeps text product.journal_limit payloads image → Opens m product text old new image payloads state (Ok then)
+      opens_recovered new looks holds then recovered stands is settled payloads honest keeps =
+          let last = (steps payloads keeps).ends read in
+          let adds = (steps payloads keeps).moments honest read in
+          let found = subst (Recovers product text product.journal_limit last.image gate state) is (answered last.image last.read (journal_opened text product.journal_limit last.image payloads short last.has.1)) in
+          let one = one_keeping text product.journal_limit last.image found.payloads payloads (inl found.journal.journal) (inl last.has.1) in
+          record {
+            accepted = λ no. no;
+            moments = adds_looked m old mid new _ adds looks;
+            keeps = holds_looked m mid new _ (subst (KeepsWithin m text old mid) same holds image payloads honest read keeps) looks;
+            at_end = record {
+              honest = looks.moments.honest (adds.honest honest);
+              image = last.image;
+              rests = rests_kept m mid new last.image looks (adds.honest honest) record { read = last.read; settled = settled honest };
+              journal = subst (λ k. IsJournalTo text product.journal_limit payloads k last.image) (sym stands) (subst (λ (ps : List (List ℕ)). IsJournalTo text product.journal_limit ps gate last.image) one found.journal);
+              short = last.has.0.no_longer;
+            };
+            is_state = subst (λ (ps : List (List ℕ)). state ≡ state_kept product (messages_in ps)) one found.is_state;
+          }

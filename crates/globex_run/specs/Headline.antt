@@ -1,0 +1,163 @@
+-- The headline: what a run sends and keeps, and what a crash leaves at every moment of it.
+use Rattle.std.specs.Prelude.{◌≡◌, ◌≢◌, ◌⊎◌, ℕ, ◌+◌, ◌<◌, ◌≤◌, max, List, [], ◌∷◌, ◌++◌, length, drop, Option, Some, Ok}
+use Rattle.gx_base.specs.KnownBytes.{IsPrefix, IsKnownPrefix}
+use Rattle.gx_station.specs.Stations.{StationMeanings, sent_and}
+use Rattle.gx_station.specs.Moments.{AddsOnly}
+use Rattle.gx_station.specs.Honest.{IsSettled}
+use Rattle.fix_frame.specs.Grammar.{IsFrame}
+use Rattle.fix_frame.specs.Stream.{messages_of, rest_of, IsBroken, IsCut}
+use Rattle.product_file.specs.Products.{ProductLists}
+use Rattle.product_file.specs.ProductTexts.{product_of}
+use Rattle.match_journal.specs.Journal.{IsJournal}
+use Rattle.book_recovery.specs.Kept.{KeepsMessages}
+use Rattle.order_kinds.specs.Step.{reports_of}
+use Rattle.globex_run.specs.Outside.{Outside, NoFault}
+use Rattle.globex_run.specs.Journals.{records_length, end_of_journal}
+use Rattle.globex_run.specs.RunResult.{first_messages, AreAll, end_of_messages, bytes_at}
+use Rattle.globex_run.specs.declared.outcome.Outcome.{Outcome}
+
+-- the reports of these messages, where those were kept before: the reports of all of them, without those of the earlier ones
+abbrev pub new_reports : ProductLists → List (List ℕ) → List (List ℕ) → List ℕ
+new_reports product kept messages = drop (length (reports_of product kept)) (reports_of product (kept ++ messages))
+
+-- The premises, with what the headline speaks of: the product and its text, the image of entry and the messages that it keeps,
+-- and the bytes taken of the input.
+pub record Premises {P I S : Type 0} (m : StationMeanings S) (before after : Outside P I S) (status : ℕ) : Type 0 where
+  -- the product's bytes give a product
+  pub text : List ℕ
+  pub product : ProductLists
+  pub text_known : before.product.left ≡ Some text
+  pub gives : product_of text ≡ Ok product
+  -- the station tells its meanings and is honest, and the input tells its bytes
+  pub honest : m.is_honest before.streams.station.object
+  pub taken : List ℕ
+  pub rest : List ℕ
+  pub input_known : before.streams.input.left ≡ Some (taken ++ rest)
+  pub input_left : after.streams.input.left ≡ Some rest
+  -- a run can start from the image of entry
+  pub image : List ℕ
+  pub image_known : before.streams.station.image ≡ Some image
+  pub kept : List (List ℕ)
+  pub startable : KeepsMessages text product.journal_limit kept image
+  -- the status is not 1, 2 or 3, and not 4 by the product's read
+  pub memory : status ≢ 1
+  pub words : status ≢ 2
+  pub product_right : status ≢ 3
+  pub product_read : status ≡ 4 → NoFault before.product.faults after.product.faults
+
+module _ {P I S : Type 0} (m : StationMeanings S) (before after : Outside P I S) (outcome : Outcome) (given : Premises m before after outcome.status) where
+  -- the messages read
+  abbrev pub messages_read : List (List ℕ)
+  messages_read = messages_of given.taken
+
+  -- those of them that `messages` counts
+  abbrev pub messages_counted : List (List ℕ)
+  messages_counted = first_messages outcome.messages given.taken
+
+  -- what had been sent at entry, and then the reports of these messages
+  abbrev pub with_reports : List (List ℕ) → Option (List ℕ)
+  with_reports messages = sent_and before.streams.station.sent (new_reports given.product given.kept messages)
+
+  -- a read gives an image that keeps the earlier messages and then these
+  pub record KeepsNow (messages : List (List ℕ)) : Type 0 where
+    pub image : List ℕ
+    pub image_known : after.streams.station.image ≡ Some image
+    pub keeps : KeepsMessages given.text given.product.journal_limit (given.kept ++ messages) image
+
+  -- Status 0: all of the input was read, and it is whole messages; what was sent are exactly their reports, and all of them are
+  -- kept.
+  pub record SendsExactlyTheReports : Type 0 where
+    pub all_read : given.rest ≡ []
+    pub whole : rest_of given.taken ≡ []
+    pub sent : after.streams.station.sent ≡ with_reports messages_read
+    pub keeps : KeepsNow messages_read
+    pub messages : outcome.messages ≡ length messages_read
+
+  -- Any other ending: the reports of the first `messages` of the messages read were sent, at 4, 7 and 8 of all of them; at 6 a
+  -- part from the front of these reports. The messages are kept, and at 5 perhaps some that follow them.
+  pub record EndsOtherwise : Type 0 where
+    pub some : outcome.messages ≤ length messages_read
+    pub all : (outcome.status ≡ 4) ⊎ ((outcome.status ≡ 7) ⊎ (outcome.status ≡ 8)) → AreAll outcome.messages given.taken
+    pub sent : outcome.status ≢ 6 → after.streams.station.sent ≡ with_reports messages_counted
+    pub part : outcome.status ≡ 6 → IsKnownPrefix after.streams.station.sent (with_reports messages_counted)
+    pub keeps : outcome.status ≢ 5 → KeepsNow messages_counted
+    pub keeps_more : outcome.status ≡ 5 → (count : ℕ) × (outcome.messages ≤ count) × (count ≤ length messages_read) × KeepsNow (first_messages count given.taken)
+
+  -- The image keeps the earlier messages and then the first of those read. A run can start from it, and it is no longer than
+  -- that of entry or the limit. What was sent is the output of entry and then a front of the reports of these messages.
+  pub record IsCrashPrefix (left out : List ℕ) : Type 0 where
+    pub count : ℕ
+    pub within : count ≤ length messages_read
+    pub keeps : KeepsMessages given.text given.product.journal_limit (given.kept ++ first_messages count given.taken) left
+    pub no_longer : length left ≤ max (length given.image) given.product.journal_limit
+    pub reports : List ℕ
+    pub front : IsPrefix reports (new_reports given.product given.kept (first_messages count given.taken))
+    pub sent : Some out ≡ sent_and before.streams.station.sent reports
+
+  -- At every moment: a crash since some earlier time could leave what it could before, and besides only such pairs of an image
+  -- and an output.
+  abbrev pub LeavesCrashPrefixes : Type 0
+  LeavesCrashPrefixes = AddsOnly m before.streams.station.object after.streams.station.object IsCrashPrefix
+
+  -- a crash at some moment since entry could leave this image while this had been sent
+  abbrev pub LeftSinceEntry : List ℕ → List ℕ → Type 0
+  LeftSinceEntry left out = m.left_since after.streams.station.object (m.time before.streams.station.object) left out
+
+  -- Before the first sync: what a crash at entry could leave already, it can leave still, with the output of entry. Where
+  -- nothing was pending, that is the image of entry alone, so that each pair is as above.
+  pub record IsAsAtEntry (left out : List ℕ) : Type 0 where
+    pub image : m.may_leave before.streams.station.object left
+    pub output : before.streams.station.sent ≡ Some out
+
+  pub record BeforeTheFirstSync : Type 0 where
+    pub pairs : (left out : List ℕ) → LeftSinceEntry left out → IsAsAtEntry left out ⊎ IsCrashPrefix left out
+    pub settled : IsSettled m before.streams.station.object → (left out : List ℕ) → LeftSinceEntry left out → IsCrashPrefix left out
+
+  -- a byte of the reports of the message behind the first n of those read was sent, or of a later one's
+  pub record HasReportBehind (n : ℕ) (out : List ℕ) : Type 0 where
+    pub output : List ℕ
+    pub output_known : before.streams.station.sent ≡ Some output
+    pub longer : length output + length (new_reports given.product given.kept (first_messages n given.taken)) < length out
+
+  -- With every message: where a byte of its reports was sent, the image keeps it, with all that were read before it.
+  abbrev pub KeepsEveryReported : Type 0
+  KeepsEveryReported =
+      (left out : List ℕ) → LeftSinceEntry left out → (n : ℕ) → HasReportBehind n out
+      → (count : ℕ) × (n < count) × (count ≤ length messages_read) × KeepsMessages given.text given.product.journal_limit (given.kept ++ first_messages count given.taken) left
+
+  -- The next message has no room: in a record of its own it would end past the limit, now, and also had each message before it
+  -- a record of its own behind the journal of entry.
+  pub record HasNoRoom : Type 0 where
+    pub place : outcome.at ≡ end_of_messages outcome.messages given.taken
+    pub frame : List ℕ
+    pub more : List ℕ
+    pub is_frame : IsFrame frame
+    pub next : bytes_at outcome.at given.taken ≡ frame ++ more
+    pub each_alone : given.product.journal_limit < end_of_journal given.text given.startable.payloads + records_length (messages_counted ++ frame ∷ [])
+    pub payloads : List (List ℕ)
+    pub image : List ℕ
+    pub image_known : after.streams.station.image ≡ Some image
+    pub journal : IsJournal given.text given.product.journal_limit payloads image
+    pub now : given.product.journal_limit < end_of_journal given.text payloads + records_length (frame ∷ [])
+
+-- ---- a run that can be served to its end
+
+-- A product is told, and its text breaks no rule; a run can start from the image of entry; the input is told, and there is
+-- room for each of its messages in a record of its own.
+pub record CanBeServed {P I S : Type 0} (m : StationMeanings S) (before : Outside P I S) : Type 0 where
+  pub text : List ℕ
+  pub product : ProductLists
+  pub text_known : before.product.left ≡ Some text
+  pub gives : product_of text ≡ Ok product
+  pub honest : m.is_honest before.streams.station.object
+  pub image : List ℕ
+  pub image_known : before.streams.station.image ≡ Some image
+  pub kept : List (List ℕ)
+  pub startable : KeepsMessages text product.journal_limit kept image
+  pub bytes : List ℕ
+  pub input_known : before.streams.input.left ≡ Some bytes
+  pub room : end_of_journal text startable.payloads + records_length (messages_of bytes) ≤ product.journal_limit
+
+-- by what stands behind the messages of the input: nothing, a part of a frame, or what is the front of none
+abbrev pub IsServed : List ℕ → ℕ → Type 0
+IsServed bytes status = ((status ≡ 0) × (rest_of bytes ≡ [])) ⊎ (((status ≡ 8) × IsCut bytes) ⊎ ((status ≡ 7) × IsBroken bytes))

@@ -1,0 +1,124 @@
+-- A run of a product that was taken: what opening its journal does, and what it comes to from the image of entry on.
+use Rattle.std.specs.Prelude.{◌≡◌, ◌⊎◌, ℕ, ◌+◌, max, List, ◌++◌, length, Some, Result, Ok, Err, IfOk, IfSome}
+use Rattle.std.specs.List.{concat}
+use Rattle.gx_base.specs.KnownBytes.{IsKnownPrefix}
+use Rattle.gx_station.specs.Stations.{StationMeanings, sent_and}
+use Rattle.gx_station.specs.Moments.{AddsOnly}
+use Rattle.match_journal.specs.Journal.{journal_front}
+use Rattle.match_journal.specs.Classes.{Keeps, IsBlank, IsSealed}
+use Rattle.match_journal.specs.Appending.{IsJournalTo}
+use Rattle.match_journal.specs.Opening.{IsOpening}
+use Rattle.match_journal.specs.Steps.{HoldsOne}
+use Rattle.match_journal.specs.declared.limits.TheConstants.{MOST_UNFINISHED}
+use Rattle.match_journal.specs.declared.standing.Standing.{Standing}
+use Rattle.book_recovery.specs.Kept.{AreWhole, messages_in, KeepsMessages}
+use Rattle.book_recovery.specs.Recovering.{state_kept}
+use Rattle.product_file.specs.Products.{ProductLists, IsRightProduct}
+use Rattle.order_kinds.specs.State.{State}
+use Rattle.globex_run.specs.Outside.{Streams}
+use Rattle.globex_run.specs.Outcomes.{outcome_of}
+use Rattle.globex_run.specs.Journals.{AnswersImage, IsGoodJournal, records_length}
+use Rattle.globex_run.specs.RunResult.{ServingResult}
+use Rattle.globex_run.specs.Inner.Recording.{reports_from, IsRecordCrash, RestsAtEnd}
+use Rattle.globex_run.specs.Inner.Serving.{CausedBy, HasNoRoomAt}
+use Rattle.globex_run.specs.declared.outcome.Outcome.{Outcome}
+use Rattle.globex_run.specs.declared.ending.Ending.{Ending}
+use Rattle.globex_run.specs.declared.ending.Ending.TheVariants as ending
+use Rattle.globex_run.specs.declared.open.Unopened.{Unopened}
+use Rattle.globex_run.specs.declared.open.Unopened.TheVariants as unopened
+
+-- ---- opening
+
+-- how a run ends whose journal was not opened
+abbrev pub ending_without : Unopened → Ending
+ending_without unopened.Store = ending.StoreFault
+ending_without (unopened.NotAJournal at) = ending.NotAJournal at
+ending_without (unopened.Bad at) = ending.JournalBad at
+ending_without (unopened.ProductDiffers at) = ending.ProductDiffers at
+
+-- what the image is, by the answer
+abbrev pub AnswersOpening : List ℕ → ℕ → List ℕ → Result Standing Unopened → Type 0
+AnswersOpening text limit image (Ok journal) = (IsBlank image ⊎ IsSealed text image) ⊎ IsGoodJournal text limit image
+AnswersOpening text limit image (Err reason) = AnswersImage text limit image (ending_without reason)
+
+-- the image was refused
+abbrev pub IsRefused : {J : Type 0} → Result J Unopened → Type 0
+IsRefused (Ok journal) = ⊥
+IsRefused (Err unopened.Store) = ⊥
+IsRefused (Err (unopened.NotAJournal at)) = Unit {0}
+IsRefused (Err (unopened.Bad at)) = Unit {0}
+IsRefused (Err (unopened.ProductDiffers at)) = Unit {0}
+
+module _ {S : Type 0} (m : StationMeanings S) (product : ProductLists) (text : List ℕ) where
+  -- The journal of an honest station, whose image keeps these payloads, was opened, and the core is in the state of their
+  -- messages; or a call on the store has failed. In either case the image keeps the same payloads.
+  pub record Opens (old new : S) (image : List ℕ) (payloads : List (List ℕ)) (state : State) (result : Result Standing Unopened) : Type 0 where
+    pub accepted : IsRefused result → ⊥
+    pub moments : AddsOnly m old new (λ left out. IsOpening text product.journal_limit payloads image left × (m.sent old ≡ Some out))
+    pub keeps : HoldsOne m (IsOpening text product.journal_limit payloads image) new
+    pub at_end : IfOk result (λ journal. RestsAtEnd m text product.journal_limit payloads journal.gate (max (length image) MOST_UNFINISHED) new)
+    pub is_state : IfOk result (λ journal. state ≡ state_kept product (messages_in payloads))
+
+-- ---- a session, from its opening on
+
+module _ {I S : Type 0} (m : StationMeanings S) (product : ProductLists) (text : List ℕ) (before after : Streams I S) where
+  -- a read gives an image that keeps these payloads
+  abbrev pub KeepsRecords : List (List ℕ) → Type 0
+  KeepsRecords payloads = HoldsOne m (Keeps text product.journal_limit payloads) after.station.object
+
+  -- of the records added all are kept, and the reports of their messages were sent
+  pub record IsAllServed (payloads kept added : List (List ℕ)) (count : ℕ) : Type 0 where
+    pub sent : after.station.sent ≡ sent_and before.station.sent (reports_from product (state_kept product kept) (messages_in added))
+    pub keeps : KeepsRecords (payloads ++ added)
+    pub messages : count ≡ length (messages_in added)
+
+  -- of the records added the first ones are kept and their messages reported; the others may be kept
+  pub record IsFrontServed (payloads kept added : List (List ℕ)) (count : ℕ) : Type 0 where
+    pub served : List (List ℕ)
+    pub others : List (List ℕ)
+    pub are : added ≡ served ++ others
+    pub sent : after.station.sent ≡ sent_and before.station.sent (reports_from product (state_kept product kept) (messages_in served))
+    pub keeps : KeepsRecords (payloads ++ served) ⊎ KeepsRecords (payloads ++ added)
+    pub messages : count ≡ length (messages_in served)
+
+  -- of the records added all are kept
+  pub record IsAllKept (payloads added : List (List ℕ)) (count : ℕ) : Type 0 where
+    pub keeps : KeepsRecords (payloads ++ added)
+    pub messages : count ≡ length (messages_in added)
+
+  -- the journal ends at this gate, and the next message has no room
+  pub record IsFull (payloads added : List (List ℕ)) (behind : List ℕ) : Type 0 where
+    pub end : ℕ
+    pub end_is : end ≡ length (journal_front text payloads) + records_length added
+    pub journal : HoldsOne m (IsJournalTo text product.journal_limit (payloads ++ added) end) after.station.object
+    pub no_room : HasNoRoomAt product.journal_limit end behind
+
+  abbrev pub EndsSession : Ending → ℕ → List (List ℕ) → List (List ℕ) → List (List ℕ) → List ℕ → Type 0
+  EndsSession ending.StoreFault count payloads kept added behind = IsFrontServed payloads kept added count
+  EndsSession ending.SendFault count payloads kept added behind = IsAllKept payloads added count
+  EndsSession (ending.NotAJournal at) count payloads kept added behind = ⊥
+  EndsSession (ending.JournalBad at) count payloads kept added behind = ⊥
+  EndsSession (ending.ProductDiffers at) count payloads kept added behind = ⊥
+  EndsSession (ending.Full at) count payloads kept added behind = IsAllServed payloads kept added count × IsFull payloads added behind
+  EndsSession _ count payloads kept added behind = IsAllServed payloads kept added count
+
+  -- From an image that keeps these payloads: which records were added, what was sent and is kept, and what a crash leaves.
+  pub record SessionFrom (image : List ℕ) (payloads kept : List (List ℕ)) (taken : List ℕ) (ending : Ending) (count : ℕ) : Type 0 where
+    pub added : List (List ℕ)
+    pub behind : List ℕ
+    pub are : taken ≡ concat added ++ behind
+    pub whole : AreWhole added
+    pub part : IsKnownPrefix after.station.sent (sent_and before.station.sent (reports_from product (state_kept product kept) (messages_in added)))
+    pub adds : AddsOnly m before.station.object after.station.object (IsRecordCrash product (state_kept product kept) text product.journal_limit payloads added (length image) before.station.sent)
+    pub ends : EndsSession ending count payloads kept added behind
+
+  -- the journal was opened, and the input served until an ending
+  pub record SessionResult (outcome : Outcome) : Type 0 where
+    pub right : IsRightProduct product
+    pub ending : Ending
+    pub is : outcome ≡ outcome_of ending outcome.messages
+    pub cause : CausedBy ending before after
+    pub image : IfSome before.station.image (λ image. AnswersImage text product.journal_limit image ending)
+    pub serving : ServingResult before after ending outcome.messages
+    pub from : (image : List ℕ) (kept : List (List ℕ)) → m.is_honest before.station.object → before.station.image ≡ Some image → (startable : KeepsMessages text product.journal_limit kept image)
+        → SessionFrom image startable.payloads kept serving.taken ending outcome.messages

@@ -1,0 +1,36 @@
+-- What the image of entry is, by how a run ended.
+use Rattle.std.specs.Prelude.{◌⊎◌, ℕ, ◌+◌, List, length, sum_by}
+use Rattle.match_journal.specs.Journal.{IsJournal, journal_front}
+use Rattle.match_journal.specs.Classes.{IsBlank, IsSealed, IsForeignAt, HasBadHeader, HasOtherText}
+use Rattle.match_journal.specs.Opening.{IsOpened}
+use Rattle.book_recovery.specs.Kept.{AreWhole}
+use Rattle.book_recovery.specs.BadPlaces.{IsBadPlace}
+use Rattle.globex_run.specs.declared.ending.Ending.{Ending}
+use Rattle.globex_run.specs.declared.ending.Ending.TheVariants.{StoreFault, NotAJournal, JournalBad, ProductDiffers}
+
+-- a journal of this text with no bad record
+pub record IsGoodJournal (text : List ℕ) (limit : ℕ) (image : List ℕ) : Type 0 where
+  pub payloads : List (List ℕ)
+  pub journal : IsJournal text limit payloads image
+  pub whole : AreWhole payloads
+
+-- What an image is where a run of this product text ended so. No two of the first three hold of one image, nor one of them
+-- and the last, so 9, 10 and 11 come exactly where they hold, if no call on the store failed before.
+abbrev pub AnswersImage : List ℕ → ℕ → List ℕ → Ending → Type 0
+-- it is foreign
+AnswersImage text limit image (NotAJournal at) = IsForeignAt image at
+-- it is a journal of another text, or the unfinished creation of one
+AnswersImage text limit image (ProductDiffers at) = HasOtherText text image at
+-- it is a journal of which the header is bad, or a record
+AnswersImage text limit image (JournalBad at) = HasBadHeader image at ⊎ (IsOpened text image × IsBadPlace text limit image at)
+AnswersImage text limit image StoreFault = Unit {0}
+-- it is an unfinished creation, or a journal of this text with no bad record
+AnswersImage text limit image _ = (IsBlank image ⊎ IsSealed text image) ⊎ IsGoodJournal text limit image
+
+-- how many bytes the records of these payloads have: each a gate, a kind, four bytes for the length, and the payload
+abbrev pub records_length : List (List ℕ) → ℕ
+records_length payloads = sum_by (λ (payload : List ℕ). length payload + 6) payloads
+
+-- where a journal that keeps these payloads ends: behind the gate that follows them
+abbrev pub end_of_journal : List ℕ → List (List ℕ) → ℕ
+end_of_journal text payloads = length (journal_front text payloads) + 1

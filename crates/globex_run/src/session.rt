@@ -1,0 +1,55 @@
+//! A run of a product that was taken: its journal is opened, and the input served.
+ghost use Rattle.std.specs.Prelude.{◌≡◌, ◌⊎◌, ◌≤◌, ℕ, List, length, Some};
+ghost use Rattle.gx_station.specs.Honest.{KeepsImage};
+ghost use Rattle.product_file.specs.declared.limits.TheConstants.{LONGEST_TEXT};
+ghost use Rattle.globex_run.specs.Outside.{streams_at};
+ghost use Rattle.globex_run.specs.Inner.Buffers.{AreNew};
+ghost use Rattle.globex_run.specs.Inner.Sessions.{SessionResult};
+
+use crate::buffers::Buffers;
+use crate::open::open_journal;
+use crate::outcome::Outcome;
+use crate::serve::serve;
+use gx_station::{Source, Station};
+use product_file::Product;
+
+/// Opens the journal of a product, brings the core to the state of the messages that it keeps, and serves the input. Of the
+/// messages of this call it tells how many are kept in records whose append was Ok.
+pub fn run_session<I: Source, S: Station>(
+    product: &Product,
+    text: &[u8],
+    buffers: &mut Buffers,
+    input: &mut I,
+    station: &mut S,
+) -> Outcome
+    requires short { length text.now ≤ LONGEST_TEXT }
+    requires new { AreNew product.now buffers.old }
+    ensures session { SessionResult S.meanings product.now text.now (streams_at I.meanings S.meanings input.old station.old) (streams_at I.meanings S.meanings input.new station.new) result }
+    ensures stays { (image : List ℕ) → S.meanings.holds station.old ≡ Some image → (result.status ≡ 9) ⊎ ((result.status ≡ 10) ⊎ (result.status ≡ 11)) → KeepsImage S.meanings station.old station.new }
+    ensures refused { (result.status ≡ 9) ⊎ ((result.status ≡ 10) ⊎ (result.status ≡ 11)) → S.meanings.sent station.new ≡ S.meanings.sent station.old }
+{
+    product.limits();
+    let Buffers {
+        core,
+        scratch,
+        framer,
+        chunk,
+        reports,
+    } = buffers;
+    let mut journal = match open_journal(product, text, scratch, core, station) {
+        Ok(journal) => journal,
+        Err(reason) => return reason.ending().outcome(0),
+    };
+    let earlier = core.messages();
+    let ending = serve(
+        product,
+        core,
+        &mut journal,
+        framer,
+        chunk,
+        reports,
+        input,
+        station,
+    );
+    ending.outcome(core.messages() - earlier)
+}

@@ -1,0 +1,295 @@
+//! Runs over journals: byte for byte, after a crash at each call, where one is full, bad, or of another product, and over a file.
+ghost use Rattle.std.specs.Prelude.{◌≤◌, length};
+
+use super::runs::{
+    ACCEPTED, DUPLICATE, FILLED, ORDER, SECOND_ACCEPTED, SECOND_FILLED, SECOND_ORDER, ended, join,
+};
+use super::{PRODUCT, ROOM, frames_of, run, run_over, station_over};
+use crate::{Outcome, globex};
+use gx_station::{FileStation, MemSource, MemStation};
+use std::alloc::{AllocError, Global};
+use std::fs;
+use std::fs::OpenOptions;
+use std::process::Abort;
+use std::test::Fail;
+
+/// What stands in a journal of the product before its text.
+const HEADER: &[u8] = b"\x01GXJOURN1\x00\x00\x00\x88";
+
+/// A report that refuses the first order once both orders are kept.
+const THIRD_REFUSAL: &str =
+    "35=8|34=3|49=GX|52=20240102-09:30:00|56=AAA|37=0|11=a1|17=5|20=0|150=8|39=8|103=6|55=ESZ4|54=2|38=10|40=2|59=0|151=0|14=0|6=0|60=20240102-09:30:00|58=DUPLICATE|9003=10|";
+
+/// The parts, one behind the other.
+fn image_of(alloc: Global, parts: &[&[u8]]) -> Result<Vec<u8>, AllocError> {
+    let mut bytes = Vec::new(alloc);
+    for part in parts {
+        bytes.extend_from_slice(part)?;
+    }
+    Ok(bytes)
+}
+
+/// A journal of the product with these records, each with its head, and a closed gate.
+fn journal_of(alloc: Global, records: &[&[u8]]) -> Result<Vec<u8>, AllocError> {
+    let records = image_of(alloc, records)?;
+    image_of(
+        alloc,
+        &[HEADER, PRODUCT.as_bytes(), records.as_slice(), b"\x00"],
+    )
+}
+
+/// Runs over this image, the product of this text and this input.
+fn run_from(
+    rt: &(impl Abort + AllocGlobal),
+    product: &str,
+    image: &[u8],
+    input: &[u8],
+) -> Result<(Outcome, MemStation), Fail> {
+    let alloc = rt.alloc();
+    let text = product.as_bytes().to_vec(alloc)?;
+    let mut product = MemSource::new(alloc, text, Vec::new(alloc), Vec::new(alloc))?;
+    let mut source = MemSource::new(
+        alloc,
+        input.to_vec(alloc)?,
+        Vec::new(alloc),
+        Vec::new(alloc),
+    )?;
+    assert!(rt; image.len() <= ROOM);
+    let mut station = station_over(alloc, image, Vec::new(alloc))?;
+    let outcome = run_over(alloc, "run", &mut product, &mut source, &mut station)?;
+    Ok((outcome, station))
+}
+
+#[test]
+fn journals_byte_for_byte(rt: HostRuntime) -> Result<(), Fail> {
+    let alloc = rt.alloc();
+    let (got, station) = run(alloc, "run", PRODUCT, b"", Vec::new(alloc))?;
+    assert_eq!(rt; got, ended(0, 0, 0));
+    let empty = journal_of(alloc, &[])?;
+    assert_eq!(rt; empty.len(), 150);
+    assert_eq!(rt; station.image(), empty.as_slice());
+    let orders = join(alloc, &[ORDER, SECOND_ORDER])?;
+    let first = join(alloc, &[ORDER])?;
+    let second = join(alloc, &[SECOND_ORDER])?;
+    let records: [&[u8]; 4] = [
+        b"\x01M\x00\x00\x00\x6F",
+        first.as_slice(),
+        b"\x01M\x00\x00\x00\x6E",
+        second.as_slice(),
+    ];
+    let both = journal_of(alloc, &records)?;
+    assert_eq!(rt; both.len(), 383);
+    let (got, station) = run_from(&rt, PRODUCT, b"", orders.as_slice())?;
+    assert_eq!(rt; got, ended(0, 0, 2));
+    assert_eq!(rt; station.image(), both.as_slice());
+    Ok(())
+}
+
+/// What a run answers to the first order tells how many of the two orders the image kept.
+fn expect_kept(rt: &(impl Abort + AllocGlobal), image: &[u8], kept: u64) -> Result<(), Fail> {
+    let alloc = rt.alloc();
+    let order = join(alloc, &[ORDER])?;
+    let want = match kept {
+        0 => join(alloc, &[ACCEPTED])?,
+        1 => join(alloc, &[DUPLICATE])?,
+        _ => frames_of(alloc, &[THIRD_REFUSAL])?,
+    };
+    let (got, station) = run_from(rt, PRODUCT, image, order.as_slice())?;
+    assert_eq!(rt; got, ended(0, 0, 1));
+    assert_eq!(rt; station.output(), want.as_slice());
+    Ok(())
+}
+
+/// The gates of the two records are written by the calls 15 and 20, and synced by the next ones.
+#[test]
+fn crash_at_each_call(rt: HostRuntime) -> Result<(), Fail> {
+    let alloc = rt.alloc();
+    let orders = join(alloc, &[ORDER, SECOND_ORDER])?;
+    let second_order = join(alloc, &[SECOND_ORDER])?;
+    let others = join(alloc, &[SECOND_ACCEPTED, FILLED, SECOND_FILLED])?;
+    let (got, station) = run_from(&rt, PRODUCT, b"", orders.as_slice())?;
+    assert_eq!(rt; got, ended(0, 0, 2));
+    assert_eq!(rt; station.calls(), 22);
+    for call in 0..=station.calls() {
+        for fill in [0, 1, 200] {
+            let image = station.crash_image(alloc, call, fill)?;
+            let first = call > 15 || call == 15 && fill == 1;
+            let second = call > 20 || call == 20 && fill == 1;
+            expect_kept(&rt, image.as_slice(), first as u64 + second as u64)?;
+            if first && !second {
+                let (got, later) = run_from(
+                    &rt,
+                    PRODUCT,
+                    image.as_slice(),
+                    second_order.as_slice(),
+                )?;
+                assert_eq!(rt; got, ended(0, 0, 1));
+                assert_eq!(rt; later.output(), others.as_slice());
+            }
+        }
+    }
+    Ok(())
+}
+
+/// A run over two and over three calls sends and keeps what one call does.
+#[test]
+fn continued_runs(rt: HostRuntime) -> Result<(), Fail> {
+    let alloc = rt.alloc();
+    let texts: [(&[&str], &[&str]); 3] = [
+        (&[ORDER], &[ACCEPTED]),
+        (&[SECOND_ORDER], &[SECOND_ACCEPTED, FILLED, SECOND_FILLED]),
+        (&[ORDER], &[]),
+    ];
+    let mut image = Vec::new(alloc);
+    for (frames, reports) in texts {
+        let input = join(alloc, frames)?;
+        let (got, station) = run_from(&rt, PRODUCT, image.as_slice(), input.as_slice())?;
+        assert_eq!(rt; got, ended(0, 0, 1));
+        if !reports.is_empty() {
+            assert_eq!(rt; station.output(), join(alloc, reports)?.as_slice());
+        }
+        image = station.image().to_vec(alloc)?;
+    }
+    let all = join(alloc, &[ORDER, SECOND_ORDER, ORDER])?;
+    let (got, whole) = run_from(&rt, PRODUCT, b"", all.as_slice())?;
+    assert_eq!(rt; got, ended(0, 0, 3));
+    assert_eq!(rt; whole.image(), image.as_slice());
+    Ok(())
+}
+
+const LIMITED_PRODUCT: &str = r#"exchange = "GX"
+firms = ["AAA", "BBB", "CCC", "DDD"]
+journal_limit = 131072
+
+[[instrument]]
+name = "ESZ4"
+decimals = 2
+tick = 1
+protection = 2
+algorithm = "F"
+"#;
+
+/// 32 heartbeats of the longest body, and one of which the text has so many bytes.
+fn heartbeats(alloc: Global, last: usize) -> Result<Vec<u8>, AllocError> {
+    let mut bytes = Vec::new(alloc);
+    for i in 0..33 {
+        let count = if i < 32 { 3952 } else { last };
+        let mut body = String::from_str(alloc, "35=0|49=AAA|56=GX|34=1|52=20240102-09:30:00|58=")?;
+        for _ in 0..count {
+            body.push('x')?;
+        }
+        body.push('|')?;
+        super::push_frame(alloc, &mut bytes, body.as_str())?;
+    }
+    Ok(bytes)
+}
+
+/// With the last heartbeat the journal has just as many bytes as it may, or would have one more.
+#[test]
+fn journal_limit(rt: HostRuntime) -> Result<(), Fail> {
+    let alloc = rt.alloc();
+    let rows = [
+        (1861, ended(0, 0, 33), 131_072),
+        (1862, ended(12, 128_768, 32), 129_133),
+    ];
+    for (last, outcome, length) in rows {
+        let text = LIMITED_PRODUCT.as_bytes().to_vec(alloc)?;
+        let mut product = MemSource::new(alloc, text, Vec::new(alloc), Vec::new(alloc))?;
+        let bytes = heartbeats(alloc, last)?;
+        let mut input = MemSource::new(alloc, bytes, Vec::new(alloc), Vec::new(alloc))?;
+        let none = Vec::new(alloc);
+        let mut station = MemStation::new(alloc, Vec::new(alloc), 140_000, 0, 1_000, none)?;
+        let got = run_over(alloc, "run", &mut product, &mut input, &mut station)?;
+        assert_eq!(rt; got, outcome);
+        assert_eq!(rt; station.image().len(), length);
+    }
+    Ok(())
+}
+
+/// Images that are refused: they stay as they are, and nothing is sent.
+#[test]
+fn refused_journals(rt: HostRuntime) -> Result<(), Fail> {
+    let alloc = rt.alloc();
+    let order = join(alloc, &[ORDER])?;
+    let other = PRODUCT.replace(alloc, "protection = 2", "protection = 3")?;
+    let other_journal = image_of(alloc, &[HEADER, other.as_bytes(), b"\x00"])?;
+    let long_record = journal_of(alloc, &[b"\x01M\x00\x00\x00\x64"])?;
+    let no_frame = journal_of(alloc, &[b"\x01M\x00\x00\x00\x05hello"])?;
+    let whole = order.as_slice();
+    assert!(rt; whole.len() >= 110);
+    let cut_frame = journal_of(alloc, &[b"\x01M\x00\x00\x00\x6E", &whole[..110]])?;
+    let good_and_bad: [&[u8]; 3] = [
+        b"\x01M\x00\x00\x00\x6F",
+        order.as_slice(),
+        b"\x01C\x00\x00\x00\x01x",
+    ];
+    let good_and_bad = journal_of(alloc, &good_and_bad)?;
+    // A bad head is answered before a bad payload in front of it.
+    let two_bad = journal_of(
+        alloc,
+        &[b"\x01M\x00\x00\x00\x05hello", b"\x01M\x00\x00\x20\x01"],
+    )?;
+    let bad_header = image_of(
+        alloc,
+        &[b"\x01GXJOURN1\x00\x01\x00\x01", PRODUCT.as_bytes(), b"\x00"],
+    )?;
+    let rows: [(&[u8], Outcome); 9] = [
+        (b"hello", ended(9, 0, 0)),
+        (b"\x01GXJOURN2", ended(9, 8, 0)),
+        (bad_header.as_slice(), ended(10, 9, 0)),
+        (other_journal.as_slice(), ended(11, 131, 0)),
+        (long_record.as_slice(), ended(10, 149, 0)),
+        (no_frame.as_slice(), ended(10, 149, 0)),
+        (cut_frame.as_slice(), ended(10, 149, 0)),
+        (good_and_bad.as_slice(), ended(10, 266, 0)),
+        (two_bad.as_slice(), ended(10, 160, 0)),
+    ];
+    for (image, outcome) in rows {
+        let (got, station) = run_from(&rt, PRODUCT, image, order.as_slice())?;
+        assert_eq!(rt; got, outcome);
+        assert_eq!(rt; station.image(), image);
+        assert_eq!(rt; station.output(), b"".as_slice());
+    }
+    Ok(())
+}
+
+/// Two runs over one file.
+#[test]
+fn runs_over_a_file(rt: HostRuntime) -> Result<(), Fail> {
+    let alloc = rt.alloc();
+    let path = "globex_run_journal.gxj";
+    let words = vec![in alloc; String::from_str(alloc, "run")?]?;
+    let turns: [(&[&str], &[&str]); 2] = [
+        (&[ORDER], &[ACCEPTED]),
+        (&[SECOND_ORDER], &[SECOND_ACCEPTED, FILLED, SECOND_FILLED]),
+    ];
+    for (frames, reports) in turns {
+        let text = PRODUCT.as_bytes().to_vec(alloc)?;
+        let mut product = MemSource::new(alloc, text, Vec::new(alloc), Vec::new(alloc))?;
+        let bytes = join(alloc, frames)?;
+        let mut input = MemSource::new(alloc, bytes, Vec::new(alloc), Vec::new(alloc))?;
+        let file = OpenOptions::new()
+            .read(true)
+            .write(true)
+            .create(true)
+            .open(&rt, path)?;
+        let mut out: Vec<u8> = Vec::new(alloc);
+        let mut station = FileStation::new(Some(file), &mut out);
+        let got = globex(
+            alloc,
+            words.as_slice(),
+            &mut product,
+            &mut input,
+            &mut station,
+        );
+        assert_eq!(rt; got, ended(0, 0, 1));
+        drop(station);
+        assert_eq!(rt; out.as_slice(), join(alloc, reports)?.as_slice());
+    }
+    let kept = fs::read(&rt, path)?;
+    let orders = join(alloc, &[ORDER, SECOND_ORDER])?;
+    let (_, station) = run_from(&rt, PRODUCT, b"", orders.as_slice())?;
+    assert_eq!(rt; kept.as_slice(), station.image());
+    fs::remove_file(&rt, path)?;
+    Ok(())
+}
