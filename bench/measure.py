@@ -1,15 +1,19 @@
 #!/usr/bin/env python3
-"""Measures how many messages a second `globex run` serves.
+"""Measures how many messages a second `globex run` serves, and how many it recovers.
 
-Makes 100,000 limit orders and cancels of four firms, always the same ones, in ten streams of 10,000, since a run serves
-at most that many. Runs the program over each stream, one after the other, five times, and prints messages a second and
-the bytes of the reports. The spread between the five rounds is the machine's noise.
+Makes 100,000 limit orders and cancels of four firms, always the same ones, in ten streams of 10,000. In a folder in memory
+it runs the program over each stream with a new journal, one after the other, five times, and then over the journals that
+these runs leave with an empty input, which is recovery alone. In a folder on a disk it runs the program over one stream,
+where each message waits for two syncs, and measures beside it what two such syncs cost without the engine. The spread
+between the rounds is the machine's noise.
 
-    ./run-example.sh          builds the program
-    bench/measure.py [PROGRAM]
+    ./run-example.sh                           builds the program
+    bench/measure.py [PROGRAM [DISK_FOLDER]]   the folder is a new one in that one, or in the current one
 """
 
 import os
+import pathlib
+import shutil
 import statistics
 import subprocess
 import sys
@@ -24,6 +28,9 @@ FIRMS = ["AAA", "BBB", "CCC", "DDD"]
 STREAMS = 10
 MESSAGES = 10_000
 ROUNDS = 5
+MEMORY_FOLDER = "/dev/shm"
+JOURNAL = "journal.gxj"
+JOURNAL_START = 4_096
 
 
 def draws(seed):
@@ -65,31 +72,82 @@ def stream(seed):
     return b"".join(frames)
 
 
-def measure(program, folder, streams):
-    """Seconds and report bytes of one round over all streams."""
-    seconds = 0.0
+def run(program, folder, bytes_in):
+    """Seconds and report bytes of one run."""
+    started = time.perf_counter()
+    done = subprocess.run([program, "run"], cwd=folder, input=bytes_in, stdout=subprocess.PIPE, check=True)
+    return time.perf_counter() - started, len(done.stdout)
+
+
+def new_folder(parent):
+    """A new folder with the product in it, which goes when it is closed."""
+    folder = tempfile.TemporaryDirectory(dir=parent)
+    shutil.copy(PRODUCT, os.path.join(folder.name, "product.toml"))
+    return folder
+
+
+def serve_and_recover(program, folder, streams):
+    """Seconds of serving, seconds of recovering and report bytes, of one round over all streams."""
+    served = recovered = 0.0
     reports = 0
     for bytes_in in streams:
+        pathlib.Path(folder, JOURNAL).unlink(missing_ok=True)
+        seconds, sent = run(program, folder, bytes_in)
+        served += seconds
+        reports += sent
+        seconds, _ = run(program, folder, b"")
+        recovered += seconds
+    return served, recovered, reports
+
+
+def sync_pairs(folder, records):
+    """Seconds of writing so many bytes, syncing, writing one byte, and syncing, for each of some records."""
+    with open(os.path.join(folder, "pairs"), "wb", buffering=0) as file:
+        file.write(bytes(JOURNAL_START))
+        os.fsync(file)
+        place = JOURNAL_START
         started = time.perf_counter()
-        done = subprocess.run([program, "run"], cwd=folder, input=bytes_in, stdout=subprocess.PIPE, check=True)
-        seconds += time.perf_counter() - started
-        reports += len(done.stdout)
-    return seconds, reports
+        for record in records:
+            os.pwrite(file.fileno(), record, place)
+            os.fsync(file)
+            os.pwrite(file.fileno(), b"\1", place - 1)
+            os.fsync(file)
+            place += len(record)
+        return time.perf_counter() - started
+
+
+def rates(count, seconds):
+    per_second = [count / s for s in seconds]
+    return f"{max(per_second):,.0f} at best, {statistics.median(per_second):,.0f} in the middle, {min(per_second):,.0f} at worst"
+
+
+def measure_in_memory(program, streams):
+    with new_folder(MEMORY_FOLDER) as folder:
+        rounds = [serve_and_recover(program, folder, streams) for _ in range(ROUNDS)]
+    total = STREAMS * MESSAGES
+    print(f"{total} messages, {sum(map(len, streams))} bytes in, {rounds[0][2]} bytes of reports out, journal in {MEMORY_FOLDER}")
+    print(f"messages a second, served: {rates(total, [served for served, _, _ in rounds])}")
+    print(f"messages a second, recovered: {rates(total, [recovered for _, recovered, _ in rounds])}")
+
+
+def measure_on_disk(program, parent, bytes_in):
+    with new_folder(parent) as folder:
+        seconds, _ = run(program, folder, bytes_in)
+        record = bytes(6 + len(bytes_in) // MESSAGES)
+        pairs = sync_pairs(folder, [record] * MESSAGES)
+    print(f"{MESSAGES} messages, journal on the disk of {parent}")
+    print(f"messages a second, served: {MESSAGES / seconds:,.0f}")
+    print(f"two writes and two syncs without the engine: {1e6 * pairs / MESSAGES:,.0f} microseconds, with it {1e6 * seconds / MESSAGES:,.0f}")
 
 
 def main():
     program = os.path.abspath(sys.argv[1] if len(sys.argv) > 1 else PROGRAM)
+    disk = os.path.abspath(sys.argv[2] if len(sys.argv) > 2 else os.curdir)
     if not os.access(program, os.X_OK):
         sys.exit(f"there is no program at {program}: ./run-example.sh builds it")
     streams = [stream(seed) for seed in range(1, STREAMS + 1)]
-    with tempfile.TemporaryDirectory() as folder:
-        with open(PRODUCT, "rb") as source, open(os.path.join(folder, "product.toml"), "wb") as copy:
-            copy.write(source.read())
-        rounds = [measure(program, folder, streams) for _ in range(ROUNDS)]
-    total = STREAMS * MESSAGES
-    rates = [total / seconds for seconds, _ in rounds]
-    print(f"{total} messages, {sum(map(len, streams))} bytes in, {rounds[0][1]} bytes of reports out")
-    print(f"messages a second: {max(rates):,.0f} at best, {statistics.median(rates):,.0f} in the middle, {min(rates):,.0f} at worst")
+    measure_in_memory(program, streams)
+    measure_on_disk(program, disk, streams[0])
 
 
 if __name__ == "__main__":
