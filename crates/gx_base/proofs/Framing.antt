@@ -1,10 +1,10 @@
 -- The head of a frame, written into the gap before the body, and the frame that this makes.
 use Rattle.std.proofs.Common.{◌≡◌, ℕ, ◌+◌, ◌-◌, ◌^◌, ◌<◌, ◌≤◌, List, ◌++◌, length, take, drop, decimal, sym, ◌∙◌, ap, length-append, length-drop, arith}
-use Rattle.std.proofs.lemmas.List.{drop_at, drop-drop, drop-take}
+use Rattle.std.proofs.lemmas.List.{drop_at, drop-drop, drop-take, length-take-le}
 use Rattle.std.proofs.lemmas.List.Edits.{take-paste}
 use Rattle.std.proofs.lemmas.Fmt.{length-decimal-le}
 use Rattle.std.proofs.Math.Seq.{take-add, paste}
-use Rattle.gx_base.specs.Frames.{head_of, trailer_of, frame_of}
+use Rattle.gx_base.specs.Frames.{frame_of}
 use Rattle.gx_base.specs.declared.fields.TheConstants.{GAP}
 
 -- the length of a body has at most three digits
@@ -44,14 +44,18 @@ body_moved old new head at end gap short room front same =
     ∙ ap (λ (l : List ℕ). head ++ take (end - GAP) l) (same_further at GAP new old short same)
     ∙ ap (λ (l : List ℕ). head ++ l) (body_behind old end gap)
 
--- the frame of a body that stands behind the gap
-pub framed : (room gap body all front whole : List ℕ) (end : ℕ) → end ≤ length room → length gap ≡ GAP → all ≡ gap ++ body → length all ≡ end
-    → front ≡ head_of (decimal (end - GAP)) ++ drop GAP all → whole ≡ front ++ trailer_of front
-    → whole ≡ frame_of (decimal (length body)) body
-framed room gap body all front whole end fits gap_is all_is end_is front_is whole_is =
-    let size : length all ≡ GAP + length body = ap length all_is ∙ length-append gap body ∙ ap (λ n. n + length body) gap_is in
-    let count : end - GAP ≡ length body = omega arith in
-    let rest : drop GAP all ≡ body = ap (drop GAP) all_is ∙ drop_at gap body GAP gap_is in
-    let here : front ≡ head_of (decimal (length body)) ++ body =
-    front_is ∙ ap (λ n. head_of (decimal n) ++ drop GAP all) count ∙ ap (λ (l : List ℕ). head_of (decimal (length body)) ++ l) rest in
-    whole_is ∙ ap (λ (l : List ℕ). l ++ trailer_of l) here
+-- a body that is written behind the gap ends behind it
+pub ends_behind_gap : (old new body : List ℕ) (end : ℕ) → GAP ≤ length old → end ≤ length new → take end new ≡ take GAP old ++ body → GAP ≤ end
+ends_behind_gap old new body end room fits is =
+    omega (arith, ap length is, length-take-le end new fits, length-take-le GAP old room, length-append (take GAP old) body)
+
+-- the frame of such a body
+pub framed : (old new body whole : List ℕ) (end : ℕ) → GAP ≤ length old → end ≤ length new → take end new ≡ take GAP old ++ body
+    → whole ≡ frame_of (decimal (end - GAP)) (drop GAP (take end new)) → whole ≡ frame_of (decimal (length body)) body
+framed old new body whole end room fits is whole_is =
+    let gap : length (take GAP old) ≡ GAP = length-take-le GAP old room in
+    let count : end - GAP ≡ length body = omega (arith, ap length is, length-take-le end new fits, gap, length-append (take GAP old) body) in
+    let rest : drop GAP (take end new) ≡ body = ap (drop GAP) is ∙ drop_at (take GAP old) body GAP gap in
+    whole_is
+    ∙ ap (λ n. frame_of (decimal n) (drop GAP (take end new))) count
+    ∙ ap (λ (l : List ℕ). frame_of (decimal (length body)) l) rest

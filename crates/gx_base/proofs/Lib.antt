@@ -3,5 +3,5 @@ mod Places
 mod PriceTexts
 mod Times
 mod Logs
-mod Framing
+pub mod Framing
 mod Rows

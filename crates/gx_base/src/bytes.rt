@@ -21,7 +21,7 @@ fn find_byte(bytes: &[u8], byte: u8) -> Option<usize>
 }
 
 /// Writes these bytes behind the first `at` of `into`, and answers where they end.
-pub(crate) fn append(into: &mut [u8], at: usize, bytes: &[u8]) -> usize
+pub fn append(into: &mut [u8], at: usize, bytes: &[u8]) -> usize
     requires { at + length bytes.now ≤ length into.old }
     ensures bytes { take result into.new ≡ take at into.old ++ bytes.now }
     ensures behind { drop result into.new ≡ drop result into.old }

@@ -1,7 +1,7 @@
 //! Fields in a row, and the frame round them. Each call writes behind the first `at` bytes of the room that it is lent,
 //! and answers where what it wrote ends.
 ghost use Rattle.std.specs.Prelude.{◌≡◌, ◌+◌, ◌-◌, ◌<◌, ◌≤◌, [], ◌∷◌, ◌++◌, length, take, drop, decimal};
-ghost use Rattle.gx_base.specs.Frames.{head_of, trailer_of};
+ghost use Rattle.gx_base.specs.Frames.{head_of, trailer_of, frame_of};
 ghost use Rattle.gx_base.specs.Numbers.{price_text};
 
 use crate::bytes::append;
@@ -10,16 +10,16 @@ use crate::price::{Price, write_price};
 use crate::trailer::{checksum, trailer_with};
 
 /// How many bytes a tag has at most, with its `=`.
-const LONGEST_TAG: usize = 5;
+pub const LONGEST_TAG: usize = 5;
 
 /// How many bytes a field has at most, with the byte that ends it.
-pub(crate) const LONGEST_FIELD: usize = LONGEST_TAG + LONGEST_VALUE + 1;
+pub const LONGEST_FIELD: usize = LONGEST_TAG + LONGEST_VALUE + 1;
 
 /// Room before a body for its head, whose length has at most three digits.
-pub(crate) const GAP: usize = 16;
+pub const GAP: usize = 16;
 
 /// Writes a field: its tag and `=`, its value, and SOH. Answers where it ends, at most `LONGEST_FIELD` bytes further.
-pub(crate) fn field(into: &mut [u8], at: usize, tag: &[u8], value: &[u8]) -> usize
+pub fn field(into: &mut [u8], at: usize, tag: &[u8], value: &[u8]) -> usize
     requires room { at + LONGEST_FIELD ≤ length into.old }
     requires tag { length tag.now ≤ LONGEST_TAG }
     requires value { length value.now ≤ LONGEST_VALUE }
@@ -33,8 +33,8 @@ pub(crate) fn field(into: &mut [u8], at: usize, tag: &[u8], value: &[u8]) -> usi
     append(into, end, &[SOH])
 }
 
-/// Writes a field whose value is a number.
-pub(crate) fn number(into: &mut [u8], at: usize, tag: &[u8], n: u64) -> usize
+/// Writes a field whose value is a number, as `field` does.
+pub fn number(into: &mut [u8], at: usize, tag: &[u8], n: u64) -> usize
     requires room { at + LONGEST_FIELD ≤ length into.old }
     requires tag { length tag.now ≤ LONGEST_TAG }
     ensures field { take result into.new ≡ take at into.old ++ (tag.now ++ decimal n ++ SOH ∷ []) }
@@ -46,8 +46,8 @@ pub(crate) fn number(into: &mut [u8], at: usize, tag: &[u8], n: u64) -> usize
     field(into, at, tag, digits.format(n).as_bytes())
 }
 
-/// Writes a field whose value is a price.
-pub(crate) fn price(into: &mut [u8], at: usize, tag: &[u8], price: Price, decimals: u8) -> usize
+/// Writes a field whose value is a price with so many decimals, as `field` does.
+pub fn price(into: &mut [u8], at: usize, tag: &[u8], price: Price, decimals: u8) -> usize
     requires room { at + LONGEST_FIELD ≤ length into.old }
     requires tag { length tag.now ≤ LONGEST_TAG }
     requires decimals { decimals ≤ MOST_DECIMALS }
@@ -59,9 +59,22 @@ pub(crate) fn price(into: &mut [u8], at: usize, tag: &[u8], price: Price, decima
     field(into, at, tag, &text[..count])
 }
 
+/// Puts the frame round a body that stands behind the gap and ends at `end`: its head, its length and its checksum (FIX
+/// 4.2). Moves it to the front, and answers where it ends.
+pub fn put_frame(into: &mut [u8], end: usize) -> usize
+    requires gap { GAP ≤ end }
+    requires short { end + LONGEST_FIELD ≤ 1000 }
+    requires room { LONGEST_LINE ≤ length into.old }
+    ensures frame { take result into.new ≡ frame_of (decimal (end - GAP)) (drop GAP (take end into.old)) }
+    ensures short { result ≤ end + LONGEST_FIELD }
+{
+    let end = put_head(into, end);
+    put_trailer(into, end)
+}
+
 /// Puts the head of a body, which stands behind the gap and ends at `end`, right before it at the front, and answers
 /// where the two end. The body is moved where its length has less than three digits.
-pub(crate) fn put_head(into: &mut [u8], end: usize) -> usize
+fn put_head(into: &mut [u8], end: usize) -> usize
     requires gap { GAP ≤ end }
     requires short { end ≤ 1000 }
     requires room { LONGEST_LINE ≤ length into.old }
@@ -90,7 +103,7 @@ fn head_fields(into: &mut [u8], count: usize) -> usize
 }
 
 /// Writes the trailer of the first `end` bytes behind them.
-pub(crate) fn put_trailer(into: &mut [u8], end: usize) -> usize
+fn put_trailer(into: &mut [u8], end: usize) -> usize
     requires { end + LONGEST_FIELD ≤ length into.old }
     ensures trailer { take result into.new ≡ take end into.old ++ trailer_of (take end into.old) }
     ensures short { result ≤ end + LONGEST_FIELD }

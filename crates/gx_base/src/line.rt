@@ -4,7 +4,7 @@ ghost use Rattle.gx_base.specs.Line.{line_of};
 
 use crate::body::write_body;
 use crate::event::Event;
-use crate::fields::{GAP, put_head, put_trailer};
+use crate::fields::{GAP, put_frame};
 use crate::limits::LONGEST_LINE;
 use crate::names::Names;
 
@@ -27,6 +27,5 @@ pub fn write_line_into(event: &Event, names: &Names, into: &mut [u8]) -> usize
     ensures short { result ≤ LONGEST_LINE }
 {
     let end = write_body(into, GAP, event, names);
-    let end = put_head(into, end);
-    put_trailer(into, end)
+    put_frame(into, end)
 }

@@ -32,7 +32,7 @@ pub(crate) fn listed(names: &Names, instrument: u8) -> Listed
 }
 
 /// The value of tag 54 in FIX 4.2.
-pub(crate) fn side_text(side: Side) -> &'static [u8]
+pub fn side_text(side: Side) -> &'static [u8]
     ensures text { result.now ≡ side_text side }
     ensures short { length result.now ≤ LONGEST_VALUE }
 {

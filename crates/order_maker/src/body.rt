@@ -1,0 +1,120 @@
+//! The bodies of messages, field by field. Each call writes behind the first `at` bytes, and answers where what it wrote
+//! ends.
+ghost use Rattle.std.specs.Prelude.{◌≡◌, ◌+◌, ◌*◌, ◌≤◌, [], ◌∷◌, ◌++◌, length, take};
+ghost use Rattle.order_maker.specs.Stream.{id_of, head_fields, tick_at, order_fields, body_of};
+
+use crate::made::{Made, firm_at, instrument_at, side_at};
+use gx_base::fields::{LONGEST_FIELD, LONGEST_TAG, field, number, price};
+use gx_base::{LONGEST_VALUE, Price, SOH, append, side_text};
+use itoa::Buffer;
+use product_file::{MOST_TICK, Product};
+
+/// The time of each message.
+const TIME: &[u8] = b"20240102-00:00:00";
+
+/// Writes the body of the message with this number: at most 12 fields.
+pub(crate) fn write_body(
+    into: &mut [u8],
+    at: usize,
+    product: &Product,
+    message: u64,
+    made: &Made,
+) -> usize
+    requires { at + 12 * LONGEST_FIELD ≤ length into.old }
+    ensures body { take result into.new ≡ take at into.old ++ body_of product.now message made.now }
+    ensures short { result ≤ at + 12 * LONGEST_FIELD }
+{
+    match *made {
+        Made::New { lots, ticks } => {
+            let at = head_fields(into, at, product, b"D", message, message);
+            let at = id_field(into, at, b"11=", message);
+            let at = order_fields(into, at, product, message, lots, ticks);
+            field(into, at, b"59=", b"0")
+        }
+        Made::Cancel { target } => {
+            let at = head_fields(into, at, product, b"F", message, target);
+            let at = id_field(into, at, b"11=", message);
+            id_field(into, at, b"41=", target)
+        }
+        Made::Replace {
+            target,
+            lots,
+            ticks,
+        } => {
+            let at = head_fields(into, at, product, b"G", message, target);
+            let at = id_field(into, at, b"11=", message);
+            let at = id_field(into, at, b"41=", target);
+            order_fields(into, at, product, target, lots, ticks)
+        }
+    }
+}
+
+/// Type, sender, exchange, number and time of a message, which the firm of the message `owner` sends.
+fn head_fields(
+    into: &mut [u8],
+    at: usize,
+    product: &Product,
+    message_type: &[u8],
+    message: u64,
+    owner: u64,
+) -> usize
+    requires room { at + 5 * LONGEST_FIELD ≤ length into.old }
+    requires short_type { length message_type.now ≤ LONGEST_VALUE }
+    ensures fields { take result into.new ≡ take at into.old ++ head_fields product.now message_type.now message owner }
+    ensures short { result ≤ at + 5 * LONGEST_FIELD }
+{
+    let names = product.names();
+    let firm = names.firm(firm_at(product, owner));
+    let exchange = names.exchange();
+    let at = field(into, at, b"35=", message_type);
+    let at = field(into, at, b"49=", firm.bytes());
+    let at = field(into, at, b"56=", exchange.bytes());
+    let at = number(into, at, b"34=", message);
+    field(into, at, b"52=", TIME)
+}
+
+/// The id of a message.
+fn id_field(into: &mut [u8], at: usize, tag: &[u8], message: u64) -> usize
+    requires room { at + LONGEST_FIELD ≤ length into.old }
+    requires tag { length tag.now ≤ LONGEST_TAG }
+    ensures field { take result into.new ≡ take at into.old ++ (tag.now ++ id_of message ++ SOH ∷ []) }
+    ensures short { result ≤ at + LONGEST_FIELD }
+{
+    let mut digits = Buffer::new();
+    let mut text = [0; LONGEST_VALUE];
+    let end = append(&mut text, 0, b"G");
+    let end = append(&mut text, end, digits.format(message).as_bytes());
+    field(into, at, tag, &text[..end])
+}
+
+/// A limit order on the instrument and the side of a message.
+fn order_fields(
+    into: &mut [u8],
+    at: usize,
+    product: &Product,
+    message: u64,
+    lots: u32,
+    ticks: u32,
+) -> usize
+    requires { at + 5 * LONGEST_FIELD ≤ length into.old }
+    ensures fields { take result into.new ≡ take at into.old ++ order_fields product.now message lots ticks }
+    ensures short { result ≤ at + 5 * LONGEST_FIELD }
+{
+    let instrument = product.names().listed(instrument_at(product, message));
+    let units = u64::from(ticks) * tick_at(product, message);
+    let at = field(into, at, b"55=", instrument.name.bytes());
+    let at = field(into, at, b"54=", side_text(side_at(product, message)));
+    let at = number(into, at, b"38=", u64::from(lots));
+    let at = field(into, at, b"40=", b"2");
+    price(into, at, b"44=", Price(units as i64), instrument.decimals)
+}
+
+/// The tick of the message's instrument, in price units.
+fn tick_at(product: &Product, message: u64) -> u64
+    ensures tick { result ≡ tick_at product.now message }
+    ensures few { result ≤ MOST_TICK }
+{
+    product.limits();
+    let rule = product.rule(instrument_at(product, message));
+    rule.tick.unsigned_abs()
+}

@@ -1,0 +1,36 @@
+//! The frame of a message (FIX 4.2).
+ghost use Rattle.std.specs.Prelude.{◌≡◌, ◌+◌, ◌<◌, ◌≤◌, ◌++◌, length, take};
+ghost use Rattle.order_maker.specs.Stream.{frame_at};
+
+use crate::body::write_body;
+use crate::made::Made;
+use gx_base::LONGEST_LINE;
+use gx_base::fields::{GAP, put_frame};
+use product_file::Product;
+
+/// Writes the frame of the message with this number behind the first `at` bytes of `into`, and answers where it ends.
+pub(crate) fn write_message(
+    into: &mut [u8],
+    at: usize,
+    product: &Product,
+    message: u64,
+    made: &Made,
+) -> usize
+    requires { at + LONGEST_LINE ≤ length into.old }
+    ensures frame { take result into.new ≡ take at into.old ++ frame_at product.now message made.now }
+    ensures some { at < result }
+    ensures short { result ≤ at + LONGEST_LINE }
+{
+    at + write_frame(&mut into[at..], product, message, made)
+}
+
+/// Writes the frame of a message into the front of `into`, and answers how many bytes it has.
+fn write_frame(into: &mut [u8], product: &Product, message: u64, made: &Made) -> usize
+    requires { LONGEST_LINE ≤ length into.old }
+    ensures frame { take result into.new ≡ frame_at product.now message made.now }
+    ensures some { 0 < result }
+    ensures short { result ≤ LONGEST_LINE }
+{
+    let end = write_body(into, GAP, product, message, made);
+    put_frame(into, end)
+}

@@ -1,0 +1,12 @@
+//! A source of messages that are made by rule: always the same stream for a product, a first number and a count.
+#![tactic(auto)]
+
+mod body;
+mod draws;
+mod frame;
+mod made;
+mod maker_source;
+#[cfg(test)]
+mod tests;
+
+pub use maker_source::MakerSource;

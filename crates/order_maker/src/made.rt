@@ -1,0 +1,121 @@
+//! Whose each message is, what it is about, and what is drawn for it.
+ghost use Rattle.std.specs.Prelude.{◌≡◌, ◌<◌, ◌≤◌, length, unsigned_abs};
+ghost use Rattle.order_maker.specs.Draws.{next_state, drawn};
+ghost use Rattle.order_maker.specs.Messages.{firm_at, instrument_at, side_at, lowest, target_of, new_of, cancel_of, replace_of, message_of};
+
+use crate::draws::draw;
+use gx_base::Side;
+use product_file::Product;
+
+/// The lowest price of a replace, and of a new order that sells, in ticks.
+const LOWEST_SELL: u32 = 9_990;
+
+/// The lowest price of a new order that buys, in ticks.
+const LOWEST_BUY: u32 = 9_900;
+
+/// What a message asks for. Messages are named by their numbers, from 1 on.
+#[derive(Clone, Copy)]
+pub(crate) enum Made {
+    /// A new order of so many lots, at a price in ticks.
+    New { lots: u32, ticks: u32 },
+    /// To cancel the order of that message.
+    Cancel { target: u64 },
+    /// To replace the order of that message by one of so many lots, at a price in ticks.
+    Replace { target: u64, lots: u32, ticks: u32 },
+}
+
+/// The number of the firm that the message with this number is of: the firms take turns.
+pub(crate) fn firm_at(product: &Product, number: u64) -> u8
+    ensures firm { result ≡ firm_at product.now number }
+    ensures listed { result < length product.now.names.firms }
+{
+    product.limits();
+    let firms = product.names().firm_count() as u64;
+    (number.saturating_sub(1) % firms) as u8
+}
+
+/// The number of the instrument of the message with this number: the instruments take turns, too.
+pub(crate) fn instrument_at(product: &Product, number: u64) -> u8
+    ensures instrument { result ≡ instrument_at product.now number }
+    ensures listed { result < length product.now.names.instruments }
+{
+    product.limits();
+    let instruments = product.names().instrument_count() as u64;
+    (number % instruments) as u8
+}
+
+/// The side of the message with this number: a round of the firms buys, and the next one sells.
+pub(crate) fn side_at(product: &Product, number: u64) -> Side
+    ensures { result ≡ side_at product.now number }
+{
+    product.limits();
+    let firms = product.names().firm_count() as u64;
+    if number / firms % 2 == 0 {
+        Side::Buy
+    } else {
+        Side::Sell
+    }
+}
+
+/// Draws what the message with this number asks for: eight of ten are new orders, one is a cancel and one a replace.
+#[tactic(auto, unfolding(crate::specs::Messages::message_of))]
+pub(crate) fn draw_message(product: &Product, number: u64, state: &mut u32) -> Made
+    ensures { (result, state.new) ≡ message_of product.now number state.old }
+{
+    match draw(state, 10) {
+        0..=7 => draw_new(side_at(product, number), state),
+        8 => draw_cancel(number, state),
+        _ => draw_replace(number, state),
+    }
+}
+
+/// Draws a new order of a side.
+fn draw_new(side: Side, state: &mut u32) -> Made
+    ensures { (result, state.new) ≡ new_of side state.old }
+{
+    let ticks = lowest(side) + draw(state, 110);
+    let lots = draw(state, 100) + 1;
+    Made::New { lots, ticks }
+}
+
+/// The lowest price of new orders of a side, in ticks.
+fn lowest(side: Side) -> u32
+    ensures lowest { result ≡ lowest side }
+    ensures few { result < 10000 }
+{
+    match side {
+        Side::Buy => LOWEST_BUY,
+        Side::Sell => LOWEST_SELL,
+    }
+}
+
+/// Draws a cancel.
+fn draw_cancel(number: u64, state: &mut u32) -> Made
+    ensures { (result, state.new) ≡ cancel_of number state.old }
+{
+    let target = draw_target(number, state);
+    Made::Cancel { target }
+}
+
+/// Draws a replace.
+fn draw_replace(number: u64, state: &mut u32) -> Made
+    ensures { (result, state.new) ≡ replace_of number state.old }
+{
+    let target = draw_target(number, state);
+    let lots = draw(state, 100) + 1;
+    let ticks = LOWEST_SELL + draw(state, 20);
+    Made::Replace {
+        target,
+        lots,
+        ticks,
+    }
+}
+
+/// Draws the message whose order a message changes: one of the thousand before it, and no earlier one than the first.
+fn draw_target(number: u64, state: &mut u32) -> u64
+    ensures target { result ≡ target_of number (drawn 1000 state.new) }
+    ensures state { state.new ≡ next_state state.old }
+{
+    let back = u64::from(draw(state, 1000));
+    number.saturating_sub(1).saturating_sub(back).max(1)
+}

@@ -1,0 +1,128 @@
+//! A source of made messages.
+ghost use Rattle.std.specs.Prelude.{◌≡◌, ◌+◌, ◌^◌, ◌<◌, ◌≤◌, ◌++◌, ◌==◌, if◌then◌else◌, length, take, IfOk, IsOk};
+ghost use Rattle.gx_station.specs.Counts.{counted};
+ghost use Rattle.gx_station.specs.Sources.{Takes};
+ghost use Rattle.order_maker.specs.Stream.{MadeStream, maker_meanings, made_stream, frames_from};
+
+use crate::frame::write_message;
+use crate::made::draw_message;
+use gx_base::LONGEST_LINE;
+use gx_station::{Failed, LEAST_READ, Source};
+use product_file::Product;
+use std::alloc::{AllocError, Global};
+use std::marker::Model;
+
+/// Where a stream stands: the number of the next message, how many are left, and the state of the draws.
+#[derive(Clone, Copy)]
+struct Stand {
+    number: u64,
+    left: u64,
+    state: u32,
+}
+
+/// Gives the frames of made messages, one behind the other, and never fails. Contracts see it as the bytes that are left
+/// of the stream, and the count of the reads that have placed some.
+#[derive(Drop)]
+pub struct MakerSource<'a> {
+    product: &'a Product,
+    stand: Stand,
+    reads: u64,
+}
+
+impl<'a> Model for MakerSource<'a> {
+    ghost use Rattle.order_maker.specs.Stream.{MadeStream};
+
+    ghost Value = { MadeStream };
+
+    ghost use Rattle.std.specs.Prelude.{◌+◌, ◌^◌, ◌≤◌};
+    ghost use Rattle.order_maker.specs.Stream.{frames_from};
+
+    ghost view = { λ s. record { left = frames_from s.product.now s.stand.state s.stand.number s.stand.left; reads = s.reads } };
+
+    ghost invariant = { λ s. s.stand.number + s.stand.left ≤ 2 ^ 32 };
+}
+
+impl<'a> MakerSource<'a> {
+    /// The stream of `count` messages of a product, with `first` as the first state. Takes no memory, and so is no `Err`.
+    pub fn new(
+        _alloc: Global,
+        product: &'a Product,
+        first: u32,
+        count: u32,
+    ) -> Result<MakerSource<'a>, AllocError>
+        ensures { IfOk result (λ s. s ≡ record { left = made_stream product.now first count; reads = 0 }) }
+    {
+        let stand = Stand {
+            number: 1,
+            left: u64::from(count),
+            state: first,
+        };
+        Ok(MakerSource {
+            product,
+            stand,
+            reads: 0,
+        })
+    }
+}
+
+impl<'a> Source for MakerSource<'a> {
+    ghost meanings = { maker_meanings };
+
+    /// As the trait says. It places whole frames, as many as are sure to fit, and never fails.
+    fn read(&mut self, into: &mut [u8]) -> Result<usize, Failed>
+        requires { LEAST_READ ≤ length into.old }
+        ensures takes { Takes maker_meanings self.old self.new into.new result }
+        ensures no_fault { IsOk result }
+    {
+        let count = place_frames(self.product, &mut self.stand, into);
+        self.reads = count_read(self.reads, count);
+        Ok(count)
+    }
+}
+
+/// The reads after one that placed so many bytes.
+fn count_read(reads: u64, placed: usize) -> u64
+    ensures { result ≡ (if placed == 0 then reads else counted reads) }
+{
+    if placed == 0 {
+        reads
+    } else {
+        reads.saturating_add(1)
+    }
+}
+
+/// Places frames in the front of `into` while one is left and any frame would fit, and answers where they end.
+fn place_frames(product: &Product, stand: &mut Stand, into: &mut [u8]) -> usize
+    requires room { LONGEST_LINE ≤ length into.old }
+    requires few { stand.old.number + stand.old.left ≤ 2 ^ 32 }
+    ensures within { result ≤ length into.new }
+    ensures frames { frames_from product.now stand.old.state stand.old.number stand.old.left
+        ≡ take result into.new ++ frames_from product.now stand.new.state stand.new.number stand.new.left }
+    ensures end { result ≡ 0 → stand.old.left ≡ 0 }
+    ensures few { stand.new.number + stand.new.left ≤ 2 ^ 32 }
+{
+    let mut end = 0;
+    while stand.left > 0 && into.len() - end >= LONGEST_LINE {
+        end = place_next(product, stand, into, end);
+    }
+    end
+}
+
+/// Writes the next frame behind the first `at` bytes of `into`, and answers where it ends.
+fn place_next(product: &Product, stand: &mut Stand, into: &mut [u8], at: usize) -> usize
+    requires room { at + LONGEST_LINE ≤ length into.old }
+    requires some { 1 ≤ stand.old.left }
+    requires few { stand.old.number + stand.old.left ≤ 2 ^ 32 }
+    ensures within { result ≤ length into.new }
+    ensures frame { take at into.old ++ frames_from product.now stand.old.state stand.old.number stand.old.left
+        ≡ take result into.new ++ frames_from product.now stand.new.state stand.new.number stand.new.left }
+    ensures further { at < result }
+    ensures left { stand.new.left + 1 ≡ stand.old.left }
+    ensures number { stand.new.number ≡ stand.old.number + 1 }
+{
+    let made = draw_message(product, stand.number, &mut stand.state);
+    let end = write_message(into, at, product, stand.number, &made);
+    stand.number += 1;
+    stand.left -= 1;
+    end
+}
