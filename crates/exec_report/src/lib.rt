@@ -3,7 +3,9 @@
 
 mod outgoing;
 mod report_buffer;
+mod texts;
 
 pub use gx_base::write_line;
-pub use outgoing::{Outgoing, SendFault};
+pub use outgoing::Outgoing;
 pub use report_buffer::{BUFFER_ROOM, MOST_WAITING, ReportBuffer};
+pub use texts::{SendFault, push_text, send_waiting};

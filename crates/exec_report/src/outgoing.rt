@@ -5,32 +5,9 @@ ghost use Rattle.gx_base.specs.Line.{line_of};
 ghost use Rattle.exec_report.specs.Pushes.{Pushes, added_to, waiting_with};
 
 use crate::report_buffer::{MOST_WAITING, ReportBuffer};
+use crate::texts::{SendFault, send_waiting};
 use gx_base::{Emit, Event, Names};
 use gx_station::Station;
-use thiserror::Error;
-
-/// A send has failed.
-#[derive(Clone, Copy, Debug, Error, PartialEq, Eq)]
-#[error("a send of reports has failed")]
-pub struct SendFault;
-
-/// Sends what waits. Where nothing does, the station is not called.
-fn send_waiting<S: Station>(buffer: &mut ReportBuffer, station: &mut S) -> Result<(), SendFault>
-    ensures pushes { Pushes S.meanings station.old station.new buffer.old buffer.new [] result }
-    ensures empty { OnOk result (buffer.new ≡ []) }
-    ensures idle { buffer.old ≡ [] → IsOk result × (station.new ≡ station.old) }
-{
-    if buffer.is_empty() {
-        return Ok(());
-    }
-    match station.send(buffer.bytes()) {
-        Ok(()) => {
-            buffer.clear();
-            Ok(())
-        }
-        Err(_) => Err(SendFault),
-    }
-}
 
 /// Adds the line of an event to what waits, which is sent first where the line does not fit behind it.
 fn add_or_send<S: Station>(

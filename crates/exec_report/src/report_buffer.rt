@@ -3,7 +3,7 @@ ghost use Rattle.std.specs.Prelude.{◌≡◌, ◌+◌, ◌≤◌, ◌↔◌, �
 ghost use Rattle.std.specs.Bool.{OnTrue, OnFalse};
 ghost use Rattle.gx_base.specs.Line.{line_of};
 
-use gx_base::{Event, LONGEST_LINE, Names, write_line_into};
+use gx_base::{Event, LONGEST_LINE, Names, append, write_line_into};
 use std::alloc::{AllocError, Global};
 use std::marker::Model;
 
@@ -59,6 +59,19 @@ impl ReportBuffer {
             return false;
         }
         self.len += count;
+        true
+    }
+
+    /// Adds a text to the bytes that wait, and answers whether there was room for it. Where there was none, nothing is added.
+    pub(crate) fn add_text(&mut self, text: &[u8]) -> bool
+        ensures fits { IsTrue result ↔ (length self.old + length text.now ≤ MOST_WAITING) }
+        ensures added { OnTrue result (self.new ≡ self.old ++ text.now) }
+        ensures full { OnFalse result (self.new ≡ self.old) }
+    {
+        if text.len() > MOST_WAITING - self.len {
+            return false;
+        }
+        self.len = append(&mut self.bytes, self.len, text);
         true
     }
 

@@ -35,4 +35,4 @@ pub use price::{Price, PriceFault, read_price, write_price};
 pub use quantity::read_quantity;
 pub use stamp::Stamp;
 pub use trailer::{TRAILER_LENGTH, checksum, trailer_with};
-pub use values::side_text;
+pub use values::{addressee, listed, side_text, step_text};

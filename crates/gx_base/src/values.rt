@@ -9,7 +9,7 @@ use crate::names::{Listed, Names};
 use crate::order::{Kind, Life, Side};
 
 /// The name of a report's addressee, `UNKNOWN` where it is not known or not listed.
-pub(crate) fn addressee(names: &Names, firm: Option<u8>) -> ShortId
+pub fn addressee(names: &Names, firm: Option<u8>) -> ShortId
     ensures { result ≡ addressee names.now firm }
 {
     match firm {
@@ -19,7 +19,7 @@ pub(crate) fn addressee(names: &Names, firm: Option<u8>) -> ShortId
 }
 
 /// An instrument. One that is not listed has the name `UNKNOWN` and no decimals.
-pub(crate) fn listed(names: &Names, instrument: u8) -> Listed
+pub fn listed(names: &Names, instrument: u8) -> Listed
     ensures name { result.name ≡ instrument_name names.now instrument }
     ensures decimals { result.decimals ≡ decimals_of names.now instrument }
     ensures few { result.decimals ≤ MOST_DECIMALS }
@@ -68,7 +68,7 @@ pub(crate) fn life_text(life: Life) -> &'static [u8]
 }
 
 /// The value of our tag 9001.
-pub(crate) fn step_text(step: StepName) -> &'static [u8]
+pub fn step_text(step: StepName) -> &'static [u8]
     ensures text { result.now ≡ step_text step }
     ensures short { length result.now ≤ LONGEST_VALUE }
 {
