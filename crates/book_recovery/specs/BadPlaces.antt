@@ -1,10 +1,10 @@
 -- The place that is answered for a journal with a bad record: the gate of the first record with a bad head; and where no
 -- head is bad, that of the first record whose payload is not whole frames (our own rule).
-use Rattle.std.specs.Prelude.{◌≡◌, ◌⊎◌, ℕ, ◌<◌, ◌≤◌, List, ◌∷◌, ◌++◌, length}
+use Rattle.std.specs.Prelude.{◌≡◌, ◌⊎◌, ℕ, ◌<◌, ◌≤◌, List, [], ◌∷◌, ◌++◌, length}
 use Rattle.std.specs.List.{AllByRecursion}
 use Rattle.match_journal.specs.Journal.{IsJournal, IsPayload, journal_front}
 use Rattle.match_journal.specs.Walking.{IsBadHead}
-use Rattle.book_recovery.specs.Kept.{IsWhole, AreWhole}
+use Rattle.book_recovery.specs.Kept.{IsWhole, AreWhole, messages_in}
 
 -- The first records of a journal of this text have good heads and these payloads, and the gate behind them is inside the
 -- image.
@@ -33,3 +33,23 @@ pub record HasBadPayloadAt (text : List ℕ) (limit : ℕ) (image : List ℕ) (a
 
 abbrev pub IsBadPlace : List ℕ → ℕ → List ℕ → ℕ → Type 0
 IsBadPlace text limit image at = HasBadHeadAt text limit image at ⊎ HasBadPayloadAt text limit image at
+
+-- ---- for who reads each record whole when he comes to it
+
+-- the first records of a journal of this text, none of them bad
+pub record AreFirstRecords (text : List ℕ) (limit : ℕ) (payloads : List (List ℕ)) (image : List ℕ) : Type 0 where
+  pub begins : BeginsWithRecords text limit payloads image
+  pub whole : AreWhole payloads
+
+-- the record behind these has a good head, and a payload that is not whole frames
+pub record HasBadPayloadBehind (text : List ℕ) (limit : ℕ) (before : List (List ℕ)) (image : List ℕ) : Type 0 where
+  pub payload : List ℕ
+  pub begins : BeginsWithRecords text limit (before ++ payload ∷ []) image
+  pub not_whole : IsWhole payload → ⊥
+
+-- The first bad record, whatever stands behind it: its head is bad, or its payload is not whole frames.
+pub record HasBadRecordAt (text : List ℕ) (limit : ℕ) (image : List ℕ) (at : ℕ) : Type 0 where
+  pub before : List (List ℕ)
+  pub first : AreFirstRecords text limit before image
+  pub place : at ≡ length (journal_front text before)
+  pub bad : IsBadHead image limit at at ⊎ HasBadPayloadBehind text limit before image
