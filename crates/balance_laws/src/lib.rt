@@ -3,4 +3,4 @@
 
 mod laws;
 
-pub use laws::streams_balance;
+pub use laws::{streams_balance, totals_are_small};
