@@ -4,7 +4,7 @@ use Rattle.std.proofs.Common.{◌≡◌, ℕ, ◌+◌, ◌*◌, ◌≤◌, Bool,
 use Rattle.std.proofs.lemmas.List.{length-map}
 use Rattle.std.proofs.lemmas.List.Sums.{sum_by-cons, sum_by-append}
 use Rattle.std.proofs.lemmas.Bool.Decides.{nat_tests}
-use Rattle.std.specs.Prelude.{◌&&◌, nat_le}
+use Rattle.std.specs.Prelude.{◌^◌, ◌<◌, ◌&&◌, nat_le}
 use Rattle.gx_base.specs.declared.limits.TheConstants.{MOST_LOTS}
 use Rattle.gx_base.specs.declared.event.Event.{Event}
 use Rattle.gx_base.specs.declared.event.ChangeFault.{ChangeFault}
@@ -27,10 +27,11 @@ use Rattle.order_kinds.specs.Stops.{Naming, by_number}
 use Rattle.order_kinds.specs.Cancels.{cancel_by, cancel_step}
 use Rattle.order_kinds.specs.Replaces.{replace_terms, least_after, keeps_place, replaced_in_place, replaced_start, replaced_anew, replaced, replaced_by, replace_by, replace_step}
 use Rattle.order_kinds.specs.Step.{with_message, request_step, step_of, state_after, events_from, events_of}
-use Rattle.order_kinds.specs.Balance.{total_entered, filled_in, cancelled_in}
+use Rattle.order_kinds.specs.Balance.{total_entered, total_open, filled_in, cancelled_in}
+use Rattle.order_kinds.specs.declared.core_state.TheConstants.{MOST_MESSAGES}
 use Rattle.order_kinds.proofs.Refusals.{new-passes, replace-passes}
-use Rattle.balance_laws.specs.Bounds.{AreWithin, StaysWithin}
-use Rattle.balance_laws.proofs.Growth.{asked_in, entered-within, without-within, Grows, grows-none, grows-within, grows-both, grows-append, come-in-grows}
+use Rattle.balance_laws.specs.Bounds.{asked_in, AreWithin, StaysWithin}
+use Rattle.balance_laws.proofs.Growth.{entered-within, without-within, Grows, grows-none, grows-within, grows-both, grows-append, come-in-grows}
 use Rattle.balance_laws.proofs.Streams.{streams-balance}
 
 -- ---- one message
@@ -137,12 +138,32 @@ totals-within product frames front behind right is =
     let balanced = streams-balance product frames right in
     let all : total_entered events ≤ length frames * MOST_LOTS = omega (arith, grown.lots, entered-within 0 events) in
     let long : length events ≡ length front + length behind = ap (λ (es : List Event). length es) is ∙ length-append front behind in
+    let asked = front-within asked_in events front behind is in
     record {
-      entered = omega (arith, grown.lots, entered-within 0 front, front-within asked_in events front behind is);
+      asked = omega (arith, grown.lots, asked);
+      entered = omega (arith, grown.lots, asked, entered-within 0 front);
       filled = omega (arith, all, balanced.total, front-within filled_in events front behind is);
       cancelled = omega (arith, all, balanced.total, front-within cancelled_in events front behind is);
       many = omega (arith, all, balanced.total, grown.events, long);
     }
+
+-- What is open at the end was entered too.
+pub open-within : (product : ProductLists) (frames : List (List ℕ)) → IsRightProduct product → total_open (state_after product (empty_state product) frames).book ≤ length frames * MOST_LOTS
+open-within product frames right =
+    let balanced = streams-balance product frames right in
+    omega (arith, balanced.total, (frames-grow product (empty_state product) frames).lots, entered-within 0 (events_of product frames))
+
+-- ---- counters of 64 bits
+
+-- No total reaches the end of one.
+pub total-below : (messages total : ℕ) → messages ≤ MOST_MESSAGES → total ≤ messages * MOST_LOTS → total < 2 ^ 64
+total-below messages total few within = omega (arith, few, within)
+
+-- Nor does the number of events.
+pub many-below : (messages many : ℕ) → messages ≤ MOST_MESSAGES → many ≤ messages * (MOST_LOTS + 3) → many < 2 ^ 63
+many-below messages many few within = omega (arith, few, within)
+
+-- ---- the law
 
 pub streams-stay-within : (product : ProductLists) (frames : List (List ℕ)) → IsRightProduct product → StaysWithin product frames
 streams-stay-within product frames right = λ front behind is. totals-within product frames front behind right is

@@ -1,6 +1,6 @@
 -- How much an order that comes in adds to the events of its message: no order is entered besides, each fill is of one lot or
 -- more, and of the others there is at most one for it and two for each stop that waits no more.
-use Rattle.std.proofs.Common.{◌≡◌, ◌≢◌, ℕ, ◌+◌, ◌*◌, ◌≤◌, Bool, true, false, cond, not, List, [], ◌∷◌, ◌++◌, filter, length, Option, Some, None, refl, sym, subst, arith, inl, inr, sum_by, length-append}
+use Rattle.std.proofs.Common.{◌≡◌, ◌≢◌, ℕ, ◌+◌, ◌*◌, ◌≤◌, Bool, true, false, cond, not, List, [], ◌∷◌, ◌++◌, filter, length, Option, Some, None, refl, sym, subst, arith, inl, inr, length-append}
 use Prim.Native.Nat.{zero, suc}
 use Rattle.std.proofs.lemmas.List.Sums.{sum_by-cons, sum_by-append, sum_by_push}
 use Rattle.std.proofs.lemmas.List.Filters.{length-filter_both}
@@ -29,18 +29,10 @@ use Rattle.order_kinds.specs.Balance.{entered_with, entered_from, filled_in, tot
 use Rattle.order_kinds.specs.NewOrders.{may_rest}
 use Rattle.order_kinds.specs.Entering.{cancel_event, taker_cancelled, taker_rested, finished, open_for, entered}
 use Rattle.order_kinds.specs.Stops.{Naming, fill_range, is_marked, first_entry, first_marked, next_stop, as_triggered, stop_triggered, stop_entered, stop_rounds, entered_with_stops, taker_waiting, come_in_as, come_in}
+use Rattle.balance_laws.specs.Bounds.{asked_in, total_asked}
 use Rattle.balance_laws.proofs.Events.{filled-push}
 
 -- ---- what an event enters
-
--- the quantity of an order that is accepted or replaced
-abbrev pub asked_in : Event → ℕ
-asked_in (Accepted head o) = o.quantity
-asked_in (Replaced head o old before) = o.quantity
-asked_in _ = 0
-
-abbrev pub asked_of : List Event → ℕ
-asked_of events = sum_by asked_in events
 
 entered-more : (n : ℕ) (e : Event) → entered_with n e ≤ n + asked_in e
 entered-more n (Accepted head o) = omega arith
@@ -53,7 +45,7 @@ entered-more n (RefusedChange head id old number filled replace fault) = omega a
 entered-more n (RefusedSession head seq tag reason rule) = omega arith
 
 -- a replace only takes off what was entered
-pub entered-within : (n : ℕ) (es : List Event) → entered_from n es ≤ n + asked_of es
+pub entered-within : (n : ℕ) (es : List Event) → entered_from n es ≤ n + total_asked es
 entered-within n [] = omega arith
 entered-within n (e ∷ es) = omega (arith, sum_by-cons asked_in e es, entered-more n e, entered-within (entered_with n e) es)
 
@@ -87,7 +79,7 @@ lined-more n es =
 -- Between these events and those, with these waiting stops before and those after: orders of so many lots are entered, and
 -- there are so many more events, besides fills of one lot each and two for each stop that waits no more.
 pub record Grows (asked more : ℕ) (es fs : List Event) (waiting after : List Entry) : Type 0 where
-  pub lots : asked_of fs ≤ asked + asked_of es
+  pub lots : total_asked fs ≤ asked + total_asked es
   pub events : (length fs + 2 * length after) + total_filled es ≤ (more + (length es + 2 * length waiting)) + total_filled fs
 
 pub grows-none : (es : List Event) (waiting : List Entry) → Grows 0 0 es es waiting waiting
