@@ -1,7 +1,7 @@
--- How far the totals of a stream can grow, and how many events it has: at each moment, what each message at most enters, and
--- as all that is filled or cancelled was entered, no more of that.
-use Rattle.std.proofs.Common.{◌≡◌, ℕ, ◌+◌, ◌*◌, ◌≤◌, Bool, true, false, cond, not, List, [], ◌∷◌, ◌++◌, length, Option, Some, None, Result, Ok, Err, refl, ap, ◌∙◌, arith, sum_by, length-append}
-use Rattle.std.proofs.lemmas.List.{length-map}
+-- How far the totals of a stream can grow, and how many events it has. No message asks for more than 999,999 lots, and what is
+-- filled, cancelled or open was asked for.
+use Rattle.std.proofs.Common.{◌≡◌, ℕ, ◌+◌, ◌*◌, ◌≤◌, Bool, true, false, cond, not, List, [], ◌∷◌, ◌++◌, length, Option, Some, None, Result, Ok, Err, refl, sym, ap, ◌∙◌, arith, sum_by, length-append}
+use Rattle.std.proofs.lemmas.List.{length-map, append-nil}
 use Rattle.std.proofs.lemmas.List.Sums.{sum_by-cons, sum_by-append}
 use Rattle.std.proofs.lemmas.Bool.Decides.{nat_tests}
 use Rattle.std.specs.Prelude.{◌^◌, ◌<◌, ◌&&◌, nat_le}
@@ -36,16 +36,16 @@ use Rattle.balance_laws.proofs.Streams.{streams-balance}
 
 -- ---- one message
 
--- between a state, with the waiting stops of `waiting`, and what a step makes of it: one order of at most 999,999 lots is
--- entered, and there are at most three events that are no fills, besides two for each stop that waits no more
+-- From a state with these waiting stops, a step asks for at most 999,999 lots, and has at most three events that are no fills,
+-- besides two for each stop that waits no more.
 abbrev StepGrows : List Entry → State × List Event → Type 0
 StepGrows waiting step = Grows MOST_LOTS 3 [] step.1 waiting step.0.book.waiting
 
--- one event, and no more waiting stops
+-- one event, and no more stops wait than before
 one-grows : (e : Event) (waiting after : List Entry) → asked_in e ≤ MOST_LOTS → length after ≤ length waiting → Grows MOST_LOTS 1 [] (e ∷ []) waiting after
 one-grows e waiting after lots fewer = record { lots = omega (arith, lots, sum_by-cons asked_in e []); events = omega (arith, fewer) }
 
--- one event that enters nothing
+-- one event that asks for nothing
 report-grows : (e : Event) (waiting after : List Entry) → asked_in e ≡ 0 → length after ≤ length waiting → Grows MOST_LOTS 3 [] (e ∷ []) waiting after
 report-grows e waiting after none fewer = grows-within (omega arith) (omega arith) (one-grows e waiting after (omega (arith, none)) fewer)
 
@@ -146,6 +146,10 @@ totals-within product frames front behind right is =
       cancelled = omega (arith, all, balanced.total, front-within cancelled_in events front behind is);
       many = omega (arith, all, balanced.total, grown.events, long);
     }
+
+-- And so it is at the end.
+pub whole-within : (product : ProductLists) (frames : List (List ℕ)) → IsRightProduct product → AreWithin (length frames) (events_of product frames)
+whole-within product frames right = totals-within product frames (events_of product frames) [] right (sym (append-nil (events_of product frames)))
 
 -- What is open at the end was entered too.
 pub open-within : (product : ProductLists) (frames : List (List ℕ)) → IsRightProduct product → total_open (state_after product (empty_state product) frames).book ≤ length frames * MOST_LOTS
