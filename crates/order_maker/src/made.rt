@@ -15,7 +15,7 @@ const LOWEST_BUY: u32 = 9_900;
 
 /// What a message asks for. Messages are named by their numbers, from 1 on.
 #[derive(Clone, Copy)]
-pub(crate) enum Made {
+pub enum Made {
     /// A new order of so many lots, at a price in ticks.
     New { lots: u32, ticks: u32 },
     /// To cancel the order of that message.

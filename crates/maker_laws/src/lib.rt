@@ -1,0 +1,6 @@
+//! Laws of made streams: each of them is whole messages, as many as were asked for.
+#![tactic(auto)]
+
+mod laws;
+
+pub use laws::made_streams_are_messages;
