@@ -5,3 +5,4 @@ mod Fields
 mod Values
 mod Drawn
 mod Frames
+mod Looked

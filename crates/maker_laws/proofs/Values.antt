@@ -4,6 +4,7 @@ use Rattle.std.proofs.lemmas.Bool.{and_parts, cond-false, le-ltb}
 use Rattle.std.proofs.lemmas.Fmt.{length-decimal-le}
 use Rattle.std.proofs.lemmas.Int.{ints}
 use Rattle.std.proofs.lemmas.List.{length_push}
+use Rattle.std.proofs.lemmas.List.Elements.{recursion_from_All}
 use Rattle.std.proofs.Math.Nat.{div-le_self}
 use Rattle.std.specs.List.{AllByRecursion, list_all}
 use Rattle.gx_base.specs.Line.{firm_name, instrument_name, decimals_of}
@@ -15,7 +16,7 @@ use Rattle.product_file.specs.Products.{ProductLists, IsRightProduct, IsRightIns
 use Rattle.product_file.specs.declared.product.InstrumentRule.{InstrumentRule}
 use Rattle.order_maker.specs.Stream.{tick_at}
 use Rattle.order_maker.specs.Messages.{instrument_at}
-use Rattle.maker_laws.specs.Names.{AreNames}
+use Rattle.maker_laws.specs.Names.{AreNames, IsListed}
 
 -- ---- numbers and prices
 
@@ -57,15 +58,15 @@ short-firm (firm ∷ firms) (suc i) all = short-firm firms i all.1
 
 module _ (names : NameLists) (are : AreNames names) where
   pub short-firm_name : (i : ℕ) → length (firm_name names i) ≤ 24
-  short-firm_name i = short-firm names.firms i are.firms
+  short-firm_name i = short-firm names.firms i (recursion_from_All (λ (firm : List ℕ). IsTrue (is_name firm)) names.firms are.firms)
 
   pub short-instrument_name : (i : ℕ) → length (instrument_name names i) ≤ 24
   short-instrument_name i =
-      found (λ (l : Listed). IsTrue (is_name l.name)) (λ (name : List ℕ). length name ≤ 24) (λ (l : Listed). l.name) (codes "UNKNOWN") names.instruments i (λ l is. short-name l.name is) (omega arith) are.instruments
+      found IsListed (λ (name : List ℕ). length name ≤ 24) (λ (l : Listed). l.name) (codes "UNKNOWN") names.instruments i (λ l is. short-name l.name is.0) (omega arith) (recursion_from_All IsListed names.instruments are.instruments)
 
   pub few-decimals : (i : ℕ) → decimals_of names i ≤ 8
   few-decimals i =
-      found (λ (l : Listed). l.decimals ≤ 8) (λ (n : ℕ). n ≤ 8) (λ (l : Listed). l.decimals) 0 names.instruments i (λ l few. few) (omega arith) are.few_decimals
+      found IsListed (λ (n : ℕ). n ≤ 8) (λ (l : Listed). l.decimals) 0 names.instruments i (λ l is. is.1) (omega arith) (recursion_from_All IsListed names.instruments are.instruments)
 
 low-abs : (z : ℤ) → pos 1 ≤ℤ z → z ≤ℤ pos 1000000 → unsigned_abs z ≤ 1000000
 low-abs z least most = search (rules, ints)

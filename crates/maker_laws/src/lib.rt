@@ -2,5 +2,7 @@
 #![tactic(auto)]
 
 mod laws;
+mod names;
 
 pub use laws::made_streams_are_messages;
+pub use names::names_are_right;
