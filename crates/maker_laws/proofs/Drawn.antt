@@ -1,5 +1,5 @@
 -- What is drawn for a message is small.
-use Rattle.std.proofs.Common.{◌≡◌, ℕ, ◌+◌, ◌-◌, ◌/◌, ◌%◌, ◌==◌, ◌<◌, ◌≤◌, max, nat_lt, cond, arith}
+use Rattle.std.proofs.Common.{ℕ, ◌/◌, ◌==◌, ◌<◌, ◌≤◌, nat_lt, cond, arith}
 use Rattle.std.proofs.lemmas.Bool.{cond_both}
 use Rattle.std.proofs.lemmas.Nat.{mod_below}
 use Rattle.gx_base.specs.declared.order.Side.{Side}

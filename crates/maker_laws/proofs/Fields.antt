@@ -28,7 +28,7 @@ more-fields m n a b first rest = record {
 }
 
 pub fewer-fields : (m n : ℕ) (a : List ℕ) → m ≤ n → AreFields m a → AreFields n a
-fewer-fields m n a few are = record { short = omega (arith, are.short); front = are.front; ends = are.ends; }
+fewer-fields m n a few are = record { short = omega (arith, are.short); front = are.front; ends = are.ends }
 
 -- the last byte is SOH
 pub last-field : (count : ℕ) (bytes : List ℕ) → AreFields count bytes → (0 < length bytes) × (get_or bytes (length bytes - 1) 0 ≡ 1)

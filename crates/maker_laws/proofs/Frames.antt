@@ -1,5 +1,5 @@
 -- Each made message is a frame.
-use Rattle.std.proofs.Common.{◌≡◌, ℕ, ◌+◌, ◌*◌, ◌^◌, ◌<◌, ◌≤◌, true, List, ◌++◌, length, get_or, pos, codes, decimal, arith, refl, le-leb}
+use Rattle.std.proofs.Common.{◌≡◌, ℕ, ◌*◌, ◌^◌, ◌<◌, ◌≤◌, true, List, length, get_or, codes, decimal, arith, refl, le-leb}
 use Rattle.std.proofs.lemmas.Bool.{and_from}
 use Rattle.std.proofs.lemmas.Fmt.{decimal_is_IsNumeral, length-decimal-le}
 use Rattle.std.proofs.lemmas.Str.Parse.{digit_at}
@@ -11,7 +11,7 @@ use Rattle.gx_base.specs.Frames.{field, frame_of}
 use Rattle.gx_base.specs.Line.{firm_name, instrument_name, decimals_of, side_text}
 use Rattle.gx_base.specs.declared.order.Side.{Side}
 use Rattle.gx_base.specs.declared.order.Side.TheVariants.{Buy, Sell}
-use Rattle.fix_frame.specs.FrameLaws.{IsMade, made_frame}
+use Rattle.fix_frame.specs.FrameLaws.{made_frame}
 use Rattle.fix_frame.specs.Grammar.{IsFrame}
 use Rattle.product_file.specs.Products.{ProductLists, IsRightProduct}
 use Rattle.order_maker.specs.declared.made.Made.{Made}

@@ -1,6 +1,5 @@
 -- A made stream is whole messages, as many as were asked for.
 use Rattle.std.proofs.Common.{◌≡◌, ℕ, zero, suc, ◌+◌, ◌^◌, ◌<◌, ◌≤◌, [], length, refl, ap, ◌∙◌, arith}
-use Rattle.fix_frame.specs.Grammar.{IsFrame}
 use Rattle.fix_frame.specs.Stream.{messages_of, rest_of}
 use Rattle.fix_frame.specs.StreamLaws.{messages_of-frame-append, rest_of-frame-append}
 use Rattle.product_file.specs.Products.{ProductLists, IsRightProduct}

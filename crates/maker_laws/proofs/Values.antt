@@ -1,5 +1,5 @@
 -- How many bytes a value has: a number, a price, a name.
-use Rattle.std.proofs.Common.{◌≡◌, ℕ, zero, suc, ◌+◌, ◌*◌, ◌/◌, ◌%◌, ◌^◌, ◌<◌, ◌≤◌, ◌≤ℤ◌, ℤ, pos, negsuc, List, [], ◌∷◌, ◌++◌, length, Option, Some, None, option_map, unwrap_or, slice_get, codes, decimal, unsigned_abs, int_lt, false, rules, IsTrue, arith, refl, ap, ◌∙◌, length-append, leb-true}
+use Rattle.std.proofs.Common.{◌≡◌, ℕ, zero, suc, ◌+◌, ◌/◌, ◌^◌, ◌<◌, ◌≤◌, ◌≤ℤ◌, ℤ, pos, List, [], ◌∷◌, ◌++◌, length, option_map, unwrap_or, slice_get, codes, decimal, unsigned_abs, int_lt, false, rules, IsTrue, arith, refl, ap, ◌∙◌, length-append, leb-true}
 use Rattle.std.proofs.lemmas.Bool.{and_parts, cond-false, le-ltb}
 use Rattle.std.proofs.lemmas.Fmt.{length-decimal-le}
 use Rattle.std.proofs.lemmas.Int.{ints}

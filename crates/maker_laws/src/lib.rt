@@ -1,4 +1,4 @@
-//! Laws of made streams: each of them is whole messages, as many as were asked for.
+//! The law of made streams: each of them is whole messages, as many as were asked for.
 #![tactic(auto)]
 
 mod laws;

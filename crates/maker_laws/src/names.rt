@@ -8,7 +8,7 @@ ghost use Rattle.maker_laws.specs.Names.{AreNames, IsListed};
 use gx_base::Names;
 use product_file::Product;
 
-/// The names of each product are right. It looks at each of them, and does nothing else.
+/// What the law of made streams asks of a product's names holds of each product. Looks at each name, and does nothing else.
 pub fn names_are_right(product: &Product)
     ensures { AreNames product.now.names }
 {

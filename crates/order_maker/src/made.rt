@@ -13,7 +13,7 @@ const LOWEST_SELL: u32 = 9_990;
 /// The lowest price of a new order that buys, in ticks.
 const LOWEST_BUY: u32 = 9_900;
 
-/// What a message asks for. Messages are named by their numbers, from 1 on.
+/// What a message asks for. Messages are named by their numbers, from 1 on. The laws above name it, so it is public.
 #[derive(Clone, Copy)]
 pub enum Made {
     /// A new order of so many lots, at a price in ticks.

@@ -43,7 +43,8 @@ impl<'a> Model for MakerSource<'a> {
 }
 
 impl<'a> MakerSource<'a> {
-    /// The stream of `count` messages of a product, with `first` as the first state. Takes no memory, and so is no `Err`.
+    /// The stream of `count` messages of a product, with `first` as the first state. Takes no memory, so it is
+    /// never an `Err`.
     pub fn new(
         _alloc: Global,
         product: &'a Product,
