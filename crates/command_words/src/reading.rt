@@ -1,0 +1,74 @@
+//! The words, read by one `clap` command.
+ghost use Rattle.std.specs.Prelude.{◌≡◌, IfErr, IfOk, None, Some, false, map, string_bytes};
+ghost use Rattle.clap.specs.Words.{IsPlain, app_of, fields_of};
+ghost use Rattle.command_words.specs.Commands.{command_of, named_command, plain_command, words_app};
+
+use crate::command::{Command, WordsFault};
+use clap::{Arg, value_parser};
+use std::alloc::{AllocError, Global};
+
+/// The greatest number of `--first`.
+const MOST_FIRST: i64 = 2_147_483_647;
+
+/// The greatest number of `--count`.
+const MOST_COUNT: i64 = 1_000_000;
+
+/// The `clap` command that reads the words.
+fn words_command<'a>(alloc: Global) -> Result<clap::Command<'a>, AllocError>
+    ensures app { IfOk result (λ c. app_of c ≡ words_app) }
+    ensures plain { IfOk result IsPlain }
+    ensures local { IfOk result (λ c. (fields_of c).has_globals ≡ false) }
+{
+    let name = Arg::new(alloc, "command").required(true);
+    let first = Arg::new(alloc, "first")
+        .long("first")
+        .value_parser(value_parser!(u32).range(0..=MOST_FIRST));
+    let count = Arg::new(alloc, "count")
+        .long("count")
+        .value_parser(value_parser!(u32).range(0..=MOST_COUNT));
+    clap::Command::new(alloc, "globex")
+        .no_binary_name(true)
+        .arg(name)?
+        .arg(first)?
+        .arg(count)
+}
+
+/// The command of this name, where it is one that has no options.
+fn plain_command(name: &str) -> Option<Command>
+    ensures { result ≡ plain_command name.now }
+{
+    match name {
+        "run" => Some(Command::Run),
+        "replay" => Some(Command::Replay),
+        "book" => Some(Command::Book),
+        "fills" => Some(Command::Fills),
+        "ledger" => Some(Command::Ledger),
+        "steps" => Some(Command::Steps),
+        _ => None,
+    }
+}
+
+/// The command of a name and the two options: `drill` has both, and the others have neither.
+fn named_command(name: &str, first: Option<u32>, count: Option<u32>) -> Option<Command>
+    ensures { result ≡ named_command name.now first count }
+{
+    match (first, count) {
+        (None, None) => plain_command(name),
+        (Some(first), Some(count)) if name == "drill" => Some(Command::Drill { first, count }),
+        _ => None,
+    }
+}
+
+/// The command that the words after the program's name give. An `Err` is `Refused` where they give none, and `NoMemory`
+/// where memory runs out.
+pub fn read_command(alloc: Global, words: &[String]) -> Result<Command, WordsFault>
+    ensures given { IfOk result (λ command. command_of (map string_bytes words.now) ≡ Some command) }
+    ensures refused { IfErr result (λ fault.
+        fault ≡ WordsFault.Refused → command_of (map string_bytes words.now) ≡ None) }
+{
+    let matches = words_command(alloc)?.try_get_matches_from(words)?;
+    let name = matches.get_str("command").ok_or(WordsFault::Refused)?;
+    let first = matches.get_one::<u32>("first");
+    let count = matches.get_one::<u32>("count");
+    named_command(name, first, count).ok_or(WordsFault::Refused)
+}
