@@ -1,6 +1,8 @@
 //! What the words ask for, or why they ask for nothing.
 ghost use Rattle.std.specs.Prelude.{◌≡◌, ◌≢◌};
-ghost use Rattle.clap.specs.Values.{kind_of};
+ghost use Rattle.clap.specs.Words.{kind_of};
+ghost use Rattle.clap.specs.declared.error.ErrorKind.TheVariants.{OutOfMemory};
+ghost use Rattle.command_words.specs.declared.command.WordsFault.TheVariants.{NoMemory, Refused};
 
 use clap::error::ErrorKind;
 use std::alloc::AllocError;
@@ -37,7 +39,7 @@ pub enum WordsFault {
 }
 
 impl From<AllocError> for WordsFault {
-    ghost from_gives = { λ _ fault. fault ≡ WordsFault.NoMemory };
+    ghost from_gives = { λ _ fault. fault ≡ NoMemory };
 
     fn from(_error: AllocError) -> WordsFault {
         WordsFault::NoMemory
@@ -45,7 +47,7 @@ impl From<AllocError> for WordsFault {
 }
 
 impl From<clap::Error> for WordsFault {
-    ghost from_gives = { λ error fault. fault ≡ WordsFault.Refused → kind_of error ≢ ErrorKind.OutOfMemory };
+    ghost from_gives = { λ error fault. fault ≡ Refused → kind_of error ≢ OutOfMemory };
 
     fn from(error: clap::Error) -> WordsFault {
         match error.kind() {

@@ -1,6 +1,7 @@
 //! The words, read by one `clap` command.
 ghost use Rattle.std.specs.Prelude.{◌≡◌, IfErr, IfOk, None, Some, false, map, string_bytes};
-ghost use Rattle.clap.specs.Words.{IsPlain, app_of, fields_of};
+ghost use Rattle.clap.specs.Words.{IsPlain, app_of};
+ghost use Rattle.clap.specs.declared.builder.command.Command.TheViews.{out-Command as fields_of};
 ghost use Rattle.command_words.specs.Commands.{command_of, named_command, plain_command, words_app};
 
 use crate::command::{Command, WordsFault};
