@@ -1,0 +1,4 @@
+mod Passing
+mod NumberTexts
+mod OptionTexts
+mod Taken

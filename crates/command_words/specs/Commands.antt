@@ -64,6 +64,6 @@ found_command rows = option_and_then (λ name.
     (first_of (codes "command") rows)
 
 -- the command that the words give: none where `clap` refuses them
-abbrev pub command_of : List Text → Option Command
+unfoldable pub command_of : List Text → Option Command
 command_of words = if is_empty (fault_of words_app words)
     then found_command (matches_of words_app words) else None

@@ -1,11 +1,13 @@
 //! The words, read by one `clap` command.
-ghost use Rattle.std.specs.Prelude.{◌≡◌, IfErr, IfOk, None, Some, false, map, string_bytes};
-ghost use Rattle.clap.specs.Words.{IsPlain, app_of};
+ghost use Rattle.std.specs.Prelude.{◌≡◌, IfErr, IfOk, None, Some, codes, false, map, string_bytes};
+ghost use Rattle.clap.specs.Words.{IsPlain, app_of, found_of, rows_of};
 ghost use Rattle.clap.specs.declared.builder.command.Command.TheViews.{out-Command as fields_of};
-ghost use Rattle.command_words.specs.Commands.{command_of, named_command, plain_command, words_app};
+ghost use Rattle.command_words.specs.Commands.{command_of, found_command, named_command, number_in};
+ghost use Rattle.command_words.specs.Commands.{plain_command, words_app};
+ghost use Rattle.command_words.specs.Inner.{IsRead};
 
 use crate::command::{Command, WordsFault};
-use clap::{Arg, value_parser};
+use clap::{Arg, ArgMatches, value_parser};
 use std::alloc::{AllocError, Global};
 
 /// The greatest number of `--first`.
@@ -60,6 +62,24 @@ fn named_command(name: &str, first: Option<u32>, count: Option<u32>) -> Option<C
     }
 }
 
+/// The number of an option, where the words have it.
+fn number_in(matches: &ArgMatches<'_>, id: &str) -> Option<u32>
+    requires { IsRead (found_of matches.now) id.now }
+    ensures { result ≡ number_in id.now (rows_of (found_of matches.now)) }
+{
+    matches.get_one::<u32>(id)
+}
+
+/// The command of what `clap` found.
+fn found_command(matches: &ArgMatches<'_>) -> Option<Command>
+    requires first { IsRead (found_of matches.now) (codes "first") }
+    requires count { IsRead (found_of matches.now) (codes "count") }
+    ensures { result ≡ found_command (rows_of (found_of matches.now)) }
+{
+    let name = matches.get_str("command")?;
+    named_command(name, number_in(matches, "first"), number_in(matches, "count"))
+}
+
 /// The command that the words after the program's name give. An `Err` is `Refused` where they give none, and `NoMemory`
 /// where memory runs out.
 pub fn read_command(alloc: Global, words: &[String]) -> Result<Command, WordsFault>
@@ -68,8 +88,5 @@ pub fn read_command(alloc: Global, words: &[String]) -> Result<Command, WordsFau
         fault ≡ WordsFault.Refused → command_of (map string_bytes words.now) ≡ None) }
 {
     let matches = words_command(alloc)?.try_get_matches_from(words)?;
-    let name = matches.get_str("command").ok_or(WordsFault::Refused)?;
-    let first = matches.get_one::<u32>("first");
-    let count = matches.get_one::<u32>("count");
-    named_command(name, first, count).ok_or(WordsFault::Refused)
+    found_command(&matches).ok_or(WordsFault::Refused)
 }
