@@ -1,6 +1,8 @@
 -- What the faults of the words say of their command.
-use Rattle.std.proofs.Common.{◌≡◌, ◌⊎◌, ◌∙◌, ap, arith, true, false, List, [], ◌∷◌, Option, None, refl, sym, inl, inr, cond}
+use Rattle.std.proofs.Common.{◌≡◌, ◌⊎◌, ◌∙◌, ap, arith, true, false, List, [], ◌∷◌, Option, None, Some, Result, Ok, Err, IfOk, IfErr, refl, sym, inl, inr, cond}
 use Rattle.std.proofs.lemmas.Bool.{ne_eqb}
+use Rattle.std.specs.Option.{ok_or}
+use Rattle.std.specs.Result.{IsErrAnd}
 use Rattle.clap.specs.Faults.{fault_of, is_simple_and_free}
 use Rattle.clap.specs.Kinds.{HasKind, Kinds}
 use Rattle.clap.specs.Simple.{is_simple, matches_of}
@@ -10,6 +12,8 @@ use Rattle.clap.specs.declared.error.Error.{Error}
 use Rattle.clap.specs.declared.error.kind.ErrorKind.TheVariants.{OutOfMemory}
 use Rattle.clap.proofs.OnLiterals.{clap_on_literals}
 use Rattle.command_words.specs.declared.command.Command.{Command}
+use Rattle.command_words.specs.declared.command.WordsFault.{WordsFault}
+use Rattle.command_words.specs.declared.command.WordsFault.TheVariants.{Refused}
 use Rattle.command_words.specs.Commands.{command_of, found_command, words_app}
 
 pub is_ours : is_simple_and_free words_app ≡ true
@@ -36,3 +40,17 @@ refused words e has other = go (fault_of words_app words) has
     go [] (inl memory) = absurd (other memory)
     go [] (inr none) = absurd none
     go (k ∷ ks) h = rw (is_empty-cons k ks) refl
+
+pub err_refused : {T : Type 0} (words : List Text) (r : Result T WordsFault) (e : Error) → HasKind (fault_of words_app words) e
+    → IsErrAnd r (λ fault. fault ≡ Refused → kind_of e ≡ OutOfMemory → ⊥) → IfErr r (λ fault. fault ≡ Refused → command_of words ≡ None)
+err_refused words (Ok x) e has h = tt
+err_refused words (Err f) e has h = λ is. refused words e has (h is)
+
+pub given_by : (words : List Text) (o : Option Command) → command_of words ≡ o → IfOk (ok_or o Refused) (λ command. command_of words ≡ Some command)
+given_by words None is = tt
+given_by words (Some command) is = is
+
+pub refused_by : (words : List Text) (o : Option Command) → command_of words ≡ o
+    → IfErr (ok_or o Refused) (λ fault. fault ≡ Refused → command_of words ≡ None)
+refused_by words None is = λ _. is
+refused_by words (Some command) is = tt
