@@ -1,9 +1,9 @@
 -- After a parse by the command of the words, the value of each option is a number.
-use Rattle.std.proofs.Common.{◌≡◌, ◌⊎◌, ◌∙◌, ◌<◌, ◌^◌, ap, ℕ, zero, suc, pos, true, false, List, [], ◌∷◌, length, map, Option, Some, refl, sym, subst, inl, inr, arith, codes}
+use Rattle.std.proofs.Common.{◌≡◌, ◌⊎◌, ◌∙◌, ◌<◌, ◌^◌, ap, ℕ, zero, suc, pos, true, false, List, [], ◌∷◌, length, map, Some, refl, sym, subst, inl, inr, arith, codes}
 use Rattle.std.specs.List.{slice_index_or}
 use Rattle.std.specs.Str.{bytes_eq}
 use Rattle.clap.specs.Facts.{args_of}
-use Rattle.clap.specs.Built.{IsAuto, IsParsedFrom, IsPlain}
+use Rattle.clap.specs.Built.{IsParsedFrom, IsPlain}
 use Rattle.clap.specs.Matches.{found_of, one_text}
 use Rattle.clap.specs.Simple.{App, app_of}
 use Rattle.clap.specs.Walk.{Rule, Text, rule_of}

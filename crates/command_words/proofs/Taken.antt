@@ -1,5 +1,5 @@
 -- What the faults of the words say of their command.
-use Rattle.std.proofs.Common.{◌≡◌, ◌⊎◌, ◌∙◌, ap, arith, true, false, List, [], ◌∷◌, Option, None, Some, Result, Ok, Err, IfOk, IfErr, refl, sym, inl, inr, cond}
+use Rattle.std.proofs.Common.{◌≡◌, ◌∙◌, ap, arith, true, false, List, [], ◌∷◌, Option, None, Some, Result, Ok, Err, IfOk, IfErr, refl, sym, inl, inr, cond}
 use Rattle.std.proofs.lemmas.Bool.{ne_eqb}
 use Rattle.std.specs.Option.{ok_or}
 use Rattle.std.specs.Result.{IsErrAnd}

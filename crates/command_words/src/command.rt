@@ -8,32 +8,32 @@ use clap::error::ErrorKind;
 use std::alloc::AllocError;
 use thiserror::Error;
 
-/// What the words ask for.
+/// What the words ask for, by the command's name.
 #[derive(Clone, Copy, Debug, PartialEq, Eq)]
 pub enum Command {
-    /// Take messages from the input, and answer them.
+    /// `run`
     Run,
-    /// Apply the journal, and say what it leads to.
+    /// `replay`
     Replay,
-    /// Show the book.
+    /// `book`
     Book,
-    /// Show the fills.
+    /// `fills`
     Fills,
-    /// Show the ledger.
+    /// `ledger`
     Ledger,
-    /// Show the lists of steps.
+    /// `steps`
     Steps,
-    /// Run messages that are made by rule: `count` of them, from the number `first` on.
+    /// `drill`, with the numbers of `--first` (at most 2,147,483,647) and `--count` (at most 1,000,000).
     Drill { first: u32, count: u32 },
 }
 
 /// Why the words give no command.
 #[derive(Clone, Copy, Debug, Error, PartialEq, Eq)]
 pub enum WordsFault {
-    /// Want of memory.
+    /// Memory has run out.
     #[error("out of memory")]
     NoMemory,
-    /// The words are no command.
+    /// They are not what the command line takes. A call for help is none either.
     #[error("the words are no command")]
     Refused,
 }

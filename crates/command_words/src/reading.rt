@@ -77,7 +77,9 @@ fn found_command(matches: &ArgMatches<'_>) -> Option<Command>
     ensures { result ≡ found_command (rows_of (found_of matches.now)) }
 {
     let name = matches.get_str("command")?;
-    named_command(name, number_in(matches, "first"), number_in(matches, "count"))
+    let first = number_in(matches, "first");
+    let count = number_in(matches, "count");
+    named_command(name, first, count)
 }
 
 /// The command that the words after the program's name give. An `Err` is `Refused` where they give none, and `NoMemory`

@@ -21,11 +21,29 @@ fn takes(rt: HostRuntime) -> Result<(), Fail> {
         ("fills", Command::Fills),
         ("steps", Command::Steps),
         ("-- ledger", Command::Ledger),
-        ("--count 2 drill --first 7", Command::Drill { first: 7, count: 2 }),
-        ("drill --first=0003 --count=01", Command::Drill { first: 3, count: 1 }),
-        ("drill --first +1 --count +1", Command::Drill { first: 1, count: 1 }),
-        ("drill --first 2147483647 --count 1000000", Command::Drill { first: 2147483647, count: 1000000 }),
-        ("drill --first 0 --count 0", Command::Drill { first: 0, count: 0 }),
+        (
+            "--count 2 drill --first 7",
+            Command::Drill { first: 7, count: 2 },
+        ),
+        (
+            "drill --first=0003 --count=01",
+            Command::Drill { first: 3, count: 1 },
+        ),
+        (
+            "drill --first +1 --count +1",
+            Command::Drill { first: 1, count: 1 },
+        ),
+        (
+            "drill --first 2147483647 --count 1000000",
+            Command::Drill {
+                first: 2147483647,
+                count: 1000000,
+            },
+        ),
+        (
+            "drill --first 0 --count 0",
+            Command::Drill { first: 0, count: 0 },
+        ),
     ];
     for (line, command) in table {
         assert!(rt; answer(alloc, line)? == Ok(command), "{line}");

@@ -26,5 +26,5 @@ returns-in_err-name c =
 pub returns : goal.returns
 returns c =
     let f = found_of c.args.matches.now in
-    c.named_command.ensures ∙ named (rows_of f) c.in_ok-name.name.now c.number_in.result c.number_in-2.result
-    (c.in_ok-name.ensures ∙ first_value-rows f (codes "command")) c.number_in.ensures c.number_in-2.ensures
+    c.named_command.ensures ∙ named (rows_of f) c.in_ok-name.name.now c.number_in-first.result c.number_in-count.result
+    (c.in_ok-name.ensures ∙ first_value-rows f (codes "command")) c.number_in-first.ensures c.number_in-count.ensures

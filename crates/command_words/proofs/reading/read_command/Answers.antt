@@ -1,9 +1,9 @@
-use Rattle.std.proofs.Common.{ap, ◌∙◌, ◌≡◌, List, [], map, string_bytes, sym, subst, IfErr, IfOk, None, Some}
+use Rattle.std.proofs.Common.{ap, ◌∙◌, ◌≡◌, [], map, string_bytes, sym, subst, IfErr, IfOk, None, Some}
 use Rattle.clap.specs.Faults.{fault_of, is_simple_and_free}
 use Rattle.clap.specs.Kinds.{HasKind}
 use Rattle.clap.specs.Matches.{found_of}
 use Rattle.clap.specs.Simple.{App, is_simple, matches_of}
-use Rattle.clap.specs.Walk.{Text, rows_of}
+use Rattle.clap.specs.Walk.{rows_of}
 use Rattle.command_words.specs.declared.command.WordsFault.TheVariants.{Refused}
 use Rattle.command_words.specs.Commands.{command_of, words_app}
 use Rattle.command_words.proofs.OptionTexts.{count_is_read, first_is_read}
@@ -27,7 +27,6 @@ returns-in_err-matches-clause-refused c =
     let e = c.in_err-matches.field-0.0 in
     let has : HasKind (fault_of words_app words) e = subst (λ (a : App). HasKind (fault_of a words) e) app (c.in_err-matches.ensures.kinds (ap is_simple_and_free app ∙ is_ours)) in
     err_refused words c.from_residual-in_err-matches.result e has c.from_residual-in_err-matches.ensures.1
-
 
 is_given : (c : goal.Joined-matches) → command_of (map string_bytes c.args.words.now) ≡ c.found_command.result
 is_given c =

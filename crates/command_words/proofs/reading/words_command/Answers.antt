@@ -1,10 +1,10 @@
-use Rattle.std.proofs.Common.{rules, ap, ap₂, ◌∙◌, ◌≡◌, ◌||◌, ℤ, pos, Bool, true, false, Option, Some, List, [], codes, sym, subst}
+use Rattle.std.proofs.Common.{rules, ap, ap₂, ◌∙◌, ◌≡◌, ◌||◌, ℤ, pos, Bool, true, false, Option, Some, [], codes, sym, subst}
 use Rattle.std.specs.Int.{int_max, int_min}
 use Rattle.std.specs.List.{All}
 use Rattle.std.proofs.lemmas.Result.{IfOk-weaker}
 use Rattle.std.proofs.lemmas.List.Elements.{All-nil}
 use Rattle.clap.specs.Walk.{Rule, rule_of}
-use Rattle.clap.specs.Simple.{App, Shape, app_of, app_of_fields, new_app, new_rule, on_top, with_rule}
+use Rattle.clap.specs.Simple.{App, app_of, app_of_fields, new_app, new_rule, on_top, with_rule}
 use Rattle.clap.specs.Facts.{args_of, groups_of}
 use Rattle.clap.specs.Words.{AddsArg, IsPlain, IsPlainArg, signed_between}
 use Rattle.clap.specs.declared.builder.arg.Arg.{Arg}
@@ -13,7 +13,7 @@ use Rattle.clap.specs.declared.builder.command.Command.TheViews.{out-Command as 
 use Rattle.clap.specs.declared.builder.value_parser.ValueParser.{ValueParser}
 use Rattle.clap.specs.declared.builder.value_parser.ValueParser.TheVariants as vp
 use Rattle.clap.proofs.CallerLemmas.{added_plain}
-use Rattle.command_words.specs.Commands.{command_rule, number_rule, words_app}
+use Rattle.command_words.specs.Commands.{command_rule, number_rule}
 use Rattle.command_words.proofs.reading.words_command.Goals as goal
 
 abbrev between : ℤ → ℤ → ValueParser
