@@ -1,10 +1,12 @@
 //! Pieces of a printed line: a label and a value. Each call writes behind the first `at` bytes of the room that it is lent, and
 //! answers where what it wrote ends, at most `LONGEST_PIECE` bytes further.
-ghost use Rattle.std.specs.Prelude.{◌≡◌, ◌+◌, ◌≤◌, ◌++◌, length, take, decimal};
+ghost use Rattle.std.specs.Prelude.{◌≡◌, ◌+◌, ◌*◌, ◌≤◌, ◌++◌, length, take, decimal};
 ghost use Rattle.gx_base.specs.Numbers.{price_text};
-ghost use Rattle.gx_base.specs.declared.limits.TheConstants.{LONGEST_VALUE, MOST_DECIMALS};
+ghost use Rattle.book_print.specs.Words.{line_feed, side_letter, order_words};
 
-use gx_base::{LONGEST_VALUE, MOST_DECIMALS, Price, append, write_price};
+use gx_base::{
+    LONGEST_VALUE, MOST_DECIMALS, Names, Order, Price, Side, addressee, append, write_price,
+};
 use itoa::Buffer;
 
 /// How many bytes a label has at most.
@@ -53,4 +55,36 @@ pub(crate) fn price(
     let mut digits = [0; LONGEST_VALUE];
     let count = write_price(price, decimals, &mut digits);
     text(into, at, label, &digits[..count])
+}
+
+/// `B` for a buy, `S` for a sell.
+pub(crate) fn side_letter(side: Side) -> &'static [u8]
+    ensures letter { result.now ≡ side_letter side }
+    ensures short { length result.now ≤ LONGEST_VALUE }
+{
+    match side {
+        Side::Buy => b"B",
+        Side::Sell => b"S",
+    }
+}
+
+/// Writes which order it is: its number, its firm and its id, in three pieces.
+pub(crate) fn order_words(into: &mut [u8], at: usize, names: &Names, order: &Order) -> usize
+    requires room { at + 3 * LONGEST_PIECE ≤ length into.old }
+    ensures words { take result into.new ≡ take at into.old ++ order_words names.now order.now }
+    ensures short { result ≤ at + 3 * LONGEST_PIECE }
+{
+    let firm = addressee(names, Some(order.firm));
+    let at = number(into, at, b" #", order.number);
+    let at = text(into, at, b" ", firm.bytes());
+    text(into, at, b" ", order.id.bytes())
+}
+
+/// Ends a line.
+pub(crate) fn end_line(into: &mut [u8], at: usize) -> usize
+    requires room { at + LONGEST_PIECE ≤ length into.old }
+    ensures ended { take result into.new ≡ take at into.old ++ line_feed }
+    ensures short { result ≤ at + LONGEST_PIECE }
+{
+    append(into, at, b"\n")
 }
