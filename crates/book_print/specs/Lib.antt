@@ -2,3 +2,10 @@ pub mod Words
 pub mod BookText
 pub mod StepText
 pub mod FillText
+pub mod Fills
+pub mod LedgerText
+pub mod Ledger
+pub mod TallyText
+pub mod Tallies
+pub mod Publishers
+pub mod Publishing

@@ -1,12 +1,16 @@
 //! Pieces of a printed line: a label and a value. Each call writes behind the first `at` bytes of the room that it is lent, and
 //! answers where what it wrote ends, at most `LONGEST_PIECE` bytes further.
-ghost use Rattle.std.specs.Prelude.{◌≡◌, ◌+◌, ◌*◌, ◌≤◌, ◌++◌, length, take, decimal};
+ghost use Rattle.std.specs.Prelude.{◌≡◌, ◌+◌, ◌*◌, ◌≤◌, ◌++◌, [], OnOk, length, take, decimal};
 ghost use Rattle.gx_base.specs.Numbers.{price_text};
+ghost use Rattle.gx_station.specs.Quiet.{Sends};
 ghost use Rattle.book_print.specs.Words.{line_feed, side_letter, order_words};
 
+use exec_report::{ReportBuffer, SendFault, push_text, send_waiting};
 use gx_base::{
-    LONGEST_VALUE, MOST_DECIMALS, Names, Order, Price, Side, addressee, append, write_price,
+    LONGEST_LINE, LONGEST_VALUE, MOST_DECIMALS, Names, Order, Price, Side, addressee, append,
+    write_price,
 };
+use gx_station::Station;
 use itoa::Buffer;
 
 /// How many bytes a label has at most.
@@ -87,4 +91,19 @@ pub(crate) fn end_line(into: &mut [u8], at: usize) -> usize
     ensures short { result ≤ at + LONGEST_PIECE }
 {
     append(into, at, b"\n")
+}
+
+/// Sends a line by itself, through an empty buffer.
+pub(crate) fn send_line<S: Station>(
+    buffer: &mut ReportBuffer,
+    station: &mut S,
+    line: &[u8],
+) -> Result<(), SendFault>
+    requires empty { buffer.old ≡ [] }
+    requires short { length line.now ≤ LONGEST_LINE }
+    ensures sends { Sends S.meanings station.old station.new line.now result }
+    ensures empty { OnOk result (buffer.new ≡ []) }
+{
+    push_text(buffer, station, line)?;
+    send_waiting(buffer, station)
 }
