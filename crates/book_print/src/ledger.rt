@@ -20,19 +20,19 @@ const LONGEST_ENTRY: usize = 6 * LONGEST_PIECE;
 struct Lots {
     entered: u64,
     filled: u64,
-    open: u64,
+    leaves: u64,
     cancelled: u64,
 }
 
 /// Writes quantities, and ends the line: five pieces.
 fn quantity_words(into: &mut [u8], at: usize, lots: Lots) -> usize
     requires room { at + 5 * LONGEST_PIECE ≤ length into.old }
-    ensures words { take result into.new ≡ take at into.old ++ quantity_words lots.entered lots.filled lots.open lots.cancelled }
+    ensures words { take result into.new ≡ take at into.old ++ quantity_words lots.entered lots.filled lots.leaves lots.cancelled }
     ensures short { result ≤ at + 5 * LONGEST_PIECE }
 {
     let at = number(into, at, b" entered ", lots.entered);
     let at = number(into, at, b" filled ", lots.filled);
-    let at = number(into, at, b" open ", lots.open);
+    let at = number(into, at, b" open ", lots.leaves);
     let at = number(into, at, b" cancelled ", lots.cancelled);
     end_line(into, at)
 }
@@ -49,7 +49,7 @@ fn order_line(order: &Order, gone: u32, into: &mut [u8; LONGEST_ENTRY]) -> usize
         Lots {
             entered: u64::from(order.quantity),
             filled: u64::from(order.filled),
-            open: u64::from(order.leaves),
+            leaves: u64::from(order.leaves),
             cancelled: u64::from(gone),
         },
     )
@@ -67,7 +67,7 @@ fn refused_line(quantity: u32, into: &mut [u8; LONGEST_ENTRY]) -> usize
         Lots {
             entered: u64::from(quantity),
             filled: 0,
-            open: 0,
+            leaves: 0,
             cancelled: u64::from(quantity),
         },
     )
@@ -231,7 +231,7 @@ fn write_total(totals: &Totals, live: u64, into: &mut [u8; LONGEST_ENTRY]) -> us
         Lots {
             entered: totals.entered,
             filled: totals.filled,
-            open: live,
+            leaves: live,
             cancelled: totals.cancelled,
         },
     )

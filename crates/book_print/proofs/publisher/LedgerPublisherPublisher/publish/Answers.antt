@@ -1,0 +1,19 @@
+use Rattle.std.proofs.Common.{rules, ap}
+use Rattle.std.specs.List.{flat_map}
+use Rattle.gx_station.specs.SendLaws.{sends_to}
+use Rattle.order_kinds.specs.State.{state_numbered}
+use Rattle.order_kinds.specs.Step.{with_message, request_step}
+use Rattle.book_print.specs.LedgerText.{ledger_line}
+use Rattle.book_print.proofs.Delivered.{entries_delivered, totals_left}
+use Rattle.book_print.proofs.publisher.LedgerPublisherPublisher.publish.Goals as goal
+
+pub returns-clause-sends : goal.returns-clause-sends
+returns-clause-sends g c =
+    let m = g.S.Station.meanings in
+    let events = (request_step c.args.product.now c.args.request.now (with_message (state_numbered c.args.core.now))).1 in
+    sends_to m c.args.station.now c.flush.new.self.station.now _ (flat_map ledger_line events) c.flush.result (search rules)
+    (entries_delivered m c.new-out.result c.apply.new.out c.flush.new.self _ _ _ events c.flush.result c.new-out.ensures (c.apply.ensures.step c.requires.numbered).emits c.flush.ensures.flushes)
+
+pub returns-clause-after : goal.returns-clause-after
+returns-clause-after g c =
+    totals_left g.S.Station.meanings c.new-out.result c.apply.new.out c.flush.new.self _ _ _ _ c.flush.result c.new-out.ensures (c.apply.ensures.step c.requires.numbered).emits c.flush.ensures.flushes c.flush.ensures.totals
