@@ -1,7 +1,6 @@
 -- What a `TallyEmit` counts, and that nothing is sent of it.
-use Rattle.std.proofs.Common.{arith, ◌≡◌, ℕ, List, [], ◌∷◌, Some, Option, Result, Ok, fold, refl, sym, ◌∙◌, ap, subst, unwrap_or}
+use Rattle.std.proofs.Common.{arith, ◌≡◌, ℕ, List, [], ◌∷◌, Option, Ok, fold, refl, sym, ◌∙◌, ap, unwrap_or}
 use Rattle.std.specs.List.{flat_map}
-use Rattle.gx_base.specs.KnownBytes.{known_itself}
 use Rattle.gx_base.specs.Emits.{Emits}
 use Rattle.gx_base.specs.declared.event.Event.{Event}
 use Rattle.gx_station.specs.Stations.{StationMeanings}

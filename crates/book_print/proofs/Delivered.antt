@@ -1,10 +1,10 @@
 -- What was sent by a `FillEmit` and by a `LedgerEmit` from their making to their last flush, and what the totals are then.
-use Rattle.std.proofs.Common.{◌≡◌, inl, inr, ℕ, ◌≤◌, Bool, true, false, List, [], ◌∷◌, ◌++◌, Option, Some, None, Result, Ok, Err, IsOk, OnOk, length, take, drop, fold, refl, sym, ◌∙◌, ap, subst, append_assoc, is_some, unwrap_or, if◌then◌else◌}
+use Rattle.std.proofs.Common.{◌≡◌, inl, inr, ℕ, Bool, true, false, List, [], ◌∷◌, ◌++◌, Option, Some, None, Result, Ok, Err, IsOk, OnOk, take, drop, fold, refl, sym, ◌∙◌, ap, subst, append_assoc, is_some, unwrap_or, if◌then◌else◌}
 use Rattle.std.proofs.lemmas.Bool.{cases_Bool, true≢false}
 use Rattle.std.proofs.lemmas.List.{append-nil}
 use Rattle.std.specs.List.{flat_map}
 use Rattle.std.specs.Borrow.{MutBor}
-use Rattle.gx_base.specs.KnownBytes.{IsPrefix, IsKnownPrefix}
+use Rattle.gx_base.specs.KnownBytes.{IsKnownPrefix}
 use Rattle.gx_base.specs.NameLists.{NameLists}
 use Rattle.gx_base.specs.Emits.{Emits, seen_after}
 use Rattle.gx_base.specs.declared.event.Event.{Event}
@@ -17,7 +17,7 @@ use Rattle.book_print.specs.FillText.{fill_line}
 use Rattle.book_print.specs.Fills as fills
 use Rattle.book_print.specs.Fills.{fill_meanings}
 use Rattle.book_print.specs.LedgerText.{ledger_line, totals_with, totals_after}
-use Rattle.book_print.specs.Ledger.{totals_and, with_entry, as_outgoing, no_names, told_alike, is_told, ledger_seen, ledger_meanings, IsNewLedger}
+use Rattle.book_print.specs.Ledger.{totals_and, with_entry, as_outgoing, no_names, told_alike, is_told, ledger_meanings, IsNewLedger}
 use Rattle.book_print.specs.declared.fills.FillEmit.{FillEmit}
 use Rattle.book_print.specs.declared.ledger.Totals.{Totals}
 use Rattle.book_print.specs.declared.ledger.LedgerEmit.{LedgerEmit}

@@ -1,7 +1,7 @@
 -- What a `LedgerEmit` stands for.
-use Rattle.std.specs.Prelude.{◌≡◌, ℕ, Bool, true, false, List, [], ◌∷◌, ◌++◌, Option, Some, None, is_some, unwrap_or, if◌then◌else◌, refl}
+use Rattle.std.specs.Prelude.{◌≡◌, ℕ, Bool, List, [], ◌∷◌, ◌++◌, Option, Some, None, is_some, unwrap_or, if◌then◌else◌, refl}
 use Rattle.std.proofs.Common.{◌∙◌, ap}
-use Rattle.std.specs.Borrow.{Bor, MutBor}
+use Rattle.std.specs.Borrow.{MutBor}
 use Rattle.gx_base.specs.KnownBytes.{IsKnownPrefix}
 use Rattle.gx_base.specs.NameLists.{NameLists}
 use Rattle.gx_base.specs.Emits.{EmitMeanings}

@@ -1,4 +1,4 @@
-use Rattle.std.proofs.Common.{rules, ap}
+use Rattle.std.proofs.Common.{rules}
 use Rattle.std.specs.List.{flat_map}
 use Rattle.gx_station.specs.SendLaws.{sends_to}
 use Rattle.order_kinds.specs.State.{state_numbered}
