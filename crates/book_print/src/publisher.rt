@@ -44,6 +44,7 @@ pub trait Publisher {
         ensures numbered { AreNumbered core.new }
         ensures sends { Sends S.meanings station.old station.new (flat_map (meanings.text product.now.names) (request_step product.now request.now (with_message (state_numbered core.old))).1) result }
         ensures silent { IsTrue (is_passed request.now) → IsOk result × (station.new ≡ station.old) }
+        ensures never_sends { IsTrue meanings.is_silent → IsOk result × (station.new ≡ station.old) }
         ensures empty { OnOk result (buffer.new ≡ []) }
         ensures after { OnOk result (self.new ≡ meanings.after self.old (request_step product.now request.now (with_message (state_numbered core.old))).1) };
 }

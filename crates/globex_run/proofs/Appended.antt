@@ -1,5 +1,5 @@
--- One frame: its record is added, and then the reports of its message are sent.
-use Rattle.std.proofs.Common.{◌≡◌, ◌⊎◌, inl, inr, ⊎_elim, ℕ, ◌+◌, ◌<◌, ◌≤◌, ◌↔◌, max, true, false, List, [], ◌∷◌, ◌++◌, length, Some, Result, Ok, IsErrOf, refl, sym, ◌∙◌, ap, subst, arith, append-nil}
+-- One frame: its record is added, and then what is sent of its message.
+use Rattle.std.proofs.Common.{◌≡◌, ◌⊎◌, inl, inr, ⊎_elim, ℕ, ◌+◌, ◌<◌, ◌≤◌, ◌↔◌, max, true, false, List, [], ◌∷◌, ◌++◌, length, flat_map, Some, Result, Ok, IsErrOf, refl, sym, ◌∙◌, ap, subst, arith, append-nil}
 use Rattle.std.specs.Result.{is_err}
 use Rattle.std.proofs.lemmas.Bool.{cases_lt}
 use Rattle.gx_base.specs.KnownBytes.{IsKnownPrefix, known_itself, known_then}
@@ -21,11 +21,12 @@ use Rattle.fix_request.specs.Requests.{request_of}
 use Rattle.fix_request.specs.declared.request.Request.{Request}
 use Rattle.product_file.specs.Products.{ProductLists}
 use Rattle.order_kinds.specs.State.{State}
-use Rattle.order_kinds.specs.Step.{with_message, request_step, lines_of}
+use Rattle.order_kinds.specs.Step.{with_message, request_step}
 use Rattle.book_recovery.specs.Kept.{messages_in}
-use Rattle.globex_run.specs.Inner.Recording.{reports_from, IsRecordCrash, RestsAtEnd, AllKept, Serves, Served}
+use Rattle.book_print.specs.Publishers.{LineForm}
+use Rattle.globex_run.specs.Inner.Recording.{lines_from, IsRecordCrash, RestsAtEnd, AllKept, Serves, Served}
 use Rattle.globex_run.specs.Inner.Serving.{FailsToKeep, FailsToSend}
-use Rattle.globex_run.proofs.FrameRecords.{frame_whole, frame_message, request_state, request_reports}
+use Rattle.globex_run.proofs.FrameRecords.{frame_whole, frame_message, request_state, request_lines}
 use Rattle.globex_run.proofs.SentReports.{on_ok, on_err, known_more, sends_at_most}
 
 -- where an append did not find too little room, there was room
@@ -35,16 +36,16 @@ has_room r limit end full other = elim (cases_lt limit end) [
   | inr short ↦ short
 ]
 
-module _ {S : Type 0} (m : StationMeanings S) (product : ProductLists) (limit : ℕ) (first : S) (gate : ℕ) (state : State) (frame : List ℕ) (is : IsFrame frame) (fits : gate + 7 + length frame ≤ limit) where
+module _ {S : Type 0} (m : StationMeanings S) (line : LineForm) (product : ProductLists) (limit : ℕ) (first : S) (gate : ℕ) (state : State) (frame : List ℕ) (is : IsFrame frame) (fits : gate + 7 + length frame ≤ limit) where
   abbrev next : ℕ
   next = gate + 6 + length frame
 
-  abbrev its_reports : List ℕ
-  its_reports = reports_from product state (messages_in (frame ∷ []))
+  abbrev its_lines : List ℕ
+  its_lines = lines_from line product state (messages_in (frame ∷ []))
 
   -- what a crash since then leaves
   abbrev Left : List ℕ → List (List ℕ) → ℕ → List ℕ → List ℕ → Type 0
-  Left text kept most = IsRecordCrash product state text limit kept (frame ∷ []) most (m.sent first)
+  Left text kept most = IsRecordCrash line product state text limit kept (frame ∷ []) most (m.sent first)
 
   -- nothing was sent yet
   unsent : (out xs : List ℕ) → m.sent first ≡ Some out → IsBetween (m.sent first) out (sent_and (m.sent first) xs)
@@ -67,7 +68,7 @@ module _ {S : Type 0} (m : StationMeanings S) (product : ProductLists) (limit : 
         count = 1;
         within = omega arith;
         keeps = inl after;
-        sent_is = unsent out its_reports sent;
+        sent_is = unsent out its_lines sent;
         no_longer = omega (arith, here.no_longer, short, fits);
       })
       here.keeps
@@ -85,10 +86,10 @@ module _ {S : Type 0} (m : StationMeanings S) (product : ProductLists) (limit : 
 
   -- the append has failed
   module _ {T F : Type 0} (mid : S) (r : Result T F) (appends : Appends mid r) (silent : SendsNothing m first mid) (now : (s : S) → m.is_honest s → IsHonestNow m s) where
-    unkept_serves : Serves m product limit first mid gate state (frame ∷ [])
+    unkept_serves : Serves m line product limit first mid gate state (frame ∷ [])
     unkept_serves = record {
       whole = frame_whole frame is;
-      part = subst (λ o. IsKnownPrefix o (sent_and (m.sent first) its_reports)) (sym silent.sent) (known_more (m.sent first) its_reports);
+      part = subst (λ o. IsKnownPrefix o (sent_and (m.sent first) its_lines)) (sym silent.sent) (known_more (m.sent first) its_lines);
       adds = adds_appended mid r appends;
     }
 
@@ -100,14 +101,14 @@ module _ {S : Type 0} (m : StationMeanings S) (product : ProductLists) (limit : 
         let held = steps_hold m now first mid at.image (IsBeforeOrAfter text limit kept frame at.image next) here at.honest at.rests (steps.moments at.honest at.rests) in
         record { image = held.image; read = held.read; has = held.has.keeps }
 
-    pub answers_unkept : Rose (m.store_faults first) (m.store_faults mid) → Serves m product limit first mid gate state (frame ∷ []) × (state ≡ state) × FailsToKeep m product limit first mid gate frame
+    pub answers_unkept : Rose (m.store_faults first) (m.store_faults mid) → Serves m line product limit first mid gate state (frame ∷ []) × (state ≡ state) × FailsToKeep m line product limit first mid gate frame
     answers_unkept rose = (unkept_serves, refl, record { rose = rose; sent = silent.sent; send_faults = silent.send_faults; keeps = unkept_holds })
 
   -- the record is kept, and nothing is pending; then the reports are sent, or a part of them
-  module _ {T F T' F' : Type 0} (mid : S) (x : T) (appends : Appends {T = T} {F = F} mid (Ok x)) (settles : m.is_honest first → IsSettled m mid) (silent : SendsNothing m first mid) (store : m.store_faults mid ≡ m.store_faults first) (last : S) (r' : Result T' F') (request : Request) (read : request ≡ request_of product frame) (by_request : Sends m mid last (lines_of product (request_step product request (with_message state)).1) r') where
+  module _ {T F T' F' : Type 0} (mid : S) (x : T) (appends : Appends {T = T} {F = F} mid (Ok x)) (settles : m.is_honest first → IsSettled m mid) (silent : SendsNothing m first mid) (store : m.store_faults mid ≡ m.store_faults first) (last : S) (r' : Result T' F') (request : Request) (read : request ≡ request_of product frame) (by_request : Sends m mid last (flat_map (line product.names) (request_step product request (with_message state)).1) r') where
     -- what is sent are the reports of the record
-    sends : Sends m mid last its_reports r'
-    sends = sends_as m mid last (lines_of product (request_step product request (with_message state)).1) its_reports r' (request_reports product state frame is request read) by_request
+    sends : Sends m mid last its_lines r'
+    sends = sends_as m mid last (flat_map (line product.names) (request_step product request (with_message state)).1) its_lines r' (request_lines line product state frame is request read) by_request
 
     -- where the append is done
     at_mid : (text : List ℕ) (kept : List (List ℕ)) (most : ℕ) → RestsAtEnd m text limit kept gate most first → RestsAtEnd m text limit (kept ++ frame ∷ []) next (max most limit) mid
@@ -123,8 +124,8 @@ module _ {S : Type 0} (m : StationMeanings S) (product : ProductLists) (limit : 
         }
 
     -- no more than the reports was sent
-    high : IsKnownPrefix (m.sent last) (sent_and (m.sent first) its_reports)
-    high = subst (λ o. IsKnownPrefix (m.sent last) (sent_and o its_reports)) silent.sent (sends_at_most m mid last its_reports r' sends)
+    high : IsKnownPrefix (m.sent last) (sent_and (m.sent first) its_lines)
+    high = subst (λ o. IsKnownPrefix (m.sent last) (sent_and o its_lines)) silent.sent (sends_at_most m mid last its_lines r' sends)
 
     -- while the reports are sent
     sending : (text : List ℕ) (kept : List (List ℕ)) (most : ℕ) → RestsAtEnd m text limit kept gate most first → (left out : List ℕ) → m.may_leave mid left × IsBetween (m.sent mid) out (m.sent last) → Left text kept most left out
@@ -137,12 +138,12 @@ module _ {S : Type 0} (m : StationMeanings S) (product : ProductLists) (limit : 
           keeps = inl (subst (λ (l : List ℕ). IsJournal text limit (kept ++ frame ∷ []) l) same here.journal.journal);
           sent_is = record {
             low = subst (λ o. IsKnownPrefix o (Some out)) silent.sent pair.1.low;
-            high = known_then (Some out) (m.sent last) (sent_and (m.sent first) its_reports) pair.1.high high;
+            high = known_then (Some out) (m.sent last) (sent_and (m.sent first) its_lines) pair.1.high high;
           };
           no_longer = omega (arith, ap length same, here.short);
         }
 
-    kept_serves : Serves m product limit first last gate state (frame ∷ [])
+    kept_serves : Serves m line product limit first last gate state (frame ∷ [])
     kept_serves = record {
       whole = frame_whole frame is;
       part = high;
@@ -169,20 +170,20 @@ module _ {S : Type 0} (m : StationMeanings S) (product : ProductLists) (limit : 
       kept_at : AllKept m limit first last gate end (frame ∷ [])
       kept_at = subst (λ e. AllKept m limit first last gate e (frame ∷ [])) (sym end_is) all_kept
 
-      pub answers_served : is_err r' ≡ false → then ≡ (request_step product request (with_message state)).0 → Serves m product limit first last gate state (frame ∷ []) × Served m product limit first last gate end state then (frame ∷ [])
+      pub answers_served : is_err r' ≡ false → then ≡ (request_step product request (with_message state)).0 → Serves m line product limit first last gate state (frame ∷ []) × Served m line product limit first last gate end state then (frame ∷ [])
       answers_served ok by_step = (
         kept_serves,
         record {
           all_kept = kept_at;
-          sent = on_ok r' ok sends.all ∙ ap (λ o. sent_and o its_reports) silent.sent;
+          sent = on_ok r' ok sends.all ∙ ap (λ o. sent_and o its_lines) silent.sent;
           store_faults = sends.quiet.store_faults ∙ store;
           send_faults = on_ok r' ok sends.cause.ok ∙ silent.send_faults;
-          is_state = by_step ∙ request_state product state frame is request read;
+          is_state = by_step ∙ request_state line product state frame is request read;
           count = count ∙ ap (λ (frames : List (List ℕ)). state.desk.messages + length frames) (sym (frame_message frame is));
         },
       )
 
-      pub answers_unsent : is_err r' ≡ true → Serves m product limit first last gate state (frame ∷ []) × FailsToSend m product limit first last gate end state then frame
+      pub answers_unsent : is_err r' ≡ true → Serves m line product limit first last gate state (frame ∷ []) × FailsToSend m line product limit first last gate end state then frame
       answers_unsent err = (
         kept_serves,
         record {

@@ -9,6 +9,9 @@ use Rattle.fix_frame.specs.Stream.{messages_of, rest_of, IsBroken, IsCut}
 use Rattle.fix_frame.specs.StreamLaws.{rest_of-append, rest_of-none, rest_of-begins_with_none, messages_of-frame-append}
 use Rattle.match_journal.specs.Journal.{IsPayload}
 use Rattle.book_recovery.specs.Kept.{messages_in}
+use Rattle.gx_base.specs.declared.event.Event.{Event}
+use Rattle.order_kinds.specs.State.{State}
+use Rattle.book_print.specs.Publishers.{LineForm}
 use Rattle.globex_run.specs.Outside.{SourceAt, Outside, IsQuiet}
 use Rattle.globex_run.specs.Outcomes.{outcome_of}
 use Rattle.globex_run.specs.Journals.{records_length}
@@ -29,7 +32,7 @@ broken_more taken rest broken front =
     let is : rest_of (taken ++ rest) ≡ rest_of taken ++ rest = rest_of-append taken rest ∙ rest_of-none (rest_of taken ++ rest) refused.none in
     refused.no_front (subst (λ (l : List ℕ). IsFrameFront l) is front)
 
-module _ {P I S : Type 0} (m : StationMeanings S) (p q : SourceAt P) (i j : SourceAt I) (old new : S) (outcome : Outcome) where
+module _ {P I S : Type 0} (m : StationMeanings S) (p q : SourceAt P) (i j : SourceAt I) (old new : S) (line : LineForm) (Published : List Event → Type 0) (then : State) (outcome : Outcome) where
   abbrev entry : Outside P I S
   entry = outside_of m p i old
 
@@ -39,7 +42,7 @@ module _ {P I S : Type 0} (m : StationMeanings S) (p q : SourceAt P) (i j : Sour
   module _ (can : CanBeServed m entry) (quiet : IsQuiet entry exit) (taken rest : List ℕ) (left : j.left ≡ Some rest) (all : can.bytes ≡ taken ++ rest) where
     -- what the session came to from the image of entry
     abbrev From : Ending → Type 0
-    From ending = SessionFrom m can.product can.text entry.streams exit.streams can.image can.startable.payloads can.kept taken ending outcome.messages
+    From ending = SessionFrom m line can.product can.text entry.streams exit.streams Published then can.image can.startable.payloads can.kept taken ending outcome.messages
 
     -- the status of an ending
     status_is : (ending : Ending) → outcome ≡ outcome_of ending outcome.messages → outcome.status ≡ (outcome_of ending outcome.messages).status

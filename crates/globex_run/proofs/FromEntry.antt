@@ -19,12 +19,15 @@ use Rattle.match_journal.specs.declared.limits.TheConstants.{MOST_UNFINISHED}
 use Rattle.product_file.specs.declared.limits.TheConstants.{LEAST_JOURNAL}
 use Rattle.product_file.specs.Products.{ProductLists, IsRightProduct}
 use Rattle.order_kinds.specs.State.{State}
+use Rattle.book_print.specs.Publishers.{LineForm}
+use Rattle.gx_base.specs.declared.event.Event.{Event}
+use Rattle.order_kinds.specs.Step.{state_after, events_from}
 use Rattle.globex_run.specs.Outside.{Streams, streams_at}
 use Rattle.globex_run.specs.Outcomes.{outcome_of}
 use Rattle.globex_run.specs.Journals.{AnswersImage, IsGoodJournal}
 use Rattle.globex_run.specs.RunResult.{EndsAs}
-use Rattle.globex_run.specs.Inner.Recording.{reports_from, IsRecordCrash, Serves, AllKept, Served}
-use Rattle.globex_run.specs.Inner.Serving.{CausedBy, EndsServing, ServesInput}
+use Rattle.globex_run.specs.Inner.Recording.{lines_from, IsRecordCrash, Serves, AllKept, Served}
+use Rattle.globex_run.specs.Inner.Serving.{IsDone, CausedBy, EndsServing, ServesInput}
 use Rattle.globex_run.specs.Inner.Sessions.{ending_without, AnswersOpening, IsRefused, Opens, IsAllServed, EndsSession, SessionFrom, SessionResult}
 use Rattle.globex_run.specs.declared.ending.Ending.{Ending}
 use Rattle.globex_run.specs.declared.ending.Ending.TheVariants.{Done, ReadFault, StoreFault, SendFault, BadFrame, Truncated, NotAJournal, JournalBad, ProductDiffers, Full}
@@ -45,9 +48,9 @@ holds_either m P Q s holds = ⊎_elim
 holds_weaker : {S : Type 0} (m : StationMeanings S) (P Q : List ℕ → Type 0) (s : S) → ((image : List ℕ) → P image → Q image) → HoldsOne m P s → HoldsOne m Q s
 holds_weaker m P Q s weaker holds = record { image = holds.image; read = holds.read; has = weaker holds.image holds.has }
 
-module _ {I S : Type 0} (inputs : SourceMeanings I) (m : StationMeanings S) (product : ProductLists) (text image : List ℕ) (payloads kept : List (List ℕ)) (old : S) (large : LEAST_JOURNAL ≤ product.journal_limit) where
+module _ {I S : Type 0} (inputs : SourceMeanings I) (m : StationMeanings S) (line : LineForm) (Published : List Event → Type 0) (product : ProductLists) (text image : List ℕ) (payloads kept : List (List ℕ)) (old : S) (large : LEAST_JOURNAL ≤ product.journal_limit) where
   abbrev Crash : List (List ℕ) → List ℕ → List ℕ → Type 0
-  Crash added = IsRecordCrash product (state_kept product kept) text product.journal_limit payloads added (length image) (m.sent old)
+  Crash added = IsRecordCrash line product (state_kept product kept) text product.journal_limit payloads added (length image) (m.sent old)
 
   -- while the journal is opened
   opening_crash : (added : List (List ℕ)) (left out : List ℕ) → IsOpening text product.journal_limit payloads image left → m.sent old ≡ Some out → Crash added left out
@@ -66,9 +69,9 @@ module _ {I S : Type 0} (inputs : SourceMeanings I) (m : StationMeanings S) (pro
   opening_adds added new adds = adds_weaker m old new _ _ (λ h left out pair. opening_crash added left out pair.0 pair.1) adds
 
   -- the journal was not opened
-  pub from_unopened : (input : I) (new : S) (state : State) → Opens m product text old new image payloads state (Err unopened.Store) → m.sent new ≡ m.sent old
-      → SessionFrom m product text (streams_at inputs m input old) (streams_at inputs m input new) image payloads kept [] StoreFault 0
-  from_unopened input new state opens silent =
+  pub from_unopened : (input : I) (new : S) (state after : State) → Opens m product text old new image payloads state (Err unopened.Store) → m.sent new ≡ m.sent old
+      → SessionFrom m line product text (streams_at inputs m input old) (streams_at inputs m input new) Published after image payloads kept [] StoreFault 0
+  from_unopened input new state after opens silent =
       let same : payloads ≡ payloads ++ [] = sym (append-nil payloads) in
       record {
         added = [];
@@ -85,6 +88,8 @@ module _ {I S : Type 0} (inputs : SourceMeanings I) (m : StationMeanings S) (pro
           keeps = inl (holds_weaker m _ _ new (λ left here. subst (λ (ps : List (List ℕ)). Keeps text product.journal_limit ps left) same here.keeps) opens.keeps);
           messages = refl;
         };
+        is_state = λ done. absurd done;
+        published = λ done. absurd done;
       }
     where
       sent_and_itself : (sent : Option (List ℕ)) → sent ≡ sent_and sent []
@@ -93,17 +98,17 @@ module _ {I S : Type 0} (inputs : SourceMeanings I) (m : StationMeanings S) (pro
 
   -- the journal was opened, and the input served
   module _ (mid : S) (state : State) (journal : Standing) (opens : Opens m product text old mid image payloads state (Ok journal)) (silent : m.sent mid ≡ m.sent old) (state_is : state ≡ state_kept product kept)
-      (input input' : I) (new : S) (end : ℕ) (then : State) (added : List (List ℕ)) (behind : List ℕ) (serves : Serves m product product.journal_limit mid new journal.gate state added) (count : ℕ) (counted : then.desk.messages ≡ state.desk.messages + count) where
+      (input input' : I) (new : S) (end : ℕ) (then : State) (added : List (List ℕ)) (behind : List ℕ) (serves : Serves m line product product.journal_limit mid new journal.gate state added) (count : ℕ) (counted : then.desk.messages ≡ state.desk.messages + count) where
     abbrev most : ℕ
     most = max (length image) MOST_UNFINISHED
 
-    sent_as : (messages : List (List ℕ)) → sent_and (m.sent mid) (reports_from product state messages) ≡ sent_and (m.sent old) (reports_from product (state_kept product kept) messages)
-    sent_as messages = ap (λ o. sent_and o (reports_from product state messages)) silent ∙ ap (λ (s : State). sent_and (m.sent old) (reports_from product s messages)) state_is
+    sent_as : (messages : List (List ℕ)) → sent_and (m.sent mid) (lines_from line product state messages) ≡ sent_and (m.sent old) (lines_from line product (state_kept product kept) messages)
+    sent_as messages = ap (λ o. sent_and o (lines_from line product state messages)) silent ∙ ap (λ (s : State). sent_and (m.sent old) (lines_from line product s messages)) state_is
 
-    part : IsKnownPrefix (m.sent new) (sent_and (m.sent old) (reports_from product (state_kept product kept) (messages_in added)))
+    part : IsKnownPrefix (m.sent new) (sent_and (m.sent old) (lines_from line product (state_kept product kept) (messages_in added)))
     part = subst (λ o. IsKnownPrefix (m.sent new) o) (sent_as (messages_in added)) serves.part
 
-    crash : (left out : List ℕ) → IsRecordCrash product state text product.journal_limit payloads added most (m.sent mid) left out → Crash added left out
+    crash : (left out : List ℕ) → IsRecordCrash line product state text product.journal_limit payloads added most (m.sent mid) left out → Crash added left out
     crash left out here = record {
       count = here.count;
       within = here.within;
@@ -129,10 +134,10 @@ module _ {I S : Type 0} (inputs : SourceMeanings I) (m : StationMeanings S) (pro
     abbrev at_exit : Streams I S
     at_exit = streams_at inputs m input' new
 
-    all_served : Served m product product.journal_limit mid new journal.gate end state then added → IsAllServed m product text at_entry at_exit payloads kept added count
+    all_served : Served m line product product.journal_limit mid new journal.gate end state then added → IsAllServed m line product text at_entry at_exit payloads kept added count
     all_served served = record { sent = served.sent ∙ sent_as (messages_in added); keeps = all_kept served.all_kept; messages = omega (arith, served.count, counted) }
 
-    ends_session : (ending : Ending) → EndsServing m product product.journal_limit (streams_at inputs m input mid) at_exit journal.gate end state then ending added behind → EndsSession m product text at_entry at_exit ending count payloads kept added behind
+    ends_session : (ending : Ending) → EndsServing m line product product.journal_limit (streams_at inputs m input mid) at_exit journal.gate end state then ending added behind → EndsSession m line product text at_entry at_exit ending count payloads kept added behind
     ends_session Done ends = all_served ends.0
     ends_session (ReadFault place) ends = all_served ends.0
     ends_session StoreFault ends = record {
@@ -160,13 +165,35 @@ module _ {I S : Type 0} (inputs : SourceMeanings I) (m : StationMeanings S) (pro
           },
         )
 
-    pub from_opened : (ending : Ending) → EndsServing m product product.journal_limit (streams_at inputs m input mid) at_exit journal.gate end state then ending added behind
-        → SessionFrom m product text at_entry at_exit image payloads kept (concat added ++ behind) ending count
-    from_opened ending ends = record { added = added; behind = behind; are = refl; whole = serves.whole; part = part; adds = adds; ends = ends_session ending ends }
+    done_state : (ending : Ending) → IsDone ending → EndsServing m line product product.journal_limit (streams_at inputs m input mid) at_exit journal.gate end state then ending added behind → then ≡ state_after product state (messages_in added)
+    done_state Done done ends = ends.0.is_state
+    done_state (ReadFault place) done ends = absurd done
+    done_state StoreFault done ends = absurd done
+    done_state SendFault done ends = absurd done
+    done_state (BadFrame place) done ends = absurd done
+    done_state (Truncated place) done ends = absurd done
+    done_state (NotAJournal place) done ends = absurd done
+    done_state (JournalBad place) done ends = absurd done
+    done_state (ProductDiffers place) done ends = absurd done
+    done_state (Full place) done ends = absurd done
+
+    pub from_opened : (ending : Ending) → (IsDone ending → Published (events_from product state (messages_in added))) → EndsServing m line product product.journal_limit (streams_at inputs m input mid) at_exit journal.gate end state then ending added behind
+        → SessionFrom m line product text at_entry at_exit Published then image payloads kept (concat added ++ behind) ending count
+    from_opened ending published ends = record {
+      is_state = λ done. done_state ending done ends ∙ ap (λ (s : State). state_after product s (messages_in added)) state_is;
+      added = added;
+      behind = behind;
+      are = refl;
+      whole = serves.whole;
+      part = part;
+      adds = adds;
+      ends = ends_session ending ends;
+      published = λ done. subst (λ (s : State). Published (events_from product s (messages_in added))) state_is (published done);
+    }
 
 -- ---- what else a session tells
 
-module _ {I S : Type 0} (inputs : SourceMeanings I) (m : StationMeanings S) (product : ProductLists) (text : List ℕ) (old : S) where
+module _ {I S : Type 0} (inputs : SourceMeanings I) (m : StationMeanings S) (line : LineForm) (Published : List Event → Type 0) (product : ProductLists) (text : List ℕ) (old : S) where
   -- what holds of the image, where that is told
   pub where_told : (told : Option (List ℕ)) (P : List ℕ → Type 0) → ((image : List ℕ) → told ≡ Some image → P image) → IfSome told P
   where_told None P says = tt
@@ -186,7 +213,7 @@ module _ {I S : Type 0} (inputs : SourceMeanings I) (m : StationMeanings S) (pro
   caused_by (Full place) mid input after store send cause = (cause.0, cause.1 ∙ store, cause.2 ∙ send)
 
   -- what was opened stays what it was, however serving ends
-  pub answers_by : (limit : ℕ) (mid : Streams I S) (after : Streams I S) (gate end : ℕ) (state then : State) (added : List (List ℕ)) (behind image : List ℕ) (ending : Ending) → EndsServing m product limit mid after gate end state then ending added behind
+  pub answers_by : (limit : ℕ) (mid : Streams I S) (after : Streams I S) (gate end : ℕ) (state then : State) (added : List (List ℕ)) (behind image : List ℕ) (ending : Ending) → EndsServing m line product limit mid after gate end state then ending added behind
       → (IsBlank image ⊎ IsSealed text image) ⊎ IsGoodJournal text product.journal_limit image → AnswersImage text product.journal_limit image ending
   answers_by limit mid after gate end state then added behind image Done ends was = was
   answers_by limit mid after gate end state then added behind image (ReadFault place) ends was = was
@@ -214,12 +241,12 @@ module _ {I S : Type 0} (inputs : SourceMeanings I) (m : StationMeanings S) (pro
     ends_unopened (unopened.Bad at) = record { none = refl; nothing = refl; input = refl }
     ends_unopened (unopened.ProductDiffers at) = record { none = refl; nothing = refl; input = refl }
 
-    pub from_unopened_by : (image : List ℕ) (payloads kept : List (List ℕ)) (state : State) (reason : Unopened) → LEAST_JOURNAL ≤ product.journal_limit → m.sent new ≡ m.sent old → Opens m product text old new image payloads state (Err reason)
-        → SessionFrom m product text (streams_at inputs m input old) (streams_at inputs m input new) image payloads kept [] (ending_without reason) 0
-    from_unopened_by image payloads kept state unopened.Store large silent opens = from_unopened inputs m product text image payloads kept old large input new state opens silent
-    from_unopened_by image payloads kept state (unopened.NotAJournal at) large silent opens = absurd (opens.accepted tt)
-    from_unopened_by image payloads kept state (unopened.Bad at) large silent opens = absurd (opens.accepted tt)
-    from_unopened_by image payloads kept state (unopened.ProductDiffers at) large silent opens = absurd (opens.accepted tt)
+    pub from_unopened_by : (image : List ℕ) (payloads kept : List (List ℕ)) (state after : State) (reason : Unopened) → LEAST_JOURNAL ≤ product.journal_limit → m.sent new ≡ m.sent old → Opens m product text old new image payloads state (Err reason)
+        → SessionFrom m line product text (streams_at inputs m input old) (streams_at inputs m input new) Published after image payloads kept [] (ending_without reason) 0
+    from_unopened_by image payloads kept state after unopened.Store large silent opens = from_unopened inputs m line Published product text image payloads kept old large input new state after opens silent
+    from_unopened_by image payloads kept state after (unopened.NotAJournal at) large silent opens = absurd (opens.accepted tt)
+    from_unopened_by image payloads kept state after (unopened.Bad at) large silent opens = absurd (opens.accepted tt)
+    from_unopened_by image payloads kept state after (unopened.ProductDiffers at) large silent opens = absurd (opens.accepted tt)
 
 -- ---- the outcome
 
@@ -249,65 +276,65 @@ refused_by (unopened.Bad at) outcome is refused = tt
 refused_by (unopened.ProductDiffers at) outcome is refused = tt
 
 -- serving counts no fewer messages than before
-pub no_fewer : {I S : Type 0} (m : StationMeanings S) (product : ProductLists) (limit : ℕ) (mid after : Streams I S) (gate end : ℕ) (state then : State) (added : List (List ℕ)) (behind : List ℕ) (ending : Ending) → EndsServing m product limit mid after gate end state then ending added behind
+pub no_fewer : {I S : Type 0} (m : StationMeanings S) (line : LineForm) (product : ProductLists) (limit : ℕ) (mid after : Streams I S) (gate end : ℕ) (state then : State) (added : List (List ℕ)) (behind : List ℕ) (ending : Ending) → EndsServing m line product limit mid after gate end state then ending added behind
     → state.desk.messages ≤ then.desk.messages
-no_fewer m product limit mid after gate end state then added behind Done ends = omega (arith, ends.0.count)
-no_fewer m product limit mid after gate end state then added behind (ReadFault place) ends = omega (arith, ends.0.count)
-no_fewer m product limit mid after gate end state then added behind StoreFault ends = omega (arith, ends.count)
-no_fewer m product limit mid after gate end state then added behind SendFault ends = omega (arith, ends.count)
-no_fewer m product limit mid after gate end state then added behind (BadFrame place) ends = omega (arith, ends.0.count)
-no_fewer m product limit mid after gate end state then added behind (Truncated place) ends = omega (arith, ends.0.count)
-no_fewer m product limit mid after gate end state then added behind (NotAJournal place) ends = absurd ends
-no_fewer m product limit mid after gate end state then added behind (JournalBad place) ends = absurd ends
-no_fewer m product limit mid after gate end state then added behind (ProductDiffers place) ends = absurd ends
-no_fewer m product limit mid after gate end state then added behind (Full place) ends = omega (arith, ends.0.count)
+no_fewer m line product limit mid after gate end state then added behind Done ends = omega (arith, ends.0.count)
+no_fewer m line product limit mid after gate end state then added behind (ReadFault place) ends = omega (arith, ends.0.count)
+no_fewer m line product limit mid after gate end state then added behind StoreFault ends = omega (arith, ends.count)
+no_fewer m line product limit mid after gate end state then added behind SendFault ends = omega (arith, ends.count)
+no_fewer m line product limit mid after gate end state then added behind (BadFrame place) ends = omega (arith, ends.0.count)
+no_fewer m line product limit mid after gate end state then added behind (Truncated place) ends = omega (arith, ends.0.count)
+no_fewer m line product limit mid after gate end state then added behind (NotAJournal place) ends = absurd ends
+no_fewer m line product limit mid after gate end state then added behind (JournalBad place) ends = absurd ends
+no_fewer m line product limit mid after gate end state then added behind (ProductDiffers place) ends = absurd ends
+no_fewer m line product limit mid after gate end state then added behind (Full place) ends = omega (arith, ends.0.count)
 
-module _ {I S : Type 0} (inputs : SourceMeanings I) (m : StationMeanings S) (product : ProductLists) (text : List ℕ) (old mid : S) (input : I) (state : State) (right : IsRightProduct product) (silent : SendsNothing m old mid) where
+module _ {I S : Type 0} (inputs : SourceMeanings I) (m : StationMeanings S) (line : LineForm) (Published : List Event → Type 0) (product : ProductLists) (text : List ℕ) (old mid : S) (input : I) (state : State) (right : IsRightProduct product) (silent : SendsNothing m old mid) where
   -- what opening ensures of an image that keeps whole payloads
   abbrev pub OpensAs : Result Standing Unopened → Type 0
   OpensAs result = (image : List ℕ) (payloads : List (List ℕ)) → m.is_honest old → m.holds old ≡ Some image → Keeps text product.journal_limit payloads image → AreWhole payloads → Opens m product text old mid image payloads state result
 
-  pub unopened_session : (reason : Unopened) (outcome : Outcome) → outcome ≡ outcome_of (ending_without reason) 0 → (reason ≡ unopened.Store → Rose (m.store_faults old) (m.store_faults mid)) → ((reason ≡ unopened.Store → ⊥) → m.store_faults mid ≡ m.store_faults old)
-      → ((image : List ℕ) → m.holds old ≡ Some image → AnswersImage text product.journal_limit image (ending_without reason)) → OpensAs (Err reason) → SessionResult m product text (streams_at inputs m input old) (streams_at inputs m input mid) outcome
-  unopened_session reason outcome is store none answers opens =
+  pub unopened_session : (after : State) (reason : Unopened) (outcome : Outcome) → outcome ≡ outcome_of (ending_without reason) 0 → (reason ≡ unopened.Store → Rose (m.store_faults old) (m.store_faults mid)) → ((reason ≡ unopened.Store → ⊥) → m.store_faults mid ≡ m.store_faults old)
+      → ((image : List ℕ) → m.holds old ≡ Some image → AnswersImage text product.journal_limit image (ending_without reason)) → OpensAs (Err reason) → SessionResult m line product text (streams_at inputs m input old) (streams_at inputs m input mid) Published after outcome
+  unopened_session after reason outcome is store none answers opens =
       let count = count_is outcome (ending_without reason) 0 is in
       record {
         right = right;
         ending = ending_without reason;
         is = is ∙ ap (outcome_of (ending_without reason)) (sym count);
-        cause = caused_unopened inputs m product text old input mid silent.send_faults reason store none;
-        image = where_told inputs m product text old (m.holds old) _ answers;
+        cause = caused_unopened inputs m line Published product text old input mid silent.send_faults reason store none;
+        image = where_told inputs m line Published product text old (m.holds old) _ answers;
         serving = record {
           taken = [];
           took = and_left-none (inputs.left input);
           some = omega (arith, count);
-          ends = subst (λ n. EndsAs (streams_at inputs m input old) (streams_at inputs m input mid) (ending_without reason) n []) (sym count) (ends_unopened inputs m product text old input mid silent.send_faults reason);
+          ends = subst (λ n. EndsAs (streams_at inputs m input old) (streams_at inputs m input mid) (ending_without reason) n []) (sym count) (ends_unopened inputs m line Published product text old input mid silent.send_faults reason);
         };
         from = λ image kept honest read startable.
-            subst (λ n. SessionFrom m product text (streams_at inputs m input old) (streams_at inputs m input mid) image startable.payloads kept [] (ending_without reason) n) (sym count)
-            (from_unopened_by inputs m product text old input mid silent.send_faults image startable.payloads kept state reason right.least_limit silent.sent (opens image startable.payloads honest read startable.keeps startable.whole));
+            subst (λ n. SessionFrom m line product text (streams_at inputs m input old) (streams_at inputs m input mid) Published after image startable.payloads kept [] (ending_without reason) n) (sym count)
+            (from_unopened_by inputs m line Published product text old input mid silent.send_faults image startable.payloads kept state after reason right.least_limit silent.sent (opens image startable.payloads honest read startable.keeps startable.whole));
       }
 
   pub opened_session : (journal : Standing) (limit_is : journal.limit ≡ product.journal_limit) (store : m.store_faults mid ≡ m.store_faults old) (answers : (image : List ℕ) → m.holds old ≡ Some image → AnswersOpening text product.journal_limit image (Ok journal)) (opens : OpensAs (Ok journal)) (input' : I) (new : S) (end : ℕ)
-      (then : State) (ending : Ending) → ServesInput m product journal.limit (streams_at inputs m input mid) (streams_at inputs m input' new) journal.gate end state then ending → CausedBy ending (streams_at inputs m input mid) (streams_at inputs m input' new)
-      → (outcome : Outcome) (counts : ℕ) → counts ≡ then.desk.messages - state.desk.messages → outcome ≡ outcome_of ending counts → SessionResult m product text (streams_at inputs m input old) (streams_at inputs m input' new) outcome
+      (then : State) (ending : Ending) → ServesInput m line product journal.limit (streams_at inputs m input mid) (streams_at inputs m input' new) journal.gate end state then Published ending → CausedBy ending (streams_at inputs m input mid) (streams_at inputs m input' new)
+      → (outcome : Outcome) (counts : ℕ) → counts ≡ then.desk.messages - state.desk.messages → outcome ≡ outcome_of ending counts → SessionResult m line product text (streams_at inputs m input old) (streams_at inputs m input' new) Published then outcome
   opened_session journal limit_is store answers opens input' new end then ending serves cause outcome counts more is =
       let before = streams_at inputs m input mid in
       let after = streams_at inputs m input' new in
-      let served = subst (λ k. ServesInput m product k before after journal.gate end state then ending) limit_is serves in
+      let served = subst (λ k. ServesInput m line product k before after journal.gate end state then Published ending) limit_is serves in
       let count = count_is outcome ending counts is in
       let counted : then.desk.messages ≡ state.desk.messages + outcome.messages =
-      omega (arith, count, more, no_fewer m product product.journal_limit before after journal.gate end state then served.added served.behind ending served.ends) in
-      let taken = taken_by m product product.journal_limit (streams_at inputs m input old) before after journal.gate end state then served.added served.behind served.serves.whole outcome.messages counted ending served.ends in
+      omega (arith, count, more, no_fewer m line product product.journal_limit before after journal.gate end state then served.added served.behind ending served.ends) in
+      let taken = taken_by m line product product.journal_limit (streams_at inputs m input old) before after journal.gate end state then served.added served.behind served.serves.whole outcome.messages counted ending served.ends in
       record {
         right = right;
         ending = ending;
         is = is ∙ ap (outcome_of ending) (sym count);
-        cause = caused_by inputs m product text old ending mid input after store silent.send_faults cause;
-        image = where_told inputs m product text old (m.holds old) _ (λ image read. answers_by inputs m product text old product.journal_limit before after journal.gate end state then served.added served.behind image ending served.ends (answers image read));
+        cause = caused_by inputs m line Published product text old ending mid input after store silent.send_faults cause;
+        image = where_told inputs m line Published product text old (m.holds old) _ (λ image read. answers_by inputs m line Published product text old product.journal_limit before after journal.gate end state then served.added served.behind image ending served.ends (answers image read));
         serving = record { taken = concat served.added ++ served.behind; took = served.took; some = taken.0; ends = taken.1 };
         from = λ image kept honest read startable.
             let from_image = opens image startable.payloads honest read startable.keeps startable.whole in
-            from_opened inputs m product text image startable.payloads kept old right.least_limit mid state journal from_image silent.sent (from_image.is_state ∙ ap (state_kept product) (sym startable.are)) input input' new end then served.added served.behind served.serves outcome.messages counted ending
+            from_opened inputs m line Published product text image startable.payloads kept old right.least_limit mid state journal from_image silent.sent (from_image.is_state ∙ ap (state_kept product) (sym startable.are)) input input' new end then served.added served.behind served.serves outcome.messages counted ending served.published
             served.ends;
       }

@@ -13,8 +13,9 @@ use Rattle.book_recovery.specs.Kept.{IsWhole, messages_in}
 use Rattle.product_file.specs.Products.{ProductLists}
 use Rattle.order_kinds.specs.State.{State}
 use Rattle.order_kinds.specs.Step.{state_after}
-use Rattle.globex_run.specs.Inner.Recording.{reports_from, IsRecordCrash, RestsAtEnd, AllKept, Serves, Served}
-use Rattle.globex_run.proofs.Folds.{messages_in-append, reports_both, state-append}
+use Rattle.book_print.specs.Publishers.{LineForm}
+use Rattle.globex_run.specs.Inner.Recording.{lines_from, IsRecordCrash, RestsAtEnd, AllKept, Serves, Served}
+use Rattle.globex_run.proofs.Folds.{messages_in-append, lines_both, state-append}
 use Rattle.globex_run.proofs.Additions.{all_append, records_length-append}
 use Rattle.globex_run.proofs.SentReports.{known_more}
 
@@ -35,32 +36,32 @@ module _ {S : Type 0} (m : StationMeanings S) (limit : ℕ) where
     grown = omega (arith, first.grown, second.grown, records_length-append xs ys);
   }
 
-module _ {S : Type 0} (m : StationMeanings S) (product : ProductLists) (limit : ℕ) where
-  pub serves_none : (a : S) (gate : ℕ) (state : State) → Serves m product limit a a gate state []
+module _ {S : Type 0} (m : StationMeanings S) (line : LineForm) (product : ProductLists) (limit : ℕ) where
+  pub serves_none : (a : S) (gate : ℕ) (state : State) → Serves m line product limit a a gate state []
   serves_none a gate state = record { whole = tt; part = known_more (m.sent a) []; adds = λ text kept most at. adds_none m a _ }
 
-  module _ (a b c : S) (gate mid end : ℕ) (s s1 s2 : State) (xs ys : List (List ℕ)) (serves : Serves m product limit a b gate s xs) (served : Served m product limit a b gate mid s s1 xs) where
+  module _ (a b c : S) (gate mid end : ℕ) (s s1 s2 : State) (xs ys : List (List ℕ)) (serves : Serves m line product limit a b gate s xs) (served : Served m line product limit a b gate mid s s1 xs) where
     -- a front of the first ones
-    fewer : (text : List ℕ) (kept : List (List ℕ)) (most : ℕ) (left out : List ℕ) → IsRecordCrash product s text limit kept xs most (m.sent a) left out → IsRecordCrash product s text limit kept (xs ++ ys) most (m.sent a) left out
+    fewer : (text : List ℕ) (kept : List (List ℕ)) (most : ℕ) (left out : List ℕ) → IsRecordCrash line product s text limit kept xs most (m.sent a) left out → IsRecordCrash line product s text limit kept (xs ++ ys) most (m.sent a) left out
     fewer text kept most left out crash =
         let same : take crash.count xs ≡ take crash.count (xs ++ ys) = sym (take-append-le crash.count xs ys crash.within) in
         record {
           count = crash.count;
           within = omega (arith, crash.within, length-append xs ys);
           keeps = subst (λ (l : List (List ℕ)). Keeps text limit (kept ++ l) left) same crash.keeps;
-          sent_is = subst (λ (l : List (List ℕ)). IsBetween (m.sent a) out (sent_and (m.sent a) (reports_from product s (messages_in l)))) same crash.sent_is;
+          sent_is = subst (λ (l : List (List ℕ)). IsBetween (m.sent a) out (sent_and (m.sent a) (lines_from line product s (messages_in l)))) same crash.sent_is;
           no_longer = crash.no_longer;
         }
 
     -- what the first ones and then others have sent
-    sent_then : (zs : List (List ℕ)) → sent_and (m.sent b) (reports_from product s1 (messages_in zs)) ≡ sent_and (m.sent a) (reports_from product s (messages_in (xs ++ zs)))
+    sent_then : (zs : List (List ℕ)) → sent_and (m.sent b) (lines_from line product s1 (messages_in zs)) ≡ sent_and (m.sent a) (lines_from line product s (messages_in (xs ++ zs)))
     sent_then zs =
-        ap (λ (o : Option (List ℕ)). sent_and o (reports_from product s1 (messages_in zs))) served.sent
-        ∙ ap (λ (e : State). sent_and (sent_and (m.sent a) (reports_from product s (messages_in xs))) (reports_from product e (messages_in zs))) served.is_state
-        ∙ sym (reports_both product (m.sent a) s xs zs)
+        ap (λ (o : Option (List ℕ)). sent_and o (lines_from line product s1 (messages_in zs))) served.sent
+        ∙ ap (λ (e : State). sent_and (sent_and (m.sent a) (lines_from line product s (messages_in xs))) (lines_from line product e (messages_in zs))) served.is_state
+        ∙ sym (lines_both line product (m.sent a) s xs zs)
 
     -- all of the first ones, and a front of the second
-    more : (text : List ℕ) (kept : List (List ℕ)) (most : ℕ) (left out : List ℕ) → IsRecordCrash product s1 text limit (kept ++ xs) ys (max most limit) (m.sent b) left out → IsRecordCrash product s text limit kept (xs ++ ys) most (m.sent a) left out
+    more : (text : List ℕ) (kept : List (List ℕ)) (most : ℕ) (left out : List ℕ) → IsRecordCrash line product s1 text limit (kept ++ xs) ys (max most limit) (m.sent b) left out → IsRecordCrash line product s text limit kept (xs ++ ys) most (m.sent a) left out
     more text kept most left out crash =
         let all : take (length xs + crash.count) (xs ++ ys) ≡ xs ++ take crash.count ys = take-append-add xs ys crash.count in
         record {
@@ -68,13 +69,13 @@ module _ {S : Type 0} (m : StationMeanings S) (product : ProductLists) (limit : 
           within = omega (arith, crash.within, length-append xs ys);
           keeps = subst (λ (l : List (List ℕ)). Keeps text limit l left) (append_assoc kept xs (take crash.count ys) ∙ ap (λ (l : List (List ℕ)). kept ++ l) (sym all)) crash.keeps;
           sent_is = record {
-            low = known_then (m.sent a) (m.sent b) (Some out) (subst (λ (o : Option (List ℕ)). IsKnownPrefix (m.sent a) o) (sym served.sent) (known_more (m.sent a) (reports_from product s (messages_in xs)))) crash.sent_is.low;
-            high = subst (λ (o : Option (List ℕ)). IsKnownPrefix (Some out) o) (sent_then (take crash.count ys) ∙ ap (λ (l : List (List ℕ)). sent_and (m.sent a) (reports_from product s (messages_in l))) (sym all)) crash.sent_is.high;
+            low = known_then (m.sent a) (m.sent b) (Some out) (subst (λ (o : Option (List ℕ)). IsKnownPrefix (m.sent a) o) (sym served.sent) (known_more (m.sent a) (lines_from line product s (messages_in xs)))) crash.sent_is.low;
+            high = subst (λ (o : Option (List ℕ)). IsKnownPrefix (Some out) o) (sent_then (take crash.count ys) ∙ ap (λ (l : List (List ℕ)). sent_and (m.sent a) (lines_from line product s (messages_in l))) (sym all)) crash.sent_is.high;
           };
           no_longer = omega (arith, crash.no_longer);
         }
 
-    pub serves_then : Serves m product limit b c mid s1 ys → Serves m product limit a c gate s (xs ++ ys)
+    pub serves_then : Serves m line product limit b c mid s1 ys → Serves m line product limit a c gate s (xs ++ ys)
     serves_then then = record {
       whole = all_append IsWhole xs ys serves.whole then.whole;
       part = subst (λ (o : Option (List ℕ)). IsKnownPrefix (m.sent c) o) (sent_then ys) then.part;
@@ -84,7 +85,7 @@ module _ {S : Type 0} (m : StationMeanings S) (product : ProductLists) (limit : 
           (then.adds text (kept ++ xs) (max most limit) (served.all_kept.at_end text kept most at));
     }
 
-    pub served_then : Served m product limit b c mid end s1 s2 ys → Served m product limit a c gate end s s2 (xs ++ ys)
+    pub served_then : Served m line product limit b c mid end s1 s2 ys → Served m line product limit a c gate end s s2 (xs ++ ys)
     served_then then = record {
       all_kept = kept_then m limit a b c gate mid end xs ys served.all_kept then.all_kept;
       sent = then.sent ∙ sent_then ys;
@@ -94,7 +95,7 @@ module _ {S : Type 0} (m : StationMeanings S) (product : ProductLists) (limit : 
       count = omega (arith, then.count, served.count, ap (λ (l : List (List ℕ)). length l) (messages_in-append xs ys), length-append (messages_in xs) (messages_in ys));
     }
 
-  pub served_none : (a : S) (gate : ℕ) (state : State) → Served m product limit a a gate gate state state []
+  pub served_none : (a : S) (gate : ℕ) (state : State) → Served m line product limit a a gate gate state state []
   served_none a gate state = record {
     all_kept = record {
       at_end = λ text kept most at. record {

@@ -13,5 +13,6 @@ mod FromEntry
 mod Reported
 mod Told
 mod Headlines
+mod RunHeadlines
 mod Complete
 mod Runs

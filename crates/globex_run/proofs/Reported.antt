@@ -3,18 +3,19 @@ use Rattle.std.proofs.Common.{◌≡◌, ℕ, ◌≤◌, List, ◌++◌, length,
 use Rattle.std.proofs.lemmas.List.{append_cancel_left, drop_at, take-take}
 use Rattle.gx_base.specs.KnownBytes.{IsPrefix}
 use Rattle.gx_station.specs.Stations.{IsBetween, sent_and}
+use Rattle.gx_base.specs.Line.{line_of}
 use Rattle.product_file.specs.Products.{ProductLists}
 use Rattle.order_kinds.specs.State.{empty_state}
 use Rattle.order_kinds.specs.Step.{state_after, reports_of}
 use Rattle.book_recovery.specs.Recovering.{state_kept}
 use Rattle.globex_run.specs.Headline.{new_reports}
 use Rattle.globex_run.specs.Inner.Recording.{reports_from}
-use Rattle.globex_run.proofs.Folds.{reports-append}
+use Rattle.globex_run.proofs.Folds.{lines-append}
 
 -- the new reports are those from the state of the earlier messages on
 pub new-reports : (product : ProductLists) (kept messages : List (List ℕ)) → new_reports product kept messages ≡ reports_from product (state_kept product kept) messages
 new-reports product kept messages =
-    ap (λ (l : List ℕ). drop (length (reports_of product kept)) l) (reports-append product (empty_state product) kept messages)
+    ap (λ (l : List ℕ). drop (length (reports_of product kept)) l) (lines-append line_of product (empty_state product) kept messages)
     ∙ drop_at (reports_of product kept) (reports_from product (state_kept product kept) messages) (length (reports_of product kept)) refl
 
 -- fewer messages have no more reports
@@ -25,7 +26,7 @@ fewer-reports product kept all a b le =
     let more = drop a (take b all) in
     let parts : few ++ more ≡ take b all = ap (λ (l : List (List ℕ)). l ++ more) (sym (take-take a b all le)) ∙ take-append-drop a (take b all) in
     let whole : new_reports product kept (take b all) ≡ reports_from product state few ++ reports_from product (state_after product state few) more =
-    new-reports product kept (take b all) ∙ ap (λ (l : List (List ℕ)). reports_from product state l) (sym parts) ∙ reports-append product state few more in
+    new-reports product kept (take b all) ∙ ap (λ (l : List (List ℕ)). reports_from product state l) (sym parts) ∙ lines-append line_of product state few more in
     let front : length (new_reports product kept few) ≡ length (reports_from product state few) = ap (λ (l : List ℕ). length l) (new-reports product kept few) in
     let total : length (new_reports product kept (take b all)) ≡ length (reports_from product state few ++ reports_from product (state_after product state few) more) = ap (λ (l : List ℕ). length l) whole in
     omega (arith, front, total, length-append (reports_from product state few) (reports_from product (state_after product state few) more))

@@ -1,5 +1,5 @@
 -- What a call did, from the way that it ended.
-use Rattle.std.proofs.Common.{◌≡◌, ◌⊎◌, inl, inr, ℕ, nat_lt, ◌<◌, ◌≤◌, List, [], ◌++◌, length, Some, Result, Ok, Err, sym, ap, subst, ◌∙◌, length-append, arith}
+use Rattle.std.proofs.Common.{◌≡◌, ◌⊎◌, inl, inr, ℕ, nat_lt, ◌<◌, ◌≤◌, List, [], ◌++◌, length, Some, Result, Ok, Err, refl, sym, ap, subst, ◌∙◌, length-append, arith}
 use Rattle.std.proofs.lemmas.Bool.{cases_lt, cond-true, lt-ltb}
 use Rattle.std.proofs.lemmas.List.{append-nil}
 use Rattle.gx_station.specs.Stations.{StationMeanings}
@@ -11,10 +11,13 @@ use Rattle.product_file.specs.declared.faults.ProductFault.{ProductFault}
 use Rattle.product_file.specs.declared.faults.ProductFault.TheVariants.{TooLong}
 use Rattle.order_kinds.specs.Balance.{IsBalanced}
 use Rattle.balance_laws.proofs.Streams.{streams-balance}
+use Rattle.gx_base.specs.Line.{line_of}
+use Rattle.gx_base.specs.declared.event.Event.{Event}
+use Rattle.order_kinds.specs.State.{State}
 use Rattle.globex_run.specs.Outside.{SourceAt, Outside, IsQuiet}
 use Rattle.globex_run.specs.ProductTexts.{TakesAtMost, IsProductText, IsRefusedAt}
-use Rattle.globex_run.specs.RunResult.{EndsAs}
-use Rattle.globex_run.specs.Headline.{Premises, SendsExactlyTheReports, EndsOtherwise, LeavesCrashPrefixes, BeforeTheFirstSync, KeepsEveryReported, HasNoRoom, messages_counted, CanBeServed, IsServed}
+use Rattle.globex_run.specs.RunResult.{EndsAs, first_messages}
+use Rattle.globex_run.specs.Headline.{new_reports, Premises, InputPremises, SendsExactlyTheReports, EndsOtherwise, RunLeavesCrashPrefixes, RunBeforeTheFirstSync, KeepsEveryReported, HasNoRoom, CanBeServed, IsServed}
 use Rattle.globex_run.specs.Inner.ProductReading.{TakesNone}
 use Rattle.globex_run.specs.Inner.Sessions.{SessionFrom, SessionResult}
 use Rattle.globex_run.specs.Inner.Statuses.{outcome_without}
@@ -23,6 +26,8 @@ use Rattle.globex_run.specs.declared.product_text.NoProduct.{NoProduct}
 use Rattle.globex_run.specs.declared.product_text.NoProduct.TheVariants.{NoMemory, Unread, Refused}
 use Rattle.globex_run.proofs.Told.{outside_of, left_parts, nil_from_end, same-taken}
 use Rattle.globex_run.proofs.Headlines as headline
+use Rattle.globex_run.proofs.RunHeadlines as run
+use Rattle.globex_run.proofs.Reported.{fewer-reports}
 use Rattle.globex_run.proofs.Complete.{served}
 
 -- ---- the product's text
@@ -69,7 +74,7 @@ memory-without m before after (Refused rule) o took made can quiet =
 
 -- ---- a product was taken, and its text lent to its session
 
-module _ {P I S : Type 0} (m : StationMeanings S) (p q : SourceAt P) (i j : SourceAt I) (old new : S) (outcome : Outcome) (text lent : List ℕ) (same : lent ≡ text) (product : ProductLists) (took : IsProductText p q text) (gives : product_of text ≡ Ok product) where
+module _ {P I S : Type 0} (m : StationMeanings S) (p q : SourceAt P) (i j : SourceAt I) (old new : S) (Published : List Event → Type 0) (then : State) (outcome : Outcome) (text lent : List ℕ) (same : lent ≡ text) (product : ProductLists) (took : IsProductText p q text) (gives : product_of text ≡ Ok product) where
   abbrev entry : Outside P I S
   entry = outside_of m p i old
 
@@ -78,7 +83,7 @@ module _ {P I S : Type 0} (m : StationMeanings S) (p q : SourceAt P) (i j : Sour
 
   -- the session of a product
   abbrev Session : ProductLists → List ℕ → Type 0
-  Session lists bytes = SessionResult m lists bytes entry.streams exit.streams outcome
+  Session lists bytes = SessionResult m line_of lists bytes entry.streams exit.streams Published then outcome
 
   -- the session is that of the product that is told
   told-session : (told : List ℕ) (lists : ProductLists) → p.left ≡ Some told → product_of told ≡ Ok lists → Session product lent → Session lists told
@@ -87,63 +92,68 @@ module _ {P I S : Type 0} (m : StationMeanings S) (p q : SourceAt P) (i j : Sour
       let one : product ≡ lists = one_product (product_of text) product lists gives (ap product_of whole ∙ are) in
       subst (λ (l : List ℕ). Session lists l) (same ∙ whole) (subst (λ (x : ProductLists). Session x lent) one session)
 
-  module _ (session : Session product lent) (given : Premises m entry exit outcome.status) where
+  module _ (session : Session product lent) (given : Premises m entry exit outcome.status) (read : InputPremises i j) where
     -- that of the product of the premises
     told : Session given.product given.text
     told = told-session given.text given.product given.text_known given.gives session
 
     -- the bytes taken are those of the premises
-    taken_is : told.serving.taken ≡ given.taken
-    taken_is = same-taken i.left j.left given.taken told.serving.taken given.rest given.input_known given.input_left told.serving.took
+    taken_is : told.serving.taken ≡ read.taken
+    taken_is = same-taken i.left j.left read.taken told.serving.taken read.rest read.known read.left told.serving.took
 
     -- what it came to from the image of entry
-    from : SessionFrom m given.product given.text entry.streams exit.streams given.image given.startable.payloads given.kept given.taken told.ending outcome.messages
+    from : SessionFrom m line_of given.product given.text entry.streams exit.streams Published then given.image given.startable.payloads given.kept read.taken told.ending outcome.messages
     from =
-        subst (λ (l : List ℕ). SessionFrom m given.product given.text entry.streams exit.streams given.image given.startable.payloads given.kept l told.ending outcome.messages) taken_is
+        subst (λ (l : List ℕ). SessionFrom m line_of given.product given.text entry.streams exit.streams Published then given.image given.startable.payloads given.kept l told.ending outcome.messages) taken_is
         (told.from given.image given.kept given.honest given.image_known given.startable)
 
     -- why it ended
-    ends : EndsAs entry.streams exit.streams told.ending outcome.messages given.taken
+    ends : EndsAs entry.streams exit.streams told.ending outcome.messages read.taken
     ends = subst (λ (l : List ℕ). EndsAs entry.streams exit.streams told.ending outcome.messages l) taken_is told.serving.ends
 
     -- the messages counted are no more than were read
-    some : outcome.messages ≤ length (messages_of given.taken)
+    some : outcome.messages ≤ length (messages_of read.taken)
     some = subst (λ (l : List ℕ). outcome.messages ≤ length (messages_of l)) taken_is told.serving.some
+
+    -- what is sent where messages are kept
+    abbrev sends : List (List ℕ) → List ℕ
+    sends messages = new_reports given.product given.kept messages
 
     -- ---- the clauses, one by one
 
     -- status 0
-    pub run-exactly : outcome.status ≡ 0 → SendsExactlyTheReports m entry exit outcome given
-    run-exactly none = headline.exactly m p q i j old new outcome given told.ending told.is ends from none
+    pub run-exactly : outcome.status ≡ 0 → SendsExactlyTheReports m entry exit outcome given read
+    run-exactly none = run.exactly m p q i j old new Published then outcome given read told.ending told.is ends from none
 
     -- any other status
-    pub run-otherwise : EndsOtherwise m entry exit outcome given
-    run-otherwise = headline.otherwise m p q i j old new outcome given told.ending told.is some ends from
+    pub run-otherwise : EndsOtherwise m entry exit outcome given read
+    run-otherwise = run.otherwise m p q i j old new Published then outcome given read told.ending told.is some ends from
 
     -- at every moment
-    pub run-every-moment : LeavesCrashPrefixes m entry exit outcome given
-    run-every-moment = headline.every-moment m p q i j old new outcome given told.ending from
+    pub run-every-moment : RunLeavesCrashPrefixes m entry exit outcome given read
+    run-every-moment = headline.every-moment m p q i j old new line_of Published then outcome given read.taken sends told.ending from (run.on-way m p q i j old new Published then outcome given read)
 
-    -- before the first sync
-    pub run-first-sync : IsHonestNow m old → BeforeTheFirstSync m entry exit outcome given
-    run-first-sync now = headline.first-sync m p q i j old new outcome given told.ending from now
+    module _ (now : IsHonestNow m old) where
+      -- before the first sync
+      pub run-first-sync : RunBeforeTheFirstSync m entry exit outcome given read
+      run-first-sync = headline.first-sync m p q i j old new line_of Published then outcome given read.taken sends (record { rest = sends []; is = refl }) run-every-moment now
 
-    -- with every message
-    pub run-every-message : IsHonestNow m old → KeepsEveryReported m entry exit outcome given
-    run-every-message now = headline.every-message m p q i j old new outcome given told.ending from now
+      -- with every message
+      pub run-every-message : KeepsEveryReported m entry exit outcome given read
+      run-every-message = headline.every-message m p q i j old new line_of Published then outcome given read.taken sends (record { rest = sends []; is = refl }) run-every-moment now (λ a b le. fewer-reports given.product given.kept (messages_of read.taken) a b le)
 
     -- the quantities add up
-    pub run-balanced : IsBalanced given.product (given.kept ++ messages_counted m entry exit outcome given)
-    run-balanced = streams-balance given.product (given.kept ++ messages_counted m entry exit outcome given) told.right
+    pub run-balanced : IsBalanced given.product (given.kept ++ first_messages outcome.messages read.taken)
+    run-balanced = streams-balance given.product (given.kept ++ first_messages outcome.messages read.taken) told.right
 
     -- status 12
-    pub run-full : outcome.status ≡ 12 → HasNoRoom m entry exit outcome given
-    run-full twelve = headline.full m p q i j old new outcome given told.ending told.is ends from twelve
+    pub run-full : outcome.status ≡ 12 → HasNoRoom m entry exit outcome given read.taken
+    run-full twelve = run.full m p q i j old new Published then outcome given read told.ending told.is ends from twelve
 
   -- a good run is served to its end
   pub run-all : Session product lent → (can : CanBeServed m entry) → IsQuiet entry exit → IsServed can.bytes outcome.status
   run-all session can quiet =
       let good = told-session can.text can.product can.text_known can.gives session in
       let parts = left_parts j.left can.bytes good.serving.taken (sym can.input_known ∙ good.serving.took) in
-      served m p q i j old new outcome can quiet good.serving.taken parts.0 parts.1 parts.2
+      served m p q i j old new line_of Published then outcome can quiet good.serving.taken parts.0 parts.1 parts.2
       good.ending good.is good.cause good.serving.ends (good.from can.image can.kept can.honest can.image_known can.startable)

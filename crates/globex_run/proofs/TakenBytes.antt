@@ -11,6 +11,7 @@ use Rattle.fix_frame.specs.StreamLaws.{messages_of-unfinished, messages_of-refus
 use Rattle.book_recovery.specs.Kept.{AreWhole, messages_in}
 use Rattle.product_file.specs.Products.{ProductLists}
 use Rattle.order_kinds.specs.State.{State}
+use Rattle.book_print.specs.Publishers.{LineForm}
 use Rattle.globex_run.specs.Outside.{Streams}
 use Rattle.globex_run.specs.RunResult.{AreAll, end_of_messages, EndsAs}
 use Rattle.globex_run.specs.Inner.Serving.{EndsServing}
@@ -36,12 +37,12 @@ module _ (added : List (List ℕ)) (behind : List ℕ) (whole : AreWhole added) 
   rest_is : rest_of taken ≡ rest_of behind
   rest_is = (payloads_then added behind whole).1
 
-module _ {I S : Type 0} (m : StationMeanings S) (product : ProductLists) (limit : ℕ) (before mid after : Streams I S) (gate end : ℕ) (state then : State) (added : List (List ℕ)) (behind : List ℕ) (whole : AreWhole added) (count : ℕ) (counted : then.desk.messages ≡ state.desk.messages + count) where
+module _ {I S : Type 0} (m : StationMeanings S) (line : LineForm) (product : ProductLists) (limit : ℕ) (before mid after : Streams I S) (gate end : ℕ) (state then : State) (added : List (List ℕ)) (behind : List ℕ) (whole : AreWhole added) (count : ℕ) (counted : then.desk.messages ≡ state.desk.messages + count) where
   -- how many of the messages taken were counted, and what the bytes taken are at an ending
   abbrev Taken : Ending → Type 0
   Taken ending = (count ≤ length (messages_of (concat added ++ behind))) × EndsAs before after ending count (concat added ++ behind)
 
-  pub taken_by : (ending : Ending) → EndsServing m product limit mid after gate end state then ending added behind → Taken ending
+  pub taken_by : (ending : Ending) → EndsServing m line product limit mid after gate end state then ending added behind → Taken ending
   taken_by Done ends =
       let is : count ≡ length (messages_in added) = omega (arith, ends.0.count, counted) in
       (some added behind whole count is, (ends.1, all added behind whole count is (ap messages_of ends.2), rest_is added behind whole count is ∙ ap rest_of ends.2))

@@ -1,5 +1,5 @@
 -- The headline: what a run sends and keeps, and what a crash leaves at every moment of it.
-use Rattle.std.specs.Prelude.{◌≡◌, ◌≢◌, ◌⊎◌, ℕ, ◌+◌, ◌<◌, ◌≤◌, max, List, [], ◌∷◌, ◌++◌, length, drop, Option, Some, Ok}
+use Rattle.std.specs.Prelude.{◌≡◌, ◌≢◌, ◌⊎◌, ℕ, ◌+◌, ◌<◌, ◌≤◌, max, List, [], ◌∷◌, ◌++◌, length, take, drop, Option, Some, Ok}
 use Rattle.gx_base.specs.KnownBytes.{IsPrefix, IsKnownPrefix}
 use Rattle.gx_station.specs.Stations.{StationMeanings, sent_and}
 use Rattle.gx_station.specs.Moments.{AddsOnly}
@@ -11,7 +11,7 @@ use Rattle.product_file.specs.ProductTexts.{product_of}
 use Rattle.match_journal.specs.Journal.{IsJournal}
 use Rattle.book_recovery.specs.Kept.{KeepsMessages}
 use Rattle.order_kinds.specs.Step.{reports_of}
-use Rattle.globex_run.specs.Outside.{Outside, NoFault}
+use Rattle.globex_run.specs.Outside.{SourceAt, Outside, NoFault}
 use Rattle.globex_run.specs.Journals.{records_length, end_of_journal}
 use Rattle.globex_run.specs.RunResult.{first_messages, AreAll, end_of_messages, bytes_at}
 use Rattle.globex_run.specs.declared.outcome.Outcome.{Outcome}
@@ -20,20 +20,15 @@ use Rattle.globex_run.specs.declared.outcome.Outcome.{Outcome}
 abbrev pub new_reports : ProductLists → List (List ℕ) → List (List ℕ) → List ℕ
 new_reports product kept messages = drop (length (reports_of product kept)) (reports_of product (kept ++ messages))
 
--- The premises, with what the headline speaks of: the product and its text, the image of entry and the messages that it keeps,
--- and the bytes taken of the input.
+-- The premises, with what the headline speaks of: the product and its text, the image of entry and the messages that it keeps.
 pub record Premises {P I S : Type 0} (m : StationMeanings S) (before after : Outside P I S) (status : ℕ) : Type 0 where
   -- the product's bytes give a product
   pub text : List ℕ
   pub product : ProductLists
   pub text_known : before.product.left ≡ Some text
   pub gives : product_of text ≡ Ok product
-  -- the station tells its meanings and is honest, and the input tells its bytes
+  -- the station tells its meanings and is honest
   pub honest : m.is_honest before.streams.station.object
-  pub taken : List ℕ
-  pub rest : List ℕ
-  pub input_known : before.streams.input.left ≡ Some (taken ++ rest)
-  pub input_left : after.streams.input.left ≡ Some rest
   -- a run can start from the image of entry
   pub image : List ℕ
   pub image_known : before.streams.station.image ≡ Some image
@@ -45,54 +40,52 @@ pub record Premises {P I S : Type 0} (m : StationMeanings S) (before after : Out
   pub product_right : status ≢ 3
   pub product_read : status ≡ 4 → NoFault before.product.faults after.product.faults
 
-module _ {P I S : Type 0} (m : StationMeanings S) (before after : Outside P I S) (outcome : Outcome) (given : Premises m before after outcome.status) where
-  -- the messages read
-  abbrev pub messages_read : List (List ℕ)
-  messages_read = messages_of given.taken
+-- the input tells its bytes: those that were taken, and the rest
+pub record InputPremises {I : Type 0} (before after : SourceAt I) : Type 0 where
+  pub taken : List ℕ
+  pub rest : List ℕ
+  pub known : before.left ≡ Some (taken ++ rest)
+  pub left : after.left ≡ Some rest
 
-  -- those of them that `messages` counts
+-- ---- what a call keeps of some messages, and what it sends where the first of them are kept
+
+module _ {P I S : Type 0} (m : StationMeanings S) (before after : Outside P I S) (outcome : Outcome) (given : Premises m before after outcome.status) (messages : List (List ℕ)) (sends : List (List ℕ) → List ℕ) where
+  -- those of them that the outcome counts
   abbrev pub messages_counted : List (List ℕ)
-  messages_counted = first_messages outcome.messages given.taken
+  messages_counted = take outcome.messages messages
 
-  -- what had been sent at entry, and then the reports of these messages
-  abbrev pub with_reports : List (List ℕ) → Option (List ℕ)
-  with_reports messages = sent_and before.streams.station.sent (new_reports given.product given.kept messages)
+  -- what had been sent at entry, and then what is sent where these are kept
+  abbrev pub with_sent : List (List ℕ) → Option (List ℕ)
+  with_sent first = sent_and before.streams.station.sent (sends first)
 
   -- a read gives an image that keeps the earlier messages and then these
-  pub record KeepsNow (messages : List (List ℕ)) : Type 0 where
+  pub record KeepsNow (first : List (List ℕ)) : Type 0 where
     pub image : List ℕ
     pub image_known : after.streams.station.image ≡ Some image
-    pub keeps : KeepsMessages given.text given.product.journal_limit (given.kept ++ messages) image
+    pub keeps : KeepsMessages given.text given.product.journal_limit (given.kept ++ first) image
 
-  -- Status 0: all of the input was read, and it is whole messages; what was sent are exactly their reports, and all of them are
-  -- kept.
-  pub record SendsExactlyTheReports : Type 0 where
-    pub all_read : given.rest ≡ []
-    pub whole : rest_of given.taken ≡ []
-    pub sent : after.streams.station.sent ≡ with_reports messages_read
-    pub keeps : KeepsNow messages_read
-    pub messages : outcome.messages ≡ length messages_read
+  -- All was done: what is sent of all messages was sent, and all of them are kept.
+  pub record SendsAndKeepsAll : Type 0 where
+    pub sent : after.streams.station.sent ≡ with_sent messages
+    pub keeps : KeepsNow messages
+    pub count : outcome.messages ≡ length messages
 
-  -- Any other ending: the reports of the first `messages` of the messages read were sent, at 4, 7 and 8 of all of them; at 6 a
-  -- part from the front of these reports. The messages are kept, and at 5 perhaps some that follow them.
-  pub record EndsOtherwise : Type 0 where
-    pub some : outcome.messages ≤ length messages_read
-    pub all : (outcome.status ≡ 4) ⊎ ((outcome.status ≡ 7) ⊎ (outcome.status ≡ 8)) → AreAll outcome.messages given.taken
-    pub sent : outcome.status ≢ 6 → after.streams.station.sent ≡ with_reports messages_counted
-    pub part : outcome.status ≡ 6 → IsKnownPrefix after.streams.station.sent (with_reports messages_counted)
+  -- The messages counted are kept, and at a store fault perhaps some that follow them.
+  pub record KeepsCounted : Type 0 where
+    pub some : outcome.messages ≤ length messages
     pub keeps : outcome.status ≢ 5 → KeepsNow messages_counted
-    pub keeps_more : outcome.status ≡ 5 → (count : ℕ) × (outcome.messages ≤ count) × (count ≤ length messages_read) × KeepsNow (first_messages count given.taken)
+    pub keeps_more : outcome.status ≡ 5 → (count : ℕ) × (outcome.messages ≤ count) × (count ≤ length messages) × KeepsNow (take count messages)
 
-  -- The image keeps the earlier messages and then the first of those read. A run can start from it, and it is no longer than
-  -- that of entry or the limit. What was sent is the output of entry and then a front of the reports of these messages.
+  -- The image keeps the earlier messages and then the first of these. A run can start from it, and it is no longer than that of
+  -- entry or the limit. What was sent is the output of entry and then a front of what is sent where these are kept.
   pub record IsCrashPrefix (left out : List ℕ) : Type 0 where
     pub count : ℕ
-    pub within : count ≤ length messages_read
-    pub keeps : KeepsMessages given.text given.product.journal_limit (given.kept ++ first_messages count given.taken) left
+    pub within : count ≤ length messages
+    pub keeps : KeepsMessages given.text given.product.journal_limit (given.kept ++ take count messages) left
     pub no_longer : length left ≤ max (length given.image) given.product.journal_limit
-    pub reports : List ℕ
-    pub front : IsPrefix reports (new_reports given.product given.kept (first_messages count given.taken))
-    pub sent : Some out ≡ sent_and before.streams.station.sent reports
+    pub output : List ℕ
+    pub front : IsPrefix output (sends (take count messages))
+    pub sent : Some out ≡ sent_and before.streams.station.sent output
 
   -- At every moment: a crash since some earlier time could leave what it could before, and besides only such pairs of an image
   -- and an output.
@@ -113,32 +106,69 @@ module _ {P I S : Type 0} (m : StationMeanings S) (before after : Outside P I S)
     pub pairs : (left out : List ℕ) → LeftSinceEntry left out → IsAsAtEntry left out ⊎ IsCrashPrefix left out
     pub settled : IsSettled m before.streams.station.object → (left out : List ℕ) → LeftSinceEntry left out → IsCrashPrefix left out
 
-  -- a byte of the reports of the message behind the first n of those read was sent, or of a later one's
-  pub record HasReportBehind (n : ℕ) (out : List ℕ) : Type 0 where
+  -- a byte was sent of what is sent of the message behind the first n, or of a later one
+  pub record HasSentBehind (n : ℕ) (out : List ℕ) : Type 0 where
     pub output : List ℕ
     pub output_known : before.streams.station.sent ≡ Some output
-    pub longer : length output + length (new_reports given.product given.kept (first_messages n given.taken)) < length out
+    pub longer : length output + length (sends (take n messages)) < length out
 
-  -- With every message: where a byte of its reports was sent, the image keeps it, with all that were read before it.
+  -- With every message: where a byte of what is sent of it was sent, the image keeps it, with all before it.
+  abbrev pub KeepsEverySent : Type 0
+  KeepsEverySent =
+      (left out : List ℕ) → LeftSinceEntry left out → (n : ℕ) → HasSentBehind n out
+      → (count : ℕ) × (n < count) × (count ≤ length messages) × KeepsMessages given.text given.product.journal_limit (given.kept ++ take count messages) left
+
+-- ---- a run: the messages are those read, and what is sent are their reports
+
+module _ {P I S : Type 0} (m : StationMeanings S) (before after : Outside P I S) (outcome : Outcome) (given : Premises m before after outcome.status) (read : InputPremises before.streams.input after.streams.input) where
+  abbrev pub messages_read : List (List ℕ)
+  messages_read = messages_of read.taken
+
+  -- the reports of these, behind those of the earlier messages
+  abbrev pub reports_behind : List (List ℕ) → List ℕ
+  reports_behind messages = new_reports given.product given.kept messages
+
+  -- Status 0: all of the input was read, and it is whole messages; what was sent are exactly their reports, and all of them are
+  -- kept.
+  pub record SendsExactlyTheReports : Type 0 where
+    pub all_read : read.rest ≡ []
+    pub whole : rest_of read.taken ≡ []
+    pub did : SendsAndKeepsAll m before after outcome given messages_read reports_behind
+
+  -- Any other ending: the reports of the first `messages` of the messages read were sent, at 4, 7 and 8 of all of them; at 6 a
+  -- part from the front of these reports. The messages are kept, and at 5 perhaps some that follow them.
+  pub record EndsOtherwise : Type 0 where
+    pub keeps : KeepsCounted m before after outcome given messages_read reports_behind
+    pub all : (outcome.status ≡ 4) ⊎ ((outcome.status ≡ 7) ⊎ (outcome.status ≡ 8)) → AreAll outcome.messages read.taken
+    pub sent : outcome.status ≢ 6 → after.streams.station.sent ≡ with_sent m before after outcome given messages_read reports_behind (first_messages outcome.messages read.taken)
+    pub part : outcome.status ≡ 6 → IsKnownPrefix after.streams.station.sent (with_sent m before after outcome given messages_read reports_behind (first_messages outcome.messages read.taken))
+
+  -- a crash at every moment, before the first sync, and with every message
+  abbrev pub RunLeavesCrashPrefixes : Type 0
+  RunLeavesCrashPrefixes = LeavesCrashPrefixes m before after outcome given messages_read reports_behind
+
+  abbrev pub RunBeforeTheFirstSync : Type 0
+  RunBeforeTheFirstSync = BeforeTheFirstSync m before after outcome given messages_read reports_behind
+
   abbrev pub KeepsEveryReported : Type 0
-  KeepsEveryReported =
-      (left out : List ℕ) → LeftSinceEntry left out → (n : ℕ) → HasReportBehind n out
-      → (count : ℕ) × (n < count) × (count ≤ length messages_read) × KeepsMessages given.text given.product.journal_limit (given.kept ++ first_messages count given.taken) left
+  KeepsEveryReported = KeepsEverySent m before after outcome given messages_read reports_behind
 
-  -- The next message has no room: in a record of its own it would end past the limit, now, and also had each message before it
-  -- a record of its own behind the journal of entry.
-  pub record HasNoRoom : Type 0 where
-    pub place : outcome.at ≡ end_of_messages outcome.messages given.taken
-    pub frame : List ℕ
-    pub more : List ℕ
-    pub is_frame : IsFrame frame
-    pub next : bytes_at outcome.at given.taken ≡ frame ++ more
-    pub each_alone : given.product.journal_limit < end_of_journal given.text given.startable.payloads + records_length (messages_counted ++ frame ∷ [])
-    pub payloads : List (List ℕ)
-    pub image : List ℕ
-    pub image_known : after.streams.station.image ≡ Some image
-    pub journal : IsJournal given.text given.product.journal_limit payloads image
-    pub now : given.product.journal_limit < end_of_journal given.text payloads + records_length (frame ∷ [])
+-- ---- the next message has no room
+
+-- The message behind those counted, in these bytes, has no room: in a record of its own it would end past the limit, now, and also
+-- had each message before it a record of its own behind the journal of entry.
+pub record HasNoRoom {P I S : Type 0} (m : StationMeanings S) (before after : Outside P I S) (outcome : Outcome) (given : Premises m before after outcome.status) (bytes : List ℕ) : Type 0 where
+  pub place : outcome.at ≡ end_of_messages outcome.messages bytes
+  pub frame : List ℕ
+  pub more : List ℕ
+  pub is_frame : IsFrame frame
+  pub next : bytes_at outcome.at bytes ≡ frame ++ more
+  pub each_alone : given.product.journal_limit < end_of_journal given.text given.startable.payloads + records_length (first_messages outcome.messages bytes ++ frame ∷ [])
+  pub payloads : List (List ℕ)
+  pub image : List ℕ
+  pub image_known : after.streams.station.image ≡ Some image
+  pub journal : IsJournal given.text given.product.journal_limit payloads image
+  pub now : given.product.journal_limit < end_of_journal given.text payloads + records_length (frame ∷ [])
 
 -- ---- a run that can be served to its end
 

@@ -6,15 +6,16 @@ ghost use Rattle.globex_run.specs.Words.{is_run};
 ghost use Rattle.globex_run.specs.Outside.{source_at, outside_at, IsQuiet};
 ghost use Rattle.globex_run.specs.Outcomes.{is_outcome};
 ghost use Rattle.globex_run.specs.ProductTexts.{TakesAtMost};
-ghost use Rattle.globex_run.specs.RunResult.{RunResult};
-ghost use Rattle.globex_run.specs.Headline.{Premises, SendsExactlyTheReports, EndsOtherwise, LeavesCrashPrefixes, BeforeTheFirstSync, KeepsEveryReported, HasNoRoom, messages_counted, CanBeServed, IsServed};
+ghost use Rattle.globex_run.specs.RunResult.{RunResult, first_messages};
+ghost use Rattle.globex_run.specs.Headline.{Premises, InputPremises, SendsExactlyTheReports, EndsOtherwise, RunLeavesCrashPrefixes, RunBeforeTheFirstSync, KeepsEveryReported, HasNoRoom, CanBeServed, IsServed};
 ghost use Rattle.globex_run.specs.Inner.Statuses.{outcome_without};
 ghost use Rattle.order_kinds.specs.Balance.{IsBalanced};
 
 use crate::buffers::Buffers;
 use crate::outcome::{Outcome, Status};
 use crate::product_text::{NoProduct, take_product};
-use crate::session::run_session;
+use crate::session::serve_session;
+use book_print::ReportPublisher;
 use crate::words::is_run;
 use gx_station::{Source, Station};
 use product_file::LONGEST_TEXT;
@@ -57,19 +58,19 @@ pub fn globex<P: Source, I: Source, S: Station>(
 
     // The headline, sentence by sentence, under its premises: what was sent and is kept at status 0, and at any other ending;
     // and what a crash could leave at every moment since entry.
-    ensures exactly_the_reports { let before = outside_at P.meanings I.meanings S.meanings product.old input.old station.old in let after = outside_at P.meanings I.meanings S.meanings product.new input.new station.new in (given : Premises S.meanings before after result.status) → result.status ≡ 0 → SendsExactlyTheReports S.meanings before after result given }
-    ensures any_other_ending { let before = outside_at P.meanings I.meanings S.meanings product.old input.old station.old in let after = outside_at P.meanings I.meanings S.meanings product.new input.new station.new in (given : Premises S.meanings before after result.status) → result.status ≢ 0 → EndsOtherwise S.meanings before after result given }
-    ensures at_every_moment { let before = outside_at P.meanings I.meanings S.meanings product.old input.old station.old in let after = outside_at P.meanings I.meanings S.meanings product.new input.new station.new in (given : Premises S.meanings before after result.status) → LeavesCrashPrefixes S.meanings before after result given }
-    ensures before_the_first_sync { let before = outside_at P.meanings I.meanings S.meanings product.old input.old station.old in let after = outside_at P.meanings I.meanings S.meanings product.new input.new station.new in (given : Premises S.meanings before after result.status) → BeforeTheFirstSync S.meanings before after result given }
-    ensures with_every_message { let before = outside_at P.meanings I.meanings S.meanings product.old input.old station.old in let after = outside_at P.meanings I.meanings S.meanings product.new input.new station.new in (given : Premises S.meanings before after result.status) → KeepsEveryReported S.meanings before after result given }
+    ensures exactly_the_reports { let before = outside_at P.meanings I.meanings S.meanings product.old input.old station.old in let after = outside_at P.meanings I.meanings S.meanings product.new input.new station.new in (given : Premises S.meanings before after result.status) → (read : InputPremises before.streams.input after.streams.input) → result.status ≡ 0 → SendsExactlyTheReports S.meanings before after result given read }
+    ensures any_other_ending { let before = outside_at P.meanings I.meanings S.meanings product.old input.old station.old in let after = outside_at P.meanings I.meanings S.meanings product.new input.new station.new in (given : Premises S.meanings before after result.status) → (read : InputPremises before.streams.input after.streams.input) → result.status ≢ 0 → EndsOtherwise S.meanings before after result given read }
+    ensures at_every_moment { let before = outside_at P.meanings I.meanings S.meanings product.old input.old station.old in let after = outside_at P.meanings I.meanings S.meanings product.new input.new station.new in (given : Premises S.meanings before after result.status) → (read : InputPremises before.streams.input after.streams.input) → RunLeavesCrashPrefixes S.meanings before after result given read }
+    ensures before_the_first_sync { let before = outside_at P.meanings I.meanings S.meanings product.old input.old station.old in let after = outside_at P.meanings I.meanings S.meanings product.new input.new station.new in (given : Premises S.meanings before after result.status) → (read : InputPremises before.streams.input after.streams.input) → RunBeforeTheFirstSync S.meanings before after result given read }
+    ensures with_every_message { let before = outside_at P.meanings I.meanings S.meanings product.old input.old station.old in let after = outside_at P.meanings I.meanings S.meanings product.new input.new station.new in (given : Premises S.meanings before after result.status) → (read : InputPremises before.streams.input after.streams.input) → KeepsEveryReported S.meanings before after result given read }
 
     // The quantities in the reports of all messages that are kept, the earlier ones and those of this call, add up.
-    ensures balanced { let before = outside_at P.meanings I.meanings S.meanings product.old input.old station.old in let after = outside_at P.meanings I.meanings S.meanings product.new input.new station.new in (given : Premises S.meanings before after result.status) → IsBalanced given.product (given.kept ++ messages_counted S.meanings before after result given) }
+    ensures balanced { let before = outside_at P.meanings I.meanings S.meanings product.old input.old station.old in let after = outside_at P.meanings I.meanings S.meanings product.new input.new station.new in (given : Premises S.meanings before after result.status) → (read : InputPremises before.streams.input after.streams.input) → IsBalanced given.product (given.kept ++ first_messages result.messages read.taken) }
 
     // What it took from the product's source and from the input, and why it ended there, for all statuses but 1 and 2. It says
     // what the image of entry is at 9, 10 and 11, and at 12 what follows.
     ensures ran { let before = outside_at P.meanings I.meanings S.meanings product.old input.old station.old in let after = outside_at P.meanings I.meanings S.meanings product.new input.new station.new in result.status ≢ 1 → result.status ≢ 2 → RunResult before after result }
-    ensures full { let before = outside_at P.meanings I.meanings S.meanings product.old input.old station.old in let after = outside_at P.meanings I.meanings S.meanings product.new input.new station.new in (given : Premises S.meanings before after result.status) → result.status ≡ 12 → HasNoRoom S.meanings before after result given }
+    ensures full { let before = outside_at P.meanings I.meanings S.meanings product.old input.old station.old in let after = outside_at P.meanings I.meanings S.meanings product.new input.new station.new in (given : Premises S.meanings before after result.status) → (read : InputPremises before.streams.input after.streams.input) → result.status ≡ 12 → HasNoRoom S.meanings before after result given read.taken }
 
     // A good run succeeds: where memory is given, no fault comes, and there is room, the input is served to its end.
     ensures all_served { let before = outside_at P.meanings I.meanings S.meanings product.old input.old station.old in let after = outside_at P.meanings I.meanings S.meanings product.new input.new station.new in IsTrue (is_run words.now) → (can : CanBeServed S.meanings before) → IsQuiet before after → (result.status ≡ 1) ⊎ IsServed can.bytes result.status }
@@ -104,5 +105,5 @@ pub fn globex<P: Source, I: Source, S: Station>(
     let Ok(mut buffers) = Buffers::new(alloc, &taken.product) else {
         return Status::NoMemory.outcome(0, 0);
     };
-    run_session(&taken.product, &taken.text, &mut buffers, input, station)
+    serve_session(&mut ReportPublisher, &taken.product, &taken.text, &mut buffers, input, station)
 }

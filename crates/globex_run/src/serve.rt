@@ -8,6 +8,7 @@ ghost use Rattle.globex_run.specs.Inner.Serving.{TakesMore, CausedBy, ServesInpu
 
 use crate::ending::Ending;
 use crate::serve_frame::serve_frame;
+use book_print::Publisher;
 use exec_report::ReportBuffer;
 use fix_frame::{FRONT_LIMIT, Framer, Next};
 use gx_station::{Failed, LEAST_READ, Source, Station};
@@ -34,9 +35,10 @@ fn take_more<I: Source>(
 }
 
 /// Serves the input to its end, or as far as it can be served: each message is kept in a record of its own, applied, and its
-/// reports are sent, before the next one. It ends since each frame lengthens the journal towards its limit, and each read that
+/// events are published, before the next one. It ends since each frame lengthens the journal towards its limit, and each read that
 /// does not end the input takes at least one byte into a bounded buffer.
-pub fn serve<B: Book, I: Source, S: Station>(
+pub fn serve<P: Publisher, B: Book, I: Source, S: Station>(
+    publisher: &mut P,
     product: &Product,
     core: &mut Core<B>,
     journal: &mut Journal,
@@ -57,7 +59,7 @@ pub fn serve<B: Book, I: Source, S: Station>(
     requires chunk { vec_len chunk.old ≡ LEAST_READ }
     requires buffer { buffer.old ≡ [] }
     ensures cause { CausedBy result (streams_at I.meanings S.meanings input.old station.old) (streams_at I.meanings S.meanings input.new station.new) }
-    ensures serves { ServesInput S.meanings product.now journal.old.limit (streams_at I.meanings S.meanings input.old station.old) (streams_at I.meanings S.meanings input.new station.new) journal.old.gate journal.new.gate (state_numbered core.old) (state_numbered core.new) result }
+    ensures serves { ServesInput S.meanings P.meanings.text product.now journal.old.limit (streams_at I.meanings S.meanings input.old station.old) (streams_at I.meanings S.meanings input.new station.new) journal.old.gate journal.new.gate (state_numbered core.old) (state_numbered core.new) (λ events. publisher.new ≡ P.meanings.after publisher.old events) result }
 {
     product.limits();
     'turns: loop {
@@ -66,7 +68,7 @@ pub fn serve<B: Book, I: Source, S: Station>(
         match framer.next() {
             Next::Frame(start, end) => {
                 let frame = framer.frame(start, end);
-                if let Err(reason) = serve_frame(product, core, journal, buffer, station, frame) {
+                if let Err(reason) = serve_frame(publisher, product, core, journal, buffer, station, frame) {
                     return reason.ending(at);
                 }
             }

@@ -1,10 +1,7 @@
 //! One message: kept, applied and reported.
-ghost use Rattle.std.specs.Prelude.{◌≡◌, ◌+◌, ◌*◌, ◌<◌, ◌≤◌, [], true, IsOk, OnOk, IsTrue};
-ghost use Rattle.gx_station.specs.Quiet.{Sends};
+ghost use Rattle.std.specs.Prelude.{◌≡◌, ◌+◌, ◌*◌, ◌<◌, ◌≤◌, [], true, OnOk};
 ghost use Rattle.fix_frame.specs.Grammar.{IsFrame};
-ghost use Rattle.fix_request.specs.ValidRequests.{IsValidRequest};
-ghost use Rattle.order_kinds.specs.declared.core_state.TheConstants.{MOST_MESSAGES};
-ghost use Rattle.order_kinds.specs.Step.{with_message, is_passed, request_step, lines_of};
+ghost use Rattle.order_kinds.specs.Step.{step_of};
 ghost use Rattle.order_kinds.specs.State.{state_numbered};
 ghost use Rattle.order_kinds.specs.Cores.{FitsProduct, AreNumbered};
 ghost use Rattle.match_journal.specs.Standing.{IsStanding};
@@ -12,8 +9,9 @@ ghost use Rattle.book_recovery.specs.declared.recovery.TheConstants.{SHORTEST_FR
 ghost use Rattle.globex_run.specs.Inner.Serving.{AnswersFrame};
 
 use crate::ending::Ending;
-use exec_report::{Outgoing, ReportBuffer, SendFault};
-use fix_request::{Request, read_request};
+use book_print::Publisher;
+use exec_report::ReportBuffer;
+use fix_request::read_request;
 use gx_station::Station;
 use match_journal::{AppendFault, EntryKind, Journal};
 use order_kinds::Core;
@@ -27,7 +25,7 @@ pub enum Unserved {
     Full,
     /// It was not kept, or nobody knows: a call on the store failed.
     StoreFault,
-    /// It was kept and applied, and a send of its reports failed.
+    /// It was kept and applied, and a send of what is published of it failed.
     SendFault,
 }
 
@@ -46,34 +44,9 @@ impl Unserved {
     }
 }
 
-/// Applies a message, and sends its reports. A session message has none, and the station is not called.
-fn serve_request<B: Book, S: Station>(
-    product: &Product,
-    core: &mut Core<B>,
-    buffer: &mut ReportBuffer,
-    station: &mut S,
-    request: &Request,
-) -> Result<(), SendFault>
-    requires few { core.old.desk.messages < MOST_MESSAGES }
-    requires valid { IsValidRequest product.now request.now }
-    requires fits { FitsProduct product.now core.old }
-    requires numbered { AreNumbered core.old }
-    requires empty { buffer.old ≡ [] }
-    ensures state { state_numbered core.new ≡ (request_step product.now request.now (with_message (state_numbered core.old))).0 }
-    ensures count { core.new.desk.messages ≡ core.old.desk.messages + 1 }
-    ensures fits { FitsProduct product.now core.new }
-    ensures numbered { AreNumbered core.new }
-    ensures sends { Sends S.meanings station.old station.new (lines_of product.now (request_step product.now request.now (with_message (state_numbered core.old))).1) result }
-    ensures silent { IsTrue (is_passed request.now) → IsOk result × (station.new ≡ station.old) }
-    ensures empty { OnOk result (buffer.new ≡ []) }
-{
-    let mut out = Outgoing::new(buffer, station, product.names());
-    core.apply(product, request, &mut out);
-    out.flush()
-}
-
-/// Keeps a frame in a record of its own, then applies its message, and then sends the reports; or says why not.
-pub fn serve_frame<B: Book, S: Station>(
+/// Keeps a frame in a record of its own, then applies its message, and then publishes its events; or says why not.
+pub fn serve_frame<P: Publisher, B: Book, S: Station>(
+    publisher: &mut P,
     product: &Product,
     core: &mut Core<B>,
     journal: &mut Journal,
@@ -90,7 +63,8 @@ pub fn serve_frame<B: Book, S: Station>(
     requires numbered { AreNumbered core.old }
     requires empty { buffer.old ≡ [] }
     ensures limit { journal.new.limit ≡ journal.old.limit }
-    ensures answers { AnswersFrame S.meanings product.now journal.old.limit station.old station.new journal.old journal.new (state_numbered core.old) (state_numbered core.new) frame.now result }
+    ensures answers { AnswersFrame S.meanings P.meanings.text product.now journal.old.limit station.old station.new journal.old journal.new (state_numbered core.old) (state_numbered core.new) frame.now result }
+    ensures published { OnOk result (publisher.new ≡ P.meanings.after publisher.old (step_of product.now (state_numbered core.old) frame.now).1) }
     ensures at_end { OnOk result (journal.new.is_at_end ≡ true) }
     ensures reach { OnOk result (journal.new.known ≤ S.meanings.reach station.new) }
     ensures in_limit { OnOk result (journal.new.gate < journal.new.limit) }
@@ -105,7 +79,10 @@ pub fn serve_frame<B: Book, S: Station>(
         Err(AppendFault::Store) => return Err(Unserved::StoreFault),
     }
     let request = read_request(frame, product);
-    if serve_request(product, core, buffer, station, &request).is_err() {
+    if publisher
+        .publish(product, core, &request, buffer, station)
+        .is_err()
+    {
         return Err(Unserved::SendFault);
     }
     Ok(())

@@ -11,9 +11,12 @@ use Rattle.match_journal.specs.Steps.{HoldsOne}
 use Rattle.match_journal.specs.declared.standing.Standing.{Standing}
 use Rattle.book_recovery.specs.Kept.{messages_in}
 use Rattle.product_file.specs.Products.{ProductLists}
+use Rattle.gx_base.specs.declared.event.Event.{Event}
 use Rattle.order_kinds.specs.State.{State}
+use Rattle.order_kinds.specs.Step.{events_from}
+use Rattle.book_print.specs.Publishers.{LineForm}
 use Rattle.globex_run.specs.Outside.{SourceAt, Streams}
-use Rattle.globex_run.specs.Inner.Recording.{reports_from, RestsAtEnd, Serves, AllKept, Served}
+use Rattle.globex_run.specs.Inner.Recording.{lines_from, RestsAtEnd, Serves, AllKept, Served}
 use Rattle.globex_run.specs.declared.serve_frame.Unserved.{Unserved}
 use Rattle.globex_run.specs.declared.serve_frame.Unserved.TheVariants as unserved
 use Rattle.globex_run.specs.declared.ending.Ending.{Ending}
@@ -32,7 +35,7 @@ pub record TakesMore {I F : Type 0} (before after : SourceAt I) (held holds : Fr
 
 -- ---- one frame
 
-module _ {S : Type 0} (m : StationMeanings S) (product : ProductLists) (limit : ℕ) where
+module _ {S : Type 0} (m : StationMeanings S) (line : LineForm) (product : ProductLists) (limit : ℕ) where
   -- an append has failed: nothing was sent, and the image keeps the records before, or those and this one
   pub record FailsToKeep (old new : S) (gate : ℕ) (frame : List ℕ) : Type 0 where
     pub rose : Rose (m.store_faults old) (m.store_faults new)
@@ -51,13 +54,13 @@ module _ {S : Type 0} (m : StationMeanings S) (product : ProductLists) (limit : 
   -- done; or an append or a send has failed.
   abbrev pub AnswersFrame : S → S → Standing → Standing → State → State → List ℕ → Result (Unit {0}) Unserved → Type 0
   AnswersFrame old new journal after state then frame (Ok t) =
-      Serves m product limit old new journal.gate state (frame ∷ []) × Served m product limit old new journal.gate after.gate state then (frame ∷ [])
+      Serves m line product limit old new journal.gate state (frame ∷ []) × Served m line product limit old new journal.gate after.gate state then (frame ∷ [])
   AnswersFrame old new journal after state then frame (Err unserved.Full) =
       (new ≡ old) × (after ≡ journal) × (then ≡ state) × (limit < journal.gate + 7 + length frame)
   AnswersFrame old new journal after state then frame (Err unserved.StoreFault) =
-      Serves m product limit old new journal.gate state (frame ∷ []) × (then ≡ state) × FailsToKeep old new journal.gate frame
+      Serves m line product limit old new journal.gate state (frame ∷ []) × (then ≡ state) × FailsToKeep old new journal.gate frame
   AnswersFrame old new journal after state then frame (Err unserved.SendFault) =
-      Serves m product limit old new journal.gate state (frame ∷ []) × FailsToSend old new journal.gate after.gate state then frame
+      Serves m line product limit old new journal.gate state (frame ∷ []) × FailsToSend old new journal.gate after.gate state then frame
 
 -- how serving ends at a frame at this place
 abbrev pub ending_at : Unserved → ℕ → Ending
@@ -75,6 +78,11 @@ CausedBy StoreFault before after = (after.input.faults ≡ before.input.faults) 
 CausedBy SendFault before after = (after.input.faults ≡ before.input.faults) × (after.station.store_faults ≡ before.station.store_faults) × Rose before.station.send_faults after.station.send_faults
 CausedBy _ before after = (after.input.faults ≡ before.input.faults) × (after.station.store_faults ≡ before.station.store_faults) × (after.station.send_faults ≡ before.station.send_faults)
 
+-- all of the input was served
+abbrev pub IsDone : Ending → Type 0
+IsDone Done = Unit {0}
+IsDone _ = ⊥
+
 -- nothing was taken yet
 pub record IsEmptyFramer (f : Framing) : Type 0 where
   pub given : f.given ≡ []
@@ -82,11 +90,11 @@ pub record IsEmptyFramer (f : Framing) : Type 0 where
   pub offset : f.offset ≡ 0
 
 -- The last of the records added was not kept, or nobody knows: all before it are kept and served.
-pub record LastUnkept {S : Type 0} (m : StationMeanings S) (product : ProductLists) (limit : ℕ) (old new : S) (gate : ℕ) (state then : State) (added : List (List ℕ)) : Type 0 where
+pub record LastUnkept {S : Type 0} (m : StationMeanings S) (line : LineForm) (product : ProductLists) (limit : ℕ) (old new : S) (gate : ℕ) (state then : State) (added : List (List ℕ)) : Type 0 where
   pub served : List (List ℕ)
   pub last : List ℕ
   pub are : added ≡ served ++ last ∷ []
-  pub sent : m.sent new ≡ sent_and (m.sent old) (reports_from product state (messages_in served))
+  pub sent : m.sent new ≡ sent_and (m.sent old) (lines_from line product state (messages_in served))
   pub count : then.desk.messages ≡ state.desk.messages + length (messages_in served)
   pub keeps : (text : List ℕ) (kept : List (List ℕ)) (most : ℕ) → RestsAtEnd m text limit kept gate most old → HoldsOne m (λ image. IsJournal text limit (kept ++ served) image ⊎ IsJournal text limit (kept ++ added) image) new
 
@@ -103,29 +111,31 @@ pub record HasNoRoomAt (limit end : ℕ) (behind : List ℕ) : Type 0 where
   pub front : behind ≡ frame ++ more
   pub too_long : limit < end + 7 + length frame
 
-module _ {I S : Type 0} (m : StationMeanings S) (product : ProductLists) (limit : ℕ) (before after : Streams I S) (gate end : ℕ) (state then : State) where
+module _ {I S : Type 0} (m : StationMeanings S) (line : LineForm) (product : ProductLists) (limit : ℕ) (before after : Streams I S) (gate end : ℕ) (state then : State) where
   -- Why serving ended that added these records, where these bytes were read behind them.
   abbrev pub EndsServing : Ending → List (List ℕ) → List ℕ → Type 0
   EndsServing Done added behind =
-      Served m product limit before.station.object after.station.object gate end state then added × IsAtEnd after.input.left × (behind ≡ [])
+      Served m line product limit before.station.object after.station.object gate end state then added × IsAtEnd after.input.left × (behind ≡ [])
   EndsServing (ReadFault place) added behind =
-      Served m product limit before.station.object after.station.object gate end state then added × (place ≡ length (concat added ++ behind)) × IsUnfinished behind
-  EndsServing StoreFault added behind = LastUnkept m product limit before.station.object after.station.object gate state then added
+      Served m line product limit before.station.object after.station.object gate end state then added × (place ≡ length (concat added ++ behind)) × IsUnfinished behind
+  EndsServing StoreFault added behind = LastUnkept m line product limit before.station.object after.station.object gate state then added
   EndsServing SendFault added behind = LastUnsent m limit before.station.object after.station.object gate end state then added
   EndsServing (BadFrame place) added behind =
-      Served m product limit before.station.object after.station.object gate end state then added × (place ≡ length (concat added)) × IsRefused behind
+      Served m line product limit before.station.object after.station.object gate end state then added × (place ≡ length (concat added)) × IsRefused behind
   EndsServing (Truncated place) added behind =
-      Served m product limit before.station.object after.station.object gate end state then added × IsAtEnd after.input.left × (place ≡ length (concat added)) × IsUnfinished behind × (behind ≢ [])
+      Served m line product limit before.station.object after.station.object gate end state then added × IsAtEnd after.input.left × (place ≡ length (concat added)) × IsUnfinished behind × (behind ≢ [])
   EndsServing (NotAJournal place) added behind = ⊥
   EndsServing (JournalBad place) added behind = ⊥
   EndsServing (ProductDiffers place) added behind = ⊥
   EndsServing (Full place) added behind =
-      Served m product limit before.station.object after.station.object gate end state then added × (place ≡ length (concat added)) × HasNoRoomAt limit end behind
+      Served m line product limit before.station.object after.station.object gate end state then added × (place ≡ length (concat added)) × HasNoRoomAt limit end behind
 
-  -- the bytes read are those of the records added, and then some
-  pub record ServesInput (ending : Ending) : Type 0 where
+  -- The bytes read are those of the records added, and then some. Where all of the input was served, the events of their
+  -- messages were published.
+  pub record ServesInput (Published : List Event → Type 0) (ending : Ending) : Type 0 where
     pub added : List (List ℕ)
     pub behind : List ℕ
     pub took : before.input.left ≡ and_left (concat added ++ behind) after.input.left
-    pub serves : Serves m product limit before.station.object after.station.object gate state added
+    pub serves : Serves m line product limit before.station.object after.station.object gate state added
     pub ends : EndsServing ending added behind
+    pub published : IsDone ending → Published (events_from product state (messages_in added))

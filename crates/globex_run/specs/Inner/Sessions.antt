@@ -14,13 +14,16 @@ use Rattle.match_journal.specs.declared.standing.Standing.{Standing}
 use Rattle.book_recovery.specs.Kept.{AreWhole, messages_in, KeepsMessages}
 use Rattle.book_recovery.specs.Recovering.{state_kept}
 use Rattle.product_file.specs.Products.{ProductLists, IsRightProduct}
+use Rattle.gx_base.specs.declared.event.Event.{Event}
 use Rattle.order_kinds.specs.State.{State}
+use Rattle.order_kinds.specs.Step.{state_after, events_from}
+use Rattle.book_print.specs.Publishers.{LineForm}
 use Rattle.globex_run.specs.Outside.{Streams}
 use Rattle.globex_run.specs.Outcomes.{outcome_of}
 use Rattle.globex_run.specs.Journals.{AnswersImage, IsGoodJournal, records_length}
 use Rattle.globex_run.specs.RunResult.{ServingResult}
-use Rattle.globex_run.specs.Inner.Recording.{reports_from, IsRecordCrash, RestsAtEnd}
-use Rattle.globex_run.specs.Inner.Serving.{CausedBy, HasNoRoomAt}
+use Rattle.globex_run.specs.Inner.Recording.{lines_from, IsRecordCrash, RestsAtEnd}
+use Rattle.globex_run.specs.Inner.Serving.{CausedBy, IsDone, HasNoRoomAt}
 use Rattle.globex_run.specs.declared.outcome.Outcome.{Outcome}
 use Rattle.globex_run.specs.declared.ending.Ending.{Ending}
 use Rattle.globex_run.specs.declared.ending.Ending.TheVariants as ending
@@ -61,14 +64,14 @@ module _ {S : Type 0} (m : StationMeanings S) (product : ProductLists) (text : L
 
 -- ---- a session, from its opening on
 
-module _ {I S : Type 0} (m : StationMeanings S) (product : ProductLists) (text : List ℕ) (before after : Streams I S) where
+module _ {I S : Type 0} (m : StationMeanings S) (line : LineForm) (product : ProductLists) (text : List ℕ) (before after : Streams I S) where
   -- a read gives an image that keeps these payloads
   abbrev pub KeepsRecords : List (List ℕ) → Type 0
   KeepsRecords payloads = HoldsOne m (Keeps text product.journal_limit payloads) after.station.object
 
   -- of the records added all are kept, and the reports of their messages were sent
   pub record IsAllServed (payloads kept added : List (List ℕ)) (count : ℕ) : Type 0 where
-    pub sent : after.station.sent ≡ sent_and before.station.sent (reports_from product (state_kept product kept) (messages_in added))
+    pub sent : after.station.sent ≡ sent_and before.station.sent (lines_from line product (state_kept product kept) (messages_in added))
     pub keeps : KeepsRecords (payloads ++ added)
     pub messages : count ≡ length (messages_in added)
 
@@ -77,7 +80,7 @@ module _ {I S : Type 0} (m : StationMeanings S) (product : ProductLists) (text :
     pub served : List (List ℕ)
     pub others : List (List ℕ)
     pub are : added ≡ served ++ others
-    pub sent : after.station.sent ≡ sent_and before.station.sent (reports_from product (state_kept product kept) (messages_in served))
+    pub sent : after.station.sent ≡ sent_and before.station.sent (lines_from line product (state_kept product kept) (messages_in served))
     pub keeps : KeepsRecords (payloads ++ served) ⊎ KeepsRecords (payloads ++ added)
     pub messages : count ≡ length (messages_in served)
 
@@ -103,17 +106,19 @@ module _ {I S : Type 0} (m : StationMeanings S) (product : ProductLists) (text :
   EndsSession _ count payloads kept added behind = IsAllServed payloads kept added count
 
   -- From an image that keeps these payloads: which records were added, what was sent and is kept, and what a crash leaves.
-  pub record SessionFrom (image : List ℕ) (payloads kept : List (List ℕ)) (taken : List ℕ) (ending : Ending) (count : ℕ) : Type 0 where
+  pub record SessionFrom (Published : List Event → Type 0) (then : State) (image : List ℕ) (payloads kept : List (List ℕ)) (taken : List ℕ) (ending : Ending) (count : ℕ) : Type 0 where
     pub added : List (List ℕ)
     pub behind : List ℕ
     pub are : taken ≡ concat added ++ behind
     pub whole : AreWhole added
-    pub part : IsKnownPrefix after.station.sent (sent_and before.station.sent (reports_from product (state_kept product kept) (messages_in added)))
-    pub adds : AddsOnly m before.station.object after.station.object (IsRecordCrash product (state_kept product kept) text product.journal_limit payloads added (length image) before.station.sent)
+    pub part : IsKnownPrefix after.station.sent (sent_and before.station.sent (lines_from line product (state_kept product kept) (messages_in added)))
+    pub adds : AddsOnly m before.station.object after.station.object (IsRecordCrash line product (state_kept product kept) text product.journal_limit payloads added (length image) before.station.sent)
     pub ends : EndsSession ending count payloads kept added behind
+    pub is_state : IsDone ending → then ≡ state_after product (state_kept product kept) (messages_in added)
+    pub published : IsDone ending → Published (events_from product (state_kept product kept) (messages_in added))
 
   -- the journal was opened, and the input served until an ending
-  pub record SessionResult (outcome : Outcome) : Type 0 where
+  pub record SessionResult (Published : List Event → Type 0) (then : State) (outcome : Outcome) : Type 0 where
     pub right : IsRightProduct product
     pub ending : Ending
     pub is : outcome ≡ outcome_of ending outcome.messages
@@ -121,4 +126,4 @@ module _ {I S : Type 0} (m : StationMeanings S) (product : ProductLists) (text :
     pub image : IfSome before.station.image (λ image. AnswersImage text product.journal_limit image ending)
     pub serving : ServingResult before after ending outcome.messages
     pub from : (image : List ℕ) (kept : List (List ℕ)) → m.is_honest before.station.object → before.station.image ≡ Some image → (startable : KeepsMessages text product.journal_limit kept image)
-        → SessionFrom image startable.payloads kept serving.taken ending outcome.messages
+        → SessionFrom Published then image startable.payloads kept serving.taken ending outcome.messages

@@ -1,4 +1,5 @@
-use Rattle.std.proofs.Common.{◌≡◌, ◌<◌, ◌≤◌, ◌+◌, ◌-◌, ◌*◌, [], true, length, vec_len}
+use Rattle.std.proofs.Common.{◌≡◌, ◌<◌, ◌≤◌, ◌+◌, ◌-◌, ◌*◌, List, [], true, length, vec_len}
+use Rattle.gx_base.specs.declared.event.Event.{Event}
 use Rattle.order_kinds.specs.Cores.{FitsProduct, AreNumbered}
 use Rattle.order_kinds.specs.State.{state_numbered}
 use Rattle.globex_run.specs.Outside.{source_at, streams_at}
@@ -10,7 +11,7 @@ invariant-turns g l =
     let m = g.S.Station.meanings in
     let inputs = g.I.Source.meanings in
     record {
-      turn : IsServing m l.product l.fn.journal.limit (streams_at inputs m l.fn.input l.fn.station) (source_at inputs l.input) l.station l.fn.journal.gate l.journal.gate (state_numbered l.fn.core) (state_numbered l.core) l.framer;
+      turn : IsServing m g.P.Publisher.meanings.text l.product l.fn.journal.limit (streams_at inputs m l.fn.input l.fn.station) (source_at inputs l.input) l.station l.fn.journal.gate l.journal.gate (state_numbered l.fn.core) (state_numbered l.core) l.framer (λ (events : List Event). l.publisher ≡ g.P.Publisher.meanings.after l.fn.publisher events);
       limit : l.journal.limit ≡ l.fn.journal.limit;
       at_end : l.journal.is_at_end ≡ true;
       reach : l.journal.known ≤ m.reach l.station;
