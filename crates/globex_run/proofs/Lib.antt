@@ -15,4 +15,5 @@ mod Told
 mod Headlines
 mod RunHeadlines
 mod Complete
+mod Drilled
 mod Runs

@@ -6,3 +6,4 @@ pub mod Recording
 pub mod Serving
 pub mod Sessions
 pub mod Buffers
+pub mod Drilling

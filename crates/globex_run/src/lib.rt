@@ -2,6 +2,7 @@
 #![tactic(auto)]
 
 mod buffers;
+mod drill;
 mod ending;
 mod open;
 mod outcome;

@@ -1,5 +1,5 @@
 //! How a call ends.
-ghost use Rattle.std.specs.Prelude.{◌≡◌};
+ghost use Rattle.std.specs.Prelude.{◌≡◌, ◌==◌};
 ghost use Rattle.globex_run.specs.Inner.Statuses.{outcome_with};
 
 /// How a call ended: its status, the place that the status speaks of, and how many of its messages this call has kept.
@@ -24,6 +24,15 @@ pub struct Outcome {
     pub status: u8,
     pub at: u64,
     pub messages: u64,
+}
+
+impl Outcome {
+    /// Whether all was done.
+    pub(crate) fn is_ok(&self) -> bool
+        ensures { result ≡ (self.now.status == 0) }
+    {
+        self.status == Status::Ok as u8
+    }
 }
 
 /// The statuses by their names.

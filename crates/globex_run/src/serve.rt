@@ -1,10 +1,10 @@
 //! Serving the input: frames in, reports out, one message after the other.
-ghost use Rattle.std.specs.Prelude.{◌≡◌, ◌+◌, ◌*◌, ◌^◌, ◌<◌, ◌≤◌, [], true, vec_len, length};
+ghost use Rattle.std.specs.Prelude.{◌≡◌, ◌+◌, ◌*◌, ◌^◌, ◌<◌, ◌≤◌, ◌≢◌, [], true, IsTrue, vec_len, length};
 ghost use Rattle.order_kinds.specs.State.{state_numbered};
 ghost use Rattle.order_kinds.specs.Cores.{FitsProduct, AreNumbered};
 ghost use Rattle.book_recovery.specs.declared.recovery.TheConstants.{SHORTEST_FRAME};
 ghost use Rattle.globex_run.specs.Outside.{source_at, streams_at};
-ghost use Rattle.globex_run.specs.Inner.Serving.{TakesMore, CausedBy, ServesInput, IsEmptyFramer};
+ghost use Rattle.globex_run.specs.Inner.Serving.{TakesMore, CausedBy, IsDone, ServesInput, IsEmptyFramer};
 
 use crate::ending::Ending;
 use crate::serve_frame::serve_frame;
@@ -58,6 +58,8 @@ pub fn serve<P: Publisher, B: Book, I: Source, S: Station>(
     requires framer { IsEmptyFramer framer.old }
     requires chunk { vec_len chunk.old ≡ LEAST_READ }
     requires buffer { buffer.old ≡ [] }
+    ensures silent { IsTrue P.meanings.is_silent → result ≢ Ending.SendFault }
+    ensures empty { IsDone result → buffer.new ≡ [] }
     ensures cause { CausedBy result (streams_at I.meanings S.meanings input.old station.old) (streams_at I.meanings S.meanings input.new station.new) }
     ensures serves { ServesInput S.meanings P.meanings.text product.now journal.old.limit (streams_at I.meanings S.meanings input.old station.old) (streams_at I.meanings S.meanings input.new station.new) journal.old.gate journal.new.gate (state_numbered core.old) (state_numbered core.new) (λ events. publisher.new ≡ P.meanings.after publisher.old events) result }
 {

@@ -1,5 +1,5 @@
 //! One message: kept, applied and reported.
-ghost use Rattle.std.specs.Prelude.{◌≡◌, ◌+◌, ◌*◌, ◌<◌, ◌≤◌, [], true, OnOk};
+ghost use Rattle.std.specs.Prelude.{◌≡◌, ◌+◌, ◌*◌, ◌<◌, ◌≤◌, ◌≢◌, [], true, IsTrue, OnOk, Err};
 ghost use Rattle.fix_frame.specs.Grammar.{IsFrame};
 ghost use Rattle.order_kinds.specs.Step.{step_of};
 ghost use Rattle.order_kinds.specs.State.{state_numbered};
@@ -65,6 +65,7 @@ pub fn serve_frame<P: Publisher, B: Book, S: Station>(
     ensures limit { journal.new.limit ≡ journal.old.limit }
     ensures answers { AnswersFrame S.meanings P.meanings.text product.now journal.old.limit station.old station.new journal.old journal.new (state_numbered core.old) (state_numbered core.new) frame.now result }
     ensures published { OnOk result (publisher.new ≡ P.meanings.after publisher.old (step_of product.now (state_numbered core.old) frame.now).1) }
+    ensures silent { IsTrue P.meanings.is_silent → result ≢ Err Unserved.SendFault }
     ensures at_end { OnOk result (journal.new.is_at_end ≡ true) }
     ensures reach { OnOk result (journal.new.known ≤ S.meanings.reach station.new) }
     ensures in_limit { OnOk result (journal.new.gate < journal.new.limit) }

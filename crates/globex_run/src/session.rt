@@ -1,5 +1,5 @@
 //! A run of a product that was taken: its journal is opened, and the input served.
-ghost use Rattle.std.specs.Prelude.{◌≡◌, ◌⊎◌, ◌≤◌, ℕ, List, length, Some};
+ghost use Rattle.std.specs.Prelude.{◌≡◌, ◌≢◌, ◌⊎◌, ◌≤◌, ℕ, List, [], length, Some, IsTrue};
 ghost use Rattle.gx_station.specs.Honest.{KeepsImage};
 ghost use Rattle.product_file.specs.declared.limits.TheConstants.{LONGEST_TEXT};
 ghost use Rattle.order_kinds.specs.State.{state_numbered};
@@ -28,6 +28,8 @@ pub fn serve_session<P: Publisher, I: Source, S: Station>(
     requires short { length text.now ≤ LONGEST_TEXT }
     requires new { AreNew product.now buffers.old }
     ensures session { SessionResult S.meanings P.meanings.text product.now text.now (streams_at I.meanings S.meanings input.old station.old) (streams_at I.meanings S.meanings input.new station.new) (λ events. publisher.new ≡ P.meanings.after publisher.old events) (state_numbered buffers.new.core) result }
+    ensures silent { IsTrue P.meanings.is_silent → result.status ≢ 6 }
+    ensures empty { result.status ≡ 0 → buffers.new.reports ≡ [] }
     ensures stays { (image : List ℕ) → S.meanings.holds station.old ≡ Some image → (result.status ≡ 9) ⊎ ((result.status ≡ 10) ⊎ (result.status ≡ 11)) → KeepsImage S.meanings station.old station.new }
     ensures refused { (result.status ≡ 9) ⊎ ((result.status ≡ 10) ⊎ (result.status ≡ 11)) → S.meanings.sent station.new ≡ S.meanings.sent station.old }
 {
