@@ -4,6 +4,7 @@ pub mod StepText
 pub mod FillText
 pub mod Fills
 pub mod LedgerText
+pub mod TotalsLaws
 pub mod Ledger
 pub mod TallyText
 pub mod Tallies
