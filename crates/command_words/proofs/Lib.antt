@@ -2,3 +2,4 @@ mod Passing
 mod NumberTexts
 mod OptionTexts
 mod Taken
+pub mod Examples
