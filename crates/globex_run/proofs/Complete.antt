@@ -26,7 +26,7 @@ use Rattle.globex_run.proofs.Additions.{all_back, payloads_then, each_alone, rec
 use Rattle.globex_run.proofs.Told.{outside_of, nil_from_end}
 
 -- bytes that are the front of no frame stay so, however they go on
-broken_more : (taken rest : List ℕ) → IsBroken taken → IsBroken (taken ++ rest)
+pub broken_more : (taken rest : List ℕ) → IsBroken taken → IsBroken (taken ++ rest)
 broken_more taken rest broken front =
     let refused : IsRefused (rest_of taken ++ rest) = refused_more (rest_of taken) rest (record { none = rest_of-begins_with_none taken; no_front = broken }) in
     let is : rest_of (taken ++ rest) ≡ rest_of taken ++ rest = rest_of-append taken rest ∙ rest_of-none (rest_of taken ++ rest) refused.none in

@@ -28,7 +28,7 @@ use Rattle.globex_run.specs.Journals.{AnswersImage, IsGoodJournal}
 use Rattle.globex_run.specs.RunResult.{EndsAs}
 use Rattle.globex_run.specs.Inner.Recording.{lines_from, IsRecordCrash, Serves, AllKept, Served}
 use Rattle.globex_run.specs.Inner.Serving.{IsDone, CausedBy, EndsServing, ServesInput}
-use Rattle.globex_run.specs.Inner.Sessions.{ending_without, AnswersOpening, IsRefused, Opens, IsAllServed, EndsSession, SessionFrom, SessionResult}
+use Rattle.globex_run.specs.Inner.Sessions.{ending_without, AnswersOpening, IsRefused, Opens, IsAllServed, EndsSession, SessionFrom, SessionResult, IsAtRest}
 use Rattle.globex_run.specs.declared.ending.Ending.{Ending}
 use Rattle.globex_run.specs.declared.ending.Ending.TheVariants.{Done, ReadFault, StoreFault, SendFault, BadFrame, Truncated, NotAJournal, JournalBad, ProductDiffers, Full}
 use Rattle.globex_run.specs.declared.outcome.Outcome.{Outcome}
@@ -88,6 +88,7 @@ module _ {I S : Type 0} (inputs : SourceMeanings I) (m : StationMeanings S) (lin
           keeps = inl (holds_weaker m _ _ new (λ left here. subst (λ (ps : List (List ℕ)). Keeps text product.journal_limit ps left) same here.keeps) opens.keeps);
           messages = refl;
         };
+        at_rest = λ done. absurd done;
         is_state = λ done. absurd done;
         published = λ done. absurd done;
       }
@@ -165,6 +166,20 @@ module _ {I S : Type 0} (inputs : SourceMeanings I) (m : StationMeanings S) (lin
           },
         )
 
+    done_rests : (ending : Ending) → IsDone ending → EndsServing m line product product.journal_limit (streams_at inputs m input mid) at_exit journal.gate end state then ending added behind → IsAtRest m line product text at_entry at_exit (max (length image) product.journal_limit)
+    done_rests Done done ends =
+        let rests = ends.0.all_kept.at_end text payloads most opens.at_end in
+        record { image = rests.image; read = rests.rests.read; settled = rests.rests.settled; short = omega (arith, rests.short, large) }
+    done_rests (ReadFault place) done ends = absurd done
+    done_rests StoreFault done ends = absurd done
+    done_rests SendFault done ends = absurd done
+    done_rests (BadFrame place) done ends = absurd done
+    done_rests (Truncated place) done ends = absurd done
+    done_rests (NotAJournal place) done ends = absurd done
+    done_rests (JournalBad place) done ends = absurd done
+    done_rests (ProductDiffers place) done ends = absurd done
+    done_rests (Full place) done ends = absurd done
+
     done_state : (ending : Ending) → IsDone ending → EndsServing m line product product.journal_limit (streams_at inputs m input mid) at_exit journal.gate end state then ending added behind → then ≡ state_after product state (messages_in added)
     done_state Done done ends = ends.0.is_state
     done_state (ReadFault place) done ends = absurd done
@@ -180,6 +195,7 @@ module _ {I S : Type 0} (inputs : SourceMeanings I) (m : StationMeanings S) (lin
     pub from_opened : (ending : Ending) → (IsDone ending → Published (events_from product state (messages_in added))) → EndsServing m line product product.journal_limit (streams_at inputs m input mid) at_exit journal.gate end state then ending added behind
         → SessionFrom m line product text at_entry at_exit Published then image payloads kept (concat added ++ behind) ending count
     from_opened ending published ends = record {
+      at_rest = λ done. done_rests ending done ends;
       is_state = λ done. done_state ending done ends ∙ ap (λ (s : State). state_after product s (messages_in added)) state_is;
       added = added;
       behind = behind;

@@ -15,5 +15,6 @@ mod Told
 mod Headlines
 mod RunHeadlines
 mod Complete
+mod Drills
 mod Drilled
 mod Runs

@@ -1,27 +1,23 @@
 -- What the headline says of a run, by its ending.
 use Rattle.std.proofs.Common.{◌≡◌, ◌≢◌, ◌⊎◌, inl, inr, ℕ, ◌+◌, ◌≤◌, List, [], ◌∷◌, ◌++◌, length, Option, refl, sym, ap, subst, ◌∙◌, arith}
-use Rattle.std.specs.List.{concat}
-use Rattle.std.proofs.lemmas.List.{drop_at, take_all}
+use Rattle.std.proofs.lemmas.List.{take_all}
 use Rattle.gx_base.specs.Line.{line_of}
 use Rattle.gx_base.specs.KnownBytes.{IsPrefix, IsKnownPrefix, known_itself}
 use Rattle.gx_base.specs.declared.event.Event.{Event}
 use Rattle.gx_station.specs.Stations.{StationMeanings, IsBetween, sent_and}
 use Rattle.fix_frame.specs.Stream.{messages_of}
-use Rattle.match_journal.specs.Journal.{IsPayload}
 use Rattle.order_kinds.specs.State.{State}
 use Rattle.book_recovery.specs.Kept.{messages_in}
 use Rattle.book_recovery.specs.Recovering.{state_kept}
 use Rattle.globex_run.specs.Outside.{SourceAt, Outside}
 use Rattle.globex_run.specs.Outcomes.{outcome_of}
-use Rattle.globex_run.specs.Journals.{records_length, end_of_journal}
-use Rattle.globex_run.specs.RunResult.{EndsAs, AreAll, first_messages, bytes_at}
-use Rattle.globex_run.specs.Headline.{new_reports, Premises, InputPremises, with_sent, KeepsNow, SendsExactlyTheReports, EndsOtherwise, HasNoRoom}
+use Rattle.globex_run.specs.RunResult.{EndsAs, AreAll, first_messages}
+use Rattle.globex_run.specs.Headline.{new_reports, Premises, InputPremises, with_sent, KeepsNow, SendsExactlyTheReports, EndsOtherwise}
 use Rattle.globex_run.specs.Inner.Recording.{reports_from}
 use Rattle.globex_run.specs.Inner.Sessions.{IsAllServed, SessionFrom}
 use Rattle.globex_run.specs.declared.outcome.Outcome.{Outcome}
 use Rattle.globex_run.specs.declared.ending.Ending.{Ending}
 use Rattle.globex_run.specs.declared.ending.Ending.TheVariants.{Done, ReadFault, StoreFault, SendFault, BadFrame, Truncated, NotAJournal, JournalBad, ProductDiffers, Full}
-use Rattle.globex_run.proofs.Additions.{all_back, payloads_joined, each_alone, records_length-append, one_record}
 use Rattle.globex_run.proofs.Headlines.{IsOnTheWay, first, all_parts, keeps_now, keeps-counted, keeps-front}
 use Rattle.globex_run.proofs.Reported.{new-reports, front-between}
 use Rattle.globex_run.proofs.Told.{outside_of, nil_from_end}
@@ -172,62 +168,3 @@ module _ {P I S : Type 0} (m : StationMeanings S) (p q : SourceAt P) (i j : Sour
     otherwise (ProductDiffers place) is some ends from = absurd from.ends
     otherwise (Full place) is some ends from =
         otherwise-all (Full place) from from.ends.0 some (λ one. absurd (none_of_these outcome.status 12 (status_of (Full place) is) (λ e. cc e) (λ e. cc e) (λ e. cc e) one))
-
-    -- ---- the next message has no room
-
-    module _ (place : ℕ) (is : outcome ≡ outcome_of (Full place) outcome.messages) (ends : EndsAs entry.streams exit.streams (Full place) outcome.messages read.taken) (from : From (Full place)) where
-      -- the place is that of the ending
-      place_is : outcome.at ≡ place
-      place_is = ap (λ (o : Outcome). o.at) is
-
-      -- the messages counted are those in the records
-      full_counted : counted ≡ messages_in from.added
-      full_counted = all_first (Full place) from from.ends.0
-
-      -- the place is the end of the records' messages
-      added_end : length (concat from.added) ≡ outcome.at
-      added_end = sym (place_is ∙ ends.0 ∙ ap (λ (l : List (List ℕ)). length (concat l)) full_counted ∙ ap (λ (l : List ℕ). length l) (payloads_joined from.added from.whole))
-
-      -- how far a record for each message would reach
-      in_front : end_of_journal given.text given.startable.payloads + records_length (counted ++ from.ends.1.no_room.frame ∷ []) ≡ (end_of_journal given.text given.startable.payloads + records_length (messages_in from.added)) + (length from.ends.1.no_room.frame + 6)
-      in_front =
-          let frame = from.ends.1.no_room.frame in
-          let same : records_length counted ≡ records_length (messages_in from.added) = ap (λ (l : List (List ℕ)). records_length l) full_counted in
-          let last : records_length (frame ∷ []) ≡ length frame + 6 = one_record frame in
-          omega (arith, same, last, records_length-append counted (frame ∷ []))
-
-      -- the next message has no room, so or so
-      no-room : HasNoRoom m entry exit outcome given read.taken
-      no-room =
-          let full = from.ends.1 in
-          let frame = full.no_room.frame in
-          let long = full.no_room.too_long in
-          let sized = all_back IsPayload given.startable.payloads from.added full.journal.has.journal.sized in
-          let alone : records_length from.added ≤ records_length (messages_in from.added) = each_alone from.added from.whole sized in
-          let last : records_length (frame ∷ []) ≡ length frame + 6 = one_record frame in
-          record {
-            place = place_is ∙ ends.0;
-            frame = frame;
-            more = full.no_room.more;
-            is_frame = full.no_room.is_frame;
-            next = ap (λ (l : List ℕ). bytes_at outcome.at l) from.are ∙ drop_at (concat from.added) from.behind outcome.at added_end ∙ full.no_room.front;
-            each_alone = omega (arith, in_front, alone, long, full.end_is);
-            payloads = given.startable.payloads ++ from.added;
-            image = full.journal.image;
-            image_known = full.journal.read;
-            journal = full.journal.has.journal;
-            now = omega (arith, last, long, full.journal.has.gate_is);
-          }
-
-    -- status 12
-    pub full : (ending : Ending) → outcome ≡ outcome_of ending outcome.messages → EndsAs entry.streams exit.streams ending outcome.messages read.taken → From ending → outcome.status ≡ 12 → HasNoRoom m entry exit outcome given read.taken
-    full Done is ends from twelve = absurd (omega (arith, twelve, status_of Done is))
-    full (ReadFault place) is ends from twelve = absurd (omega (arith, twelve, status_of (ReadFault place) is))
-    full StoreFault is ends from twelve = absurd (omega (arith, twelve, status_of StoreFault is))
-    full SendFault is ends from twelve = absurd (omega (arith, twelve, status_of SendFault is))
-    full (BadFrame place) is ends from twelve = absurd (omega (arith, twelve, status_of (BadFrame place) is))
-    full (Truncated place) is ends from twelve = absurd (omega (arith, twelve, status_of (Truncated place) is))
-    full (NotAJournal place) is ends from twelve = absurd from.ends
-    full (JournalBad place) is ends from twelve = absurd from.ends
-    full (ProductDiffers place) is ends from twelve = absurd from.ends
-    full (Full place) is ends from twelve = no-room place is ends from

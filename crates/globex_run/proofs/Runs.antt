@@ -148,7 +148,7 @@ module _ {P I S : Type 0} (m : StationMeanings S) (p q : SourceAt P) (i j : Sour
 
     -- status 12
     pub run-full : outcome.status ≡ 12 → HasNoRoom m entry exit outcome given read.taken
-    run-full twelve = run.full m p q i j old new Published then outcome given read told.ending told.is ends from twelve
+    run-full twelve = headline.full m p q i j old new line_of Published then outcome given read.taken sends told.ending told.is ends from twelve
 
   -- a good run is served to its end
   pub run-all : Session product lent → (can : CanBeServed m entry) → IsQuiet entry exit → IsServed can.bytes outcome.status

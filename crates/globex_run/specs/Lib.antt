@@ -5,4 +5,5 @@ pub mod Outcomes
 pub mod Journals
 pub mod RunResult
 pub mod Headline
+pub mod Drills
 pub mod Inner

@@ -1,8 +1,9 @@
 -- A run of a product that was taken: what opening its journal does, and what it comes to from the image of entry on.
-use Rattle.std.specs.Prelude.{◌≡◌, ◌⊎◌, ℕ, ◌+◌, max, List, ◌++◌, length, Some, Result, Ok, Err, IfOk, IfSome}
+use Rattle.std.specs.Prelude.{◌≡◌, ◌⊎◌, ℕ, ◌+◌, ◌≤◌, max, List, ◌++◌, length, Some, Result, Ok, Err, IfOk, IfSome}
 use Rattle.std.specs.List.{concat}
 use Rattle.gx_base.specs.KnownBytes.{IsKnownPrefix}
 use Rattle.gx_station.specs.Stations.{StationMeanings, sent_and}
+use Rattle.gx_station.specs.Honest.{IsSettled}
 use Rattle.gx_station.specs.Moments.{AddsOnly}
 use Rattle.match_journal.specs.Journal.{journal_front}
 use Rattle.match_journal.specs.Classes.{Keeps, IsBlank, IsSealed}
@@ -105,6 +106,13 @@ module _ {I S : Type 0} (m : StationMeanings S) (line : LineForm) (product : Pro
   EndsSession (ending.Full at) count payloads kept added behind = IsAllServed payloads kept added count × IsFull payloads added behind
   EndsSession _ count payloads kept added behind = IsAllServed payloads kept added count
 
+  -- nothing is pending, and the image that a read gives is no longer than this
+  pub record IsAtRest (most : ℕ) : Type 0 where
+    pub image : List ℕ
+    pub read : after.station.image ≡ Some image
+    pub settled : IsSettled m after.station.object
+    pub short : length image ≤ most
+
   -- From an image that keeps these payloads: which records were added, what was sent and is kept, and what a crash leaves.
   pub record SessionFrom (Published : List Event → Type 0) (then : State) (image : List ℕ) (payloads kept : List (List ℕ)) (taken : List ℕ) (ending : Ending) (count : ℕ) : Type 0 where
     pub added : List (List ℕ)
@@ -114,6 +122,7 @@ module _ {I S : Type 0} (m : StationMeanings S) (line : LineForm) (product : Pro
     pub part : IsKnownPrefix after.station.sent (sent_and before.station.sent (lines_from line product (state_kept product kept) (messages_in added)))
     pub adds : AddsOnly m before.station.object after.station.object (IsRecordCrash line product (state_kept product kept) text product.journal_limit payloads added (length image) before.station.sent)
     pub ends : EndsSession ending count payloads kept added behind
+    pub at_rest : IsDone ending → IsAtRest (max (length image) product.journal_limit)
     pub is_state : IsDone ending → then ≡ state_after product (state_kept product kept) (messages_in added)
     pub published : IsDone ending → Published (events_from product (state_kept product kept) (messages_in added))
 

@@ -10,6 +10,7 @@ use Rattle.book_print.specs.TallyText.{tally_line}
 use Rattle.book_print.specs.declared.tally.TallyEmit.{TallyEmit}
 use Rattle.globex_run.specs.Outside.{streams_at}
 use Rattle.globex_run.specs.Inner.Sessions.{SessionResult}
+use Rattle.globex_run.proofs.Drills.{fewer}
 use Rattle.globex_run.proofs.Drilled.{live-numbered}
 use Rattle.globex_run.proofs.drill.run_drill.Goals as goal
 

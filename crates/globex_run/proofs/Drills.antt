@@ -1,0 +1,588 @@
+-- What a drill keeps, sends and leaves, from what its session and its summary did.
+use Rattle.std.proofs.Common.{◌≡◌, ◌≢◌, ◌⊎◌, inl, inr, ⊎_elim, ℕ, ◌+◌, ◌<◌, ◌≤◌, ◌==◌, Bool, true, cond, List, [], ◌∷◌, ◌++◌, length, take, drop, flat_map, Option, Some, None, Result, Ok, Err, refl, sym, ap, subst, ◌∙◌, length-append, length-drop, append_assoc, arith}
+use Rattle.std.specs.List.{concat}
+use Rattle.std.proofs.lemmas.Bool.Decides.{nat_tests}
+use Rattle.std.proofs.lemmas.List.{append-nil, take-append-le, take_all, drop-append-le}
+use Rattle.std.proofs.lemmas.Option.{same_Some}
+use Rattle.gx_base.specs.KnownBytes.{IsPrefix, IsKnownPrefix, known_itself, known_then}
+use Rattle.gx_base.specs.declared.event.Event.{Event}
+use Rattle.gx_station.specs.Counts.{Rose}
+use Rattle.gx_station.specs.Sources.{and_left}
+use Rattle.gx_station.specs.Stations.{StationMeanings, IsBetween, sent_and}
+use Rattle.gx_station.specs.SendLaws.{sent_and_none}
+use Rattle.gx_station.specs.Honest.{IsHonestNow}
+use Rattle.gx_station.specs.Moments.{AddsOnly}
+use Rattle.match_journal.specs.StepLaws.{adds_then, adds_weaker}
+use Rattle.fix_frame.specs.Grammar.{IsFrameFront}
+use Rattle.fix_frame.specs.Stream.{messages_of, rest_of, IsBroken, IsCut}
+use Rattle.fix_frame.specs.StreamLaws.{messages_of-append}
+use Rattle.product_file.specs.Products.{ProductLists}
+use Rattle.order_kinds.specs.State.{State}
+use Rattle.order_kinds.specs.Step.{state_after, events_from}
+use Rattle.plain_book.specs.Book.{live_orders}
+use Rattle.book_recovery.specs.Kept.{messages_in, KeepsMessages}
+use Rattle.book_recovery.specs.Recovering.{state_kept}
+use Rattle.order_maker.specs.Stream.{MadeStream, maker_meanings, made_stream}
+use Rattle.book_print.specs.TallyText.{no_tally, tally_line, tally_text, tally_of}
+use Rattle.book_print.specs.Publishing.{tally_publisher_meanings}
+use Rattle.book_print.specs.declared.publisher.TallyPublisher.{TallyPublisher}
+use Rattle.book_print.specs.declared.tally.TallyEmit.{TallyEmit}
+use Rattle.globex_run.specs.Outside.{SourceAt, Outside, NoFault, source_at}
+use Rattle.globex_run.specs.Outcomes.{outcome_of}
+use Rattle.exec_report.specs.declared.texts.SendFault.{SendFault as SendFailed}
+use Rattle.gx_station.specs.Quiet.{Sends}
+use Rattle.fix_frame.specs.FrameLaws.{frame_least}
+use Rattle.globex_run.specs.Journals.{records_length, end_of_journal}
+use Rattle.globex_run.specs.RunResult.{EndsAs, first_messages}
+use Rattle.globex_run.specs.Headline.{Premises, KeepsNow, KeepsCounted, SendsAndKeepsAll, IsCrashPrefix, LeavesCrashPrefixes, BeforeTheFirstSync, HasNoRoom}
+use Rattle.globex_run.specs.Drills.{made, sends, summary, summary_of_all, KeepsAndSumsUp, DrillEndsOtherwise, DrillLeavesCrashPrefixes, DrillBeforeTheFirstSync}
+use Rattle.globex_run.specs.Inner.Recording.{lines_from}
+use Rattle.globex_run.specs.Inner.Sessions.{IsAllServed, SessionFrom, SessionResult}
+use Rattle.globex_run.specs.Inner.Serving.{IsDone, CausedBy}
+use Rattle.globex_run.specs.Inner.Drilling.{DrillResult, SumsUp, outcome_summed}
+use Rattle.globex_run.specs.declared.outcome.Outcome.{Outcome}
+use Rattle.globex_run.specs.declared.ending.Ending.{Ending}
+use Rattle.globex_run.specs.declared.ending.Ending.TheVariants.{Done, ReadFault, StoreFault, SendFault, BadFrame, Truncated, NotAJournal, JournalBad, ProductDiffers, Full}
+use Rattle.globex_run.proofs.Headlines as headline
+use Rattle.globex_run.proofs.Complete.{broken_more}
+use Rattle.globex_run.proofs.Reported.{front-between}
+use Rattle.globex_run.proofs.SentReports.{sends_at_most}
+use Rattle.globex_run.proofs.Told.{outside_of, left_parts, nil_from_end}
+
+-- nothing is sent of any events
+no_lines : (product : ProductLists) (state : State) (messages : List (List ℕ)) → lines_from tally_publisher_meanings.text product state messages ≡ []
+no_lines product state messages = none (events_from product state messages)
+  where
+    none : (events : List Event) → flat_map (tally_publisher_meanings.text product.names) events ≡ []
+    none [] = refl
+    none (event ∷ events) = none events
+
+-- so an output on the way to it is what was sent
+unsent : (sent : Option (List ℕ)) (out lines : List ℕ) → lines ≡ [] → IsBetween sent out (sent_and sent lines) → Some out ≡ sent_and sent []
+unsent None out lines none between = absurd between.low
+unsent (Some s) out lines none between =
+    let high : s ++ lines ≡ out ++ between.high.rest = between.high.is in
+    let low : out ≡ s ++ between.low.rest = between.low.is in
+    let same : length s + length lines ≡ length out + length between.high.rest = omega (arith, ap (λ (l : List ℕ). length l) high, length-append s lines, length-append out between.high.rest) in
+    let empty : length between.low.rest ≡ 0 = omega (arith, same, ap (λ (l : List ℕ). length l) low, length-append s between.low.rest, ap (λ (l : List ℕ). length l) none) in
+    ap Some (low ∙ ap (λ (l : List ℕ). s ++ l) (nil between.low.rest empty))
+  where
+    nil : (xs : List ℕ) → length xs ≡ 0 → xs ≡ []
+    nil [] e = refl
+    nil (x ∷ xs) e = absurd (omega (arith, e))
+
+-- an output is what was sent, and nothing more
+nothing_more : (product : ProductLists) (state : State) (sent : Option (List ℕ)) (sends' : List (List ℕ) → List ℕ) (messages : List (List ℕ)) (out : List ℕ) → IsBetween sent out (sent_and sent (lines_from tally_publisher_meanings.text product state messages))
+    → (front : List ℕ) × IsPrefix front (sends' messages) × (Some out ≡ sent_and sent front)
+nothing_more product state sent sends' messages out between =
+    ([], record { rest = sends' messages; is = refl }, unsent sent out (lines_from tally_publisher_meanings.text product state messages) (no_lines product state messages) between)
+
+-- what was sent, where it is what was sent and no lines
+still_sent : (product : ProductLists) (state : State) (messages : List (List ℕ)) (before after : Option (List ℕ)) → after ≡ sent_and before (lines_from tally_publisher_meanings.text product state messages) → after ≡ before
+still_sent product state messages before after is = is ∙ ap (λ (l : List ℕ). sent_and before l) (no_lines product state messages) ∙ sent_and_none before
+
+-- all of them are sent, where they are all
+summary_sent : (product : ProductLists) (kept all first : List (List ℕ)) → length first ≡ length all → summary_of_all product kept all first ≡ summary product kept all
+summary_sent product kept all first same = same_if (length first == length all) (summary product kept all) (grind (arith, nat_tests, same))
+  where
+    same_if : (b : Bool) (xs : List ℕ) → b ≡ true → cond b xs [] ≡ xs
+    same_if b xs is = rw is refl
+
+-- nothing is the front of a frame: here of a shortest one
+empty_front : IsFrameFront []
+empty_front = (56 ∷ 61 ∷ 70 ∷ 73 ∷ 88 ∷ 46 ∷ 52 ∷ 46 ∷ 50 ∷ 1 ∷ 57 ∷ 61 ∷ 49 ∷ 1 ∷ 1 ∷ 49 ∷ 48 ∷ 61 ∷ 50 ∷ 48 ∷ 48 ∷ 1 ∷ [], refl)
+
+-- a made stream that was read to some place
+module _ (all taken rest : List ℕ) (whole : rest_of all ≡ []) (parts : all ≡ taken ++ rest) where
+  -- its first messages are those of the bytes taken
+  firsts : (messages_of all ≡ messages_of taken ++ messages_of (rest_of taken ++ rest))
+  firsts = ap messages_of parts ∙ messages_of-append taken rest
+
+  front-same : (n : ℕ) → n ≤ length (messages_of taken) → take n (messages_of all) ≡ take n (messages_of taken)
+  front-same n few = ap (λ (l : List (List ℕ)). take n l) firsts ∙ take-append-le n (messages_of taken) (messages_of (rest_of taken ++ rest)) few
+
+  pub fewer : length (messages_of taken) ≤ length (messages_of all)
+  fewer = omega (arith, ap (λ (l : List (List ℕ)). length l) firsts, length-append (messages_of taken) (messages_of (rest_of taken ++ rest)))
+
+-- an ending is none of the three
+not-ended : {A B : Type 0} {C : ℕ → Type 0} → (A → ⊥) → (B → ⊥) → ((place : ℕ) → C place → ⊥) → A ⊎ (B ⊎ ((place : ℕ) × C place)) → ⊥
+not-ended a b c how = ⊎_elim a (λ other. ⊎_elim b (λ here. c here.0 here.1) other) how
+
+-- a place with something behind it is inside
+shorter : (n : ℕ) (bytes frame more : List ℕ) → 22 ≤ length frame → drop n bytes ≡ frame ++ more → n ≤ length bytes
+shorter n bytes frame more least is = omega (arith, least, length-drop n bytes, ap (λ (l : List ℕ). length l) is, length-append frame more)
+
+-- ---- a drill
+
+module _ {P I S : Type 0} (m : StationMeanings S) (p q : SourceAt P) (i j : SourceAt I) (old new : S) (outcome : Outcome) (given : Premises m (outside_of m p i old) (outside_of m q j new) outcome.status) (first count : ℕ) where
+  abbrev entry : Outside P I S
+  entry = outside_of m p i old
+
+  abbrev exit : Outside P I S
+  exit = outside_of m q j new
+
+  -- the stream of the product
+  abbrev stream : List ℕ
+  stream = made_stream given.product first count
+
+  abbrev at_first : MadeStream
+  at_first = record { left = stream; reads = 0 }
+
+  -- what is sent where these messages are kept
+  abbrev sums : List (List ℕ) → List ℕ
+  sums messages = summary_of_all given.product given.kept (messages_of stream) messages
+
+  module _ (whole : rest_of stream ≡ []) (end : MadeStream) (did : DrillResult m given.product given.text at_first end old new outcome) where
+    -- the station behind the session, and the outcome of the session
+    abbrev mid : S
+    mid = did.mid
+
+    abbrev served : Outcome
+    served = did.served
+
+    abbrev Counted : List Event → Type 0
+    Counted events = did.publisher ≡ tally_publisher_meanings.after (record { tally = no_tally }) events
+
+    -- the outside of the session
+    abbrev before : Outside P MadeStream S
+    before = outside_of m p (source_at maker_meanings at_first) old
+
+    abbrev after : Outside P MadeStream S
+    after = outside_of m q (source_at maker_meanings end) mid
+
+    -- the bytes that the session took, and the rest
+    abbrev taken : List ℕ
+    taken = did.session.serving.taken
+
+    parts : stream ≡ taken ++ end.left
+    parts = same_bytes did.session.serving.took
+      where
+        same_bytes : Some stream ≡ and_left taken (Some end.left) → stream ≡ taken ++ end.left
+        same_bytes e = same_Some stream (taken ++ end.left) e
+
+    -- the status of the session
+    served-status : (ending : Ending) → served ≡ outcome_of ending served.messages → served.status ≡ (outcome_of ending served.messages).status
+    served-status ending is = ap (λ (o : Outcome). o.status) is
+
+    -- the premises of the session
+    abbrev session-given : served.status ≢ 1 → served.status ≢ 2 → served.status ≢ 3 → served.status ≢ 4 → Premises m before after served.status
+    session-given memory words right read = record {
+      text = given.text;
+      product = given.product;
+      text_known = given.text_known;
+      gives = given.gives;
+      honest = given.honest;
+      image = given.image;
+      image_known = given.image_known;
+      kept = given.kept;
+      startable = given.startable;
+      memory = memory;
+      words = words;
+      product_right = right;
+      product_read = λ four. absurd (read four);
+    }
+
+    -- what it came to from the image of entry
+    abbrev From : Ending → Type 0
+    From ending = SessionFrom m tally_publisher_meanings.text given.product given.text before.streams after.streams Counted did.then given.image given.startable.payloads given.kept taken ending served.messages
+
+    from : From did.session.ending
+    from = did.session.from given.image given.kept given.honest given.image_known given.startable
+
+    -- ---- the messages of the bytes taken are the first of the made ones
+
+    counted-same : served.messages ≤ length (messages_of taken) → first_messages served.messages taken ≡ take served.messages (messages_of stream)
+    counted-same few = sym (front-same stream taken end.left whole parts served.messages few)
+
+    -- ---- how the session ended
+
+    -- all was served, a call on the store failed, or a message had no room
+    abbrev Ended : Ending → Type 0
+    Ended ending = IsDone ending ⊎ ((ending ≡ StoreFault) ⊎ ((place : ℕ) × (ending ≡ Full place)))
+
+    -- the stream is made of whole messages, so that it ends behind one, and what it gives does not fail
+    ended : (ending : Ending) → served ≡ outcome_of ending served.messages → CausedBy ending before.streams after.streams → EndsAs before.streams after.streams ending served.messages taken → From ending → Ended ending
+    ended Done is cause ends here = inl tt
+    ended (ReadFault place) is cause ends here = absurd (omega (arith, cause.0))
+    ended StoreFault is cause ends here = inr (inl refl)
+    ended SendFault is cause ends here = absurd (did.silent (served-status SendFault is))
+    ended (BadFrame place) is cause ends here = absurd (broken_more taken end.left ends.2 (subst (λ (l : List ℕ). IsFrameFront (rest_of l)) parts (subst (λ (l : List ℕ). IsFrameFront l) (sym whole) empty_front)))
+    ended (Truncated place) is cause ends here =
+        let all : stream ≡ taken = parts ∙ ap (λ (l : List ℕ). taken ++ l) ends.0 ∙ append-nil taken in
+        absurd (ends.3.0 (ap rest_of (sym all) ∙ whole))
+    ended (NotAJournal place) is cause ends here = absurd here.ends
+    ended (JournalBad place) is cause ends here = absurd here.ends
+    ended (ProductDiffers place) is cause ends here = absurd here.ends
+    ended (Full place) is cause ends here = inr (inr (place, refl))
+
+    how : Ended did.session.ending
+    how = ended did.session.ending did.session.is did.session.cause did.session.serving.ends from
+
+    -- its status, by how it ended
+    done_status : (ending : Ending) → IsDone ending → served ≡ outcome_of ending served.messages → served.status ≡ 0
+    done_status Done done is = served-status Done is
+    done_status (ReadFault place) done is = absurd done
+    done_status StoreFault done is = absurd done
+    done_status SendFault done is = absurd done
+    done_status (BadFrame place) done is = absurd done
+    done_status (Truncated place) done is = absurd done
+    done_status (NotAJournal place) done is = absurd done
+    done_status (JournalBad place) done is = absurd done
+    done_status (ProductDiffers place) done is = absurd done
+    done_status (Full place) done is = absurd done
+
+    store_status : did.session.ending ≡ StoreFault → served.status ≡ 5
+    store_status e = served-status StoreFault (did.session.is ∙ ap (λ (x : Ending). outcome_of x served.messages) e)
+
+    full_status : (place : ℕ) → did.session.ending ≡ Full place → served.status ≡ 12
+    full_status place e = served-status (Full place) (did.session.is ∙ ap (λ (x : Ending). outcome_of x served.messages) e)
+
+    statuses : (served.status ≡ 0) ⊎ ((served.status ≡ 5) ⊎ (served.status ≡ 12))
+    statuses = ⊎_elim
+        (λ done. inl (done_status did.session.ending done did.session.is))
+        (λ other. inr (⊎_elim (λ e. inl (store_status e)) (λ e. inr (full_status e.0 e.1)) other))
+        how
+
+    no_other : (n : ℕ) → n ≢ 0 → n ≢ 5 → n ≢ 12 → served.status ≢ n
+    no_other n zero five twelve e = elim statuses [
+      | inl at ↦ zero (sym e ∙ at)
+      | inr other ↦
+          elim other [
+            | inl at ↦ five (sym e ∙ at)
+            | inr at ↦ twelve (sym e ∙ at)
+          ]
+    ]
+
+    -- it is no status of words, memory or a product
+    none_of_product : (served.status ≢ 1) × (served.status ≢ 2) × (served.status ≢ 3) × (served.status ≢ 4)
+    none_of_product = (
+      no_other 1 (λ e. cc e) (λ e. cc e) (λ e. cc e),
+      no_other 2 (λ e. cc e) (λ e. cc e) (λ e. cc e),
+      no_other 3 (λ e. cc e) (λ e. cc e) (λ e. cc e),
+      no_other 4 (λ e. cc e) (λ e. cc e) (λ e. cc e),
+    )
+
+    abbrev given-then : Premises m before after served.status
+    given-then = session-given none_of_product.0 none_of_product.1 none_of_product.2 none_of_product.3
+
+    -- ---- at every moment of the session
+
+    crash-same : (left out : List ℕ) → IsCrashPrefix m before after served given-then (messages_of taken) sums left out → IsCrashPrefix m entry exit outcome given (messages_of stream) sums left out
+    crash-same left out at =
+        let same : take at.count (messages_of taken) ≡ take at.count (messages_of stream) = sym (front-same stream taken end.left whole parts at.count at.within) in
+        record {
+          count = at.count;
+          within = omega (arith, at.within, fewer stream taken end.left whole parts);
+          keeps = subst (λ (l : List (List ℕ)). KeepsMessages given.text given.product.journal_limit (given.kept ++ l) left) same at.keeps;
+          no_longer = at.no_longer;
+          output = at.output;
+          front = subst (λ (l : List (List ℕ)). IsPrefix at.output (sums l)) same at.front;
+          sent = at.sent;
+        }
+
+    session-moments : AddsOnly m old mid (IsCrashPrefix m entry exit outcome given (messages_of stream) sums)
+    session-moments =
+        adds_weaker m old mid _ _ (λ h left out at. crash-same left out at)
+        (headline.every-moment m p q (source_at maker_meanings at_first) (source_at maker_meanings end) old mid tally_publisher_meanings.text Counted did.then served given-then taken sums did.session.ending from
+        (λ messages out between. nothing_more given.product (state_kept given.product given.kept) (m.sent old) sums (messages_in messages) out between))
+
+    -- ---- what is kept
+
+    -- what the session says of it, where the outcome is that of the session, and the image as it left it
+    kept-same : outcome ≡ served → m.holds new ≡ m.holds mid → KeepsCounted m before after served given-then (messages_of taken) sums → KeepsCounted m entry exit outcome given (messages_of stream) sums
+    kept-same is same kept =
+        let few : served.messages ≤ length (messages_of taken) = kept.some in
+        let count : outcome.messages ≡ served.messages = ap (λ (o : Outcome). o.messages) is in
+        let status : outcome.status ≡ served.status = ap (λ (o : Outcome). o.status) is in
+        record {
+          some = omega (arith, few, count, fewer stream taken end.left whole parts);
+          keeps = λ other.
+              now-same same (first_messages served.messages taken) (take outcome.messages (messages_of stream)) (counted-same few ∙ ap (λ (n : ℕ). take n (messages_of stream)) (sym count))
+              (kept.keeps (λ five. other (status ∙ five)));
+          keeps_more = λ five.
+              let more = kept.keeps_more (sym status ∙ five) in
+              (
+                more.0,
+                omega (arith, more.1, count),
+                omega (arith, more.2, fewer stream taken end.left whole parts),
+                now-same same (take more.0 (messages_of taken)) (take more.0 (messages_of stream)) (sym (front-same stream taken end.left whole parts more.0 more.2)) more.3,
+              );
+        }
+      where
+        now-same : m.holds new ≡ m.holds mid → (xs ys : List (List ℕ)) → xs ≡ ys → KeepsNow m before after served given-then (messages_of taken) sums xs → KeepsNow m entry exit outcome given (messages_of stream) sums ys
+        now-same same xs ys are now = record {
+          image = now.image;
+          image_known = same ∙ now.image_known;
+          keeps = subst (λ (l : List (List ℕ)). KeepsMessages given.text given.product.journal_limit (given.kept ++ l) now.image) are now.keeps;
+        }
+
+    -- all messages of the records added were counted: the session kept them, and sent nothing
+    record DidAll : Type 0 where
+      pub counted : served.messages ≡ length (messages_in from.added)
+      pub kept : KeepsNow m before after served given-then (messages_of taken) sums (first_messages served.messages taken)
+      pub silent : m.sent mid ≡ m.sent old
+
+    did-all : (ending : Ending) (here : From ending) → here.added ≡ from.added → IsAllServed m tally_publisher_meanings.text given.product given.text before.streams after.streams given.startable.payloads given.kept here.added served.messages → DidAll
+    did-all ending here same all =
+        let first = headline.first m p q (source_at maker_meanings at_first) (source_at maker_meanings end) old mid tally_publisher_meanings.text Counted did.then served given-then taken sums ending here here.added [] (sym (append-nil here.added)) served.messages all.messages in
+        record {
+          counted = all.messages ∙ ap (λ (l : List (List ℕ)). length (messages_in l)) same;
+          kept = headline.keeps_now m p q (source_at maker_meanings at_first) (source_at maker_meanings end) old mid tally_publisher_meanings.text Counted did.then served given-then taken sums ending here here.added [] (sym (append-nil here.added)) (first_messages served.messages taken) first all.keeps;
+          silent = still_sent given.product (state_kept given.product given.kept) (messages_in here.added) (m.sent old) (m.sent mid) all.sent;
+        }
+
+    -- the messages of this session are no more than were taken
+    few-served : served.messages ≤ length (messages_of taken)
+    few-served = did.session.serving.some
+
+    -- ---- the session did not come to its end
+
+    module _ (stopped : served.status ≢ 0) where
+      same-end : (new ≡ mid) × (outcome ≡ served)
+      same-end = did.otherwise stopped
+
+      moments-stopped : DrillLeavesCrashPrefixes m entry exit outcome given first count
+      moments-stopped = subst (λ (s : S). AddsOnly m old s (IsCrashPrefix m entry exit outcome given (messages_of stream) sums)) (sym same-end.0) session-moments
+
+      -- by its ending
+      stopped-by : (ending : Ending) (here : From ending) → here.added ≡ from.added → served ≡ outcome_of ending served.messages → Ended ending → KeepsCounted m before after served given-then (messages_of taken) sums × (m.sent mid ≡ m.sent old)
+      stopped-by Done here same is how = absurd (stopped (served-status Done is))
+      stopped-by StoreFault here same is how = (
+        headline.keeps-front m p q (source_at maker_meanings at_first) (source_at maker_meanings end) old mid tally_publisher_meanings.text Counted did.then served given-then taken sums StoreFault here (served-status StoreFault is) few-served here.ends,
+        still_sent given.product (state_kept given.product given.kept) (messages_in here.ends.served) (m.sent old) (m.sent mid) here.ends.sent,
+      )
+      stopped-by (Full place) here same is how =
+          let all = did-all (Full place) here same here.ends.0 in
+          (headline.keeps-counted m p q (source_at maker_meanings at_first) (source_at maker_meanings end) old mid tally_publisher_meanings.text Counted did.then served given-then taken sums (Full place) here few-served all.kept, all.silent)
+      stopped-by (ReadFault place) here same is how = absurd (not-ended (λ none. none) (λ e. cc e) (λ at e. cc e) how)
+      stopped-by SendFault here same is how = absurd (not-ended (λ none. none) (λ e. cc e) (λ at e. cc e) how)
+      stopped-by (BadFrame place) here same is how = absurd (not-ended (λ none. none) (λ e. cc e) (λ at e. cc e) how)
+      stopped-by (Truncated place) here same is how = absurd (not-ended (λ none. none) (λ e. cc e) (λ at e. cc e) how)
+      stopped-by (NotAJournal place) here same is how = absurd here.ends
+      stopped-by (JournalBad place) here same is how = absurd here.ends
+      stopped-by (ProductDiffers place) here same is how = absurd here.ends
+
+      stopped-session : KeepsCounted m before after served given-then (messages_of taken) sums × (m.sent mid ≡ m.sent old)
+      stopped-session = stopped-by did.session.ending from refl did.session.is how
+
+      pub otherwise-stopped : DrillEndsOtherwise m entry exit outcome given first count
+      otherwise-stopped =
+          let status : outcome.status ≡ served.status = ap (λ (o : Outcome). o.status) same-end.1 in
+          let no_six : outcome.status ≢ 6 = λ six. no_other 6 (λ e. cc e) (λ e. cc e) (λ e. cc e) (sym status ∙ six) in
+          record {
+            keeps = kept-same same-end.1 (ap m.holds same-end.0) stopped-session.0;
+            silent = λ other. ap m.sent same-end.0 ∙ stopped-session.1;
+            all = λ six. absurd (no_six six);
+            part = λ six. absurd (no_six six);
+          }
+
+    -- ---- the session came to its end, and the summary was sent
+
+    module _ (zero : served.status ≡ 0) where
+      sums-up : SumsUp m mid new did.publisher did.then served.messages outcome
+      sums-up = did.sums_up zero
+
+      is-done : IsDone did.session.ending
+      is-done = elim how [
+        | inl done ↦ done
+        | inr other ↦
+            elim other [
+              | inl e ↦ absurd (omega (arith, zero, store_status e))
+              | inr e ↦ absurd (omega (arith, zero, full_status e.0 e.1))
+            ]
+      ]
+
+      -- what a session that came to its end did
+      record AtEnd : Type 0 where
+        pub all : DidAll
+        pub all_taken : stream ≡ taken
+        pub all_counted : served.messages ≡ length (messages_of taken)
+
+      at-end-by : (ending : Ending) (here : From ending) → here.added ≡ from.added → EndsAs before.streams after.streams ending served.messages taken → IsDone ending → AtEnd
+      at-end-by Done here same ends done = record { all = did-all Done here same here.ends; all_taken = parts ∙ ap (λ (l : List ℕ). taken ++ l) ends.0 ∙ append-nil taken; all_counted = ends.1 }
+      at-end-by (ReadFault place) here same ends done = absurd done
+      at-end-by StoreFault here same ends done = absurd done
+      at-end-by SendFault here same ends done = absurd done
+      at-end-by (BadFrame place) here same ends done = absurd done
+      at-end-by (Truncated place) here same ends done = absurd done
+      at-end-by (NotAJournal place) here same ends done = absurd done
+      at-end-by (JournalBad place) here same ends done = absurd done
+      at-end-by (ProductDiffers place) here same ends done = absurd done
+      at-end-by (Full place) here same ends done = absurd done
+
+      at-end : AtEnd
+      at-end = at-end-by did.session.ending from refl did.session.serving.ends is-done
+
+      -- as many as were made
+      all-count : served.messages ≡ length (messages_of stream)
+      all-count = at-end.all_counted ∙ ap (λ (l : List ℕ). length (messages_of l)) (sym at-end.all_taken)
+
+      -- the messages of the records are the made ones
+      made-in : messages_in from.added ≡ messages_of stream
+      made-in =
+          sym (headline.first m p q (source_at maker_meanings at_first) (source_at maker_meanings end) old mid tally_publisher_meanings.text Counted did.then served given-then taken sums did.session.ending from from.added [] (sym (append-nil from.added)) served.messages at-end.all.counted)
+          ∙ take_all served.messages (messages_of taken) (omega (arith, at-end.all_counted))
+          ∙ ap messages_of (sym at-end.all_taken)
+
+      -- the line is the summary
+      line-is : tally_line served.messages did.publisher.tally (length (live_orders did.then.book)) ≡ summary given.product given.kept (messages_of stream)
+      line-is =
+          let state = state_kept given.product given.kept in
+          ap (λ (n : ℕ). tally_line n did.publisher.tally (length (live_orders did.then.book))) all-count
+          ∙ ap (λ (t : TallyEmit). tally_line (length (messages_of stream)) t (length (live_orders did.then.book))) (ap (λ (t : TallyPublisher). t.tally) (from.published is-done) ∙ ap (λ (l : List (List ℕ)). tally_of (events_from given.product state l)) made-in)
+          ∙ ap (λ (s : State). tally_line (length (messages_of stream)) (tally_of (events_from given.product state (messages_of stream))) (length (live_orders s.book))) (from.is_state is-done ∙ ap (λ (l : List (List ℕ)). state_after given.product state l) made-in)
+
+      -- no more of it was sent than all, behind what had been sent
+      at-most : IsKnownPrefix (m.sent new) (sent_and (m.sent old) (summary given.product given.kept (messages_of stream)))
+      at-most =
+          subst (λ (o : Option (List ℕ)). IsKnownPrefix (m.sent new) (sent_and o (summary given.product given.kept (messages_of stream)))) at-end.all.silent
+          (subst (λ (l : List ℕ). IsKnownPrefix (m.sent new) (sent_and (m.sent mid) l)) line-is (sends_at_most m mid new (tally_line served.messages did.publisher.tally (length (live_orders did.then.book))) sums-up.result sums-up.sends))
+
+      -- all made messages are kept
+      keeps-at : (image : List ℕ) → m.holds mid ≡ Some image → KeepsMessages given.text given.product.journal_limit (given.kept ++ messages_of stream) image
+      keeps-at image read =
+          let now = at-end.all.kept in
+          let all : first_messages served.messages taken ≡ messages_of stream = take_all served.messages (messages_of taken) (omega (arith, at-end.all_counted)) ∙ ap messages_of (sym at-end.all_taken) in
+          subst (λ (x : List ℕ). KeepsMessages given.text given.product.journal_limit (given.kept ++ messages_of stream) x) (same_Some now.image image (sym now.image_known ∙ read))
+          (subst (λ (l : List (List ℕ)). KeepsMessages given.text given.product.journal_limit (given.kept ++ l) now.image) all now.keeps)
+
+      now-all : (messages : List (List ℕ)) → messages ≡ messages_of stream → KeepsNow m entry exit outcome given (messages_of stream) sums messages
+      now-all messages are =
+          let now = at-end.all.kept in
+          record {
+            image = now.image;
+            image_known = sums-up.sends.quiet.holds ∙ now.image_known;
+            keeps = subst (λ (l : List (List ℕ)). KeepsMessages given.text given.product.journal_limit (given.kept ++ l) now.image) (sym are) (keeps-at now.image now.image_known);
+          }
+
+      -- while the summary is sent, a crash leaves all of them and a front of it
+      summary-crash : (left out : List ℕ) → m.is_honest mid → m.may_leave mid left → IsBetween (m.sent mid) out (m.sent new) → IsCrashPrefix m entry exit outcome given (messages_of stream) sums left out
+      summary-crash left out honest may between =
+          let rest = from.at_rest is-done in
+          let read : m.holds mid ≡ Some left = rest.settled left may in
+          let same : rest.image ≡ left = same_Some rest.image left (sym rest.read ∙ read) in
+          let all : take (length (messages_of stream)) (messages_of stream) ≡ messages_of stream = take_all (length (messages_of stream)) (messages_of stream) (omega arith) in
+          let front = front-between (m.sent old) out (summary given.product given.kept (messages_of stream))
+          (record {
+            low = subst (λ (o : Option (List ℕ)). IsKnownPrefix o (Some out)) at-end.all.silent between.low;
+            high = known_then (Some out) (m.sent new) (sent_and (m.sent old) (summary given.product given.kept (messages_of stream))) between.high at-most;
+          }) in
+          record {
+            count = length (messages_of stream);
+            within = omega arith;
+            keeps = subst (λ (l : List (List ℕ)). KeepsMessages given.text given.product.journal_limit (given.kept ++ l) left) (sym all) (keeps-at left read);
+            no_longer = omega (arith, rest.short, ap (λ (l : List ℕ). length l) same);
+            output = front.0;
+            front = subst (λ (l : List ℕ). IsPrefix front.0 l) (sym (summary_sent given.product given.kept (messages_of stream) (take (length (messages_of stream)) (messages_of stream)) (ap (λ (l : List (List ℕ)). length l) all))) front.1;
+            sent = front.2;
+          }
+
+      moments-summed : DrillLeavesCrashPrefixes m entry exit outcome given first count
+      moments-summed =
+          adds_then m old mid new _ _ (λ h left out pair. summary-crash left out (session-moments.honest h) pair.0 pair.1) session-moments sums-up.sends.quiet.moments
+
+      -- by what became of the summary
+      summed-all : (result : Result (Unit {0}) SendFailed) → outcome ≡ outcome_summed served.messages result → Sends m mid new (tally_line served.messages did.publisher.tally (length (live_orders did.then.book))) result → outcome.status ≡ 0 → KeepsAndSumsUp m entry exit outcome given first count
+      summed-all (Ok t) is sent none = record {
+        sent =
+            sent.all
+            ∙ ap (λ (l : List ℕ). sent_and (m.sent mid) l) line-is
+            ∙ ap (λ (o : Option (List ℕ)). sent_and o (summary given.product given.kept (messages_of stream))) at-end.all.silent
+            ∙ ap (λ (l : List ℕ). sent_and (m.sent old) l) (sym (summary_sent given.product given.kept (messages_of stream) (messages_of stream) refl));
+        keeps = now-all (messages_of stream) refl;
+        count = ap (λ (o : Outcome). o.messages) is ∙ all-count;
+      }
+      summed-all (Err fault) is sent none = absurd (omega (arith, none, ap (λ (o : Outcome). o.status) is))
+
+      summed-part : (result : Result (Unit {0}) SendFailed) → outcome ≡ outcome_summed served.messages result → outcome.status ≢ 0 → DrillEndsOtherwise m entry exit outcome given first count
+      summed-part (Ok t) is other = absurd (other (ap (λ (o : Outcome). o.status) is))
+      summed-part (Err fault) is other =
+          let six : outcome.status ≡ 6 = ap (λ (o : Outcome). o.status) is in
+          let all : outcome.messages ≡ length (messages_of stream) = ap (λ (o : Outcome). o.messages) is ∙ all-count in
+          let now = now-all (take outcome.messages (messages_of stream)) (take_all outcome.messages (messages_of stream) (omega (arith, all))) in
+          record {
+            keeps = record {
+              some = omega (arith, all);
+              keeps = λ five. now;
+              keeps_more = λ five. absurd (omega (arith, five, six));
+            };
+            silent = λ no. absurd (no six);
+            all = λ here. all;
+            part = λ here. at-most;
+          }
+
+    -- ---- the clauses, one by one
+
+    -- whether the session came to its end
+    either : (served.status ≡ 0) ⊎ (served.status ≢ 0)
+    either = elim statuses [
+      | inl zero ↦ inl zero
+      | inr other ↦
+          elim other [
+            | inl at ↦ inr (λ zero. omega (arith, zero, at))
+            | inr at ↦ inr (λ zero. omega (arith, zero, at))
+          ]
+    ]
+
+    -- status 0
+    pub drill-all : outcome.status ≡ 0 → KeepsAndSumsUp m entry exit outcome given first count
+    drill-all none = elim either [
+      | inl zero ↦ summed-all zero (sums-up zero).result (sums-up zero).outcome_is (sums-up zero).sends none
+      | inr other ↦ absurd (other (sym (ap (λ (o : Outcome). o.status) (did.otherwise other).1) ∙ none))
+    ]
+
+    -- any other status
+    pub drill-otherwise : outcome.status ≢ 0 → DrillEndsOtherwise m entry exit outcome given first count
+    drill-otherwise other = elim either [
+      | inl zero ↦ summed-part zero (sums-up zero).result (sums-up zero).outcome_is other
+      | inr stopped ↦ otherwise-stopped stopped
+    ]
+
+    -- at every moment
+    pub drill-moments : DrillLeavesCrashPrefixes m entry exit outcome given first count
+    drill-moments = elim either [
+      | inl zero ↦ moments-summed zero
+      | inr stopped ↦ moments-stopped stopped
+    ]
+
+    -- before the first sync
+    pub drill-first-sync : IsHonestNow m old → DrillBeforeTheFirstSync m entry exit outcome given first count
+    drill-first-sync now = headline.first-sync m p q i j old new tally_publisher_meanings.text Counted did.then outcome given stream sums (record { rest = sums []; is = refl }) drill-moments now
+
+    -- the next message has no room
+    pub drill-full : outcome.status ≡ 12 → HasNoRoom m entry exit outcome given stream
+    drill-full twelve = elim either [
+      | inl zero ↦ absurd (no-twelve (sums-up zero).result (sums-up zero).outcome_is)
+      | inr stopped ↦
+          let same = did.otherwise stopped in
+          let no_room = headline.full m p q (source_at maker_meanings at_first) (source_at maker_meanings end) old mid tally_publisher_meanings.text Counted did.then served given-then taken sums did.session.ending did.session.is did.session.serving.ends from (sym (ap (λ (o : Outcome). o.status) same.1) ∙ twelve) in
+          full-same same.0 same.1 no_room
+    ]
+      where
+        no-twelve : (result : Result (Unit {0}) SendFailed) → outcome ≡ outcome_summed served.messages result → ⊥
+        no-twelve (Ok t) is = omega (arith, twelve, ap (λ (o : Outcome). o.status) is)
+        no-twelve (Err fault) is = omega (arith, twelve, ap (λ (o : Outcome). o.status) is)
+
+        full-same : new ≡ mid → outcome ≡ served → HasNoRoom m before after served given-then taken → HasNoRoom m entry exit outcome given stream
+        full-same station is full =
+            let count : outcome.messages ≡ served.messages = ap (λ (o : Outcome). o.messages) is in
+            let at : outcome.at ≡ served.at = ap (λ (o : Outcome). o.at) is in
+            let firsts-are : first_messages served.messages taken ≡ first_messages outcome.messages stream = counted-same few-served ∙ ap (λ (n : ℕ). take n (messages_of stream)) (sym count) in
+            record {
+              place = at ∙ full.place ∙ ap (λ (l : List (List ℕ)). length (concat l)) firsts-are;
+              frame = full.frame;
+              more = full.more ++ end.left;
+              is_frame = full.is_frame;
+              next =
+                  ap (λ (n : ℕ). drop n stream) at
+                  ∙ ap (λ (l : List ℕ). drop served.at l) parts
+                  ∙ drop-append-le served.at taken end.left (shorter served.at taken full.frame full.more (frame_least full.frame full.is_frame) full.next)
+                  ∙ ap (λ (l : List ℕ). l ++ end.left) full.next
+                  ∙ append_assoc full.frame full.more end.left;
+              each_alone = subst (λ (l : List (List ℕ)). given.product.journal_limit < end_of_journal given.text given.startable.payloads + records_length (l ++ full.frame ∷ [])) firsts-are full.each_alone;
+              payloads = full.payloads;
+              image = full.image;
+              image_known = ap m.holds station ∙ full.image_known;
+              journal = full.journal;
+              now = full.now;
+            }
