@@ -1,2 +1,10 @@
 pub mod Delivered
 pub mod Counted
+mod Pushed
+mod Walked
+mod Texts
+mod Parts
+mod StepTexts
+mod OpenLots
+mod SideLevels
+mod OrderWalks

@@ -1,6 +1,7 @@
 pub mod Words
 pub mod BookText
 pub mod StepText
+pub mod BookLaws
 pub mod FillText
 pub mod Fills
 pub mod LedgerText
