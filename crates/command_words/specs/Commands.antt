@@ -15,7 +15,7 @@ use Rattle.command_words.specs.declared.command.Command.TheVariants.{Ledger, Ste
 abbrev pub command_rule : Rule
 command_rule = record (new_rule (codes "command")) { required = true }
 
--- an option with a number from 0 to `most`
+-- an option with a value: a number from 0 to `most`, as `clap` checks those of `u32`
 abbrev pub number_rule : List ℕ → ℕ → Rule
 number_rule name most = record (new_rule name) {
   long = Some name;
@@ -52,7 +52,7 @@ named_command name (Some first) (Some count) =
     if bytes_eq name (codes "drill") then Some (Drill first count) else None
 named_command name _ _ = None
 
--- the number of an option, where the words have it
+-- the number that `u32` reads of an option's value, where the words have it
 abbrev pub number_in : Text → List Row → Option ℕ
 number_in id rows =
     option_map (λ text. digits_value 10 (without_leading_plus text)) (one_of id rows)
