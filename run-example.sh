@@ -1,6 +1,7 @@
 #!/bin/sh
-# Builds the program, runs the stored example and the one of each algorithm in a folder of its own, and shows the reports:
-# `|` stands for SOH, and each report has a line. Ends with a status other than 0 where anything differs from what is stored.
+# Builds the program. Runs the stored example in a folder of its own, and shows its reports, its book and its ledger; then runs
+# the example of each algorithm, and shows the reports. `|` stands for SOH, and each report has a line. Ends with a status
+# other than 0 where anything differs from what is stored.
 set -u
 
 fail() {
@@ -46,14 +47,29 @@ serve() {
     [ "$status" -eq 0 ] || fail "the program ended with status $status"
 }
 
+# Prints what the journal in the folder keeps, by a command of one word, and compares it with a stored text.
+print_kept() {
+    echo
+    echo "$1:"
+    (cd "$folder" && "$program" "$1" </dev/null >text)
+    status=$?
+    cat -- "$folder/text"
+    [ "$status" -eq 0 ] || fail "the program ended with status $status at $1"
+    cmp -- "$folder/text" "$2" || fail "this is not the stored $1"
+}
+
 cp -- "$crate/data/product.toml" "$folder/product.toml" || exit 1
 cp -- "$crate/stdin" "$folder/orders" || exit 1
 serve
 shown <"$folder/reports"
 echo
 cmp -- "$folder/reports" "$crate/stdout" || fail 'these are not the stored reports'
+print_kept book "$top/examples/first-run/book.txt"
+print_kept ledger "$top/examples/first-run/ledger.txt"
 
 for example in "$top"/examples/*/; do
+    # Folders without orders have other things.
+    [ -e "$example/orders.txt" ] || continue
     echo
     echo "$(basename -- "$example"):"
     cp -- "$example/product.toml" "$folder/product.toml" || exit 1
@@ -63,4 +79,4 @@ for example in "$top"/examples/*/; do
     cmp -- "$folder/text" "$example/reports.txt" || fail "these are not the reports of $example"
 done
 echo
-echo 'run-example: the stored reports, byte for byte'
+echo 'run-example: the stored reports, book and ledger, byte for byte'
