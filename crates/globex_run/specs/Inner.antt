@@ -7,3 +7,4 @@ pub mod Serving
 pub mod Sessions
 pub mod Buffers
 pub mod Drilling
+pub mod Executing

@@ -6,4 +6,5 @@ pub mod Journals
 pub mod RunResult
 pub mod Headline
 pub mod Drills
+pub mod Prints
 pub mod Inner

@@ -1,8 +1,25 @@
--- The words of the command line.
-use Rattle.std.specs.Prelude.{Bool, false, List, [], ◌∷◌, String, string_bytes, bytes_eq, codes}
+-- Which command the words of the command line ask for.
+use Rattle.std.specs.Prelude.{◌≡◌, List, map, String, string_bytes, Some, None}
+use Rattle.command_words.specs.Commands.{command_of}
+use Rattle.command_words.specs.declared.command.Command.{Command}
+use Rattle.command_words.specs.declared.command.Command.TheVariants.{Run, Replay, Book, Fills, Ledger, Steps, Drill}
 
--- the one word `run`
-abbrev pub is_run : {A : Type 0} → List (String A) → Bool
-is_run (word ∷ []) = bytes_eq (string_bytes word) (codes "run")
-is_run [] = false
-is_run (word ∷ (other ∷ words)) = false
+-- they ask for this command
+abbrev pub AsksFor : {A : Type 0} → List (String A) → Command → Type 0
+AsksFor words command = command_of (map string_bytes words) ≡ Some command
+
+-- they are no command
+abbrev pub AsksForNone : {A : Type 0} → List (String A) → Type 0
+AsksForNone words = command_of (map string_bytes words) ≡ None
+
+-- a command that adds to the journal
+abbrev pub IsWriting : Command → Type 0
+IsWriting Run = Unit {0}
+IsWriting (Drill first count) = Unit {0}
+IsWriting command = ⊥
+
+-- a command that only prints
+abbrev pub IsPrinting : Command → Type 0
+IsPrinting Run = ⊥
+IsPrinting (Drill first count) = ⊥
+IsPrinting command = Unit {0}
