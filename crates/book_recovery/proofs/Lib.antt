@@ -1,10 +1,11 @@
 -- Offered to the crates above: what they may cite.
 pub mod OneWay
+pub mod Images
+pub mod Standings
+pub mod Applying
+pub mod Replaying
 -- What the proofs of this crate alone cite.
-mod Images
 mod Looks
-mod Standings
-mod Applying
 mod Passes
 mod Counting
-mod Replaying
+mod Reading

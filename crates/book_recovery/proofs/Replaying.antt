@@ -18,14 +18,14 @@ use Rattle.book_recovery.proofs.Images.{length-first}
 
 -- ---- lists
 
-whole-append : (xs ys : List (List ℕ)) → AreWhole xs → AreWhole ys → AreWhole (xs ++ ys)
+pub whole-append : (xs ys : List (List ℕ)) → AreWhole xs → AreWhole ys → AreWhole (xs ++ ys)
 whole-append [] ys p q = q
 whole-append (x ∷ xs) ys p q = (p.0, whole-append xs ys p.1 q)
 
-messages-push : (xs : List (List ℕ)) (x : List ℕ) → messages_in (xs ++ x ∷ []) ≡ messages_in xs ++ messages_of x
+pub messages-push : (xs : List (List ℕ)) (x : List ℕ) → messages_in (xs ++ x ∷ []) ≡ messages_in xs ++ messages_of x
 messages-push xs x = flat_map-append messages_of xs (x ∷ []) ∙ ap (λ (l : List (List ℕ)). messages_in xs ++ l) (append-nil (messages_of x))
 
-state-append : (product : ProductLists) (s : State) (xs ys : List (List ℕ)) → state_after product s (xs ++ ys) ≡ state_after product (state_after product s xs) ys
+pub state-append : (product : ProductLists) (s : State) (xs ys : List (List ℕ)) → state_after product s (xs ++ ys) ≡ state_after product (state_after product s xs) ys
 state-append product s [] ys = refl
 state-append product s (x ∷ xs) ys = state-append product (step_of product s x).0 xs ys
 

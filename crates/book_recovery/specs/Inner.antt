@@ -2,3 +2,4 @@
 -- files beside this one.
 pub mod Counting
 pub mod Replays
+pub mod Reading

@@ -2,10 +2,12 @@
 #![tactic(auto)]
 
 mod laws;
+mod records;
 mod recovery;
 mod replay;
 mod scratch;
 
 pub use laws::an_image_is_recovered_one_way;
+pub use records::next_record;
 pub use recovery::{RecoverFault, Recovered, SHORTEST_FRAME, recover};
 pub use scratch::Scratch;

@@ -1,5 +1,5 @@
 //! Applying the messages of all records.
-ghost use Rattle.std.specs.Prelude.{◌≡◌, ℕ, ◌+◌, ◌*◌, ◌<◌, ◌≤◌, List, length, vec_len, false, true, Some, OnOk, IsErrOf};
+ghost use Rattle.std.specs.Prelude.{◌≡◌, ℕ, ◌+◌, ◌*◌, ◌<◌, ◌≤◌, List, length, take, drop, vec_len, false, true, Some, OnOk, IsErrOf};
 ghost use Rattle.gx_station.specs.Counts.{Rose};
 ghost use Rattle.gx_station.specs.StoreCalls.{OnStore};
 ghost use Rattle.fix_frame.specs.Stream.{messages_of, rest_of};
@@ -44,8 +44,17 @@ fn apply_frames<B: Book>(framer: &mut Framer, product: &Product, core: &mut Core
     }
 }
 
-/// Reads the payload of a record, which is then all that a framer holds.
-fn read_payload<S: Station>(
+/// Gives a framer these bytes alone.
+pub(crate) fn hold(framer: &mut Framer, bytes: &[u8])
+    requires { length bytes.now ≤ MOST_PAYLOAD }
+    ensures { framer.new.rest ≡ bytes.now }
+{
+    framer.clear();
+    let _ = framer.feed(bytes);
+}
+
+/// Reads the payload of a record into the front of `payload`. It is then all that a framer holds.
+pub(crate) fn read_payload<S: Station>(
     station: &mut S,
     journal: &mut Journal,
     entry: &Entry,
@@ -61,13 +70,14 @@ fn read_payload<S: Station>(
     ensures stays { journal.new ≡ journal.old }
     ensures room { vec_len payload.new ≡ MOST_PAYLOAD }
     ensures size { OnOk result (length framer.new.rest ≡ entry.now.length) }
+    ensures held { OnOk result (framer.new.rest ≡ take entry.now.length payload.new.items) }
+    ensures bytes { OnOk result ((image : List ℕ) → S.meanings.holds station.old ≡ Some image → framer.new.rest ≡ take entry.now.length (drop (entry.now.at + 6) image)) }
     ensures payload { OnOk result ((text image : List ℕ) (before after : List (List ℕ)) (gate : ℕ) → S.meanings.holds station.old ≡ Some image → (found : IsNext text image before after gate entry.now)
         → framer.new.rest ≡ found.payload) }
 {
-    let bytes = &mut payload.as_mut_slice()[..entry.length as usize];
-    journal.read_entry(station, entry, bytes)?;
-    framer.clear();
-    let _ = framer.feed(bytes);
+    let length = entry.length as usize;
+    journal.read_entry(station, entry, &mut payload.as_mut_slice()[0..length])?;
+    hold(framer, &payload.as_slice()[..length]);
     Ok(())
 }
 

@@ -10,7 +10,7 @@ use std::alloc::{AllocError, Global};
 #[derive(Drop)]
 pub struct Scratch {
     pub(crate) payload: Vec<u8>,
-    pub(crate) framer: Framer,
+    pub framer: Framer,
     ghost room: { vec_len payload ≡ MOST_PAYLOAD },
 }
 

@@ -41,12 +41,6 @@ pub fn execute<I: Source, S: Station>(
     ensures refused { IsWriting command → (result.status ≡ 9) ⊎ ((result.status ≡ 10) ⊎ (result.status ≡ 11)) → S.meanings.sent station.new ≡ S.meanings.sent station.old }
 {
     product.limits();
-    let Buffers {
-        core,
-        scratch,
-        reports,
-        ..
-    } = buffers;
     match command {
         Command::Run => serve_session(&mut ReportPublisher, product, text, buffers, input, station),
         Command::Drill { first, count } => {
@@ -57,17 +51,37 @@ pub fn execute<I: Source, S: Station>(
             }
         }
         Command::Replay => outcome_printed(print_reports(
-            product, text, scratch, core, reports, station,
+            product,
+            text,
+            &mut buffers.scratch,
+            &mut buffers.core,
+            &mut buffers.reports,
+            station,
         )),
         Command::Fills => outcome_printed(print_fills(
-            product, text, scratch, core, reports, station,
+            product,
+            text,
+            &mut buffers.scratch,
+            &mut buffers.core,
+            &mut buffers.reports,
+            station,
         )),
         Command::Ledger => outcome_printed(print_ledger(
-            product, text, scratch, core, reports, station,
+            product,
+            text,
+            &mut buffers.scratch,
+            &mut buffers.core,
+            &mut buffers.reports,
+            station,
         )),
         Command::Book => outcome_printed(print_kept_book(
-            product, text, scratch, core, reports, station,
+            product,
+            text,
+            &mut buffers.scratch,
+            &mut buffers.core,
+            &mut buffers.reports,
+            station,
         )),
-        Command::Steps => outcome_sent(print_steps(product, reports, station)),
+        Command::Steps => outcome_sent(print_steps(product, &mut buffers.reports, station)),
     }
 }

@@ -1,44 +1,38 @@
 -- What was printed of the journal in an image, by the answer.
-use Rattle.std.specs.Prelude.{◌≡◌, ◌⊎◌, ℕ, List, [], length, flat_map, Result, Ok, Err}
+use Rattle.std.specs.Prelude.{◌≡◌, ◌⊎◌, ℕ, List, length, flat_map, Result, Ok, Err}
 use Rattle.gx_base.specs.KnownBytes.{IsKnownPrefix}
-use Rattle.gx_base.specs.NameLists.{NameLists}
-use Rattle.gx_base.specs.declared.event.Event.{Event}
 use Rattle.gx_station.specs.Stations.{StationMeanings, sent_and}
 use Rattle.product_file.specs.Products.{ProductLists}
-use Rattle.match_journal.specs.Classes.{IsBlank, IsSealed, IsForeignAt, HasBadHeader, HasOtherText}
+use Rattle.match_journal.specs.Classes.{IsForeignAt, HasBadHeader, HasOtherText}
 use Rattle.match_journal.specs.Opening.{IsOpened}
 use Rattle.order_kinds.specs.Step.{events_of}
 use Rattle.book_recovery.specs.Kept.{messages_in, HasKept}
 use Rattle.book_recovery.specs.BadPlaces.{AreFirstRecords, HasBadRecordAt, IsBadPlace}
 use Rattle.book_recovery.specs.Recovering.{state_kept}
 use Rattle.book_print.specs.BookText.{book_text}
+use Rattle.book_print.specs.Publishers.{LineForm}
 use Rattle.journal_print.specs.declared.unprinted.Unprinted.{Unprinted}
 use Rattle.journal_print.specs.declared.unprinted.Unprinted.TheVariants as unprinted
-
--- how an event is printed
-abbrev pub LineForm : Type 0
-LineForm = NameLists → Event → List ℕ
 
 -- the lines of these messages
 abbrev pub lines_in : LineForm → ProductLists → List (List ℕ) → List ℕ
 lines_in line product messages = flat_map (line product.names) (events_of product messages)
-
--- the messages of the first records of the journal in the image, none of them bad; or the image is an unfinished creation, which
--- has none
-abbrev pub AreFirstMessages : List ℕ → ℕ → List (List ℕ) → List ℕ → Type 0
-AreFirstMessages text limit messages image =
-    ((IsBlank image ⊎ IsSealed text image) × (messages ≡ []))
-    ⊎ ((payloads : List (List ℕ)) × AreFirstRecords text limit payloads image × (messages ≡ messages_in payloads))
 
 module _ {S : Type 0} (m : StationMeanings S) (product : ProductLists) (text image : List ℕ) (old new : S) where
   -- nothing was sent
   abbrev pub SentNothing : Type 0
   SentNothing = m.sent new ≡ m.sent old
 
-  -- a part was sent of what is printed of the first messages
-  pub record SentPart (whole : List (List ℕ) → List ℕ) : Type 0 where
+  -- a part was sent of the lines of the messages in the first records, none of them bad
+  pub record SentPart (line : LineForm) : Type 0 where
+    pub payloads : List (List ℕ)
+    pub first : AreFirstRecords text product.journal_limit payloads image
+    pub sent : IsKnownPrefix (m.sent new) (sent_and (m.sent old) (lines_in line product (messages_in payloads)))
+
+  -- a part was sent of what is printed of the messages kept
+  pub record SentPartOfAll (whole : List (List ℕ) → List ℕ) : Type 0 where
     pub messages : List (List ℕ)
-    pub first : AreFirstMessages text product.journal_limit messages image
+    pub kept : HasKept text product.journal_limit messages image
     pub sent : IsKnownPrefix (m.sent new) (sent_and (m.sent old) (whole messages))
 
   -- all was sent that is printed of the messages kept, and these were counted
@@ -58,8 +52,8 @@ module _ {S : Type 0} (m : StationMeanings S) (product : ProductLists) (text ima
   -- but for a fault of the outside fit one image, so each comes exactly where it fits.
   abbrev pub PrintsEvents : LineForm → (List (List ℕ) → List ℕ) → Result ℕ Unprinted → Type 0
   PrintsEvents line whole (Ok count) = SentAll whole count
-  PrintsEvents line whole (Err unprinted.Store) = SentNothing ⊎ SentPart whole
-  PrintsEvents line whole (Err unprinted.Send) = SentPart whole
+  PrintsEvents line whole (Err unprinted.Store) = SentNothing ⊎ SentPart line
+  PrintsEvents line whole (Err unprinted.Send) = SentPart line ⊎ SentPartOfAll whole
   PrintsEvents line whole (Err (unprinted.NotAJournal at)) = IsForeignAt image at × SentNothing
   PrintsEvents line whole (Err (unprinted.Bad at)) = (HasBadHeader image at × SentNothing) ⊎ SentToBadRecord line at
   PrintsEvents line whole (Err (unprinted.ProductDiffers at)) = HasOtherText text image at × SentNothing
@@ -72,7 +66,7 @@ module _ {S : Type 0} (m : StationMeanings S) (product : ProductLists) (text ima
   abbrev pub PrintsBook : Result ℕ Unprinted → Type 0
   PrintsBook (Ok count) = SentAll book_kept count
   PrintsBook (Err unprinted.Store) = SentNothing
-  PrintsBook (Err unprinted.Send) = (messages : List (List ℕ)) × HasKept text product.journal_limit messages image × IsKnownPrefix (m.sent new) (sent_and (m.sent old) (book_kept messages))
+  PrintsBook (Err unprinted.Send) = SentPartOfAll book_kept
   PrintsBook (Err (unprinted.NotAJournal at)) = IsForeignAt image at × SentNothing
   PrintsBook (Err (unprinted.Bad at)) = (HasBadHeader image at ⊎ (IsOpened text image × IsBadPlace text product.journal_limit image at)) × SentNothing
   PrintsBook (Err (unprinted.ProductDiffers at)) = HasOtherText text image at × SentNothing

@@ -1,0 +1,45 @@
+-- Reading one record more of an image.
+use Rattle.std.proofs.Common.{◌≡◌, ◌≢◌, inl, inr, ℕ, ◌+◌, List, [], ◌∷◌, ◌++◌, length, get_or, take, drop, refl, sym, subst, ◌∙◌, ap, arith}
+use Rattle.fix_frame.specs.Stream.{rest_of}
+use Rattle.match_journal.specs.Journal.{IsJournal, journal_front}
+use Rattle.match_journal.specs.Walking.{IsHead, IsBadHead}
+use Rattle.match_journal.specs.declared.entry.Entry.{Entry}
+use Rattle.book_recovery.specs.BadPlaces.{BeginsWithRecords, AreFirstRecords}
+use Rattle.book_recovery.specs.Inner.Reading.{IsOneMore, IsBadBehind}
+use Rattle.book_recovery.proofs.Images.{length-push, payload_size, begins_more, begins_closed}
+use Rattle.book_recovery.proofs.Replaying.{whole-append}
+
+module _ (text : List ℕ) (limit : ℕ) (image : List ℕ) (before : List (List ℕ)) (first : AreFirstRecords text limit before image) (gate : ℕ) (place : gate ≡ length (journal_front text before)) where
+  pub closed_behind : get_or image gate 0 ≢ 1 → IsJournal text limit before image
+  closed_behind shut = begins_closed text limit before image first.begins (subst (λ k. get_or image k 0 ≢ 1) place shut)
+
+  pub bad_head_behind : (at : ℕ) → IsBadHead image limit gate at → IsBadBehind text limit image before at
+  bad_head_behind at bad = record {
+    bad = record { before = before; first = first; place = bad.at_is ∙ place; bad = inl (subst (λ k. IsBadHead image limit k at) (sym bad.at_is) bad) };
+    behind = refl;
+  }
+
+  module _ (entry : Entry) (head : IsHead image limit gate entry) (payload : List ℕ) (is : payload ≡ take entry.length (drop (entry.at + 6) image)) where
+    head_behind : IsHead image limit (length (journal_front text before)) entry
+    head_behind = subst (λ k. IsHead image limit k entry) place head
+
+    same : payload ≡ take entry.length (drop (length (journal_front text before) + 6) image)
+    same = is ∙ ap (λ k. take entry.length (drop (k + 6) image)) (head.at_is ∙ place)
+
+    more : BeginsWithRecords text limit (before ++ payload ∷ []) image
+    more = subst (λ (p : List ℕ). BeginsWithRecords text limit (before ++ p ∷ []) image) (sym same) (begins_more text limit before image first.begins entry head_behind)
+
+    size : length payload ≡ entry.length
+    size = ap length same ∙ payload_size text limit before image first.begins entry head_behind
+
+    pub one_more : (next : ℕ) → rest_of payload ≡ [] → next ≡ gate + 6 + entry.length → IsOneMore text limit image before next payload
+    one_more next none next_is = record {
+      first = record { begins = more; whole = whole-append before (payload ∷ []) first.whole (record { no_rest = none }, tt) };
+      gate_is = omega (arith, next_is, place, size, length-push text before payload);
+    }
+
+    pub bad_payload_behind : (rest_of payload ≡ [] → ⊥) → IsBadBehind text limit image before entry.at
+    bad_payload_behind broken = record {
+      bad = record { before = before; first = first; place = head.at_is ∙ place; bad = inr (record { payload = payload; begins = more; not_whole = λ whole. broken whole.no_rest }) };
+      behind = refl;
+    }

@@ -1,0 +1,83 @@
+-- What is printed of all messages, from what was gone through.
+use Rattle.std.proofs.Common.{◌≡◌, ◌⊎◌, inl, inr, ℕ, List, [], Option, Some, Result, Ok, Err, refl, sym, subst, ◌∙◌, ap}
+use Rattle.std.specs.Prelude.{IfSome}
+use Rattle.gx_base.specs.KnownBytes.{IsKnownPrefix}
+use Rattle.gx_station.specs.Stations.{StationMeanings, sent_and}
+use Rattle.gx_station.specs.SendLaws.{sent_and_none}
+use Rattle.product_file.specs.Products.{ProductLists}
+use Rattle.match_journal.specs.Classes.{IsBlank, IsSealed}
+use Rattle.match_journal.specs.Opening.{IsOpened}
+use Rattle.order_kinds.specs.State.{State, state_numbered, empty_state}
+use Rattle.book_recovery.specs.Kept.{messages_in}
+use Rattle.book_print.specs.Publishers.{PublisherMeanings}
+use Rattle.book_print.specs.Publishers.{LineForm}
+use Rattle.journal_print.specs.Printed.{lines_in, SentPart, PrintsEvents}
+use Rattle.journal_print.specs.Inner.Opening.{IsUnopened}
+use Rattle.journal_print.specs.Inner.Publishing.{AllPublished, Publishes, KeptPublished, PublishesKept}
+use Rattle.journal_print.specs.declared.unprinted.Unprinted.{Unprinted}
+use Rattle.journal_print.specs.declared.unprinted.Unprinted.TheVariants as unprinted
+
+-- what holds of what was found
+pub some_found : {A : Type 0} (P : A → Type 0) (found : Option A) (x : A) → found ≡ Some x → IfSome found P → P x
+some_found P found x is told = subst (λ o. IfSome o P) is told
+
+module _ {S P : Type 0} (m : StationMeanings S) (p : PublisherMeanings P) (product : ProductLists) (text image : List ℕ) where
+  -- no journal was opened
+  pub unopened : (old new : S) (publisher then : P) (state : State) (why : Unprinted) → IsUnopened text image why → m.sent new ≡ m.sent old → PublishesKept m p product text image old new publisher then state (Err why)
+  unopened old new publisher then state unprinted.Store told sent = inl sent
+  unopened old new publisher then state unprinted.Send told sent = absurd told
+  unopened old new publisher then state (unprinted.NotAJournal at) told sent = (told, sent)
+  unopened old new publisher then state (unprinted.Bad at) told sent = inl (told, sent)
+  unopened old new publisher then state (unprinted.ProductDiffers at) told sent = (told, sent)
+
+  -- an unfinished creation keeps nothing
+  pub none_kept : (old new : S) (publisher : P) (state : State) → IsBlank image ⊎ IsSealed text image → m.sent new ≡ m.sent old → state ≡ empty_state product → KeptPublished m p product text image old new publisher publisher state 0
+  none_kept old new publisher state unfinished sent is = record {
+    messages = [];
+    kept = inl (unfinished, refl);
+    published = record {
+      sent = sent ∙ sym (sent_and_none (m.sent old));
+      publisher_is = sym (p.after_none publisher);
+      state_is = ap state_numbered is;
+      count_is = ap (λ (s : State). s.desk.messages) is;
+    };
+    count_is = refl;
+  }
+
+  module _ (old mid new : S) (looked : m.sent mid ≡ m.sent old) (publisher then : P) (state : State) where
+    from_start : (line : LineForm) → SentPart m product text image mid new line → SentPart m product text image old new line
+    from_start line part = record { payloads = part.payloads; first = part.first; sent = subst (λ s. IsKnownPrefix (m.sent new) (sent_and s (lines_in line product (messages_in part.payloads)))) looked part.sent }
+
+    pub stopped : (why : Unprinted) → IsOpened text image → Publishes m p product text image mid new publisher then state (Err why) → PublishesKept m p product text image old new publisher then state (Err why)
+    stopped unprinted.Store opened told = inr (from_start p.text told)
+    stopped unprinted.Send opened told = from_start p.text told
+    stopped (unprinted.NotAJournal at) opened told = absurd told
+    stopped (unprinted.Bad at) opened told = inr record { opened = opened; bad = told.bad; sent = told.sent ∙ ap (λ s. sent_and s (lines_in p.text product (messages_in told.bad.before))) looked }
+    stopped (unprinted.ProductDiffers at) opened told = absurd told
+
+    pub all_kept : (count : ℕ) → AllPublished m p product text product.journal_limit image mid new publisher then state → count ≡ state.desk.messages → KeptPublished m p product text image old new publisher then state count
+    all_kept count all is = record {
+      messages = messages_in all.payloads;
+      kept = inr (record { payloads = all.payloads; journal = all.journal; whole = all.whole }, refl);
+      published = record {
+        sent = all.published.sent ∙ ap (λ s. sent_and s (lines_in p.text product (messages_in all.payloads))) looked;
+        publisher_is = all.published.publisher_is;
+        state_is = all.published.state_is;
+        count_is = all.published.count_is;
+      };
+      count_is = is ∙ all.published.count_is;
+    }
+
+  -- not all messages were gone through
+  pub not_printed : (old new : S) (publisher then : P) (state : State) (whole : List (List ℕ) → List ℕ) (why : Unprinted) → PublishesKept m p product text image old new publisher then state (Err why) → PrintsEvents m product text image old new p.text whole (Err why)
+  not_printed old new publisher then state whole unprinted.Store told = told
+  not_printed old new publisher then state whole unprinted.Send told = inl told
+  not_printed old new publisher then state whole (unprinted.NotAJournal at) told = told
+  not_printed old new publisher then state whole (unprinted.Bad at) told = told
+  not_printed old new publisher then state whole (unprinted.ProductDiffers at) told = told
+
+  -- the lines are all that is printed
+  pub lines_printed : (old new : S) (publisher then : P) (state : State) (whole : List (List ℕ) → List ℕ) (r : Result ℕ Unprinted) → ((messages : List (List ℕ)) → lines_in p.text product messages ≡ whole messages)
+      → PublishesKept m p product text image old new publisher then state r → PrintsEvents m product text image old new p.text whole r
+  lines_printed old new publisher then state whole (Ok count) same told = record { messages = told.messages; kept = told.kept; sent = told.published.sent ∙ ap (sent_and (m.sent old)) (same told.messages); count_is = told.count_is }
+  lines_printed old new publisher then state whole (Err why) same told = not_printed old new publisher then state whole why told

@@ -1,0 +1,134 @@
+-- Publishing the messages of records, one after the other.
+use Rattle.std.proofs.Common.{◌≡◌, ℕ, ◌+◌, List, [], ◌∷◌, ◌++◌, length, Bool, true, false, Result, Ok, Err, refl, sym, subst, ◌∙◌, ap, arith, append_assoc, length-append}
+use Rattle.std.specs.List.{flat_map}
+use Rattle.std.proofs.lemmas.Grind.{flat_map-append}
+use Rattle.gx_base.specs.KnownBytes.{IsKnownPrefix, known_itself}
+use Rattle.gx_base.specs.declared.event.Event.{Event}
+use Rattle.gx_station.specs.Stations.{StationMeanings, sent_and}
+use Rattle.gx_station.specs.SendLaws.{sent_and_none, sent_and-append}
+use Rattle.fix_frame.specs.Stream.{messages_of}
+use Rattle.product_file.specs.Products.{ProductLists}
+use Rattle.match_journal.specs.Journal.{IsJournal, journal_front}
+use Rattle.match_journal.specs.declared.standing.Standing.{Standing}
+use Rattle.order_kinds.specs.State.{State, state_numbered, empty_state}
+use Rattle.order_kinds.specs.Step.{step_of, state_after, events_from, events_of}
+use Rattle.book_recovery.specs.Kept.{messages_in}
+use Rattle.book_recovery.specs.BadPlaces.{BeginsWithRecords, AreFirstRecords}
+use Rattle.book_recovery.specs.Recovering.{state_kept}
+use Rattle.book_recovery.specs.Inner.Reading.{IsOneMore, IsBadBehind, ReadsRecord}
+use Rattle.book_recovery.specs.declared.recovery.RecoverFault.{RecoverFault}
+use Rattle.book_recovery.specs.declared.recovery.RecoverFault.TheVariants as fault
+use Rattle.book_recovery.proofs.Images.{length-first}
+use Rattle.book_recovery.proofs.Replaying.{messages-push, state-append}
+use Rattle.book_print.specs.Publishers.{PublisherMeanings}
+use Rattle.journal_print.specs.Printed.{lines_in, SentPart}
+use Rattle.journal_print.specs.Inner.Publishing.{ArePublished, AllPublished, StoppedAtBad}
+
+pub events-append : (product : ProductLists) (state : State) (xs ys : List (List ℕ)) → events_from product state (xs ++ ys) ≡ events_from product state xs ++ events_from product (state_after product state xs) ys
+events-append product state [] ys = refl
+events-append product state (x ∷ xs) ys =
+    ap (λ (l : List Event). (step_of product state x).1 ++ l) (events-append product (step_of product state x).0 xs ys)
+    ∙ sym (append_assoc (step_of product state x).1 (events_from product (step_of product state x).0 xs) (events_from product (state_after product (step_of product state x).0 xs) ys))
+
+module _ {S P : Type 0} (m : StationMeanings S) (p : PublisherMeanings P) (product : ProductLists) (text image : List ℕ) where
+  -- the messages of some records were published, and this is the next gate
+  pub record IsPublishing (old now : S) (publisher then : P) (state : State) (gate : ℕ) : Type 0 where
+    pub before : List (List ℕ)
+    pub first : AreFirstRecords text product.journal_limit before image
+    pub place : gate ≡ length (journal_front text before)
+    pub published : ArePublished m p product text old now publisher then state (messages_in before)
+
+  pub publishing_first : (old : S) (publisher : P) (state : State) (gate : ℕ) → BeginsWithRecords text product.journal_limit [] image → gate ≡ 13 + length text → state ≡ empty_state product → IsPublishing old old publisher publisher state gate
+  publishing_first old publisher state gate begins place new = record {
+    before = [];
+    first = record { begins = begins; whole = tt };
+    place = place ∙ sym (length-first text);
+    published = record {
+      sent = sym (sent_and_none (m.sent old));
+      publisher_is = sym (p.after_none publisher);
+      state_is = ap state_numbered new;
+      count_is = ap (λ (s : State). s.desk.messages) new;
+    };
+  }
+
+  module _ (old now mid : S) (publisher then : P) (state : State) (gate : ℕ) (at : IsPublishing old now publisher then state gate) (looked : m.sent mid ≡ m.sent now) where
+    -- what is read at the gate
+    pub record_read : (journal : Standing) (next : ℕ) (payload : List ℕ) (r : Result Bool RecoverFault) → journal.limit ≡ product.journal_limit → journal.gate ≡ gate
+        → (AreFirstRecords text journal.limit at.before image → journal.gate ≡ length (journal_front text at.before) → ReadsRecord text journal.limit image at.before next payload r)
+        → ReadsRecord text product.journal_limit image at.before next payload r
+    record_read journal next payload r limit_is gate_is reads =
+        subst (λ k. ReadsRecord text k image at.before next payload r) limit_is
+        (reads (subst (λ k. AreFirstRecords text k at.before image) (sym limit_is) at.first) (gate_is ∙ at.place))
+
+    -- the events of all messages, with those of one payload more
+    all_events : (payload : List ℕ) → events_of product (messages_in (at.before ++ payload ∷ [])) ≡ events_of product (messages_in at.before) ++ events_from product (state_numbered state) (messages_of payload)
+    all_events payload =
+        ap (events_of product) (messages-push at.before payload)
+        ∙ events-append product (empty_state product) (messages_in at.before) (messages_of payload)
+        ∙ ap (λ (s : State). events_of product (messages_in at.before) ++ events_from product s (messages_of payload)) (sym at.published.state_is)
+
+    all_sent : (payload : List ℕ) → sent_and (m.sent mid) (flat_map (p.text product.names) (events_from product (state_numbered state) (messages_of payload))) ≡ sent_and (m.sent old) (lines_in p.text product (messages_in (at.before ++ payload ∷ [])))
+    all_sent payload =
+        let new = events_from product (state_numbered state) (messages_of payload) in
+        let line = flat_map (p.text product.names) new in
+        ap (λ s. sent_and s line) (looked ∙ at.published.sent)
+        ∙ sym (sent_and-append (m.sent old) (lines_in p.text product (messages_in at.before)) line)
+        ∙ ap (sent_and (m.sent old)) (sym (flat_map-append (p.text product.names) (events_of product (messages_in at.before)) new) ∙ ap (flat_map (p.text product.names)) (sym (all_events payload)))
+
+    module _ (next : ℕ) (payload : List ℕ) (more : IsOneMore text product.journal_limit image at.before next payload) (new : S) where
+      pub publishing_more : (behind : P) (after : State) → m.sent new ≡ sent_and (m.sent mid) (flat_map (p.text product.names) (events_from product (state_numbered state) (messages_of payload)))
+          → behind ≡ p.after then (events_from product (state_numbered state) (messages_of payload))
+          → state_numbered after ≡ state_after product (state_numbered state) (messages_of payload) → after.desk.messages ≡ state.desk.messages + length (messages_of payload)
+          → IsPublishing old new publisher behind after next
+      publishing_more behind after sent published is_state count = record {
+        before = at.before ++ payload ∷ [];
+        first = more.first;
+        place = more.gate_is;
+        published = record {
+          sent = sent ∙ all_sent payload;
+          publisher_is =
+              published
+              ∙ ap (λ x. p.after x (events_from product (state_numbered state) (messages_of payload))) at.published.publisher_is
+              ∙ sym (p.after_then publisher (events_of product (messages_in at.before)) (events_from product (state_numbered state) (messages_of payload)))
+              ∙ ap (p.after publisher) (sym (all_events payload));
+          state_is =
+              is_state
+              ∙ ap (λ (e : State). state_after product e (messages_of payload)) at.published.state_is
+              ∙ sym (state-append product (empty_state product) (messages_in at.before) (messages_of payload))
+              ∙ ap (state_kept product) (sym (messages-push at.before payload));
+          count_is = omega (arith, count, at.published.count_is, ap length (messages-push at.before payload), length-append (messages_in at.before) (messages_of payload));
+        };
+      }
+
+      -- a send has failed
+      pub publishing_part : IsKnownPrefix (m.sent new) (sent_and (m.sent mid) (flat_map (p.text product.names) (events_from product (state_numbered state) (messages_of payload)))) → SentPart m product text image old new p.text
+      publishing_part sent = record { payloads = at.before ++ payload ∷ []; first = more.first; sent = subst (λ o. IsKnownPrefix (m.sent new) o) (all_sent payload) sent }
+
+    -- nothing more was sent
+    now_sent : m.sent mid ≡ sent_and (m.sent old) (lines_in p.text product (messages_in at.before))
+    now_sent = looked ∙ at.published.sent
+
+    pub publishing_unread : SentPart m product text image old mid p.text
+    publishing_unread = record { payloads = at.before; first = at.first; sent = subst (λ o. IsKnownPrefix (m.sent mid) o) now_sent (known_itself (m.sent mid)) }
+
+    pub publishing_done : IsJournal text product.journal_limit at.before image → AllPublished m p product text product.journal_limit image old mid publisher then state
+    publishing_done journal = record {
+      payloads = at.before;
+      journal = journal;
+      whole = at.first.whole;
+      published = record { sent = now_sent; publisher_is = at.published.publisher_is; state_is = at.published.state_is; count_is = at.published.count_is };
+    }
+
+    pub publishing_bad : (place : ℕ) → IsBadBehind text product.journal_limit image at.before place → StoppedAtBad m p product text product.journal_limit image old mid place
+    publishing_bad place bad = record { bad = bad.bad; sent = now_sent ∙ ap (λ (l : List (List ℕ)). sent_and (m.sent old) (lines_in p.text product (messages_in l))) (sym bad.behind) }
+
+-- ---- what was read
+
+pub read_more : (text : List ℕ) (limit : ℕ) (image : List ℕ) (before : List (List ℕ)) (next : ℕ) (payload : List ℕ) (found : Bool) → found ≡ true → ReadsRecord text limit image before next payload (Ok found) → IsOneMore text limit image before next payload
+read_more text limit image before next payload found is told = subst (λ (b : Bool). ReadsRecord text limit image before next payload (Ok b)) is told
+
+pub read_end : (text : List ℕ) (limit : ℕ) (image : List ℕ) (before : List (List ℕ)) (next : ℕ) (payload : List ℕ) (found : Bool) → found ≡ false → ReadsRecord text limit image before next payload (Ok found) → IsJournal text limit before image
+read_end text limit image before next payload found is told = subst (λ (b : Bool). ReadsRecord text limit image before next payload (Ok b)) is told
+
+pub read_bad : (text : List ℕ) (limit : ℕ) (image : List ℕ) (before : List (List ℕ)) (next : ℕ) (payload : List ℕ) (why : RecoverFault) (place : ℕ) → why ≡ fault.Bad place → ReadsRecord text limit image before next payload (Err why) → IsBadBehind text limit image before place
+read_bad text limit image before next payload why place is told = subst (λ (e : RecoverFault). ReadsRecord text limit image before next payload (Err e)) is told

@@ -1,0 +1,91 @@
+use Rattle.std.proofs.Common.{Ok, Err, refl, sym, ◌∙◌, ap, arith}
+use Rattle.match_journal.specs.declared.standing.Standing.{Standing}
+use Rattle.book_recovery.proofs.Standings.{moved_then}
+use Rattle.journal_print.proofs.Stations.{on_ok, on_err, reading_only, sending_only, reading_then}
+use Rattle.journal_print.proofs.RecordSteps.{record_read, read_more, read_end, read_bad, publishing_more, publishing_part, publishing_unread, publishing_done, publishing_bad}
+use Rattle.journal_print.proofs.records.publish_records.Goals as goal
+
+pub returns-then-is_err-clause-publishes : goal.returns-then-is_err-clause-publishes
+returns-then-is_err-clause-publishes g c = λ text image read known begins first.
+    let m = g.S.Station.meanings in
+    let p = g.P.Publisher.meanings in
+    let before = c.records.invariant in
+    let at = before.publishing text image read known begins first in
+    let looked = c.next_record.ensures.reads.looks.silent.sent in
+    let limit = ap (λ (s : Standing). s.limit) before.same ∙ c.requires.limit in
+    let told =
+    record_read m p c.args.product.now text image c.args.station.now c.records.station c.next_record.new.station c.args.publisher.now c.records.publisher c.records.core c.records.journal.gate at looked c.records.journal c.next_record.new.journal.gate c.next_record.new.scratch.framer.rest (Ok c.in-Ok-true.field-0) limit refl
+    (λ whole place. c.in-Ok-true.ensures.records text image at.before (before.reads.holds ∙ read) (known ∙ sym (ap (λ (s : Standing). s.known) before.same)) whole place) in
+    let more = read_more text _ image at.before _ _ c.in-Ok-true.field-0 c.in-Ok-true.field-0-test told in
+    publishing_part m p c.args.product.now text image c.args.station.now c.records.station c.next_record.new.station c.args.publisher.now c.records.publisher c.records.core c.records.journal.gate at looked c.next_record.new.journal.gate c.next_record.new.scratch.framer.rest more c.publish_frames.new.station
+    (on_err c.publish_frames.result (sym c.is_err.ensures.value ∙ c.if-is_err.true) c.publish_frames.ensures.sends.part)
+
+pub records-preserved : goal.records-preserved
+records-preserved g c =
+    let m = g.S.Station.meanings in
+    let p = g.P.Publisher.meanings in
+    let before = c.records.invariant in
+    let looks = c.next_record.ensures.reads.looks in
+    let quiet = c.publish_frames.ensures.sends.quiet in
+    let good = sym c.is_err.ensures.value ∙ c.if-is_err.false in
+    let step = moved_then c.args.journal.now c.records.journal c.next_record.new.journal _ _ before.same c.next_record.ensures.same in
+    let risen = c.in-Ok-true.ensures.rises c.in-Ok-true.field-0-test in
+    let inside = c.in-Ok-true.ensures.in_limit c.in-Ok-true.field-0-test in
+    record {
+      reads = reading_then m _ _ _ (reading_then m _ _ _ before.reads (reading_only m _ _ c.next_record.ensures.reads)) (sending_only m _ _ quiet);
+      reach = quiet.reach ∙ c.next_record.ensures.reach ∙ before.reach;
+      store = quiet.store_faults ∙ c.in-Ok-true.ensures.none (λ e. cc e) ∙ before.store;
+      send = on_ok c.publish_frames.result good c.publish_frames.ensures.sends.cause.ok ∙ looks.silent.send_faults ∙ before.send;
+      same = step;
+      in_limit = omega (arith, inside, ap (λ (s : Standing). s.limit) step);
+      fits = c.publish_frames.ensures.fits;
+      numbered = c.publish_frames.ensures.numbered;
+      empty = on_ok c.publish_frames.result good c.publish_frames.ensures.empty;
+      few = omega (arith, before.few, risen, on_ok c.publish_frames.result good c.publish_frames.ensures.few);
+      publishing = λ text image read known begins first.
+          let at = before.publishing text image read known begins first in
+          let looked = looks.silent.sent in
+          let limit = ap (λ (s : Standing). s.limit) before.same ∙ c.requires.limit in
+          let told =
+          record_read m p c.args.product.now text image c.args.station.now c.records.station c.next_record.new.station c.args.publisher.now c.records.publisher c.records.core c.records.journal.gate at looked c.records.journal c.next_record.new.journal.gate c.next_record.new.scratch.framer.rest (Ok c.in-Ok-true.field-0) limit refl
+          (λ whole place. c.in-Ok-true.ensures.records text image at.before (before.reads.holds ∙ read) (known ∙ sym (ap (λ (s : Standing). s.known) before.same)) whole place) in
+          let more = read_more text _ image at.before _ _ c.in-Ok-true.field-0 c.in-Ok-true.field-0-test told in
+          publishing_more m p c.args.product.now text image c.args.station.now c.records.station c.next_record.new.station c.args.publisher.now c.records.publisher c.records.core c.records.journal.gate at looked c.next_record.new.journal.gate c.next_record.new.scratch.framer.rest more c.publish_frames.new.station c.publish_frames.new.publisher c.publish_frames.new.core
+          (on_ok c.publish_frames.result good c.publish_frames.ensures.sends.all)
+          (on_ok c.publish_frames.result good c.publish_frames.ensures.after)
+          (on_ok c.publish_frames.result good c.publish_frames.ensures.state)
+          (on_ok c.publish_frames.result good c.publish_frames.ensures.count);
+    }
+
+pub returns-in-Ok-false-clause-publishes : goal.returns-in-Ok-false-clause-publishes
+returns-in-Ok-false-clause-publishes g c = λ text image read known begins first.
+    let m = g.S.Station.meanings in
+    let p = g.P.Publisher.meanings in
+    let before = c.records.invariant in
+    let at = before.publishing text image read known begins first in
+    let looked = c.next_record.ensures.reads.looks.silent.sent in
+    let limit = ap (λ (s : Standing). s.limit) before.same ∙ c.requires.limit in
+    let told =
+    record_read m p c.args.product.now text image c.args.station.now c.records.station c.next_record.new.station c.args.publisher.now c.records.publisher c.records.core c.records.journal.gate at looked c.records.journal c.next_record.new.journal.gate c.next_record.new.scratch.framer.rest (Ok c.in-Ok-false.field-0) limit refl
+    (λ whole place. c.in-Ok-false.ensures.records text image at.before (before.reads.holds ∙ read) (known ∙ sym (ap (λ (s : Standing). s.known) before.same)) whole place) in
+    publishing_done m p c.args.product.now text image c.args.station.now c.records.station c.next_record.new.station c.args.publisher.now c.records.publisher c.records.core c.records.journal.gate at looked
+    (read_end text _ image at.before _ _ c.in-Ok-false.field-0 c.in-Ok-false.field-0-test told)
+
+pub returns-in-Err-Store-clause-publishes : goal.returns-in-Err-Store-clause-publishes
+returns-in-Err-Store-clause-publishes g c = λ text image read known begins first.
+    let at = c.records.invariant.publishing text image read known begins first in
+    publishing_unread g.S.Station.meanings g.P.Publisher.meanings c.args.product.now text image c.args.station.now c.records.station c.next_record.new.station c.args.publisher.now c.records.publisher c.records.core c.records.journal.gate at c.next_record.ensures.reads.looks.silent.sent
+
+pub returns-in-Err-Bad-clause-publishes : goal.returns-in-Err-Bad-clause-publishes
+returns-in-Err-Bad-clause-publishes g c = λ text image read known begins first.
+    let m = g.S.Station.meanings in
+    let p = g.P.Publisher.meanings in
+    let before = c.records.invariant in
+    let at = before.publishing text image read known begins first in
+    let looked = c.next_record.ensures.reads.looks.silent.sent in
+    let limit = ap (λ (s : Standing). s.limit) before.same ∙ c.requires.limit in
+    let told =
+    record_read m p c.args.product.now text image c.args.station.now c.records.station c.next_record.new.station c.args.publisher.now c.records.publisher c.records.core c.records.journal.gate at looked c.records.journal c.next_record.new.journal.gate c.next_record.new.scratch.framer.rest (Err c.in-Err-Bad.field-0) limit refl
+    (λ whole place. c.in-Err-Bad.ensures.records text image at.before (before.reads.holds ∙ read) (known ∙ sym (ap (λ (s : Standing). s.known) before.same)) whole place) in
+    publishing_bad m p c.args.product.now text image c.args.station.now c.records.station c.next_record.new.station c.args.publisher.now c.records.publisher c.records.core c.records.journal.gate at looked c.in-Err-Bad.at
+    (read_bad text _ image at.before c.next_record.new.journal.gate c.next_record.new.scratch.framer.rest c.in-Err-Bad.field-0 c.in-Err-Bad.at c.in-Err-Bad.field-0-is told)
