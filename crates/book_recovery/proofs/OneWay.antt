@@ -3,7 +3,7 @@ use Rattle.std.proofs.Common.{◌≡◌, ◌≢◌, ◌⊎◌, inl, inr, ⊎_eli
 use Rattle.std.specs.List.{flat_map, AllByRecursion}
 use Rattle.std.proofs.lemmas.List.{append_cancel_left}
 use Rattle.match_journal.specs.Journal.{IsJournal, IsPayload, journal_front, header, open_record}
-use Rattle.match_journal.specs.Walking.{IsHead}
+use Rattle.match_journal.specs.Walking.{IsHead, IsBadHead}
 use Rattle.match_journal.specs.declared.entry.Entry.{Entry}
 use Rattle.match_journal.specs.declared.faults.WalkFault.{WalkFault}
 use Rattle.match_journal.proofs.Walked.{one_size}
@@ -11,7 +11,7 @@ use Rattle.match_journal.proofs.Unique.{same_front, one_walk, one_keeping}
 use Rattle.product_file.specs.Products.{ProductLists}
 use Rattle.order_kinds.specs.State.{State}
 use Rattle.book_recovery.specs.Kept.{IsWhole, AreWhole, messages_in}
-use Rattle.book_recovery.specs.BadPlaces.{BeginsWithRecords, HasBadHeadAt, HasBadPayloadAt, IsBadPlace}
+use Rattle.book_recovery.specs.BadPlaces.{BeginsWithRecords, HasBadHeadAt, HasBadPayloadAt, IsBadPlace, HasBadPayloadBehind, HasBadRecordAt}
 use Rattle.book_recovery.specs.Recovering.{IsRecovered, Recovers}
 use Rattle.book_recovery.specs.declared.recovery.Recovered.{Recovered}
 use Rattle.book_recovery.specs.declared.recovery.RecoverFault.{RecoverFault}
@@ -140,3 +140,22 @@ module _ (product : ProductLists) (text image : List ℕ) (limit gate gate' : �
   one_recovery (Err (fault.Bad at)) (Err fault.Store) x y told told' = absurd (told' refl)
   one_recovery (Err (fault.Bad at)) (Ok r) x y told told' = absurd (no_bad_place text limit y.payloads image at y.journal.journal y.whole x)
   one_recovery (Err (fault.Bad at)) (Err (fault.Bad at')) x y told told' = ap (λ k. Err (fault.Bad k)) (one_place text limit image at at' x y)
+
+-- ---- the first bad record, for who reads each whole
+
+-- of these payloads the last is whole
+last_whole : (before : List (List ℕ)) (payload : List ℕ) (more : List (List ℕ)) → AreWhole ((before ++ payload ∷ []) ++ more) → IsWhole payload
+last_whole [] payload more whole = whole.0
+last_whole (x ∷ before) payload more whole = last_whole before payload more whole.1
+
+-- a journal of whole payloads has no bad record
+pub no_bad_record : (text : List ℕ) (limit : ℕ) (ps : List (List ℕ)) (image : List ℕ) (at : ℕ) → IsJournal text limit ps image → AreWhole ps → HasBadRecordAt text limit image at → ⊥
+no_bad_record text limit ps image at journal whole bad =
+    ⊎_elim
+    (λ head. no_bad_head text limit ps image at journal (record { before = bad.before; begins = bad.first.begins; bad = subst (λ (g : ℕ). IsBadHead image limit g at) bad.place head }))
+    (λ behind. ⊎_elim (λ more. past behind more) (λ more. behind.not_whole (last_whole bad.before behind.payload more.0 (subst AreWhole more.1 whole))) (begins_along text limit ps (bad.before ++ behind.payload ∷ []) image (journal_begins text limit ps image journal) behind.begins))
+    bad.bad
+  where
+    past : (behind : HasBadPayloadBehind text limit bad.before image) → IsBehind ps (bad.before ++ behind.payload ∷ []) → ⊥
+    past behind ([], is) = behind.not_whole (last_whole bad.before behind.payload [] (subst AreWhole (sym (append-nil ps) ∙ sym is ∙ sym (append-nil (bad.before ++ behind.payload ∷ []))) whole))
+    past behind (p ∷ more, is) = not_both image limit (length (journal_front text ps)) _ (good_head text limit ps p more image (subst (λ (l : List (List ℕ)). BeginsWithRecords text limit l image) is behind.begins)) (gate_closed text limit ps image journal)

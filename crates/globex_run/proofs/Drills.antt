@@ -89,7 +89,7 @@ summary_sent product kept all first same = same_if (length first == length all) 
     same_if b xs is = rw is refl
 
 -- nothing is the front of a frame: here of a shortest one
-empty_front : IsFrameFront []
+pub empty_front : IsFrameFront []
 empty_front = (56 ∷ 61 ∷ 70 ∷ 73 ∷ 88 ∷ 46 ∷ 52 ∷ 46 ∷ 50 ∷ 1 ∷ 57 ∷ 61 ∷ 49 ∷ 1 ∷ 1 ∷ 49 ∷ 48 ∷ 61 ∷ 50 ∷ 48 ∷ 48 ∷ 1 ∷ [], refl)
 
 -- a made stream that was read to some place
@@ -300,8 +300,7 @@ module _ {P I S : Type 0} (m : StationMeanings S) (p q : SourceAt P) (i j : Sour
               now-same same (first_messages served.messages taken) (take outcome.messages (messages_of stream)) (counted-same few ∙ ap (λ (n : ℕ). take n (messages_of stream)) (sym count))
               (kept.keeps (λ five. other (status ∙ five)));
           keeps_more = λ five.
-              let more = kept.keeps_more (sym status ∙ five) in
-              (
+              let more = kept.keeps_more (sym status ∙ five) in (
                 more.0,
                 omega (arith, more.1, count),
                 omega (arith, more.2, fewer stream taken end.left whole parts),

@@ -13,7 +13,7 @@ use Rattle.match_journal.specs.Opening.{IsOpening}
 use Rattle.match_journal.specs.Steps.{HoldsOne}
 use Rattle.match_journal.specs.StepLaws.{adds_then, adds_weaker}
 use Rattle.match_journal.specs.declared.standing.Standing.{Standing}
-use Rattle.book_recovery.specs.Kept.{AreWhole, messages_in}
+use Rattle.book_recovery.specs.Kept.{AreWhole, messages_in, IsGoodJournal}
 use Rattle.book_recovery.specs.Recovering.{state_kept}
 use Rattle.match_journal.specs.declared.limits.TheConstants.{MOST_UNFINISHED}
 use Rattle.product_file.specs.declared.limits.TheConstants.{LEAST_JOURNAL}
@@ -24,7 +24,7 @@ use Rattle.gx_base.specs.declared.event.Event.{Event}
 use Rattle.order_kinds.specs.Step.{state_after, events_from}
 use Rattle.globex_run.specs.Outside.{Streams, streams_at}
 use Rattle.globex_run.specs.Outcomes.{outcome_of}
-use Rattle.globex_run.specs.Journals.{AnswersImage, IsGoodJournal}
+use Rattle.globex_run.specs.Journals.{AnswersImage}
 use Rattle.globex_run.specs.RunResult.{EndsAs}
 use Rattle.globex_run.specs.Inner.Recording.{lines_from, IsRecordCrash, Serves, AllKept, Served}
 use Rattle.globex_run.specs.Inner.Serving.{IsDone, CausedBy, EndsServing, ServesInput}

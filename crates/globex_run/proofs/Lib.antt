@@ -17,4 +17,5 @@ mod RunHeadlines
 mod Complete
 mod Drills
 mod Drilled
+mod Executed
 mod Runs

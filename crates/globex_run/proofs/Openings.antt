@@ -16,13 +16,12 @@ use Rattle.match_journal.specs.declared.standing.Standing.{Standing}
 use Rattle.match_journal.specs.declared.faults.StartFault.{StartFault}
 use Rattle.product_file.specs.Products.{ProductLists}
 use Rattle.order_kinds.specs.State.{State}
-use Rattle.book_recovery.specs.Kept.{AreWhole, messages_in}
+use Rattle.book_recovery.specs.Kept.{AreWhole, messages_in, IsGoodJournal}
 use Rattle.book_recovery.specs.BadPlaces.{IsBadPlace}
 use Rattle.book_recovery.specs.Recovering.{state_kept, Recovers}
 use Rattle.book_recovery.specs.declared.recovery.Recovered.{Recovered}
 use Rattle.book_recovery.specs.declared.recovery.RecoverFault.{RecoverFault}
 use Rattle.book_recovery.specs.declared.recovery.RecoverFault.TheVariants as fault
-use Rattle.globex_run.specs.Journals.{IsGoodJournal}
 use Rattle.globex_run.specs.Inner.Sessions.{Opens}
 use Rattle.globex_run.specs.declared.open.Unopened.TheVariants as unopened
 use Rattle.match_journal.proofs.Unique.{journal_opened, one_keeping}

@@ -16,7 +16,10 @@ use Rattle.globex_run.specs.Journals.{records_length, end_of_journal}
 use Rattle.globex_run.specs.Headline.{Premises, SendsAndKeepsAll, KeepsCounted, LeavesCrashPrefixes, BeforeTheFirstSync}
 use Rattle.globex_run.specs.declared.outcome.Outcome.{Outcome}
 
--- the messages that are made of a product by these numbers
+-- the bytes that are made of a product by these numbers, and their messages
+abbrev pub made_bytes : ProductLists → ℕ → ℕ → List ℕ
+made_bytes product first count = made_stream product first count
+
 abbrev pub made_messages : ProductLists → ℕ → ℕ → List (List ℕ)
 made_messages product first count = messages_of (made_stream product first count)
 

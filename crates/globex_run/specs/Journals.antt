@@ -1,18 +1,12 @@
 -- What the image of entry is, by how a run ended.
 use Rattle.std.specs.Prelude.{◌⊎◌, ℕ, ◌+◌, List, length, sum_by}
-use Rattle.match_journal.specs.Journal.{IsJournal, journal_front}
+use Rattle.match_journal.specs.Journal.{journal_front}
 use Rattle.match_journal.specs.Classes.{IsBlank, IsSealed, IsForeignAt, HasBadHeader, HasOtherText}
 use Rattle.match_journal.specs.Opening.{IsOpened}
-use Rattle.book_recovery.specs.Kept.{AreWhole}
+use Rattle.book_recovery.specs.Kept.{IsGoodJournal}
 use Rattle.book_recovery.specs.BadPlaces.{IsBadPlace}
 use Rattle.globex_run.specs.declared.ending.Ending.{Ending}
 use Rattle.globex_run.specs.declared.ending.Ending.TheVariants.{StoreFault, NotAJournal, JournalBad, ProductDiffers}
-
--- a journal of this text with no bad record
-pub record IsGoodJournal (text : List ℕ) (limit : ℕ) (image : List ℕ) : Type 0 where
-  pub payloads : List (List ℕ)
-  pub journal : IsJournal text limit payloads image
-  pub whole : AreWhole payloads
 
 -- What an image is where a run of this product text ended so. No two of the first three hold of one image, nor one of them
 -- and the last, so 9, 10 and 11 come exactly where they hold, if no call on the store failed before.

@@ -6,6 +6,7 @@ use Rattle.gx_station.specs.Quiet.{Sends}
 use Rattle.product_file.specs.Products.{ProductLists}
 use Rattle.product_file.specs.ProductTexts.{product_of}
 use Rattle.order_kinds.specs.Step.{events_of, reports_of}
+use Rattle.book_recovery.specs.Kept.{KeepsMessages}
 use Rattle.exec_report.specs.declared.texts.SendFault.{SendFault}
 use Rattle.book_print.specs.FillText.{fill_line, fill_text}
 use Rattle.book_print.specs.LedgerText.{ledger_line, ledger_text}
@@ -65,3 +66,12 @@ module _ {S : Type 0} (m : StationMeanings S) (product : ProductLists) (text : L
   PrintsAs Steps = PrintsSteps m product before.object after.object outcome
   PrintsAs Run = Unit {0}
   PrintsAs (Drill first count) = Unit {0}
+
+-- A command that prints can do it to its end: the product is told, and its text breaks no rule; and but for `steps`, a run can start
+-- from the image of entry.
+pub record CanBePrinted {P I S : Type 0} (before : Outside P I S) (command : Command) : Type 0 where
+  pub text : List ℕ
+  pub product : ProductLists
+  pub text_known : before.product.left ≡ Some text
+  pub gives : product_of text ≡ Ok product
+  pub startable : command ≢ Steps → (image : List ℕ) × ((before.streams.station.image ≡ Some image) × ((kept : List (List ℕ)) × KeepsMessages text product.journal_limit kept image))

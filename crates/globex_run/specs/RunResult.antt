@@ -1,4 +1,4 @@
--- What a run did: what it took, and why it ended.
+-- What a call did: what it took, and why it ended.
 use Rattle.std.specs.Prelude.{◌≡◌, ◌⊎◌, ℕ, ◌≤◌, List, [], ◌++◌, length, take, drop, IfSome, Ok}
 use Rattle.std.specs.List.{concat}
 use Rattle.gx_station.specs.Counts.{Rose}
@@ -12,6 +12,8 @@ use Rattle.globex_run.specs.Outside.{Streams, Outside}
 use Rattle.globex_run.specs.ProductTexts.{TakesAtMost, IsProductText, IsRefusedAt}
 use Rattle.globex_run.specs.Outcomes.{outcome_of}
 use Rattle.globex_run.specs.Journals.{AnswersImage}
+use Rattle.command_words.specs.declared.command.Command.{Command}
+use Rattle.command_words.specs.declared.command.Command.TheVariants.{Run, Drill}
 use Rattle.globex_run.specs.declared.outcome.Outcome.{Outcome}
 use Rattle.globex_run.specs.declared.ending.Ending.{Ending}
 use Rattle.globex_run.specs.declared.ending.Ending.TheVariants.{Done, ReadFault, StoreFault, SendFault, BadFrame, Truncated, NotAJournal, JournalBad, ProductDiffers, Full}
@@ -101,17 +103,37 @@ pub record ProductRefused {P I S : Type 0} (before after : Outside P I S) (outco
   pub refused : IsRefusedAt outcome.at (product_of text)
   pub untouched : after.streams ≡ before.streams
 
--- the product was read, and its journal was opened and the input served until an ending, which fits the image of entry
-pub record ProductServed {P I S : Type 0} (before after : Outside P I S) (outcome : Outcome) : Type 0 where
+-- ---- what a command did with the product
+
+module _ {P I S : Type 0} (before after : Outside P I S) (outcome : Outcome) (text : List ℕ) (product : ProductLists) where
+  -- a run opened the product's journal and served the input until an ending, which fits the image of entry
+  pub record RunEnded : Type 0 where
+    pub ending : Ending
+    pub is : outcome ≡ outcome_of ending outcome.messages
+    pub image : IfSome before.streams.station.image (λ image. AnswersImage text product.journal_limit image ending)
+    pub serving : ServingResult before.streams after.streams ending outcome.messages
+
+  -- a drill opened it and served its made messages until an ending, which fits the image of entry; the input is untouched
+  pub record DrillEnded : Type 0 where
+    pub ending : Ending
+    pub is : outcome ≡ outcome_of ending outcome.messages
+    pub image : IfSome before.streams.station.image (λ image. AnswersImage text product.journal_limit image ending)
+    pub input : after.streams.input ≡ before.streams.input
+
+  -- why the command ended; `PrintsAs` says it of those that only print
+  abbrev pub CommandEnded : Command → Type 0
+  CommandEnded Run = RunEnded
+  CommandEnded (Drill first count) = DrillEnded
+  CommandEnded command = after.streams.input ≡ before.streams.input
+
+-- the product was read, and the command executed
+pub record ProductTaken {P I S : Type 0} (before after : Outside P I S) (outcome : Outcome) (command : Command) : Type 0 where
   pub text : List ℕ
   pub taken : IsProductText before.product after.product text
   pub product : ProductLists
   pub gives : product_of text ≡ Ok product
-  pub ending : Ending
-  pub is : outcome ≡ outcome_of ending outcome.messages
-  pub image : IfSome before.streams.station.image (λ image. AnswersImage text product.journal_limit image ending)
-  pub serving : ServingResult before.streams after.streams ending outcome.messages
+  pub ended : CommandEnded before after outcome text product command
 
--- what a run did between entry and exit that ended with this outcome
-abbrev pub RunResult : {P I S : Type 0} → Outside P I S → Outside P I S → Outcome → Type 0
-RunResult before after outcome = ProductUnread before after outcome ⊎ (ProductRefused before after outcome ⊎ ProductServed before after outcome)
+-- what a command did between entry and exit that ended with this outcome
+abbrev pub CommandResult : {P I S : Type 0} → Outside P I S → Outside P I S → Outcome → Command → Type 0
+CommandResult before after outcome command = ProductUnread before after outcome ⊎ (ProductRefused before after outcome ⊎ ProductTaken before after outcome command)

@@ -3,7 +3,7 @@ ghost use Rattle.std.specs.Prelude.{◌≡◌, ◌⊎◌, ◌≤◌, ℕ, List, 
 ghost use Rattle.gx_station.specs.Honest.{KeepsImage};
 ghost use Rattle.product_file.specs.declared.limits.TheConstants.{LONGEST_TEXT};
 ghost use Rattle.globex_run.specs.Inner.Buffers.{AreNew};
-ghost use Rattle.globex_run.specs.Inner.Drilling.{DrillResult, outcome_summed};
+ghost use Rattle.globex_run.specs.Inner.Drilling.{DrillResult, DrillAnswers, outcome_summed};
 
 use crate::buffers::Buffers;
 use crate::outcome::{Outcome, Status};
@@ -11,9 +11,11 @@ use crate::session::serve_session;
 use book_print::{TallyEmit, TallyPublisher, print_tally};
 use exec_report::SendFault;
 use gx_station::Station;
+use maker_laws::names_are_right;
 use order_maker::MakerSource;
 use plain_book::Book;
 use product_file::Product;
+use std::alloc::Global;
 
 /// How a drill ends that has kept all its messages, by what became of its summary.
 fn outcome_summed(messages: u64, sent: Result<(), SendFault>) -> Outcome
@@ -27,7 +29,7 @@ fn outcome_summed(messages: u64, sent: Result<(), SendFault>) -> Outcome
 
 /// Serves made messages as a run serves its input, but that no report is sent of them. Where all of them are kept, a line is sent
 /// that sums them up.
-pub fn run_drill<S: Station>(
+fn run_drill<S: Station>(
     product: &Product,
     text: &[u8],
     buffers: &mut Buffers,
@@ -56,4 +58,28 @@ pub fn run_drill<S: Station>(
         station,
     );
     outcome_summed(outcome.messages, sent)
+}
+
+/// A drill of `count` messages that are made from `first` on; want of memory for them is status 1, and touches nothing.
+pub fn drill<S: Station>(
+    alloc: Global,
+    product: &Product,
+    text: &[u8],
+    buffers: &mut Buffers,
+    first: u32,
+    count: u32,
+    station: &mut S,
+) -> Outcome
+    requires short { length text.now ≤ LONGEST_TEXT }
+    requires new { AreNew product.now buffers.old }
+    ensures answers { DrillAnswers S.meanings product.now text.now first count station.old station.new result }
+    ensures stays { (image : List ℕ) → S.meanings.holds station.old ≡ Some image → (result.status ≡ 9) ⊎ ((result.status ≡ 10) ⊎ (result.status ≡ 11)) → KeepsImage S.meanings station.old station.new }
+    ensures refused { (result.status ≡ 9) ⊎ ((result.status ≡ 10) ⊎ (result.status ≡ 11)) → S.meanings.sent station.new ≡ S.meanings.sent station.old }
+{
+    product.limits();
+    names_are_right(product);
+    match MakerSource::new(alloc, product, first, count) {
+        Ok(mut made) => run_drill(product, text, buffers, &mut made, station),
+        Err(_) => Status::NoMemory.outcome(0, 0),
+    }
 }

@@ -8,7 +8,7 @@ ghost use Rattle.globex_run.specs.Inner.Buffers.{AreNew};
 ghost use Rattle.globex_run.specs.Inner.Executing.{Executes, HasCauses};
 
 use crate::buffers::Buffers;
-use crate::drill::run_drill;
+use crate::drill::drill;
 use crate::outcome::{Outcome, Status};
 use crate::printing::{outcome_printed, outcome_sent};
 use crate::session::serve_session;
@@ -16,8 +16,6 @@ use book_print::{ReportPublisher, print_steps};
 use command_words::Command;
 use gx_station::{Source, Station};
 use journal_print::{print_fills, print_kept_book, print_ledger, print_reports};
-use maker_laws::names_are_right;
-use order_maker::MakerSource;
 use product_file::Product;
 use std::alloc::Global;
 
@@ -44,11 +42,7 @@ pub fn execute<I: Source, S: Station>(
     match command {
         Command::Run => serve_session(&mut ReportPublisher, product, text, buffers, input, station),
         Command::Drill { first, count } => {
-            names_are_right(product);
-            match MakerSource::new(alloc, product, first, count) {
-                Ok(mut made) => run_drill(product, text, buffers, &mut made, station),
-                Err(_) => Status::NoMemory.outcome(0, 0),
-            }
+            drill(alloc, product, text, buffers, first, count, station)
         }
         Command::Replay => outcome_printed(print_reports(
             product,

@@ -4,8 +4,10 @@
 mod buffers;
 mod drill;
 mod ending;
+mod execute;
 mod open;
 mod outcome;
+mod printing;
 mod product_text;
 mod run;
 mod serve;
@@ -13,7 +15,6 @@ mod serve_frame;
 mod session;
 #[cfg(test)]
 mod tests;
-mod words;
 
 pub use outcome::Outcome;
 pub use run::globex;

@@ -70,7 +70,9 @@ pub fn serve<P: Publisher, B: Book, I: Source, S: Station>(
         match framer.next() {
             Next::Frame(start, end) => {
                 let frame = framer.frame(start, end);
-                if let Err(reason) = serve_frame(publisher, product, core, journal, buffer, station, frame) {
+                if let Err(reason) = serve_frame(
+                    publisher, product, core, journal, buffer, station, frame,
+                ) {
                     return reason.ending(at);
                 }
             }

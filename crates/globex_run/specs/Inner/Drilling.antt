@@ -1,11 +1,12 @@
 -- A drill: the made messages are served, nothing is sent of them, and where all of them are kept their summary is sent.
-use Rattle.std.specs.Prelude.{◌≡◌, ◌≢◌, ℕ, List, length, Result, Ok, Err}
+use Rattle.std.specs.Prelude.{◌≡◌, ◌≢◌, ◌⊎◌, ℕ, List, [], length, Result, Ok, Err}
 use Rattle.gx_station.specs.Stations.{StationMeanings}
 use Rattle.gx_station.specs.Quiet.{Sends}
+use Rattle.fix_frame.specs.Stream.{rest_of}
 use Rattle.product_file.specs.Products.{ProductLists}
 use Rattle.plain_book.specs.Book.{live_orders}
 use Rattle.order_kinds.specs.State.{State}
-use Rattle.order_maker.specs.Stream.{MadeStream, maker_meanings}
+use Rattle.order_maker.specs.Stream.{MadeStream, maker_meanings, made_stream}
 use Rattle.exec_report.specs.declared.texts.SendFault.{SendFault}
 use Rattle.book_print.specs.TallyText.{no_tally, tally_line}
 use Rattle.book_print.specs.Publishing.{tally_publisher_meanings}
@@ -26,7 +27,6 @@ pub record SumsUp {S : Type 0} (m : StationMeanings S) (old new : S) (publisher 
   pub outcome_is : outcome ≡ outcome_summed count result
 
 module _ {S : Type 0} (m : StationMeanings S) (product : ProductLists) (text : List ℕ) (made rest : MadeStream) (old new : S) where
-  -- the publisher has counted these events
   pub record DrillResult (outcome : Outcome) : Type 0 where
     pub mid : S
     pub publisher : TallyPublisher
@@ -36,3 +36,14 @@ module _ {S : Type 0} (m : StationMeanings S) (product : ProductLists) (text : L
     pub silent : served.status ≢ 6
     pub otherwise : served.status ≢ 0 → (new ≡ mid) × (outcome ≡ served)
     pub sums_up : served.status ≡ 0 → SumsUp m mid new publisher then served.messages outcome
+
+module _ {S : Type 0} (m : StationMeanings S) (product : ProductLists) (text : List ℕ) (first count : ℕ) (old new : S) (outcome : Outcome) where
+  -- the messages of these numbers were made, whole, and served
+  pub record DrillsMade : Type 0 where
+    pub whole : rest_of (made_stream product first count) ≡ []
+    pub end : MadeStream
+    pub did : DrillResult m product text (record { left = made_stream product first count; reads = 0 }) end old new outcome
+
+  -- or there was no memory for them, and nothing was touched
+  abbrev pub DrillAnswers : Type 0
+  DrillAnswers = ((outcome ≡ record { status = 1; at = 0; messages = 0 }) × (new ≡ old)) ⊎ DrillsMade

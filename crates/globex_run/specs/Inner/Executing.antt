@@ -1,12 +1,10 @@
 -- What executing a command comes to, once its product was taken.
-use Rattle.std.specs.Prelude.{◌≡◌, ◌≢◌, ◌⊎◌, ℕ, List, [], true}
+use Rattle.std.specs.Prelude.{◌≡◌, ◌≢◌, ◌⊎◌, ℕ, List, true}
 use Rattle.gx_base.specs.Line.{line_of}
 use Rattle.gx_station.specs.Counts.{Rose}
 use Rattle.gx_station.specs.Stations.{StationMeanings}
 use Rattle.product_file.specs.Products.{ProductLists, IsRightProduct}
 use Rattle.order_kinds.specs.State.{State}
-use Rattle.order_maker.specs.Stream.{MadeStream, made_stream}
-use Rattle.fix_frame.specs.Stream.{rest_of}
 use Rattle.journal_print.specs.Reading.{ReadsAndSends}
 use Rattle.command_words.specs.declared.command.Command.{Command}
 use Rattle.command_words.specs.declared.command.Command.TheVariants.{Run, Replay, Book, Fills, Ledger, Steps, Drill}
@@ -14,22 +12,10 @@ use Rattle.globex_run.specs.Outside.{Streams}
 use Rattle.globex_run.specs.Outcomes.{is_outcome}
 use Rattle.globex_run.specs.Prints.{PrintsAs}
 use Rattle.globex_run.specs.Inner.Sessions.{SessionResult}
-use Rattle.globex_run.specs.Inner.Drilling.{DrillResult}
+use Rattle.globex_run.specs.Inner.Drilling.{DrillAnswers}
 use Rattle.globex_run.specs.declared.outcome.Outcome.{Outcome}
 
 module _ {I S : Type 0} (m : StationMeanings S) (product : ProductLists) (text : List ℕ) (before after : Streams I S) (outcome : Outcome) where
-  -- there was no memory for the made messages, and nothing was touched
-  pub record IsUntouched : Type 0 where
-    pub outcome_is : outcome ≡ record { status = 1; at = 0; messages = 0 }
-    pub streams : after ≡ before
-
-  -- the made messages of these numbers were served
-  pub record Drills (first count : ℕ) : Type 0 where
-    pub whole : rest_of (made_stream product first count) ≡ []
-    pub end : MadeStream
-    pub did : DrillResult m product text (record { left = made_stream product first count; reads = 0 }) end before.station.object after.station.object outcome
-    pub input : after.input ≡ before.input
-
   -- something was printed, and nothing else touched
   pub record Prints (command : Command) : Type 0 where
     pub form : PrintsAs m product text before.station after.station outcome command
@@ -43,7 +29,7 @@ module _ {I S : Type 0} (m : StationMeanings S) (product : ProductLists) (text :
 
   abbrev pub Executes : Command → Type 0
   Executes Run = Runs
-  Executes (Drill first count) = IsUntouched ⊎ Drills first count
+  Executes (Drill first count) = DrillAnswers m product text first count before.station.object after.station.object outcome × (after.input ≡ before.input)
   Executes command = Prints command
 
   -- What the outcome tells of the faults, whatever the command.

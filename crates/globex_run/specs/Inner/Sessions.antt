@@ -12,7 +12,7 @@ use Rattle.match_journal.specs.Opening.{IsOpening}
 use Rattle.match_journal.specs.Steps.{HoldsOne}
 use Rattle.match_journal.specs.declared.limits.TheConstants.{MOST_UNFINISHED}
 use Rattle.match_journal.specs.declared.standing.Standing.{Standing}
-use Rattle.book_recovery.specs.Kept.{AreWhole, messages_in, KeepsMessages}
+use Rattle.book_recovery.specs.Kept.{AreWhole, messages_in, KeepsMessages, IsGoodJournal}
 use Rattle.book_recovery.specs.Recovering.{state_kept}
 use Rattle.product_file.specs.Products.{ProductLists, IsRightProduct}
 use Rattle.gx_base.specs.declared.event.Event.{Event}
@@ -21,7 +21,7 @@ use Rattle.order_kinds.specs.Step.{state_after, events_from}
 use Rattle.book_print.specs.Publishers.{LineForm}
 use Rattle.globex_run.specs.Outside.{Streams}
 use Rattle.globex_run.specs.Outcomes.{outcome_of}
-use Rattle.globex_run.specs.Journals.{AnswersImage, IsGoodJournal, records_length}
+use Rattle.globex_run.specs.Journals.{AnswersImage, records_length}
 use Rattle.globex_run.specs.RunResult.{ServingResult}
 use Rattle.globex_run.specs.Inner.Recording.{lines_from, IsRecordCrash, RestsAtEnd}
 use Rattle.globex_run.specs.Inner.Serving.{CausedBy, IsDone, HasNoRoomAt}
