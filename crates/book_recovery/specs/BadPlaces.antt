@@ -4,7 +4,7 @@ use Rattle.std.specs.Prelude.{◌≡◌, ◌⊎◌, ℕ, ◌<◌, ◌≤◌, Lis
 use Rattle.std.specs.List.{AllByRecursion}
 use Rattle.match_journal.specs.Journal.{IsJournal, IsPayload, journal_front}
 use Rattle.match_journal.specs.Walking.{IsBadHead}
-use Rattle.book_recovery.specs.Kept.{IsWhole, AreWhole, messages_in}
+use Rattle.book_recovery.specs.Kept.{IsWhole, AreWhole}
 
 -- The first records of a journal of this text have good heads and these payloads, and the gate behind them is inside the
 -- image.

@@ -1,4 +1,4 @@
-use Rattle.std.proofs.Common.{take, true, false, true≢false, refl, sym, ◌∙◌, ap}
+use Rattle.std.proofs.Common.{take, true≢false, sym, ◌∙◌, ap}
 use Rattle.fix_frame.specs.Stream.{rest_of}
 use Rattle.match_journal.specs.declared.standing.Standing.{Standing}
 use Rattle.book_recovery.proofs.Counting.{head_found, gate_found, bad_found}

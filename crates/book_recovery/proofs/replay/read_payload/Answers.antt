@@ -1,6 +1,6 @@
 use Rattle.std.proofs.lemmas.Grind.{common_steps}
 use Rattle.std.proofs.lemmas.List.{take-append-le, take_all, take-take}
-use Rattle.std.proofs.Common.{◌≡◌, ℕ, ◌≤◌, List, ◌++◌, length, take, sym, ◌∙◌, ap, arith, append_assoc}
+use Rattle.std.proofs.Common.{◌≡◌, ℕ, ◌≤◌, List, ◌++◌, length, take, ◌∙◌, ap, arith, append_assoc}
 use Rattle.book_recovery.proofs.replay.read_payload.Goals as goal
 
 front_of : (bytes held slice post tail : List ℕ) (n room : ℕ) → held ≡ take n slice → slice ≡ take room ((bytes ++ post) ++ tail) → length bytes ≡ n → n ≤ room → held ≡ bytes
