@@ -19,3 +19,4 @@ mod Drills
 mod Drilled
 mod Executed
 mod Runs
+mod Commands

@@ -14,7 +14,7 @@ use Rattle.balance_laws.proofs.Streams.{streams-balance}
 use Rattle.gx_base.specs.Line.{line_of}
 use Rattle.gx_base.specs.declared.event.Event.{Event}
 use Rattle.order_kinds.specs.State.{State}
-use Rattle.globex_run.specs.Outside.{SourceAt, Outside, IsQuiet}
+use Rattle.globex_run.specs.Outside.{SourceAt, Outside, NoFault, IsQuiet}
 use Rattle.globex_run.specs.ProductTexts.{TakesAtMost, IsProductText, IsRefusedAt}
 use Rattle.globex_run.specs.RunResult.{EndsAs, first_messages}
 use Rattle.globex_run.specs.Headline.{new_reports, Premises, InputPremises, SendsExactlyTheReports, EndsOtherwise, RunLeavesCrashPrefixes, RunBeforeTheFirstSync, KeepsEveryReported, HasNoRoom, CanBeServed, IsServed}
@@ -65,12 +65,19 @@ whole-text before after taken text product was emits is =
 one_product : (r : Result ProductLists ProductFault) (p q : ProductLists) → r ≡ Ok p → r ≡ Ok q → p ≡ q
 one_product r p q a b = cc
 
--- where a run can be served, and no read of the product failed, none is taken only for want of memory
-pub memory-without : {P I S : Type 0} (m : StationMeanings S) (before after : Outside P I S) (reason : NoProduct) (o : Outcome) → TakesNone before.product after.product reason → o ≡ outcome_without reason → (can : CanBeServed m before) → IsQuiet before after → (o.status ≡ 1) ⊎ IsServed can.bytes o.status
-memory-without m before after NoMemory o took made can quiet = inl (ap (λ (x : Outcome). x.status) made)
-memory-without m before after Unread o took made can quiet = absurd (quiet.product took.1)
-memory-without m before after (Refused rule) o took made can quiet =
-    absurd (subst (λ (r : Result ProductLists ProductFault). IsRefusedAt rule r) (ap product_of (whole-text before.product after.product took.0 can.text can.product took.1 can.text_known can.gives) ∙ can.gives) took.2)
+-- where the product is told, and no read of it failed, none is taken only for want of memory
+pub memory-without : {P : Type 0} (before after : SourceAt P) (reason : NoProduct) (o : Outcome) → TakesNone before after reason → o ≡ outcome_without reason → (told : List ℕ) (product : ProductLists) → before.left ≡ Some told → product_of told ≡ Ok product → NoFault before.faults after.faults → o.status ≡ 1
+memory-without before after NoMemory o took made told product known gives quiet = ap (λ (x : Outcome). x.status) made
+memory-without before after Unread o took made told product known gives quiet = absurd (quiet took.1)
+memory-without before after (Refused rule) o took made told product known gives quiet =
+    absurd (subst (λ (r : Result ProductLists ProductFault). IsRefusedAt rule r) (ap product_of (whole-text before after took.0 told product took.1 known gives) ∙ gives) took.2)
+
+-- a product was taken, and its text lent: what holds of these holds of the product that is told
+pub told-product : {P : Type 0} (p q : SourceAt P) (text lent : List ℕ) → lent ≡ text → (product : ProductLists) → IsProductText p q text → product_of text ≡ Ok product → (Holds : ProductLists → List ℕ → Type 0) (told : List ℕ) (lists : ProductLists) → p.left ≡ Some told → product_of told ≡ Ok lists → Holds product lent → Holds lists told
+told-product p q text lent same product took gives Holds told lists known are holds =
+    let whole : text ≡ told = whole-text p q text told lists took known are in
+    let one : product ≡ lists = one_product (product_of text) product lists gives (ap product_of whole ∙ are) in
+    subst (λ (l : List ℕ). Holds lists l) (same ∙ whole) (subst (λ (x : ProductLists). Holds x lent) one holds)
 
 -- ---- a product was taken, and its text lent to its session
 
@@ -87,10 +94,7 @@ module _ {P I S : Type 0} (m : StationMeanings S) (p q : SourceAt P) (i j : Sour
 
   -- the session is that of the product that is told
   told-session : (told : List ℕ) (lists : ProductLists) → p.left ≡ Some told → product_of told ≡ Ok lists → Session product lent → Session lists told
-  told-session told lists known are session =
-      let whole : text ≡ told = whole-text p q text told lists took known are in
-      let one : product ≡ lists = one_product (product_of text) product lists gives (ap product_of whole ∙ are) in
-      subst (λ (l : List ℕ). Session lists l) (same ∙ whole) (subst (λ (x : ProductLists). Session x lent) one session)
+  told-session told lists known are session = told-product p q text lent same product took gives Session told lists known are session
 
   module _ (session : Session product lent) (given : Premises m entry exit outcome.status) (read : InputPremises i j) where
     -- that of the product of the premises

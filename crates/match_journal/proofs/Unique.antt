@@ -81,9 +81,9 @@ blank_not_sealed text image (inl short) s = omega (arith, short, s.header.inside
 blank_not_sealed text image (inr closed) s = s.not_closed closed.0
 
 module _ (product image : List ℕ) where
-  none_some : IsBlank image ⊎ IsSealed product image → IsOpened product image → ⊥
-  none_some (inl blank) opened = blank_not_open image blank opened.0
-  none_some (inr sealed) opened = sealed.not_open opened.0.opened
+  pub unfinished_not_opened : IsBlank image ⊎ IsSealed product image → IsOpened product image → ⊥
+  unfinished_not_opened (inl blank) opened = blank_not_open image blank opened.0
+  unfinished_not_opened (inr sealed) opened = sealed.not_open opened.0.opened
 
   none_err : (e : StartFault) → IsBlank image ⊎ IsSealed product image → IsStartFault product image e → (e ≡ fault.Store → ⊥) → ⊥
   none_err fault.Store none is told = told refl
@@ -133,9 +133,9 @@ module _ (product image : List ℕ) where
 
   pub one_answer : (limit : ℕ) (a b : Result (Option Standing) StartFault) → Looks product limit image a → Looks product limit image b → (a ≡ Err fault.Store → ⊥) → (b ≡ Err fault.Store → ⊥) → a ≡ b
   one_answer limit (Ok None) (Ok None) x y told told' = refl
-  one_answer limit (Ok None) (Ok (Some s)) x y told told' = absurd (none_some x y.0)
+  one_answer limit (Ok None) (Ok (Some s)) x y told told' = absurd (unfinished_not_opened x y.0)
   one_answer limit (Ok None) (Err e) x y told told' = absurd (none_err e x y (not_store e told'))
-  one_answer limit (Ok (Some s)) (Ok None) x y told told' = absurd (none_some y x.0)
+  one_answer limit (Ok (Some s)) (Ok None) x y told told' = absurd (unfinished_not_opened y x.0)
   one_answer limit (Ok (Some s)) (Ok (Some s')) x y told told' = ap (λ (s : Standing). Ok (Some s)) (x.1 ∙ sym y.1)
   one_answer limit (Ok (Some s)) (Err e) x y told told' = absurd (some_err e x.0 y (not_store e told'))
   one_answer limit (Err e) (Ok None) x y told told' = absurd (none_err e y x (not_store e told))

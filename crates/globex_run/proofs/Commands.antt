@@ -1,0 +1,382 @@
+-- What the command of the words came to, from how it was executed.
+use Rattle.std.proofs.Common.{◌≡◌, ◌≢◌, ◌⊎◌, inl, inr, ⊎_elim, ℕ, ◌++◌, ◌≤◌, List, [], length, Option, Some, None, Result, Ok, Err, refl, sym, ap, subst, ◌∙◌, arith}
+use Rattle.std.specs.Prelude.{IfSome}
+use Rattle.std.proofs.lemmas.Bool.Decides.{eqb_tells}
+use Rattle.std.proofs.lemmas.Option.{same_Some}
+use Rattle.gx_base.specs.declared.event.Event.{Event}
+use Rattle.gx_base.specs.Line.{line_of}
+use Rattle.gx_station.specs.Counts.{Rose}
+use Rattle.gx_station.specs.Stations.{StationMeanings}
+use Rattle.gx_station.specs.Honest.{IsHonestNow}
+use Rattle.fix_frame.specs.Grammar.{IsFrameFront}
+use Rattle.fix_frame.specs.Stream.{rest_of, IsBroken, IsCut}
+use Rattle.product_file.specs.Products.{ProductLists, IsRightProduct}
+use Rattle.product_file.specs.ProductTexts.{product_of}
+use Rattle.order_kinds.specs.Balance.{IsBalanced}
+use Rattle.balance_laws.proofs.Streams.{streams-balance}
+use Rattle.match_journal.specs.Classes.{IsForeignAt, HasBadHeader, HasOtherText, IsBlank, IsSealed, Keeps}
+use Rattle.match_journal.specs.Opening.{IsOpened}
+use Rattle.match_journal.specs.declared.faults.StartFault.TheVariants as start
+use Rattle.match_journal.proofs.Unique.{not_refused, unfinished_not_opened}
+use Rattle.book_recovery.specs.Kept.{KeepsMessages, HasKept, AreWhole}
+use Rattle.book_recovery.specs.BadPlaces.{HasBadRecordAt, IsBadPlace}
+use Rattle.book_recovery.proofs.OneWay.{no_bad_place, no_bad_record}
+use Rattle.book_print.specs.Publishers.{LineForm}
+use Rattle.book_print.specs.TallyText.{no_tally}
+use Rattle.book_print.specs.Publishing.{tally_publisher_meanings}
+use Rattle.order_maker.specs.Stream.{MadeStream, maker_meanings, made_stream}
+use Rattle.exec_report.specs.declared.texts.SendFault.{SendFault as SendFailed}
+use Rattle.journal_print.specs.Printed.{PrintsEvents, PrintsBook, SentToBadRecord}
+use Rattle.journal_print.specs.declared.unprinted.Unprinted.{Unprinted}
+use Rattle.journal_print.specs.declared.unprinted.Unprinted.TheVariants as unprinted
+use Rattle.command_words.specs.declared.command.Command.{Command}
+use Rattle.command_words.specs.declared.command.Command.TheVariants.{Run, Replay, Book, Fills, Ledger, Steps, Drill}
+use Rattle.globex_run.specs.Outside.{SourceAt, Outside, Streams, NoFault, IsQuiet, source_at, station_at, streams_at}
+use Rattle.globex_run.specs.Outcomes.{outcome_of}
+use Rattle.globex_run.specs.Words.{IsPrinting}
+use Rattle.globex_run.specs.ProductTexts.{TakesAtMost, IsProductText}
+use Rattle.globex_run.specs.RunResult.{CommandResult, CommandEnded, RunEnded, DrillEnded, first_messages}
+use Rattle.globex_run.specs.Journals.{AnswersImage}
+use Rattle.globex_run.specs.Headline.{Premises, InputPremises, SendsExactlyTheReports, EndsOtherwise, RunLeavesCrashPrefixes, RunBeforeTheFirstSync, KeepsEveryReported, HasNoRoom, CanBeServed, IsServed}
+use Rattle.globex_run.specs.Drills.{made_bytes, KeepsAndSumsUp, DrillEndsOtherwise, DrillLeavesCrashPrefixes, DrillBeforeTheFirstSync, CanBeDrilled}
+use Rattle.globex_run.specs.Prints.{PrintPremises, PrintsAs, PrintsJournal, PrintsSteps, CanBePrinted, outcome_printed, outcome_sent}
+use Rattle.globex_run.specs.Inner.Sessions.{SessionResult}
+use Rattle.globex_run.specs.Inner.Drilling.{DrillResult, DrillsMade, DrillAnswers, outcome_summed}
+use Rattle.globex_run.specs.Inner.Executing.{Executes, HasCauses, Runs, Prints}
+use Rattle.globex_run.specs.declared.outcome.Outcome.{Outcome}
+use Rattle.globex_run.specs.declared.ending.Ending.{Ending}
+use Rattle.globex_run.specs.declared.ending.Ending.TheVariants.{Done, ReadFault, StoreFault, SendFault, BadFrame, Truncated, NotAJournal, JournalBad, ProductDiffers, Full}
+use Rattle.globex_run.proofs.Told.{outside_of}
+use Rattle.globex_run.proofs.Runs.{short-text, few-of-product, told-product, run-exactly, run-otherwise, run-every-moment, run-first-sync, run-every-message, run-balanced, run-full, run-all}
+use Rattle.globex_run.proofs.Drills.{empty_front, drill-all, drill-otherwise, drill-moments, drill-first-sync, drill-full}
+use Rattle.globex_run.proofs.Complete.{served}
+
+-- ---- an image from which a run can start has no fault
+
+module _ (text image : List ℕ) (limit : ℕ) (kept : List (List ℕ)) (short : length text ≤ 65536) (can : KeepsMessages text limit kept image) where
+  not-foreign : (at : ℕ) → IsForeignAt image at → ⊥
+  not-foreign at foreign = not_refused text image limit can.payloads (start.NotAJournal at) short can.keeps foreign (λ e. cc e)
+
+  not-headless : (at : ℕ) → HasBadHeader image at → ⊥
+  not-headless at bad = not_refused text image limit can.payloads (start.Bad at) short can.keeps bad (λ e. cc e)
+
+  not-other : (at : ℕ) → HasOtherText text image at → ⊥
+  not-other at other = not_refused text image limit can.payloads (start.ProductDiffers at) short can.keeps other (λ e. cc e)
+
+  not-bad : (at : ℕ) → IsOpened text image → IsBadPlace text limit image at → ⊥
+  not-bad at opened bad = ⊎_elim
+      (λ journal. no_bad_place text limit can.payloads image at journal can.whole bad)
+      (λ unfinished. unfinished_not_opened text image unfinished.1.unfinished opened)
+      can.keeps
+
+  not-bad-record : (at : ℕ) → IsOpened text image → HasBadRecordAt text limit image at → ⊥
+  not-bad-record at opened bad = ⊎_elim
+      (λ journal. no_bad_record text limit can.payloads image at journal can.whole bad)
+      (λ unfinished. unfinished_not_opened text image unfinished.1.unfinished opened)
+      can.keeps
+
+-- ---- a product was taken, and its text lent to the command
+
+module _ {P I S : Type 0} (m : StationMeanings S) (p q : SourceAt P) (i j : SourceAt I) (old new : S) (outcome : Outcome) (text lent : List ℕ) (same : lent ≡ text) (product : ProductLists) (took : IsProductText p q text) (gives : product_of text ≡ Ok product) where
+  abbrev entry : Outside P I S
+  entry = outside_of m p i old
+
+  abbrev exit : Outside P I S
+  exit = outside_of m q j new
+
+  abbrev Causes : Command → Type 0
+  Causes command = HasCauses m product lent entry.streams exit.streams outcome command
+
+  abbrev Did : Command → Type 0
+  Did command = Executes m product lent entry.streams exit.streams outcome command
+
+  -- no fault of the outside was answered where none came
+  no-fault : (command : Command) → Causes command → IsQuiet entry exit → (outcome.status ≢ 5) × (outcome.status ≢ 6)
+  no-fault command causes quiet = (λ five. quiet.store (causes.store five), λ six. quiet.sends (causes.send six))
+
+  -- want of memory left all but the product's source as it was
+  pub no-memory : (command : Command) → Causes command → outcome.status ≡ 1 → (j.object ≡ i.object) × (new ≡ old) × TakesAtMost 65536 p q
+  no-memory command causes one =
+      let streams : exit.streams ≡ entry.streams = (causes.memory one).0 in
+      (ap (λ (s : Streams I S). s.input.object) streams, ap (λ (s : Streams I S). s.station.object) streams, few-of-product p q text product took gives)
+
+  -- what is kept balances
+  pub balances : (command : Command) → Causes command → (given : PrintPremises entry exit outcome.status) → (kept : List (List ℕ)) → IsBalanced given.product kept
+  balances command causes given kept =
+      streams-balance given.product kept
+      (told-product p q text lent same product took gives (λ (lists : ProductLists) (bytes : List ℕ). IsRightProduct lists) given.text given.product given.text_known given.gives causes.right)
+
+  -- ---- the command that the words ask for
+
+  module _ (asked : Option Command) (command : Command) (is : asked ≡ Some command) (did : Did command) (causes : Causes command) where
+    did-as : (c : Command) → asked ≡ Some c → Did c
+    did-as c asks = subst Did (same_Some command c (sym is ∙ asks)) did
+
+    causes-as : (c : Command) → asked ≡ Some c → Causes c
+    causes-as c asks = subst Causes (same_Some command c (sym is ∙ asks)) causes
+
+    -- ---- a run
+
+    module _ (asks : asked ≡ Some Run) where
+      ran : Runs m product lent entry.streams exit.streams outcome
+      ran = did-as Run asks
+
+      abbrev Any : List Event → Type 0
+      Any events = Unit {0}
+
+      module _ (given : Premises m entry exit outcome.status) (read : InputPremises i j) where
+        pub exactly : outcome.status ≡ 0 → SendsExactlyTheReports m entry exit outcome given read
+        exactly none = run-exactly m p q i j old new Any ran.then outcome text lent same product took gives ran.session given read none
+
+        pub otherwise : EndsOtherwise m entry exit outcome given read
+        otherwise = run-otherwise m p q i j old new Any ran.then outcome text lent same product took gives ran.session given read
+
+        pub every-moment : RunLeavesCrashPrefixes m entry exit outcome given read
+        every-moment = run-every-moment m p q i j old new Any ran.then outcome text lent same product took gives ran.session given read
+
+        pub first-sync : IsHonestNow m old → RunBeforeTheFirstSync m entry exit outcome given read
+        first-sync now = run-first-sync m p q i j old new Any ran.then outcome text lent same product took gives ran.session given read now
+
+        pub every-message : IsHonestNow m old → KeepsEveryReported m entry exit outcome given read
+        every-message now = run-every-message m p q i j old new Any ran.then outcome text lent same product took gives ran.session given read now
+
+        pub balanced : IsBalanced given.product (given.kept ++ first_messages outcome.messages read.taken)
+        balanced = run-balanced m p q i j old new Any ran.then outcome text lent same product took gives ran.session given read
+
+        pub full : outcome.status ≡ 12 → HasNoRoom m entry exit outcome given read.taken
+        full twelve = run-full m p q i j old new Any ran.then outcome text lent same product took gives ran.session given read twelve
+
+      pub all-served : (can : CanBeServed m entry) → IsQuiet entry exit → IsServed can.bytes outcome.status
+      all-served can quiet = run-all m p q i j old new Any ran.then outcome text lent same product took gives ran.session can quiet
+
+    -- ---- a drill
+
+    module _ (first count : ℕ) (asks : asked ≡ Some (Drill first count)) where
+      drilled : (told : List ℕ) (lists : ProductLists) → p.left ≡ Some told → product_of told ≡ Ok lists → DrillAnswers m lists told first count old new outcome
+      drilled told lists known are =
+          told-product p q text lent same product took gives (λ (l : ProductLists) (bytes : List ℕ). DrillAnswers m l bytes first count old new outcome) told lists known are (did-as (Drill first count) asks).0
+
+      module _ (given : Premises m entry exit outcome.status) where
+        made : DrillsMade m given.product given.text first count old new outcome
+        made = ⊎_elim (λ none. absurd (given.memory (ap (λ (o : Outcome). o.status) none.0))) (λ made. made) (drilled given.text given.product given.text_known given.gives)
+
+        pub sums-up : outcome.status ≡ 0 → KeepsAndSumsUp m entry exit outcome given first count
+        sums-up none = drill-all m p q i j old new outcome given first count made.whole made.end made.did none
+
+        pub drill-ends : outcome.status ≢ 0 → DrillEndsOtherwise m entry exit outcome given first count
+        drill-ends other = drill-otherwise m p q i j old new outcome given first count made.whole made.end made.did other
+
+        pub drill-every-moment : DrillLeavesCrashPrefixes m entry exit outcome given first count
+        drill-every-moment = drill-moments m p q i j old new outcome given first count made.whole made.end made.did
+
+        pub drill-before-sync : IsHonestNow m old → DrillBeforeTheFirstSync m entry exit outcome given first count
+        drill-before-sync now = drill-first-sync m p q i j old new outcome given first count made.whole made.end made.did now
+
+        pub drill-has-no-room : outcome.status ≡ 12 → HasNoRoom m entry exit outcome given (made_bytes given.product first count)
+        drill-has-no-room twelve = drill-full m p q i j old new outcome given first count made.whole made.end made.did twelve
+
+      -- where there is room and no fault comes, all is kept and summed up
+      module _ (can : CanBeDrilled m entry first count) (quiet : IsQuiet entry exit) where
+        abbrev stream : List ℕ
+        stream = made_stream can.product first count
+
+        abbrev at_first : MadeStream
+        at_first = record { left = stream; reads = 0 }
+
+        quiet-drill : (outcome.status ≢ 5) × (outcome.status ≢ 6)
+        quiet-drill = no-fault (Drill first count) (causes-as (Drill first count) asks) quiet
+
+        summed : (n : ℕ) (result : Result (Unit {0}) SendFailed) → outcome ≡ outcome_summed n result → outcome.status ≡ 0
+        summed n (Ok t) is = ap (λ (o : Outcome). o.status) is
+        summed n (Err fault) is = absurd (quiet-drill.1 (ap (λ (o : Outcome). o.status) is))
+
+        module _ (made : DrillsMade m can.product can.text first count old new outcome) where
+          abbrev result : DrillResult m can.product can.text at_first made.end old new outcome
+          result = made.did
+
+          abbrev from-made : Outside P MadeStream S
+          from-made = outside_of m p (source_at maker_meanings at_first) old
+
+          abbrev to-made : Outside P MadeStream S
+          to-made = outside_of m q (source_at maker_meanings made.end) new
+
+          abbrev can-be-served : CanBeServed m from-made
+          can-be-served = record {
+            text = can.text;
+            product = can.product;
+            text_known = can.text_known;
+            gives = can.gives;
+            honest = can.honest;
+            image = can.image;
+            image_known = can.image_known;
+            kept = can.kept;
+            startable = can.startable;
+            bytes = stream;
+            input_known = refl;
+            room = can.room;
+          }
+
+          quiet-made : IsQuiet from-made to-made
+          quiet-made = record {
+            product = quiet.product;
+            input = λ rose. omega (arith, rose);
+            store = quiet.store;
+            sends = quiet.sends;
+          }
+
+          -- the stream is whole
+          none-left : IsServed stream result.served.status → result.served.status ≡ 0
+          none-left served = ⊎_elim (λ done. done.0)
+              (λ other. ⊎_elim
+                  (λ cut. absurd (cut.1.0 made.whole))
+                  (λ broken. absurd (broken.1 (subst (λ (l : List ℕ). IsFrameFront l) (sym made.whole) empty_front)))
+                  other)
+              served
+
+          ended-whole : result.served.status ≢ 0 → result.served.status ≡ 0
+          ended-whole other =
+              let same = result.otherwise other in
+              none-left (served m p q (source_at maker_meanings at_first) (source_at maker_meanings made.end) old result.mid tally_publisher_meanings.text (λ (events : List Event). result.publisher ≡ tally_publisher_meanings.after (record { tally = no_tally }) events) result.then result.served
+              can-be-served (subst (λ (s : S). IsQuiet from-made (outside_of m q (source_at maker_meanings made.end) s)) same.0 quiet-made) result.session.serving.taken made.end.left refl (same_Some stream (result.session.serving.taken ++ made.end.left) result.session.serving.took)
+              result.session.ending result.session.is result.session.cause result.session.serving.ends (result.session.from can.image can.kept can.honest can.image_known can.startable))
+
+          made-all : outcome.status ≡ 0
+          made-all = elim (eqb_tells result.served.status 0) [
+            | inl none ↦ let sums = result.sums_up none.1 in summed result.served.messages sums.result sums.outcome_is
+            | inr other ↦ absurd (other.1 (ended-whole other.1))
+          ]
+
+        pub all-drilled : (outcome.status ≡ 1) ⊎ (outcome.status ≡ 0)
+        all-drilled = ⊎_elim (λ none. inl (ap (λ (o : Outcome). o.status) none.0)) (λ made. inr (made-all made)) (drilled can.text can.product can.text_known can.gives)
+
+    -- ---- what was printed
+
+    module _ (c : Command) (asks : asked ≡ Some c) where
+      form-of : (x : Command) → Did x → PrintsAs m product lent entry.streams.station exit.streams.station outcome x
+      form-of Run any = tt
+      form-of (Drill first count) drilled = tt
+      form-of Replay printed = printed.form
+      form-of Book printed = printed.form
+      form-of Fills printed = printed.form
+      form-of Ledger printed = printed.form
+      form-of Steps printed = printed.form
+
+      printed-as : (told : List ℕ) (lists : ProductLists) → p.left ≡ Some told → product_of told ≡ Ok lists → PrintsAs m lists told entry.streams.station exit.streams.station outcome c
+      printed-as told lists known are =
+          told-product p q text lent same product took gives (λ (l : ProductLists) (bytes : List ℕ). PrintsAs m l bytes entry.streams.station exit.streams.station outcome c) told lists known are (form-of c (did-as c asks))
+
+      pub prints : (given : PrintPremises entry exit outcome.status) → PrintsAs m given.product given.text entry.streams.station exit.streams.station outcome c
+      prints given = printed-as given.text given.product given.text_known given.gives
+
+      -- where a run can start and no fault comes, all is printed
+      module _ (can : CanBePrinted entry c) (quiet : IsQuiet entry exit) where
+        quiet-print : (outcome.status ≢ 5) × (outcome.status ≢ 6)
+        quiet-print = no-fault c (causes-as c asks) quiet
+
+        module _ (image : List ℕ) (kept : List (List ℕ)) (start : KeepsMessages can.text can.product.journal_limit kept image) where
+          short : length can.text ≤ 65536
+          short = short-text can.text can.product can.gives
+
+          events-printed : (line : LineForm) (whole : List (List ℕ) → List ℕ) (answer : Result ℕ Unprinted) → outcome ≡ outcome_printed answer → PrintsEvents m can.product can.text image old new line whole answer → outcome.status ≡ 0
+          events-printed line whole (Ok n) is printed = ap (λ (o : Outcome). o.status) is
+          events-printed line whole (Err unprinted.Store) is printed = absurd (quiet-print.0 (ap (λ (o : Outcome). o.status) is))
+          events-printed line whole (Err unprinted.Send) is printed = absurd (quiet-print.1 (ap (λ (o : Outcome). o.status) is))
+          events-printed line whole (Err (unprinted.NotAJournal at)) is printed = absurd (not-foreign can.text image can.product.journal_limit kept short start at printed.0)
+          events-printed line whole (Err (unprinted.Bad at)) is printed =
+              absurd (⊎_elim (λ header. not-headless can.text image can.product.journal_limit kept short start at header.0) (λ sent. not-bad-record can.text image can.product.journal_limit kept short start at sent.opened sent.bad) printed)
+          events-printed line whole (Err (unprinted.ProductDiffers at)) is printed = absurd (not-other can.text image can.product.journal_limit kept short start at printed.0)
+
+          book-printed : (answer : Result ℕ Unprinted) → outcome ≡ outcome_printed answer → PrintsBook m can.product can.text image old new answer → outcome.status ≡ 0
+          book-printed (Ok n) is printed = ap (λ (o : Outcome). o.status) is
+          book-printed (Err unprinted.Store) is printed = absurd (quiet-print.0 (ap (λ (o : Outcome). o.status) is))
+          book-printed (Err unprinted.Send) is printed = absurd (quiet-print.1 (ap (λ (o : Outcome). o.status) is))
+          book-printed (Err (unprinted.NotAJournal at)) is printed = absurd (not-foreign can.text image can.product.journal_limit kept short start at printed.0)
+          book-printed (Err (unprinted.Bad at)) is printed =
+              absurd (⊎_elim (λ header. not-headless can.text image can.product.journal_limit kept short start at header) (λ bad. not-bad can.text image can.product.journal_limit kept short start at bad.0 bad.1) printed.0)
+          book-printed (Err (unprinted.ProductDiffers at)) is printed = absurd (not-other can.text image can.product.journal_limit kept short start at printed.0)
+
+        steps-printed : (result : Result (Unit {0}) SendFailed) → outcome ≡ outcome_sent result → outcome.status ≡ 0
+        steps-printed (Ok t) is = ap (λ (o : Outcome). o.status) is
+        steps-printed (Err fault) is = absurd (quiet-print.1 (ap (λ (o : Outcome). o.status) is))
+
+        abbrev Printed : Command → Type 0
+        Printed x = PrintsAs m can.product can.text entry.streams.station exit.streams.station outcome x
+
+        abbrev Startable : Command → Type 0
+        Startable x = x ≢ Steps → (image : List ℕ) × ((entry.streams.station.image ≡ Some image) × ((kept : List (List ℕ)) × KeepsMessages can.text can.product.journal_limit kept image))
+
+        by-command : (x : Command) → IsPrinting x → Startable x → Printed x → outcome.status ≡ 0
+        by-command Run printing startable form = absurd printing
+        by-command (Drill first count) printing startable form = absurd printing
+        by-command Replay printing startable form =
+            let at = startable (λ e. cc e) in events-printed at.0 at.1.1.0 at.1.1.1 _ _ form.answer form.outcome_is (form.prints at.0 at.1.0)
+        by-command Fills printing startable form =
+            let at = startable (λ e. cc e) in events-printed at.0 at.1.1.0 at.1.1.1 _ _ form.answer form.outcome_is (form.prints at.0 at.1.0)
+        by-command Ledger printing startable form =
+            let at = startable (λ e. cc e) in events-printed at.0 at.1.1.0 at.1.1.1 _ _ form.answer form.outcome_is (form.prints at.0 at.1.0)
+        by-command Book printing startable form =
+            let at = startable (λ e. cc e) in book-printed at.0 at.1.1.0 at.1.1.1 form.answer form.outcome_is (form.prints at.0 at.1.0)
+        by-command Steps printing startable form = steps-printed form.result form.outcome_is
+
+        pub all-printed : IsPrinting c → outcome.status ≡ 0
+        all-printed printing = by-command c printing can.startable (printed-as can.text can.product can.text_known can.gives)
+
+      -- ---- why it ended
+
+      ran-ended : Runs m product lent entry.streams exit.streams outcome → RunEnded entry exit outcome text product
+      ran-ended ran = record {
+        ending = ran.session.ending;
+        is = ran.session.is;
+        image = subst (λ (l : List ℕ). IfSome entry.streams.station.image (λ image. AnswersImage l product.journal_limit image ran.session.ending)) same ran.session.image;
+        serving = ran.session.serving;
+      }
+
+      module _ (first count : ℕ) (input : exit.streams.input ≡ entry.streams.input) (made : DrillsMade m product lent first count old new outcome) where
+        abbrev Fits : Ending → Type 0
+        Fits ending = IfSome entry.streams.station.image (λ image. AnswersImage text product.journal_limit image ending)
+
+        fits : Fits made.did.session.ending
+        fits = subst (λ (l : List ℕ). IfSome entry.streams.station.image (λ image. AnswersImage l product.journal_limit image made.did.session.ending)) same made.did.session.image
+
+        fits-done : (ending : Ending) → made.did.served ≡ outcome_of ending made.did.served.messages → made.did.served.status ≡ 0 → Fits ending → Fits Done
+        fits-done Done is none fits = fits
+        fits-done (ReadFault place) is none fits = fits
+        fits-done StoreFault is none fits = absurd (omega (arith, none, ap (λ (o : Outcome). o.status) is))
+        fits-done SendFault is none fits = fits
+        fits-done (BadFrame place) is none fits = fits
+        fits-done (Truncated place) is none fits = fits
+        fits-done (NotAJournal place) is none fits = absurd (omega (arith, none, ap (λ (o : Outcome). o.status) is))
+        fits-done (JournalBad place) is none fits = absurd (omega (arith, none, ap (λ (o : Outcome). o.status) is))
+        fits-done (ProductDiffers place) is none fits = absurd (omega (arith, none, ap (λ (o : Outcome). o.status) is))
+        fits-done (Full place) is none fits = fits
+
+        ended-by : (result : Result (Unit {0}) SendFailed) → outcome ≡ outcome_summed made.did.served.messages result → Fits Done → DrillEnded entry exit outcome text product
+        ended-by (Ok t) is fits = record { ending = Done; is = is ∙ ap (λ (n : ℕ). outcome_of Done n) (sym (ap (λ (o : Outcome). o.messages) is)); image = fits; input = input }
+        ended-by (Err fault) is fits = record { ending = SendFault; is = is ∙ ap (λ (n : ℕ). outcome_of SendFault n) (sym (ap (λ (o : Outcome). o.messages) is)); image = fits; input = input }
+
+        drill-ended : DrillEnded entry exit outcome text product
+        drill-ended = elim (eqb_tells made.did.served.status 0) [
+          | inl none ↦
+              let sums = made.did.sums_up none.1 in
+              ended-by sums.result sums.outcome_is (fits-done made.did.session.ending made.did.session.is none.1 fits)
+          | inr other ↦
+              let same : outcome ≡ made.did.served = (made.did.otherwise other.1).1 in
+              record {
+                ending = made.did.session.ending;
+                is = subst (λ (o : Outcome). o ≡ outcome_of made.did.session.ending o.messages) (sym same) made.did.session.is;
+                image = fits;
+                input = input;
+              }
+        ]
+
+      ended : (x : Command) → Did x → outcome.status ≢ 1 → CommandEnded entry exit outcome text product x
+      ended Run did told = ran-ended did
+      ended (Drill first count) drilled told = ⊎_elim (λ none. absurd (told (ap (λ (o : Outcome). o.status) none.0))) (λ made. drill-ended first count drilled.1 made) drilled.0
+      ended Replay printed told = printed.input
+      ended Book printed told = printed.input
+      ended Fills printed told = printed.input
+      ended Ledger printed told = printed.input
+      ended Steps printed told = printed.input
+
+      pub told-ended : outcome.status ≢ 1 → CommandResult entry exit outcome c
+      told-ended told = inr (inr (record { text = text; taken = took; product = product; gives = gives; ended = ended c (did-as c asks) told }))

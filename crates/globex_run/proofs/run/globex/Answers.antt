@@ -1,0 +1,123 @@
+use Rattle.std.proofs.Common.{◌≡◌, ◌≤◌, inl, inr, ℕ, List, length, refl, sym, subst}
+use Rattle.globex_run.specs.Outside.{source_at}
+use Rattle.globex_run.proofs.Runs.{short-text, few-of-product, memory-without}
+use Rattle.globex_run.proofs.Commands.{no-memory, balances, exactly, otherwise, every-moment, first-sync, every-message, balanced, full, all-served, sums-up, drill-ends, drill-every-moment, drill-before-sync, drill-has-no-room, all-drilled, prints, all-printed, told-ended}
+use Rattle.globex_run.proofs.run.globex.Goals as goal
+
+pub returns-in-Err-take_product-clause-all_served : goal.returns-in-Err-take_product-clause-all_served
+returns-in-Err-take_product-clause-all_served g c asks can quiet =
+    inl (memory-without (source_at g.P.Source.meanings c.args.product.now) (source_at g.P.Source.meanings c.take_product.new.source)
+    c.in-Err-take_product.reason _ c.in-Err-take_product.ensures c.outcome_without.ensures can.text can.product can.text_known can.gives quiet.product)
+
+pub returns-in-Err-take_product-clause-all_drilled : goal.returns-in-Err-take_product-clause-all_drilled
+returns-in-Err-take_product-clause-all_drilled g c first count asks can quiet =
+    inl (memory-without (source_at g.P.Source.meanings c.args.product.now) (source_at g.P.Source.meanings c.take_product.new.source)
+    c.in-Err-take_product.reason _ c.in-Err-take_product.ensures c.outcome_without.ensures can.text can.product can.text_known can.gives quiet.product)
+
+pub returns-in-Err-take_product-clause-all_printed : goal.returns-in-Err-take_product-clause-all_printed
+returns-in-Err-take_product-clause-all_printed g c asked asks printing can quiet =
+    inl (memory-without (source_at g.P.Source.meanings c.args.product.now) (source_at g.P.Source.meanings c.take_product.new.source)
+    c.in-Err-take_product.reason _ c.in-Err-take_product.ensures c.outcome_without.ensures can.text can.product can.text_known can.gives quiet.product)
+
+pub returns-in_default-clause-no_memory : goal.returns-in_default-clause-no_memory
+returns-in_default-clause-no_memory g c one =
+    (refl, refl, few-of-product (source_at g.P.Source.meanings c.args.product.now) (source_at g.P.Source.meanings c.take_product.new.source) c.in-Ok-take_product.taken.text.items c.in-Ok-take_product.taken.product c.in-Ok-take_product.ensures.0 c.in-Ok-take_product.ensures.1)
+
+pub execute-requires-clause-short : goal.execute-requires-clause-short
+execute-requires-clause-short g c =
+    subst (λ (l : List ℕ). length l ≤ 65536) (sym c.deref.ensures.value) (short-text c.in-Ok-take_product.taken.text.items c.in-Ok-take_product.taken.product c.in-Ok-take_product.ensures.1)
+
+pub returns-clause-exactly_the_reports : goal.returns-clause-exactly_the_reports
+returns-clause-exactly_the_reports g c asks given read none =
+    exactly g.S.Station.meanings (source_at g.P.Source.meanings c.args.product.now) (source_at g.P.Source.meanings c.take_product.new.source) (source_at g.I.Source.meanings c.args.input.now) (source_at g.I.Source.meanings c.execute.new.input)
+    c.args.station.now c.execute.new.station c.execute.result _ _ c.deref.ensures.value c.in-Ok-take_product.taken.product c.in-Ok-take_product.ensures.0 c.in-Ok-take_product.ensures.1 _ _ c.in-Ok.ensures.given c.execute.ensures.executes c.execute.ensures.causes asks given read none
+
+pub returns-clause-any_other_ending : goal.returns-clause-any_other_ending
+returns-clause-any_other_ending g c asks given read other =
+    otherwise g.S.Station.meanings (source_at g.P.Source.meanings c.args.product.now) (source_at g.P.Source.meanings c.take_product.new.source) (source_at g.I.Source.meanings c.args.input.now) (source_at g.I.Source.meanings c.execute.new.input)
+    c.args.station.now c.execute.new.station c.execute.result _ _ c.deref.ensures.value c.in-Ok-take_product.taken.product c.in-Ok-take_product.ensures.0 c.in-Ok-take_product.ensures.1 _ _ c.in-Ok.ensures.given c.execute.ensures.executes c.execute.ensures.causes asks given read
+
+pub returns-clause-at_every_moment : goal.returns-clause-at_every_moment
+returns-clause-at_every_moment g c asks given read =
+    every-moment g.S.Station.meanings (source_at g.P.Source.meanings c.args.product.now) (source_at g.P.Source.meanings c.take_product.new.source) (source_at g.I.Source.meanings c.args.input.now) (source_at g.I.Source.meanings c.execute.new.input)
+    c.args.station.now c.execute.new.station c.execute.result _ _ c.deref.ensures.value c.in-Ok-take_product.taken.product c.in-Ok-take_product.ensures.0 c.in-Ok-take_product.ensures.1 _ _ c.in-Ok.ensures.given c.execute.ensures.executes c.execute.ensures.causes asks given read
+
+pub returns-clause-before_the_first_sync : goal.returns-clause-before_the_first_sync
+returns-clause-before_the_first_sync g c asks given read =
+    first-sync g.S.Station.meanings (source_at g.P.Source.meanings c.args.product.now) (source_at g.P.Source.meanings c.take_product.new.source) (source_at g.I.Source.meanings c.args.input.now) (source_at g.I.Source.meanings c.execute.new.input)
+    c.args.station.now c.execute.new.station c.execute.result _ _ c.deref.ensures.value c.in-Ok-take_product.taken.product c.in-Ok-take_product.ensures.0 c.in-Ok-take_product.ensures.1 _ _ c.in-Ok.ensures.given c.execute.ensures.executes c.execute.ensures.causes asks given read (g.met.S.Station.honest c.args.station.now given.honest)
+
+pub returns-clause-with_every_message : goal.returns-clause-with_every_message
+returns-clause-with_every_message g c asks given read =
+    every-message g.S.Station.meanings (source_at g.P.Source.meanings c.args.product.now) (source_at g.P.Source.meanings c.take_product.new.source) (source_at g.I.Source.meanings c.args.input.now) (source_at g.I.Source.meanings c.execute.new.input)
+    c.args.station.now c.execute.new.station c.execute.result _ _ c.deref.ensures.value c.in-Ok-take_product.taken.product c.in-Ok-take_product.ensures.0 c.in-Ok-take_product.ensures.1 _ _ c.in-Ok.ensures.given c.execute.ensures.executes c.execute.ensures.causes asks given read (g.met.S.Station.honest c.args.station.now given.honest)
+
+pub returns-clause-balanced : goal.returns-clause-balanced
+returns-clause-balanced g c asks given read =
+    balanced g.S.Station.meanings (source_at g.P.Source.meanings c.args.product.now) (source_at g.P.Source.meanings c.take_product.new.source) (source_at g.I.Source.meanings c.args.input.now) (source_at g.I.Source.meanings c.execute.new.input)
+    c.args.station.now c.execute.new.station c.execute.result _ _ c.deref.ensures.value c.in-Ok-take_product.taken.product c.in-Ok-take_product.ensures.0 c.in-Ok-take_product.ensures.1 _ _ c.in-Ok.ensures.given c.execute.ensures.executes c.execute.ensures.causes asks given read
+
+pub returns-clause-full : goal.returns-clause-full
+returns-clause-full g c asks given read twelve =
+    full g.S.Station.meanings (source_at g.P.Source.meanings c.args.product.now) (source_at g.P.Source.meanings c.take_product.new.source) (source_at g.I.Source.meanings c.args.input.now) (source_at g.I.Source.meanings c.execute.new.input)
+    c.args.station.now c.execute.new.station c.execute.result _ _ c.deref.ensures.value c.in-Ok-take_product.taken.product c.in-Ok-take_product.ensures.0 c.in-Ok-take_product.ensures.1 _ _ c.in-Ok.ensures.given c.execute.ensures.executes c.execute.ensures.causes asks given read twelve
+
+pub returns-clause-all_served : goal.returns-clause-all_served
+returns-clause-all_served g c asks can quiet =
+    inr (all-served g.S.Station.meanings (source_at g.P.Source.meanings c.args.product.now) (source_at g.P.Source.meanings c.take_product.new.source) (source_at g.I.Source.meanings c.args.input.now) (source_at g.I.Source.meanings c.execute.new.input)
+    c.args.station.now c.execute.new.station c.execute.result _ _ c.deref.ensures.value c.in-Ok-take_product.taken.product c.in-Ok-take_product.ensures.0 c.in-Ok-take_product.ensures.1 _ _ c.in-Ok.ensures.given c.execute.ensures.executes c.execute.ensures.causes asks can quiet)
+
+pub returns-clause-sums_up : goal.returns-clause-sums_up
+returns-clause-sums_up g c first count asks given none =
+    sums-up g.S.Station.meanings (source_at g.P.Source.meanings c.args.product.now) (source_at g.P.Source.meanings c.take_product.new.source) (source_at g.I.Source.meanings c.args.input.now) (source_at g.I.Source.meanings c.execute.new.input)
+    c.args.station.now c.execute.new.station c.execute.result _ _ c.deref.ensures.value c.in-Ok-take_product.taken.product c.in-Ok-take_product.ensures.0 c.in-Ok-take_product.ensures.1 _ _ c.in-Ok.ensures.given c.execute.ensures.executes c.execute.ensures.causes first count asks given none
+
+pub returns-clause-drill_ends_otherwise : goal.returns-clause-drill_ends_otherwise
+returns-clause-drill_ends_otherwise g c first count asks given other =
+    drill-ends g.S.Station.meanings (source_at g.P.Source.meanings c.args.product.now) (source_at g.P.Source.meanings c.take_product.new.source) (source_at g.I.Source.meanings c.args.input.now) (source_at g.I.Source.meanings c.execute.new.input)
+    c.args.station.now c.execute.new.station c.execute.result _ _ c.deref.ensures.value c.in-Ok-take_product.taken.product c.in-Ok-take_product.ensures.0 c.in-Ok-take_product.ensures.1 _ _ c.in-Ok.ensures.given c.execute.ensures.executes c.execute.ensures.causes first count asks given other
+
+pub returns-clause-drill_at_every_moment : goal.returns-clause-drill_at_every_moment
+returns-clause-drill_at_every_moment g c first count asks given =
+    drill-every-moment g.S.Station.meanings (source_at g.P.Source.meanings c.args.product.now) (source_at g.P.Source.meanings c.take_product.new.source) (source_at g.I.Source.meanings c.args.input.now) (source_at g.I.Source.meanings c.execute.new.input)
+    c.args.station.now c.execute.new.station c.execute.result _ _ c.deref.ensures.value c.in-Ok-take_product.taken.product c.in-Ok-take_product.ensures.0 c.in-Ok-take_product.ensures.1 _ _ c.in-Ok.ensures.given c.execute.ensures.executes c.execute.ensures.causes first count asks given
+
+pub returns-clause-drill_before_the_first_sync : goal.returns-clause-drill_before_the_first_sync
+returns-clause-drill_before_the_first_sync g c first count asks given =
+    drill-before-sync g.S.Station.meanings (source_at g.P.Source.meanings c.args.product.now) (source_at g.P.Source.meanings c.take_product.new.source) (source_at g.I.Source.meanings c.args.input.now) (source_at g.I.Source.meanings c.execute.new.input)
+    c.args.station.now c.execute.new.station c.execute.result _ _ c.deref.ensures.value c.in-Ok-take_product.taken.product c.in-Ok-take_product.ensures.0 c.in-Ok-take_product.ensures.1 _ _ c.in-Ok.ensures.given c.execute.ensures.executes c.execute.ensures.causes first count asks given (g.met.S.Station.honest c.args.station.now given.honest)
+
+pub returns-clause-drill_full : goal.returns-clause-drill_full
+returns-clause-drill_full g c first count asks given twelve =
+    drill-has-no-room g.S.Station.meanings (source_at g.P.Source.meanings c.args.product.now) (source_at g.P.Source.meanings c.take_product.new.source) (source_at g.I.Source.meanings c.args.input.now) (source_at g.I.Source.meanings c.execute.new.input)
+    c.args.station.now c.execute.new.station c.execute.result _ _ c.deref.ensures.value c.in-Ok-take_product.taken.product c.in-Ok-take_product.ensures.0 c.in-Ok-take_product.ensures.1 _ _ c.in-Ok.ensures.given c.execute.ensures.executes c.execute.ensures.causes first count asks given twelve
+
+pub returns-clause-all_drilled : goal.returns-clause-all_drilled
+returns-clause-all_drilled g c first count asks can quiet =
+    all-drilled g.S.Station.meanings (source_at g.P.Source.meanings c.args.product.now) (source_at g.P.Source.meanings c.take_product.new.source) (source_at g.I.Source.meanings c.args.input.now) (source_at g.I.Source.meanings c.execute.new.input)
+    c.args.station.now c.execute.new.station c.execute.result _ _ c.deref.ensures.value c.in-Ok-take_product.taken.product c.in-Ok-take_product.ensures.0 c.in-Ok-take_product.ensures.1 _ _ c.in-Ok.ensures.given c.execute.ensures.executes c.execute.ensures.causes first count asks can quiet
+
+pub returns-clause-prints : goal.returns-clause-prints
+returns-clause-prints g c asked asks given =
+    prints g.S.Station.meanings (source_at g.P.Source.meanings c.args.product.now) (source_at g.P.Source.meanings c.take_product.new.source) (source_at g.I.Source.meanings c.args.input.now) (source_at g.I.Source.meanings c.execute.new.input)
+    c.args.station.now c.execute.new.station c.execute.result _ _ c.deref.ensures.value c.in-Ok-take_product.taken.product c.in-Ok-take_product.ensures.0 c.in-Ok-take_product.ensures.1 _ _ c.in-Ok.ensures.given c.execute.ensures.executes c.execute.ensures.causes asked asks given
+
+pub returns-clause-all_printed : goal.returns-clause-all_printed
+returns-clause-all_printed g c asked asks printing can quiet =
+    inr (all-printed g.S.Station.meanings (source_at g.P.Source.meanings c.args.product.now) (source_at g.P.Source.meanings c.take_product.new.source) (source_at g.I.Source.meanings c.args.input.now) (source_at g.I.Source.meanings c.execute.new.input)
+    c.args.station.now c.execute.new.station c.execute.result _ _ c.deref.ensures.value c.in-Ok-take_product.taken.product c.in-Ok-take_product.ensures.0 c.in-Ok-take_product.ensures.1 _ _ c.in-Ok.ensures.given c.execute.ensures.executes c.execute.ensures.causes asked asks can quiet printing)
+
+pub returns-clause-kept_balanced : goal.returns-clause-kept_balanced
+returns-clause-kept_balanced g c given image known kept has =
+    balances g.S.Station.meanings (source_at g.P.Source.meanings c.args.product.now) (source_at g.P.Source.meanings c.take_product.new.source) (source_at g.I.Source.meanings c.args.input.now) (source_at g.I.Source.meanings c.execute.new.input)
+    c.args.station.now c.execute.new.station c.execute.result _ _ c.deref.ensures.value c.in-Ok-take_product.taken.product c.in-Ok-take_product.ensures.0 c.in-Ok-take_product.ensures.1 _ c.execute.ensures.causes given kept
+
+pub returns-clause-did : goal.returns-clause-did
+returns-clause-did g c asked asks told =
+    told-ended g.S.Station.meanings (source_at g.P.Source.meanings c.args.product.now) (source_at g.P.Source.meanings c.take_product.new.source) (source_at g.I.Source.meanings c.args.input.now) (source_at g.I.Source.meanings c.execute.new.input)
+    c.args.station.now c.execute.new.station c.execute.result _ _ c.deref.ensures.value c.in-Ok-take_product.taken.product c.in-Ok-take_product.ensures.0 c.in-Ok-take_product.ensures.1 _ _ c.in-Ok.ensures.given c.execute.ensures.executes c.execute.ensures.causes asked asks told
+
+pub returns-clause-no_memory : goal.returns-clause-no_memory
+returns-clause-no_memory g c one =
+    no-memory g.S.Station.meanings (source_at g.P.Source.meanings c.args.product.now) (source_at g.P.Source.meanings c.take_product.new.source) (source_at g.I.Source.meanings c.args.input.now) (source_at g.I.Source.meanings c.execute.new.input)
+    c.args.station.now c.execute.new.station c.execute.result _ _ c.deref.ensures.value c.in-Ok-take_product.taken.product c.in-Ok-take_product.ensures.0 c.in-Ok-take_product.ensures.1 _ c.execute.ensures.causes one
