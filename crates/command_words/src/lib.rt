@@ -7,5 +7,3 @@ mod reading;
 pub use command::{Command, WordsFault};
 pub use reading::read_command;
 
-#[cfg(test)]
-mod tests;

@@ -13,8 +13,6 @@ mod run;
 mod serve;
 mod serve_frame;
 mod session;
-#[cfg(test)]
-mod tests;
 
 pub use outcome::Outcome;
 pub use run::globex;

@@ -13,8 +13,6 @@ mod look;
 mod parts;
 mod standing;
 mod start;
-#[cfg(test)]
-mod tests;
 mod text;
 mod walk;
 

@@ -6,7 +6,5 @@ mod draws;
 mod frame;
 mod made;
 mod maker_source;
-#[cfg(test)]
-mod tests;
 
 pub use maker_source::MakerSource;

@@ -1,6 +1,5 @@
 //! Inputs that end within their first frame, and inputs that no frame begins with.
-use super::{PRODUCT, bytes_of, frames_of, run};
-use crate::Outcome;
+use super::{PRODUCT, bytes_of, ended, frames_of, run};
 use std::process::Abort;
 use std::test::Fail;
 
@@ -33,12 +32,7 @@ fn expect_front(
     status: u8,
 ) -> Result<(), Fail> {
     let (got, station) = run(rt.alloc(), "run", PRODUCT, bytes, Vec::new(rt.alloc()))?;
-    let outcome = Outcome {
-        status,
-        at: 0,
-        messages: 0,
-    };
-    assert_eq!(rt; got, outcome, "{name}");
+    assert_eq!(rt; got, ended(status, 0, 0), "{name}");
     assert_eq!(rt; station.output(), b"".as_slice(), "{name}");
     Ok(())
 }
@@ -62,12 +56,7 @@ fn frame_of_the_greatest_length(rt: HostRuntime) -> Result<(), Fail> {
     frame[4017..].copy_from_slice(b"10=227\x01");
     expect_front(&rt, "all but its last byte", &frame[..4023], 8)?;
     let (got, station) = run(alloc, "run", PRODUCT, &frame, Vec::new(alloc))?;
-    let outcome = Outcome {
-        status: 0,
-        at: 0,
-        messages: 1,
-    };
-    assert_eq!(rt; got, outcome);
+    assert_eq!(rt; got, ended(0, 0, 1));
     let reports = [
         "35=3|34=1|49=GX|52=00000000-00:00:00|56=UNKNOWN|45=0|371=35|373=11|58=FIRST TAG|",
     ];

@@ -2,7 +2,7 @@
 ghost use Rattle.std.specs.Prelude.{◌≤◌};
 ghost use Rattle.order_kinds.specs.Cores.{FitsProduct};
 
-use super::frames_of;
+use super::{PRODUCT, frames_of};
 use fix_frame::{Framer, Next};
 use fix_request::read_request;
 use gx_base::{ByteEmit, Emit};
@@ -75,18 +75,6 @@ fn expect_fills(
     assert_eq!(rt; log.bytes(), expected.as_slice(), "{name}");
     Ok(())
 }
-
-/// The letter F.
-const FIFO: &str = r#"exchange = "GX"
-firms = ["AAA", "BBB", "CCC", "DDD"]
-
-[[instrument]]
-name = "ESZ4"
-decimals = 2
-tick = 1
-protection = 2
-algorithm = "F"
-"#;
 
 /// The oldest order first.
 const FIFO_FILLS: [&str; 4] = [
@@ -300,24 +288,26 @@ top_max = 8
 least = 2
 "#;
 
+/// A name, a product, and the fills of the orders under it.
+const LETTERS: [(&str, &str, &[&str]); 9] = [
+    ("fifo", PRODUCT, &FIFO_FILLS),
+    ("lmm fifo", LMM_FIFO, &LMM_FIFO_FILLS),
+    ("pro rata", PRO_RATA, &PRO_RATA_FILLS),
+    ("allocation", ALLOCATION, &ALLOCATION_FILLS),
+    ("threshold", THRESHOLD, &THRESHOLD_FILLS),
+    ("threshold lmm", THRESHOLD_LMM, &THRESHOLD_LMM_FILLS),
+    ("configurable", CONFIGURABLE, &CONFIGURABLE_FILLS),
+    ("lmm fifo without a maker", NO_MAKER, &FIFO_FILLS),
+    (
+        "threshold lmm without a maker",
+        THRESHOLD_WITHOUT_MAKER,
+        &THRESHOLD_FILLS,
+    ),
+];
+
 #[test]
 fn fills_of_each_letter(rt: HostRuntime) -> Result<(), Fail> {
-    let letters: [(&str, &str, &[&str]); 9] = [
-        ("fifo", FIFO, &FIFO_FILLS),
-        ("lmm fifo", LMM_FIFO, &LMM_FIFO_FILLS),
-        ("pro rata", PRO_RATA, &PRO_RATA_FILLS),
-        ("allocation", ALLOCATION, &ALLOCATION_FILLS),
-        ("threshold", THRESHOLD, &THRESHOLD_FILLS),
-        ("threshold lmm", THRESHOLD_LMM, &THRESHOLD_LMM_FILLS),
-        ("configurable", CONFIGURABLE, &CONFIGURABLE_FILLS),
-        ("lmm fifo without a maker", NO_MAKER, &FIFO_FILLS),
-        (
-            "threshold lmm without a maker",
-            THRESHOLD_WITHOUT_MAKER,
-            &THRESHOLD_FILLS,
-        ),
-    ];
-    for (name, product, fills) in letters {
+    for (name, product, fills) in LETTERS {
         expect_fills(&rt, name, product, fills)?;
     }
     Ok(())

@@ -1,6 +1,5 @@
 //! Products that are refused, before the input is read: by which rule, and with which text.
-use super::{PRODUCT, run};
-use crate::Outcome;
+use super::{PRODUCT, ended, run};
 use product_file::read_product;
 use std::alloc::{AllocError, Global};
 use std::process::Abort;
@@ -137,12 +136,7 @@ fn expect_refused(
 ) -> Result<(), Fail> {
     let alloc = rt.alloc();
     let (got, station) = run(alloc, "run", text, &[], Vec::new(alloc))?;
-    let outcome = Outcome {
-        status: 3,
-        at: u64::from(number),
-        messages: 0,
-    };
-    assert_eq!(rt; got, outcome, "{says}");
+    assert_eq!(rt; got, ended(3, u64::from(number), 0), "{says}");
     assert_eq!(rt; station.calls(), 0, "{says}");
     let fault = read_product(alloc, text.as_bytes()).err().ok_or("faulty")?;
     let shown = format!(in alloc; "{fault}")?;

@@ -1,11 +1,11 @@
 //! Runs over journals: byte for byte, after a crash at each call, where one is full, bad, or of another product, and over a file.
 ghost use Rattle.std.specs.Prelude.{◌≤◌, length};
 
-use super::runs::{
-    ACCEPTED, DUPLICATE, FILLED, ORDER, SECOND_ACCEPTED, SECOND_FILLED, SECOND_ORDER, ended, join,
+use super::{
+    ACCEPTED, DUPLICATE, FILLED, ORDER, PRODUCT, ROOM, SECOND_ACCEPTED, SECOND_FILLED,
+    SECOND_ORDER, ended, frames_of, join, run, run_over, station_over,
 };
-use super::{PRODUCT, ROOM, frames_of, run, run_over, station_over};
-use crate::{Outcome, globex};
+use globex_run::{Outcome, globex};
 use gx_station::{FileStation, MemSource, MemStation};
 use std::alloc::{AllocError, Global};
 use std::fs;
@@ -30,7 +30,7 @@ fn image_of(alloc: Global, parts: &[&[u8]]) -> Result<Vec<u8>, AllocError> {
 }
 
 /// A journal of the product with these records, each with its head, and a closed gate.
-fn journal_of(alloc: Global, records: &[&[u8]]) -> Result<Vec<u8>, AllocError> {
+pub(super) fn journal_of(alloc: Global, records: &[&[u8]]) -> Result<Vec<u8>, AllocError> {
     let records = image_of(alloc, records)?;
     image_of(
         alloc,

@@ -1,4 +1,4 @@
-//! Runs over a source and a station in memory. Each file has tables of cases, and few tests that go through them.
+//! Most tests are runs over a source and a station in memory. Each file has tables of cases, and few tests that go through them.
 mod displays;
 mod fronts;
 mod journals;
@@ -6,18 +6,22 @@ mod kinds;
 mod letters;
 mod levels;
 mod lines;
+mod maker;
 mod orders;
 mod products;
+mod records;
 mod refusals;
 mod replaces;
 mod runs;
 mod shares;
+mod stations;
 mod stops;
+mod words;
 
 ghost use Rattle.std.specs.Prelude.{◌≤◌, length};
 ghost use Rattle.std.specs.List.{AllByRecursion};
 
-use crate::{Outcome, globex};
+use globex_run::{Outcome, globex};
 use gx_station::{MemSource, MemStation};
 use std::alloc::{AllocError, Global};
 use std::process::Abort;
@@ -60,12 +64,42 @@ protection = 2
 algorithm = "F"
 "#;
 
+const ORDER: &str =
+    "8=FIX.4.2|9=89|35=D|49=AAA|56=GX|34=1|52=20240102-09:30:00|11=a1|55=ESZ4|54=2|38=10|40=2|44=100.00|59=0|10=210|";
+
+const SECOND_ORDER: &str =
+    "8=FIX.4.2|9=88|35=D|49=BBB|56=GX|34=1|52=20240102-09:30:01|11=b1|55=ESZ4|54=1|38=4|40=2|44=100.00|59=0|10=168|";
+
+const ACCEPTED: &str =
+    "8=FIX.4.2|9=159|35=8|34=1|49=GX|52=20240102-09:30:00|56=AAA|37=1|11=a1|17=1|20=0|150=0|39=0|55=ESZ4|54=2|38=10|40=2|44=100.00|59=0|151=10|14=0|6=0|60=20240102-09:30:00|9003=0|10=053|";
+
+const SECOND_ACCEPTED: &str =
+    "8=FIX.4.2|9=157|35=8|34=1|49=GX|52=20240102-09:30:01|56=BBB|37=2|11=b1|17=2|20=0|150=0|39=0|55=ESZ4|54=1|38=4|40=2|44=100.00|59=0|151=4|14=0|6=0|60=20240102-09:30:01|9003=0|10=224|";
+
+const FILLED: &str =
+    "8=FIX.4.2|9=190|35=8|34=2|49=GX|52=20240102-09:30:01|56=AAA|37=1|11=a1|17=3|20=0|150=1|39=1|55=ESZ4|54=2|38=10|40=2|44=100.00|59=0|32=4|31=100.00|151=6|14=4|6=0|60=20240102-09:30:01|9001=FIFO|9002=1|9003=0|10=014|";
+
+const SECOND_FILLED: &str =
+    "8=FIX.4.2|9=189|35=8|34=2|49=GX|52=20240102-09:30:01|56=BBB|37=2|11=b1|17=4|20=0|150=2|39=2|55=ESZ4|54=1|38=4|40=2|44=100.00|59=0|32=4|31=100.00|151=0|14=4|6=0|60=20240102-09:30:01|9001=FIFO|9002=1|9003=0|10=234|";
+
+const DUPLICATE: &str =
+    "8=FIX.4.2|9=168|35=8|34=2|49=GX|52=20240102-09:30:00|56=AAA|37=0|11=a1|17=2|20=0|150=8|39=8|103=6|55=ESZ4|54=2|38=10|40=2|59=0|151=0|14=0|6=0|60=20240102-09:30:00|58=DUPLICATE|9003=10|10=207|";
+
 /// The bytes of a text in which `|` stands for SOH.
 fn bytes_of(alloc: Global, text: &str) -> Result<Vec<u8>, AllocError> {
     text.as_bytes()
         .iter()
         .map(|c| if *c == b'|' { 1 } else { *c })
         .collect(alloc)
+}
+
+/// The bytes of these texts, one behind the other.
+fn join(alloc: Global, texts: &[&str]) -> Result<Vec<u8>, AllocError> {
+    let mut bytes = Vec::new(alloc);
+    for text in texts {
+        bytes.extend_from_slice(bytes_of(alloc, text)?.as_slice())?;
+    }
+    Ok(bytes)
 }
 
 /// The frame of a body, added to some bytes.
@@ -88,6 +122,15 @@ fn frames_of(alloc: Global, bodies: &[&str]) -> Result<Vec<u8>, AllocError> {
         push_frame(alloc, &mut bytes, body)?;
     }
     Ok(bytes)
+}
+
+/// How a run ended.
+fn ended(status: u8, at: u64, messages: u64) -> Outcome {
+    Outcome {
+        status,
+        at,
+        messages,
+    }
 }
 
 /// Runs the command of a word over these sources and this station.
@@ -146,12 +189,7 @@ fn expect_reports(rt: &(impl Abort + AllocGlobal), cases: &[Case]) -> Result<(),
         let input = frames_of(alloc, bodies)?;
         let sent = frames_of(alloc, reports)?;
         let (got, station) = run(alloc, "run", product, input.as_slice(), Vec::new(alloc))?;
-        let outcome = Outcome {
-            status: 0,
-            at: 0,
-            messages: bodies.len() as u64,
-        };
-        assert_eq!(rt; got, outcome, "{name}");
+        assert_eq!(rt; got, ended(0, 0, bodies.len() as u64), "{name}");
         assert_eq!(rt; station.output(), sent.as_slice(), "{name}");
     }
     Ok(())

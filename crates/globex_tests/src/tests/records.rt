@@ -1,0 +1,173 @@
+//! Journals in memory: two messages in one record, images that are opened or refused, and what failed calls leave.
+use super::journals::journal_of;
+use super::{ORDER, PRODUCT, ROOM, SECOND_ORDER, join, station_over};
+use gx_station::Station;
+use match_journal::{AppendFault, Entry, EntryKind, Journal, StartFault};
+use std::test::Fail;
+
+const LIMIT: u64 = 131_072;
+
+#[test]
+fn two_messages_in_one_record(rt: HostRuntime) -> Result<(), Fail> {
+    let alloc = rt.alloc();
+    let mut station = station_over(alloc, b"", Vec::new(alloc))?;
+    let started = Journal::start(&mut station, PRODUCT.as_bytes(), LIMIT);
+    let mut journal = started.expect(&rt, "a journal");
+    assert_eq!(rt; journal.next_entry(&mut station), Ok(None));
+    let both = join(alloc, &[ORDER, SECOND_ORDER])?;
+    assert_eq!(rt; both.len(), 221);
+    assert!(rt; journal.at_end());
+    let added = journal.append(&mut station, EntryKind::Frames, both.as_slice());
+    assert_eq!(rt; added, Ok(()));
+    let one = journal_of(alloc, &[b"\x01M\x00\x00\x00\xDD", both.as_slice()])?;
+    assert_eq!(rt; station.image(), one.as_slice());
+    assert_eq!(rt; journal.end(), 376);
+    Ok(())
+}
+
+#[test]
+fn records_are_read_in_their_order(rt: HostRuntime) -> Result<(), Fail> {
+    let alloc = rt.alloc();
+    let image = journal_of(
+        alloc,
+        &[b"\x01M\x00\x00\x00\x03one", b"\x01M\x00\x00\x00\x012"],
+    )?;
+    assert!(rt; image.len() <= ROOM);
+    let mut station = station_over(alloc, image.as_slice(), Vec::new(alloc))?;
+    let looked = Journal::look(&mut station, PRODUCT.as_bytes(), LIMIT);
+    let looked = looked.expect(&rt, "an image that is opened");
+    let mut journal = looked.expect(&rt, "a journal");
+    let kind = EntryKind::Frames;
+    let first = Entry {
+        at: 149,
+        kind,
+        length: 3,
+    };
+    let second = Entry {
+        at: 158,
+        kind,
+        length: 1,
+    };
+    assert_eq!(rt; journal.next_entry(&mut station), Ok(Some(first)));
+    assert_eq!(rt; journal.next_entry(&mut station), Ok(Some(second)));
+    assert!(rt; !journal.at_end());
+    assert_eq!(rt; journal.next_entry(&mut station), Ok(None));
+    assert!(rt; journal.at_end());
+    assert_eq!(rt; journal.end(), 165);
+    journal.rewind();
+    assert!(rt; !journal.at_end());
+    assert_eq!(rt; journal.next_entry(&mut station), Ok(Some(first)));
+    Ok(())
+}
+
+/// Each image with what is answered to one who looks, whether there is a journal, or why not; the product is `text`.
+const IMAGES: [(&[u8], Result<bool, StartFault>); 21] = [
+    (b"", Ok(false)),
+    (b"\x01", Ok(false)),
+    (b"\xC8", Ok(false)),
+    (b"\x00hello", Ok(false)),
+    (b"\xC8GXJOURN1\x00\x00\x00\x04text\x00", Ok(false)),
+    (b"\xC8GXJOURN1\x00\x00\x00\x04text\x00behind", Ok(false)),
+    (
+        b"\xC8GXJOURN1\x00\x00\x00\x04text\x01",
+        Err(StartFault::NotAJournal(0)),
+    ),
+    (
+        b"\xC8GXJOURN1\x00\x00\x00\x04text",
+        Err(StartFault::NotAJournal(0)),
+    ),
+    (
+        b"\xC8GXJOURN1\x00\x00\x00\x04tent\x00",
+        Err(StartFault::ProductDiffers(15)),
+    ),
+    (b"hello", Err(StartFault::NotAJournal(0))),
+    (b"\x01GXJ", Err(StartFault::NotAJournal(4))),
+    (
+        b"\x01GXJOURN2\x00\x00\x00\x04text\x00",
+        Err(StartFault::NotAJournal(8)),
+    ),
+    (
+        b"\x01gXJOURN1\x00\x00\x00\x04text\x00",
+        Err(StartFault::NotAJournal(1)),
+    ),
+    (b"\x01GXJOURN1", Err(StartFault::Bad(9))),
+    (b"\x01GXJOURN1\x00\x00\x00\x04text", Err(StartFault::Bad(9))),
+    (
+        b"\x01GXJOURN1\x00\x01\x00\x01text\x00",
+        Err(StartFault::Bad(9)),
+    ),
+    (b"\x01GXJOURN1\x00\x00\x00\x04text\x00", Ok(true)),
+    (b"\x01GXJOURN1\x00\x00\x00\x04text\xC8behind", Ok(true)),
+    (
+        b"\x01GXJOURN1\x00\x00\x00\x04texu\x00",
+        Err(StartFault::ProductDiffers(16)),
+    ),
+    (
+        b"\x01GXJOURN1\x00\x00\x00\x03tex\x00",
+        Err(StartFault::ProductDiffers(16)),
+    ),
+    (
+        b"\x01GXJOURN1\x00\x00\x00\x05textt\x00",
+        Err(StartFault::ProductDiffers(17)),
+    ),
+];
+
+#[test]
+fn images_by_their_class(rt: HostRuntime) -> Result<(), Fail> {
+    for (image, want) in IMAGES {
+        assert!(rt; image.len() <= ROOM);
+        let mut looked_at = station_over(rt.alloc(), image, Vec::new(rt.alloc()))?;
+        let looked = Journal::look(&mut looked_at, b"text", LIMIT);
+        assert_eq!(rt; looked.map(|found| found.is_some()), want);
+        assert_eq!(rt; looked_at.image(), image);
+        let mut opened = station_over(rt.alloc(), image, Vec::new(rt.alloc()))?;
+        let started = Journal::start(&mut opened, b"text", LIMIT);
+        assert_eq!(rt; started.map(|_| ()), want.map(|_| ()));
+        assert!(rt; want.is_ok() || opened.image() == image);
+    }
+    Ok(())
+}
+
+#[test]
+fn a_look_does_not_sync(rt: HostRuntime) -> Result<(), Fail> {
+    let alloc = rt.alloc();
+    let image = b"\x01GXJOURN1\x00\x00\x00\x04text\x00";
+    let mut station = station_over(alloc, image, Vec::new(alloc))?;
+    assert_eq!(rt; station.length(), Ok(18));
+    assert_eq!(rt; station.write(17, b"\x00"), Ok(()));
+    let looked = Journal::look(&mut station, b"text", LIMIT);
+    assert!(rt; matches!(looked, Ok(Some(_))));
+    // A length, the head, and the text.
+    assert_eq!(rt; station.calls(), 5);
+    let left = station.crash_image(alloc, 5, 200)?;
+    assert_eq!(rt;
+        left.as_slice(),
+        b"\x01GXJOURN1\x00\x00\x00\x04text\xC8".as_slice()
+    );
+    Ok(())
+}
+
+/// Each of the ten calls of an opening fails, and each of the four of an append, which is then the last.
+#[test]
+fn failed_calls(rt: HostRuntime) -> Result<(), Fail> {
+    let alloc = rt.alloc();
+    for call in [1, 2, 3, 4, 5, 6, 7, 8, 9, 10, 12, 13, 14, 15] {
+        let mut station = station_over(alloc, b"", vec![in alloc; call]?)?;
+        match Journal::start(&mut station, PRODUCT.as_bytes(), LIMIT) {
+            Err(fault) => {
+                assert!(rt; call <= 10 && fault == StartFault::Store);
+            }
+            Ok(mut journal) => {
+                assert!(rt; 12 <= call);
+                assert_eq!(rt; journal.next_entry(&mut station), Ok(None));
+                assert!(rt; journal.at_end());
+                let added = journal.append(&mut station, EntryKind::Frames, b"text");
+                assert_eq!(rt; added, Err(AppendFault::Store));
+                journal.rewind();
+                let _ = journal.next_entry(&mut station);
+                assert!(rt; !journal.at_end());
+            }
+        }
+    }
+    Ok(())
+}

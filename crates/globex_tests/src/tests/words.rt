@@ -1,0 +1,91 @@
+use command_words::{Command, WordsFault, read_command};
+use std::alloc::Global;
+use std::test::Fail;
+
+/// The answer to words that stand in one text, with one space between them.
+fn answer(alloc: Global, line: &str) -> Result<Result<Command, WordsFault>, Fail> {
+    let mut words = Vec::new(alloc);
+    for word in line.split(' ') {
+        words.push(word.to_string(alloc)?)?;
+    }
+    Ok(read_command(alloc, words.as_slice()))
+}
+
+const TAKEN: [(&str, Command); 11] = [
+    ("run", Command::Run),
+    ("replay", Command::Replay),
+    ("book", Command::Book),
+    ("fills", Command::Fills),
+    ("steps", Command::Steps),
+    ("-- ledger", Command::Ledger),
+    (
+        "--count 2 drill --first 7",
+        Command::Drill { first: 7, count: 2 },
+    ),
+    (
+        "drill --first=0003 --count=01",
+        Command::Drill { first: 3, count: 1 },
+    ),
+    (
+        "drill --first +1 --count +1",
+        Command::Drill { first: 1, count: 1 },
+    ),
+    (
+        "drill --first 2147483647 --count 1000000",
+        Command::Drill {
+            first: 2147483647,
+            count: 1000000,
+        },
+    ),
+    (
+        "drill --first 0 --count 0",
+        Command::Drill { first: 0, count: 0 },
+    ),
+];
+
+const REFUSED: [&str; 30] = [
+    "",
+    "Run",
+    "runs",
+    "run book",
+    "run run",
+    "run --first 1",
+    "run --count 1",
+    "book --first 1 --count 2",
+    "steps --count 1",
+    "drill",
+    "drill --first 1",
+    "drill --count 1",
+    "drill --first --count 1",
+    "drill --first 1 --count",
+    "drill --first -1 --count 1",
+    "drill --first x --count 1",
+    "drill --first 1.0 --count 1",
+    "drill --first 2147483648 --count 1",
+    "drill --first 1 --count 1000001",
+    "drill --first 1 --first 1 --count 1",
+    "drill --first 1 --count 1 x",
+    "--help",
+    "-h",
+    "--version",
+    "run --help",
+    "run -x",
+    "drill --first 1 --count 1 --third 1",
+    "checkpoint",
+    "--first 1",
+    "drill --firs 1 --count 1",
+];
+
+#[test]
+fn words(rt: HostRuntime) -> Result<(), Fail> {
+    let alloc = rt.alloc();
+    for (line, command) in TAKEN {
+        assert!(rt; answer(alloc, line)? == Ok(command), "{line}");
+    }
+    let none: [String; 0] = [];
+    assert!(rt; read_command(alloc, none.as_slice()) == Err(WordsFault::Refused));
+    for line in REFUSED {
+        assert!(rt; answer(alloc, line)? == Err(WordsFault::Refused), "{line}");
+    }
+    Ok(())
+}
