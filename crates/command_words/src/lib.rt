@@ -6,4 +6,3 @@ mod reading;
 
 pub use command::{Command, WordsFault};
 pub use reading::read_command;
-
