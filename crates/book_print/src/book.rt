@@ -9,7 +9,7 @@ ghost use Rattle.gx_base.specs.Line.{instrument_name, decimals_of};
 ghost use Rattle.book_print.specs.Words.{line_feed, side_letter, order_words};
 ghost use Rattle.book_print.specs.BookText.{book_text, instrument_text, last_text, resting_line, stop_line, top_text};
 
-use crate::pieces::{LONGEST_LABEL, LONGEST_PIECE, number, price, text};
+use crate::pieces::{LONGEST_LABEL, LONGEST_PIECE, number, order_words, price, side_letter, text};
 use exec_report::{ReportBuffer, SendFault, push_text, send_waiting};
 use gx_base::{
     LONGEST_LINE, LONGEST_VALUE, MOST_DECIMALS, Names, Order, Price, Side, Slot, addressee, listed,
@@ -19,34 +19,12 @@ use order_kinds::Core;
 use plain_book::Book;
 use product_file::Product;
 
-fn side_letter(side: Side) -> &'static [u8]
-    ensures text { result.now ≡ side_letter side }
-    ensures short { length result.now ≤ LONGEST_VALUE }
-{
-    match side {
-        Side::Buy => b"B",
-        Side::Sell => b"S",
-    }
-}
-
 /// What stands behind the line of the TOP order, and behind that of another.
 fn top_text(is_top: bool) -> &'static [u8]
     ensures text { result.now ≡ top_text is_top }
     ensures short { length result.now ≤ LONGEST_LABEL }
 {
     if is_top { b" TOP" } else { b"" }
-}
-
-/// Writes which order it is.
-fn order_words(into: &mut [u8], at: usize, names: &Names, order: &Order) -> usize
-    requires { at + 3 * LONGEST_PIECE ≤ length into.old }
-    ensures words { take result into.new ≡ take at into.old ++ order_words names.now order.now }
-    ensures short { result ≤ at + 3 * LONGEST_PIECE }
-{
-    let firm = addressee(names, Some(order.firm));
-    let at = number(into, at, b" #", order.number);
-    let at = text(into, at, b" ", firm.bytes());
-    text(into, at, b" ", order.id.bytes())
 }
 
 /// Writes the last trade price of an instrument, `-` where there is none.
