@@ -8,6 +8,7 @@ mod levels;
 mod lines;
 mod maker;
 mod orders;
+mod printed;
 mod products;
 mod records;
 mod refusals;
@@ -133,15 +134,24 @@ fn ended(status: u8, at: u64, messages: u64) -> Outcome {
     }
 }
 
-/// Runs the command of a word over these sources and this station.
+/// The words that stand in one text, with one space between them.
+fn words_of(alloc: Global, line: &str) -> Result<Vec<String>, AllocError> {
+    let mut words = Vec::new(alloc);
+    for word in line.split(' ') {
+        words.push(String::from_str(alloc, word)?)?;
+    }
+    Ok(words)
+}
+
+/// Executes the command of these words over these sources and this station.
 fn run_over(
     alloc: Global,
-    word: &str,
+    line: &str,
     product: &mut MemSource,
     input: &mut MemSource,
     station: &mut MemStation,
 ) -> Result<Outcome, AllocError> {
-    let words = vec![in alloc; String::from_str(alloc, word)?]?;
+    let words = words_of(alloc, line)?;
     Ok(globex(alloc, words.as_slice(), product, input, station))
 }
 

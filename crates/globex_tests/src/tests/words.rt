@@ -1,13 +1,12 @@
+//! Words that are a command, and words that are none.
+use super::words_of;
 use command_words::{Command, WordsFault, read_command};
 use std::alloc::Global;
 use std::test::Fail;
 
-/// The answer to words that stand in one text, with one space between them.
+/// The answer to the words of a text.
 fn answer(alloc: Global, line: &str) -> Result<Result<Command, WordsFault>, Fail> {
-    let mut words = Vec::new(alloc);
-    for word in line.split(' ') {
-        words.push(word.to_string(alloc)?)?;
-    }
+    let words = words_of(alloc, line)?;
     Ok(read_command(alloc, words.as_slice()))
 }
 

@@ -1,0 +1,164 @@
+//! What the commands print of the stored example and of made messages.
+use super::{
+    ACCEPTED, FILLED, ORDER, PRODUCT, SECOND_ACCEPTED, SECOND_FILLED, SECOND_ORDER, ended, join,
+    run_over, station_over,
+};
+use globex_run::Outcome;
+use gx_station::{MemSource, MemStation};
+use std::alloc::{AllocError, Global};
+use std::process::Abort;
+use std::test::Fail;
+
+/// Executes the command of these words over the product and this input.
+fn execute(
+    alloc: Global,
+    line: &str,
+    input: &[&str],
+    station: &mut MemStation,
+) -> Result<Outcome, AllocError> {
+    let text = PRODUCT.as_bytes().to_vec(alloc)?;
+    let mut product = MemSource::new(alloc, text, Vec::new(alloc), Vec::new(alloc))?;
+    let input = join(alloc, input)?;
+    let mut input = MemSource::new(alloc, input, Vec::new(alloc), Vec::new(alloc))?;
+    run_over(alloc, line, &mut product, &mut input, station)
+}
+
+/// A command: its words, the frames that are read, the messages that the outcome counts, and what is sent.
+type Step = (
+    &'static str,
+    &'static [&'static str],
+    u64,
+    &'static [&'static str],
+);
+
+/// Executes the commands, one behind the other, over one station.
+fn expect_steps(rt: &(impl Abort + AllocGlobal), steps: &[Step]) -> Result<(), Fail> {
+    let alloc = rt.alloc();
+    let mut station = station_over(alloc, b"", Vec::new(alloc))?;
+    let mut sent = Vec::new(alloc);
+    for step in steps {
+        let (line, input, messages, texts) = *step;
+        let got = execute(alloc, line, input, &mut station)?;
+        sent.extend_from_slice(join(alloc, texts)?.as_slice())?;
+        assert_eq!(rt; got, ended(0, 0, messages), "{line}");
+        assert_eq!(rt; station.output(), sent.as_slice(), "{line}");
+    }
+    Ok(())
+}
+
+const REPORTS: &[&str] = &[ACCEPTED, SECOND_ACCEPTED, FILLED, SECOND_FILLED];
+
+#[test]
+fn printed_forms(rt: HostRuntime) -> Result<(), Fail> {
+    expect_steps(
+        &rt,
+        &[
+            ("book", &[], 0, &["ESZ4 last -\n"]),
+            ("fills", &[], 0, &[]),
+            (
+                "ledger",
+                &[],
+                0,
+                &["total entered 0 filled 0 open 0 cancelled 0\n"],
+            ),
+            ("run", &[ORDER, SECOND_ORDER], 2, REPORTS),
+            (
+                "book",
+                &[],
+                2,
+                &["ESZ4 last 100.00\n", "S 100.00 6/6 #1 AAA a1\n"],
+            ),
+            (
+                "fills",
+                &[],
+                2,
+                &[
+                    "1 FIFO ESZ4 S 4@100.00 #1 AAA a1\n",
+                    "1 FIFO ESZ4 B 4@100.00 #2 BBB b1\n",
+                ],
+            ),
+            (
+                "ledger",
+                &[],
+                2,
+                &[
+                    "#1 entered 10 filled 0 open 10 cancelled 0\n",
+                    "#2 entered 4 filled 0 open 4 cancelled 0\n",
+                    "#1 entered 10 filled 4 open 6 cancelled 0\n",
+                    "#2 entered 4 filled 4 open 0 cancelled 0\n",
+                    "total entered 14 filled 8 open 6 cancelled 0\n",
+                ],
+            ),
+            ("steps", &[], 0, &["ESZ4 F FIFO\n"]),
+            ("replay", &[], 2, REPORTS),
+        ],
+    )
+}
+
+#[test]
+fn drills(rt: HostRuntime) -> Result<(), Fail> {
+    expect_steps(
+        &rt,
+        &[
+            (
+                "drill --first 1 --count 0",
+                &[],
+                0,
+                &["messages 0 reports 0 trades 0 lots 0 live 0\n"],
+            ),
+            (
+                "drill --first 1 --count 3",
+                &[],
+                3,
+                &["messages 3 reports 3 trades 0 lots 0 live 2\n"],
+            ),
+            (
+                "book",
+                &[],
+                3,
+                &[
+                    "ESZ4 last -\n",
+                    "B 99.25 52/52 #1 BBB G2\n",
+                    "B 99.20 20/20 #2 CCC G3\n",
+                ],
+            ),
+        ],
+    )
+}
+
+/// The send of the first reports fails; they can be sent later.
+#[test]
+fn replay_after_a_failed_send(rt: HostRuntime) -> Result<(), Fail> {
+    let alloc = rt.alloc();
+    let fail = vec![in alloc; 17]?;
+    let mut station = station_over(alloc, b"", fail)?;
+    let got = execute(alloc, "run", &[ORDER, SECOND_ORDER], &mut station)?;
+    assert_eq!(rt; got, ended(6, 0, 1));
+    assert!(rt; station.output().is_empty());
+    let got = execute(alloc, "replay", &[], &mut station)?;
+    assert_eq!(rt; got, ended(0, 0, 1));
+    let sent = join(alloc, &[ACCEPTED])?;
+    assert_eq!(rt; station.output(), sent.as_slice());
+    Ok(())
+}
+
+const SUMMARY: &[u8] = b"messages 2000 reports 2578 trades 289 lots 7431 live 1220\n";
+
+/// The last line of the ledger: 14862 and 61228 and 5134 are 81224.
+const TOTAL: &[u8] = b"\ntotal entered 81224 filled 14862 open 61228 cancelled 5134\n";
+
+#[test]
+fn two_drills_agree(rt: HostRuntime) -> Result<(), Fail> {
+    let alloc = rt.alloc();
+    for _ in 0..2 {
+        let none = Vec::new(alloc);
+        let mut station = MemStation::new(alloc, none, 1 << 20, 1 << 20, 20_000, Vec::new(alloc))?;
+        let got = execute(alloc, "drill --first 7 --count 2000", &[], &mut station)?;
+        assert_eq!(rt; got, ended(0, 0, 2000));
+        assert_eq!(rt; station.output(), SUMMARY);
+        let got = execute(alloc, "ledger", &[], &mut station)?;
+        assert_eq!(rt; got, ended(0, 0, 2000));
+        assert!(rt; station.output().ends_with(TOTAL));
+    }
+    Ok(())
+}
