@@ -1,9 +1,8 @@
 -- What each publisher makes of the events of messages.
-use Rattle.std.specs.Prelude.{true, false, List, [], fold, refl}
+use Rattle.std.specs.Prelude.{true, false, [], fold, refl}
 use Rattle.std.proofs.Common.{ap}
 use Rattle.std.proofs.lemmas.List.Sums.{fold-append}
 use Rattle.gx_base.specs.Line.{line_of}
-use Rattle.gx_base.specs.declared.event.Event.{Event}
 use Rattle.book_print.specs.FillText.{fill_line}
 use Rattle.book_print.specs.LedgerText.{ledger_line, totals_with, totals_after}
 use Rattle.book_print.specs.TallyText.{tally_with}

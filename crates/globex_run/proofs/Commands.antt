@@ -1,24 +1,21 @@
 -- What the command of the words came to, from how it was executed.
-use Rattle.std.proofs.Common.{◌≡◌, ◌≢◌, ◌⊎◌, inl, inr, ⊎_elim, ℕ, ◌++◌, ◌≤◌, List, [], length, Option, Some, None, Result, Ok, Err, refl, sym, ap, subst, ◌∙◌, arith}
+use Rattle.std.proofs.Common.{◌≡◌, ◌≢◌, ◌⊎◌, inl, inr, ⊎_elim, ℕ, ◌++◌, ◌≤◌, List, length, Option, Some, Result, Ok, Err, refl, sym, ap, subst, ◌∙◌, arith}
 use Rattle.std.specs.Prelude.{IfSome}
 use Rattle.std.proofs.lemmas.Bool.Decides.{eqb_tells}
 use Rattle.std.proofs.lemmas.Option.{same_Some}
 use Rattle.gx_base.specs.declared.event.Event.{Event}
-use Rattle.gx_base.specs.Line.{line_of}
-use Rattle.gx_station.specs.Counts.{Rose}
 use Rattle.gx_station.specs.Stations.{StationMeanings}
 use Rattle.gx_station.specs.Honest.{IsHonestNow}
 use Rattle.fix_frame.specs.Grammar.{IsFrameFront}
-use Rattle.fix_frame.specs.Stream.{rest_of, IsBroken, IsCut}
 use Rattle.product_file.specs.Products.{ProductLists, IsRightProduct}
 use Rattle.product_file.specs.ProductTexts.{product_of}
 use Rattle.order_kinds.specs.Balance.{IsBalanced}
 use Rattle.balance_laws.proofs.Streams.{streams-balance}
-use Rattle.match_journal.specs.Classes.{IsForeignAt, HasBadHeader, HasOtherText, IsBlank, IsSealed, Keeps}
+use Rattle.match_journal.specs.Classes.{IsForeignAt, HasBadHeader, HasOtherText}
 use Rattle.match_journal.specs.Opening.{IsOpened}
 use Rattle.match_journal.specs.declared.faults.StartFault.TheVariants as start
 use Rattle.match_journal.proofs.Unique.{not_refused, unfinished_not_opened}
-use Rattle.book_recovery.specs.Kept.{KeepsMessages, HasKept, AreWhole}
+use Rattle.book_recovery.specs.Kept.{KeepsMessages}
 use Rattle.book_recovery.specs.BadPlaces.{HasBadRecordAt, IsBadPlace}
 use Rattle.book_recovery.proofs.OneWay.{no_bad_place, no_bad_record}
 use Rattle.book_print.specs.Publishers.{LineForm}
@@ -26,12 +23,12 @@ use Rattle.book_print.specs.TallyText.{no_tally}
 use Rattle.book_print.specs.Publishing.{tally_publisher_meanings}
 use Rattle.order_maker.specs.Stream.{MadeStream, maker_meanings, made_stream}
 use Rattle.exec_report.specs.declared.texts.SendFault.{SendFault as SendFailed}
-use Rattle.journal_print.specs.Printed.{PrintsEvents, PrintsBook, SentToBadRecord}
+use Rattle.journal_print.specs.Printed.{PrintsEvents, PrintsBook}
 use Rattle.journal_print.specs.declared.unprinted.Unprinted.{Unprinted}
 use Rattle.journal_print.specs.declared.unprinted.Unprinted.TheVariants as unprinted
 use Rattle.command_words.specs.declared.command.Command.{Command}
 use Rattle.command_words.specs.declared.command.Command.TheVariants.{Run, Replay, Book, Fills, Ledger, Steps, Drill}
-use Rattle.globex_run.specs.Outside.{SourceAt, Outside, Streams, NoFault, IsQuiet, source_at, station_at, streams_at}
+use Rattle.globex_run.specs.Outside.{SourceAt, Outside, Streams, IsQuiet, source_at}
 use Rattle.globex_run.specs.Outcomes.{outcome_of}
 use Rattle.globex_run.specs.Words.{IsPrinting}
 use Rattle.globex_run.specs.ProductTexts.{TakesAtMost, IsProductText}
@@ -39,10 +36,9 @@ use Rattle.globex_run.specs.RunResult.{CommandResult, CommandEnded, RunEnded, Dr
 use Rattle.globex_run.specs.Journals.{AnswersImage}
 use Rattle.globex_run.specs.Headline.{Premises, InputPremises, SendsExactlyTheReports, EndsOtherwise, RunLeavesCrashPrefixes, RunBeforeTheFirstSync, KeepsEveryReported, HasNoRoom, CanBeServed, IsServed}
 use Rattle.globex_run.specs.Drills.{made_bytes, KeepsAndSumsUp, DrillEndsOtherwise, DrillLeavesCrashPrefixes, DrillBeforeTheFirstSync, CanBeDrilled}
-use Rattle.globex_run.specs.Prints.{PrintPremises, PrintsAs, PrintsJournal, PrintsSteps, CanBePrinted, outcome_printed, outcome_sent}
-use Rattle.globex_run.specs.Inner.Sessions.{SessionResult}
+use Rattle.globex_run.specs.Prints.{PrintPremises, PrintsAs, CanBePrinted, outcome_printed, outcome_sent}
 use Rattle.globex_run.specs.Inner.Drilling.{DrillResult, DrillsMade, DrillAnswers, outcome_summed}
-use Rattle.globex_run.specs.Inner.Executing.{Executes, HasCauses, Runs, Prints}
+use Rattle.globex_run.specs.Inner.Executing.{Executes, HasCauses, Runs}
 use Rattle.globex_run.specs.declared.outcome.Outcome.{Outcome}
 use Rattle.globex_run.specs.declared.ending.Ending.{Ending}
 use Rattle.globex_run.specs.declared.ending.Ending.TheVariants.{Done, ReadFault, StoreFault, SendFault, BadFrame, Truncated, NotAJournal, JournalBad, ProductDiffers, Full}
@@ -228,9 +224,9 @@ module _ {P I S : Type 0} (m : StationMeanings S) (p q : SourceAt P) (i j : Sour
           none-left : IsServed stream result.served.status → result.served.status ≡ 0
           none-left served = ⊎_elim (λ done. done.0)
               (λ other. ⊎_elim
-                  (λ cut. absurd (cut.1.0 made.whole))
-                  (λ broken. absurd (broken.1 (subst (λ (l : List ℕ). IsFrameFront l) (sym made.whole) empty_front)))
-                  other)
+              (λ cut. absurd (cut.1.0 made.whole))
+              (λ broken. absurd (broken.1 (subst (λ (l : List ℕ). IsFrameFront l) (sym made.whole) empty_front)))
+              other)
               served
 
           ended-whole : result.served.status ≢ 0 → result.served.status ≡ 0

@@ -4,9 +4,8 @@ use Rattle.std.specs.List.{concat}
 use Rattle.std.proofs.lemmas.Bool.Decides.{nat_tests}
 use Rattle.std.proofs.lemmas.List.{append-nil, take-append-le, take_all, drop-append-le}
 use Rattle.std.proofs.lemmas.Option.{same_Some}
-use Rattle.gx_base.specs.KnownBytes.{IsPrefix, IsKnownPrefix, known_itself, known_then}
+use Rattle.gx_base.specs.KnownBytes.{IsPrefix, IsKnownPrefix, known_then}
 use Rattle.gx_base.specs.declared.event.Event.{Event}
-use Rattle.gx_station.specs.Counts.{Rose}
 use Rattle.gx_station.specs.Sources.{and_left}
 use Rattle.gx_station.specs.Stations.{StationMeanings, IsBetween, sent_and}
 use Rattle.gx_station.specs.SendLaws.{sent_and_none}
@@ -14,7 +13,7 @@ use Rattle.gx_station.specs.Honest.{IsHonestNow}
 use Rattle.gx_station.specs.Moments.{AddsOnly}
 use Rattle.match_journal.specs.StepLaws.{adds_then, adds_weaker}
 use Rattle.fix_frame.specs.Grammar.{IsFrameFront}
-use Rattle.fix_frame.specs.Stream.{messages_of, rest_of, IsBroken, IsCut}
+use Rattle.fix_frame.specs.Stream.{messages_of, rest_of}
 use Rattle.fix_frame.specs.StreamLaws.{messages_of-append}
 use Rattle.product_file.specs.Products.{ProductLists}
 use Rattle.order_kinds.specs.State.{State}
@@ -23,21 +22,21 @@ use Rattle.plain_book.specs.Book.{live_orders}
 use Rattle.book_recovery.specs.Kept.{messages_in, KeepsMessages}
 use Rattle.book_recovery.specs.Recovering.{state_kept}
 use Rattle.order_maker.specs.Stream.{MadeStream, maker_meanings, made_stream}
-use Rattle.book_print.specs.TallyText.{no_tally, tally_line, tally_text, tally_of}
+use Rattle.book_print.specs.TallyText.{no_tally, tally_line, tally_of}
 use Rattle.book_print.specs.Publishing.{tally_publisher_meanings}
 use Rattle.book_print.specs.declared.publisher.TallyPublisher.{TallyPublisher}
 use Rattle.book_print.specs.declared.tally.TallyEmit.{TallyEmit}
-use Rattle.globex_run.specs.Outside.{SourceAt, Outside, NoFault, source_at}
+use Rattle.globex_run.specs.Outside.{SourceAt, Outside, source_at}
 use Rattle.globex_run.specs.Outcomes.{outcome_of}
 use Rattle.exec_report.specs.declared.texts.SendFault.{SendFault as SendFailed}
 use Rattle.gx_station.specs.Quiet.{Sends}
 use Rattle.fix_frame.specs.FrameLaws.{frame_least}
 use Rattle.globex_run.specs.Journals.{records_length, end_of_journal}
 use Rattle.globex_run.specs.RunResult.{EndsAs, first_messages}
-use Rattle.globex_run.specs.Headline.{Premises, KeepsNow, KeepsCounted, SendsAndKeepsAll, IsCrashPrefix, LeavesCrashPrefixes, BeforeTheFirstSync, HasNoRoom}
-use Rattle.globex_run.specs.Drills.{made, sends, summary, summary_of_all, KeepsAndSumsUp, DrillEndsOtherwise, DrillLeavesCrashPrefixes, DrillBeforeTheFirstSync}
+use Rattle.globex_run.specs.Headline.{Premises, KeepsNow, KeepsCounted, IsCrashPrefix, HasNoRoom}
+use Rattle.globex_run.specs.Drills.{summary, summary_of_all, KeepsAndSumsUp, DrillEndsOtherwise, DrillLeavesCrashPrefixes, DrillBeforeTheFirstSync}
 use Rattle.globex_run.specs.Inner.Recording.{lines_from}
-use Rattle.globex_run.specs.Inner.Sessions.{IsAllServed, SessionFrom, SessionResult}
+use Rattle.globex_run.specs.Inner.Sessions.{IsAllServed, SessionFrom}
 use Rattle.globex_run.specs.Inner.Serving.{IsDone, CausedBy}
 use Rattle.globex_run.specs.Inner.Drilling.{DrillResult, SumsUp, outcome_summed}
 use Rattle.globex_run.specs.declared.outcome.Outcome.{Outcome}
@@ -47,7 +46,7 @@ use Rattle.globex_run.proofs.Headlines as headline
 use Rattle.globex_run.proofs.Complete.{broken_more}
 use Rattle.globex_run.proofs.Reported.{front-between}
 use Rattle.globex_run.proofs.SentReports.{sends_at_most}
-use Rattle.globex_run.proofs.Told.{outside_of, left_parts, nil_from_end}
+use Rattle.globex_run.proofs.Told.{outside_of}
 
 -- nothing is sent of any events
 no_lines : (product : ProductLists) (state : State) (messages : List (List ℕ)) → lines_from tally_publisher_meanings.text product state messages ≡ []

@@ -1,5 +1,5 @@
 -- What executing a command comes to.
-use Rattle.std.proofs.Common.{◌≡◌, ◌≢◌, ◌⊎◌, inl, inr, ⊎_elim, ℕ, ◌<◌, List, ◌++◌, true, Result, Ok, Err, refl, sym, ap, subst, ◌∙◌, arith}
+use Rattle.std.proofs.Common.{◌≡◌, ◌≢◌, inl, inr, ⊎_elim, ℕ, ◌<◌, List, ◌++◌, true, Result, Ok, Err, refl, sym, ap, subst, ◌∙◌, arith}
 use Rattle.std.proofs.lemmas.Bool.Decides.{eqb_tells}
 use Rattle.std.proofs.lemmas.List.{append-nil}
 use Rattle.std.proofs.lemmas.Option.{same_Some}
@@ -11,11 +11,10 @@ use Rattle.fix_frame.specs.Grammar.{IsFrameFront}
 use Rattle.fix_frame.specs.Stream.{rest_of}
 use Rattle.product_file.specs.Products.{ProductLists, IsRightProduct}
 use Rattle.order_kinds.specs.State.{State}
-use Rattle.order_maker.specs.Stream.{MadeStream, maker_meanings, made_stream}
+use Rattle.order_maker.specs.Stream.{maker_meanings, made_stream}
 use Rattle.exec_report.specs.declared.texts.SendFault.{SendFault as SendFailed}
 use Rattle.book_print.specs.Publishers.{LineForm}
 use Rattle.journal_print.specs.Reading.{ReadsAndSends}
-use Rattle.command_words.specs.declared.command.Command.{Command}
 use Rattle.command_words.specs.declared.command.Command.TheVariants.{Drill}
 use Rattle.globex_run.specs.Outside.{SourceAt, StationAt, Streams, streams_at, station_at}
 use Rattle.globex_run.specs.Outcomes.{outcome_of, is_outcome}

@@ -1,5 +1,5 @@
 -- What a session keeps of the messages that it took, and what a crash leaves, in messages.
-use Rattle.std.proofs.Common.{◌≡◌, ◌≢◌, ◌⊎◌, inl, inr, ⊎_elim, ℕ, ◌+◌, ◌<◌, ◌≤◌, List, [], ◌∷◌, ◌++◌, length, take, drop, Option, Some, refl, sym, ap, subst, ◌∙◌, length-append, take-append-drop, arith}
+use Rattle.std.proofs.Common.{◌≡◌, ◌⊎◌, inl, inr, ⊎_elim, ℕ, ◌+◌, ◌<◌, ◌≤◌, List, [], ◌∷◌, ◌++◌, length, take, drop, Option, Some, refl, sym, ap, subst, ◌∙◌, length-append, take-append-drop, arith}
 use Rattle.std.proofs.lemmas.Bool.{cases_lt}
 use Rattle.std.specs.List.{concat}
 use Rattle.std.proofs.lemmas.List.{append-nil, drop_at}
@@ -20,7 +20,7 @@ use Rattle.book_print.specs.Publishers.{LineForm}
 use Rattle.globex_run.specs.Outside.{SourceAt, Outside}
 use Rattle.globex_run.specs.Outcomes.{outcome_of}
 use Rattle.globex_run.specs.RunResult.{EndsAs, first_messages, bytes_at}
-use Rattle.globex_run.specs.Headline.{Premises, with_sent, KeepsNow, KeepsCounted, IsCrashPrefix, LeavesCrashPrefixes, LeftSinceEntry, IsAsAtEntry, BeforeTheFirstSync, KeepsEverySent, HasSentBehind, HasNoRoom}
+use Rattle.globex_run.specs.Headline.{Premises, KeepsNow, KeepsCounted, IsCrashPrefix, LeavesCrashPrefixes, LeftSinceEntry, IsAsAtEntry, BeforeTheFirstSync, KeepsEverySent, HasSentBehind, HasNoRoom}
 use Rattle.globex_run.specs.Inner.Recording.{lines_from, IsRecordCrash}
 use Rattle.globex_run.specs.Inner.Sessions.{IsFrontServed, SessionFrom}
 use Rattle.globex_run.specs.declared.outcome.Outcome.{Outcome}

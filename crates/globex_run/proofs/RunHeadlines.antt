@@ -1,10 +1,10 @@
 -- What the headline says of a run, by its ending.
-use Rattle.std.proofs.Common.{◌≡◌, ◌≢◌, ◌⊎◌, inl, inr, ℕ, ◌+◌, ◌≤◌, List, [], ◌∷◌, ◌++◌, length, Option, refl, sym, ap, subst, ◌∙◌, arith}
+use Rattle.std.proofs.Common.{◌≡◌, ◌≢◌, ◌⊎◌, inl, inr, ℕ, ◌≤◌, List, [], ◌++◌, length, Option, refl, sym, ap, subst, ◌∙◌, arith}
 use Rattle.std.proofs.lemmas.List.{take_all}
 use Rattle.gx_base.specs.Line.{line_of}
 use Rattle.gx_base.specs.KnownBytes.{IsPrefix, IsKnownPrefix, known_itself}
 use Rattle.gx_base.specs.declared.event.Event.{Event}
-use Rattle.gx_station.specs.Stations.{StationMeanings, IsBetween, sent_and}
+use Rattle.gx_station.specs.Stations.{StationMeanings, sent_and}
 use Rattle.fix_frame.specs.Stream.{messages_of}
 use Rattle.order_kinds.specs.State.{State}
 use Rattle.book_recovery.specs.Kept.{messages_in}

@@ -2,7 +2,7 @@
 use Rattle.std.specs.Prelude.{◌≡◌, List, map, String, string_bytes, Some, None}
 use Rattle.command_words.specs.Commands.{command_of}
 use Rattle.command_words.specs.declared.command.Command.{Command}
-use Rattle.command_words.specs.declared.command.Command.TheVariants.{Run, Replay, Book, Fills, Ledger, Steps, Drill}
+use Rattle.command_words.specs.declared.command.Command.TheVariants.{Run, Drill}
 
 -- they ask for this command
 abbrev pub AsksFor : {A : Type 0} → List (String A) → Command → Type 0

@@ -7,7 +7,7 @@ use Rattle.product_file.specs.Products.{ProductLists, IsRightProduct}
 use Rattle.order_kinds.specs.State.{State}
 use Rattle.journal_print.specs.Reading.{ReadsAndSends}
 use Rattle.command_words.specs.declared.command.Command.{Command}
-use Rattle.command_words.specs.declared.command.Command.TheVariants.{Run, Replay, Book, Fills, Ledger, Steps, Drill}
+use Rattle.command_words.specs.declared.command.Command.TheVariants.{Run, Drill}
 use Rattle.globex_run.specs.Outside.{Streams}
 use Rattle.globex_run.specs.Outcomes.{is_outcome}
 use Rattle.globex_run.specs.Prints.{PrintsAs}

@@ -1,8 +1,8 @@
-use Rattle.std.proofs.Common.{◌≡◌, ◌==◌, ℕ, Bool, true, arith, List, length, refl, sym, ap, subst, ◌∙◌}
+use Rattle.std.proofs.Common.{◌≡◌, ◌==◌, ℕ, true, arith, List, length, refl, sym, ap, subst, ◌∙◌}
 use Rattle.std.proofs.lemmas.Bool.Decides.{nat_tests}
 use Rattle.gx_station.specs.Quiet.{Sends}
 use Rattle.gx_base.specs.declared.event.Event.{Event}
-use Rattle.order_maker.specs.Stream.{MadeStream, maker_meanings}
+use Rattle.order_maker.specs.Stream.{maker_meanings}
 use Rattle.plain_book.specs.Book.{Book, live_orders}
 use Rattle.order_kinds.specs.State.{state_numbered}
 use Rattle.book_print.specs.Publishing.{tally_publisher_meanings}
@@ -10,7 +10,6 @@ use Rattle.book_print.specs.TallyText.{tally_line}
 use Rattle.book_print.specs.declared.tally.TallyEmit.{TallyEmit}
 use Rattle.globex_run.specs.Outside.{streams_at}
 use Rattle.globex_run.specs.Inner.Sessions.{SessionResult}
-use Rattle.globex_run.proofs.Drills.{fewer}
 use Rattle.globex_run.proofs.Drilled.{live-numbered}
 use Rattle.globex_run.proofs.drill.run_drill.Goals as goal
 

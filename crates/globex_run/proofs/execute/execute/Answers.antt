@@ -1,10 +1,7 @@
-use Rattle.std.proofs.Common.{◌≡◌, ℕ, List, [], inl, inr, Ok, refl, sym, ap, subst, ◌∙◌}
+use Rattle.std.proofs.Common.{refl, sym, subst}
 use Rattle.gx_base.specs.Line.{line_of}
-use Rattle.gx_base.specs.declared.event.Event.{Event}
 use Rattle.order_kinds.specs.State.{state_numbered}
-use Rattle.book_print.specs.Publishing.{report_meanings}
 use Rattle.command_words.specs.declared.command.Command.{Command}
-use Rattle.command_words.specs.declared.command.Command.TheVariants.{Run, Steps, Drill}
 use Rattle.globex_run.specs.Outside.{streams_at}
 use Rattle.globex_run.specs.Inner.Executing.{Executes, HasCauses}
 use Rattle.globex_run.proofs.Executed.{any-published, quiet-reads, drill-causes}

@@ -1,4 +1,4 @@
-use Rattle.std.proofs.Common.{◌≡◌, ◌≤◌, inl, inr, ℕ, List, length, refl, sym, subst}
+use Rattle.std.proofs.Common.{◌≤◌, inl, inr, ℕ, List, length, refl, sym, subst}
 use Rattle.globex_run.specs.Outside.{source_at}
 use Rattle.globex_run.proofs.Runs.{short-text, few-of-product, memory-without}
 use Rattle.globex_run.proofs.Commands.{no-memory, balances, exactly, otherwise, every-moment, first-sync, every-message, balanced, full, all-served, sums-up, drill-ends, drill-every-moment, drill-before-sync, drill-has-no-room, all-drilled, prints, all-printed, told-ended}
