@@ -1,0 +1,2 @@
+//! The slots of live orders, by the firm and the id that the firm gave the order.
+#![tactic(auto)]
