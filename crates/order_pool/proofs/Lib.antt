@@ -1,0 +1,15 @@
+pub mod Calls
+pub mod Cells
+pub mod CellsAt
+pub mod Chained
+pub mod Lent
+pub mod Ordered
+pub mod Paths
+pub mod Places
+pub mod Pools
+pub mod PoolCalls
+pub mod PoolFacts
+pub mod RingMoves
+pub mod Shown
+pub mod Views
+pub mod WholeRings

@@ -1,0 +1,100 @@
+-- What a contract sees when an order changes, and which slots it sees.
+use Rattle.std.proofs.Common.{◌≡◌, ◌≢◌, ℕ, ◌<◌, ◌≤◌, cond, eqb, List, [], ◌∷◌, length, map, refl, sym, ap, subst, ◌∙◌, arith, take, inl, inr, nat_lt}
+use Rattle.std.specs.Prelude.{IsTrue}
+use Rattle.std.proofs.lemmas.Bool.{ltb-true, lt-ltb}
+use Rattle.std.proofs.lemmas.List.{get_or-set_same, get_or-set_other}
+use Rattle.std.proofs.lemmas.Bool.Decides.{eqb_tells}
+use Rattle.gx_base.specs.declared.order.Order.{Order}
+use Rattle.order_pool.specs.Inner.Block.{Cell, cell_at, no_cell, with_order}
+use Rattle.order_pool.specs.Inner.Rings.{order_at, queue_at, AreWholeRings, IsPoolWith, IsPool, ring_at, entry, queues_with, queues_of, AllDiffer}
+use Rattle.order_pool.specs.Queues.{Queues, with_entry, HasSlot, IsLive, NoRepeat, SlotsDiffer}
+use Rattle.order_pool.proofs.WholeRings.{rings_of-is}
+use Rattle.order_pool.proofs.Views.{in-entries, has_slot-entries, entries_at-qs, length-qs}
+use Rattle.order_pool.proofs.Paths.{each-in}
+use Rattle.order_pool.proofs.Pools.{seen, with-rings}
+use Rattle.order_pool.proofs.Ordered.{AreWholeRings-ordered}
+
+module _ (cs : List Cell) (i : ℕ) (o : Order) (wi : i < length cs) where
+  abbrev ds : List Cell
+  ds = with_order cs i o
+
+  abbrev mine : Cell
+  mine = record (cell_at cs i) { order = o }
+
+  changed : (k : ℕ) → entry ds k ≡ (k, cond (eqb k i) o (order_at cs k))
+  changed k =
+      elim (eqb_tells k i) [
+        | inl t ↦
+            (λ j. (k, (ap (λ (d : Cell). d.order) (ap (cell_at ds) t.1 ∙ get_or-set_same cs i mine no_cell wi)) j))
+            ∙ (λ j. (k, cond (sym t.0 j) o (order_at cs k)))
+        | inr t ↦
+            (λ j. (k, (ap (λ (d : Cell). d.order) (get_or-set_other cs i k mine no_cell t.1)) j))
+            ∙ (λ j. (k, cond (sym t.0 j) o (order_at cs k)))
+      ]
+
+  changed_all : (ks : List ℕ) → map (entry ds) ks ≡ with_entry i o (map (entry cs) ks)
+  changed_all [] = refl
+  changed_all (k ∷ ks) = λ j. changed k j ∷ changed_all ks j
+
+  changed_rings : (X : List (List ℕ)) → map (map (entry ds)) X ≡ map (with_entry i o) (map (map (entry cs)) X)
+  changed_rings [] = refl
+  changed_rings (ks ∷ X) = λ j. changed_all ks j ∷ changed_rings X j
+
+module _ (cs : List Cell) (slots queues live : ℕ) (counts : List ℕ) (L : List (List ℕ)) (pool : IsPoolWith cs slots queues live counts L) (i : ℕ) (o : Order) (li : i < slots) where
+  whole₀ : AreWholeRings (with_order cs i o) slots queues L
+  whole₀ = AreWholeRings-ordered cs slots queues L pool.whole i o li
+
+  pub IsPool-ordered : (new : List Cell) → new ≡ with_order cs i o → IsPool new slots queues live counts
+  IsPool-ordered new e =
+      subst (λ (es : List Cell). IsPool es slots queues live counts) (sym e)
+      (with-rings (with_order cs i o) slots queues live counts L (record { whole = whole₀; fits = pool.fits; free = pool.free; many = pool.many; counted = pool.counted }))
+
+  pub view-ordered : (new : List Cell) → new ≡ with_order cs i o → (b : Queues) → queues_with cs slots queues L ≡ b → queues_of new slots queues ≡ record b { queues = map (with_entry i o) b.queues }
+  view-ordered new e b shown =
+      subst (λ (c : Queues). queues_of new slots queues ≡ record c { queues = map (with_entry i o) c.queues }) shown
+      (ap (λ (es : List Cell). queues_of es slots queues) e ∙ ap (queues_with (with_order cs i o) slots queues) (rings_of-is (with_order cs i o) slots queues L whole₀)
+      ∙ (λ j. record { capacity = slots; queues = changed_rings cs i o (omega (arith, pool.whole.are.cells)) (take queues L) j }))
+
+module _ (cs : List Cell) (slots queues : ℕ) (L : List (List ℕ)) (whole : AreWholeRings cs slots queues L) (b : Queues) (shown : queues_with cs slots queues L ≡ b) (i : ℕ) where
+  pub is_live : i < slots → queue_at cs i < queues → IsLive b i
+  is_live li lq =
+      subst (λ (c : Queues). IsLive c i) shown (
+        queue_at cs i,
+        (
+          omega (arith, length-qs cs slots queues L whole),
+          subst (HasSlot i) (sym (entries_at-qs cs slots queues L whole (queue_at cs i) lq)) (has_slot-entries cs i (ring_at L (queue_at cs i)) (whole.covers i li).1),
+        ),
+      )
+
+  pub live_slot : IsLive b i → i < slots
+  live_slot h = (seen cs slots queues L whole b i h.0 shown h.1).slot
+
+  pub live_queue : IsLive b i → queue_at cs i < queues
+  live_queue h = let s = seen cs slots queues L whole b i h.0 shown h.1 in omega (arith, s.tag, s.queue)
+
+  pub is_live_tested : (q : ℕ) → q ≡ queue_at cs i → i < slots → (IsTrue (nat_lt q queues) → IsLive b i) × (IsLive b i → IsTrue (nat_lt q queues))
+  is_live_tested q e li =
+      (λ t. let below = ltb-true q queues t in is_live li (omega (arith, below)), λ h. let below = live_queue h in lt-ltb q queues (omega (arith, below)))
+
+  pub not_slot : slots ≤ i → (IsTrue (nat_lt i slots) → IsLive b i) × (IsLive b i → IsTrue (nat_lt i slots))
+  not_slot le = (λ t. let below = ltb-true i slots t in absurd (omega (arith, below)), λ h. lt-ltb i slots (live_slot h))
+
+no_repeat : (cs : List Cell) (ks : List ℕ) → AllDiffer ks → NoRepeat (map (entry cs) ks)
+no_repeat cs [] d = tt
+no_repeat cs (k ∷ ks) d = (λ h. each-in (λ j. j ≢ k) k ks (in-entries cs k ks h) d.0 refl, no_repeat cs ks d.1)
+
+pub rules : (cs : List Cell) (slots queues : ℕ) (L : List (List ℕ)) (whole : AreWholeRings cs slots queues L) (b : Queues) → queues_with cs slots queues L ≡ b → SlotsDiffer b
+rules cs slots queues L whole b shown =
+    subst SlotsDiffer shown
+    (record {
+      across = λ i q r h k.
+          let c = queues_with cs slots queues L in
+          sym (seen cs slots queues L whole c i q refl h).tag ∙ (seen cs slots queues L whole c i r refl k).tag;
+      within = λ q h.
+          let lq : q < queues = omega (arith, length-qs cs slots queues L whole) in
+          subst NoRepeat (sym (entries_at-qs cs slots queues L whole q lq)) (no_repeat cs (ring_at L q) (whole.are.each q (omega arith)).differ);
+      below = λ i h. (seen cs slots queues L whole (queues_with cs slots queues L) i h.0 refl h.1).slot;
+    })
+
+pub queues_many : (cs : List Cell) (slots queues : ℕ) (L : List (List ℕ)) (whole : AreWholeRings cs slots queues L) (b : Queues) → queues_with cs slots queues L ≡ b → queues ≡ length b.queues
+queues_many cs slots queues L whole b shown = sym (length-qs cs slots queues L whole) ∙ ap (λ (c : Queues). length c.queues) shown
