@@ -1,0 +1,90 @@
+//! The table of ids.
+use super::CALLS;
+use gx_base::{ShortId, Slot};
+use id_table::IdTable;
+use rand::rngs::SmallRng;
+use rand::{RngExt, SeedableRng};
+use std::alloc::{AllocGlobal, Global};
+use std::collections::BTreeMap;
+use std::process::Abort;
+use std::test::Fail;
+
+#[test]
+fn ids_after_a_few_calls(rt: HostRuntime) -> Result<(), Fail> {
+    let x = ShortId::new(b"x").ok_or("no id")?;
+    let y = ShortId::new(b"y").ok_or("no id")?;
+    let mut table = IdTable::new(rt.alloc(), 2)?;
+    assert!(rt; table.len() < table.capacity() && table.find(0, &x).is_none());
+    table.insert(0, x, Slot(7));
+    assert!(rt; table.len() < table.capacity() && table.find(1, &x).is_none());
+    table.insert(1, x, Slot(3));
+    assert!(rt; table.find(0, &x).is_some() && table.find(0, &y).is_none());
+    table.rename(0, &x, y);
+    assert!(rt; table.find(1, &x).is_some());
+    table.remove(1, &x);
+    assert_eq!(rt; table.find(0, &x), None);
+    assert_eq!(rt; table.find(1, &x), None);
+    assert_eq!(rt; table.find(0, &y), Some(Slot(7)));
+    assert_eq!(rt; table.len(), 1);
+    Ok(())
+}
+
+/// An id of 19 digits, as clients count them.
+fn id_of(alloc: Global, number: u32) -> Result<ShortId, Fail> {
+    let text = format!(in alloc; "{number:019}")?;
+    Ok(ShortId::new(text.as_bytes()).ok_or("no id")?)
+}
+
+#[test]
+fn table_beside_a_map(rt: HostRuntime) -> Result<(), Fail> {
+    let mut pair = Pair {
+        table: IdTable::new(rt.alloc(), 50)?,
+        slots: BTreeMap::new(rt.alloc()),
+    };
+    let mut draws = SmallRng::seed_from_u64(1);
+    for call in 0..CALLS {
+        let firm = draws.random_range(0..3);
+        let number = draws.random_range(0..40);
+        let other = draws.random_range(0..40);
+        pair.step(&rt, firm, number, other, Slot(call as u32))?;
+    }
+    Ok(())
+}
+
+/// A table and the map that it should be. Its ids are the numbers of which they are made.
+#[derive(Drop)]
+struct Pair {
+    table: IdTable,
+    slots: BTreeMap<(u8, u32), Slot>,
+}
+
+impl Pair {
+    /// One drawn call: an id that is there leaves or is renamed, and one that is not there comes.
+    fn step(
+        &mut self,
+        rt: &(impl Abort + AllocGlobal),
+        firm: u8,
+        number: u32,
+        other: u32,
+        slot: Slot,
+    ) -> Result<(), Fail> {
+        let id = id_of(rt.alloc(), number)?;
+        let new = id_of(rt.alloc(), other)?;
+        let was = self.table.find(firm, &id);
+        assert_eq!(rt; was, self.slots.get(&(firm, number)).copied());
+        if let Some(was) = was {
+            self.slots.remove(&(firm, number));
+            if self.table.find(firm, &new).is_none() {
+                self.table.rename(firm, &id, new);
+                self.slots.insert((firm, other), was)?;
+            } else {
+                self.table.remove(firm, &id);
+            }
+        } else if self.table.len() < self.table.capacity() {
+            self.table.insert(firm, id, slot);
+            self.slots.insert((firm, number), slot)?;
+        }
+        assert_eq!(rt; self.table.len() as usize, self.slots.len());
+        Ok(())
+    }
+}
