@@ -14,7 +14,6 @@ pub mod Right
 pub mod LineCounts
 pub mod Parts
 -- What the proofs of this crate alone cite.
-mod Before
 mod Mapped
 mod Settled
 mod Kept

@@ -6,7 +6,7 @@ use Rattle.plain_book.specs.declared.entry.Entry.{Entry}
 use Rattle.plain_book.specs.Orders.{level_of, is_at_earlier_level, is_of_earlier_instrument, entry_at, HasSlot}
 use Rattle.plain_book.specs.Book.{EachPair, AllDiffer}
 use Rattle.plain_book.proofs.Pairs.{pairs-insert, all-insert}
-use Rattle.plain_book.proofs.Before.{before-past, before-apart, nat-past, nat-apart}
+use Rattle.book_order.proofs.Before.{before-past, before-apart, nat-past, nat-apart}
 
 -- a test that orders entries
 pub record Orders (before : Entry → Entry → Bool) : Type 0 where

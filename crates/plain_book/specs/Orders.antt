@@ -2,64 +2,24 @@
 --
 -- A definition names an order by a number, its slot. In the contract of a call that is the order's slot in its
 -- container. Where a state has no slots, it is the order's own number: the definitions are the same.
-use Rattle.std.specs.Prelude.{◌≡◌, ℕ, ◌+◌, ◌-◌, min, Bool, true, false, not, ◌&&◌, ◌||◌, ℤ, pos, int_lt, nat_lt, ◌==◌, if◌then◌else◌, List, [], ◌∷◌, ◌++◌, filter, map, sum_by, bytes_eq, Option, Some, None, ◌⊎◌, slice_index_or}
+use Rattle.std.specs.Prelude.{◌≡◌, ℕ, ◌+◌, ◌-◌, min, Bool, true, false, not, ◌&&◌, ℤ, pos, nat_lt, ◌==◌, if◌then◌else◌, List, [], ◌∷◌, ◌++◌, filter, map, sum_by, bytes_eq, Option, Some, None, ◌⊎◌, slice_index_or}
 use Rattle.std.specs.List.{list_any}
-use Rattle.std.specs.Ordering.{int_eq}
 use Rattle.gx_base.specs.declared.price.Price.{Price}
 use Rattle.gx_base.specs.declared.order.Side.{Side}
-use Rattle.gx_base.specs.declared.order.Side.TheVariants.{Buy, Sell}
+use Rattle.gx_base.specs.declared.order.Side.TheVariants.{Buy}
 use Rattle.gx_base.specs.declared.order.Kind.TheVariants.{Limit}
 use Rattle.gx_base.specs.declared.order.Life.TheVariants.{Day}
 use Rattle.gx_base.specs.declared.order.Order.{Order}
+pub use Rattle.book_order.specs.Levels.{is_side, side_before, opposite, is_better, is_within, Level, level, is_level, is_before}
 use Rattle.plain_book.specs.declared.entry.Entry.{Entry}
 
--- ---- sides and prices
-
-abbrev pub is_side : Side → Side → Bool
-is_side Buy Buy = true
-is_side Buy Sell = false
-is_side Sell Buy = false
-is_side Sell Sell = true
-
--- buy comes before sell
-abbrev pub side_before : Side → Side → Bool
-side_before Buy Buy = false
-side_before Buy Sell = true
-side_before Sell side = false
-
-abbrev pub opposite : Side → Side
-opposite Buy = Sell
-opposite Sell = Buy
-
--- a is a better price than b: a higher one for a buy, a lower one for a sell
-abbrev pub is_better : Side → ℤ → ℤ → Bool
-is_better Buy a b = int_lt b a
-is_better Sell a b = int_lt a b
-
--- a price of this side that the limit of an order of the other side allows: not above it for a buy, not below it for a
--- sell
-abbrev pub is_within : Side → ℤ → ℤ → Bool
-is_within side limit price = not (is_better side limit price)
-
 -- ---- filters
-
--- the instrument, side and price at which an order stands
-pub record Level : Type 0 where
-  pub instrument : ℕ
-  pub side : Side
-  pub price : ℤ
-
-abbrev pub level : ℕ → Side → Price → Level
-level instrument side price = record { instrument = instrument; side = side; price = price.0 }
 
 abbrev pub level_of : Order → Level
 level_of o = record { instrument = o.instrument; side = o.side; price = o.price.0 }
 
 abbrev pub is_on : ℕ → Side → Entry → Bool
 is_on instrument side e = (e.order.instrument == instrument) && is_side e.order.side side
-
-abbrev pub is_level : Level → Level → Bool
-is_level a b = (a.instrument == b.instrument) && (is_side a.side b.side && int_eq a.price b.price)
 
 abbrev pub is_at : Level → Entry → Bool
 is_at k e = is_level (level_of e.order) k
@@ -167,12 +127,6 @@ reordered slot o e = if e.slot == slot then record e { order = o } else e
 -- the order of a slot is now o, in its place
 abbrev pub with_order : ℕ → Order → List Entry → List Entry
 with_order slot o es = map (reordered slot o) es
-
--- a stands before b: the earlier instrument, buy before sell, the better price
-abbrev pub is_before : Level → Level → Bool
-is_before a b =
-    nat_lt a.instrument b.instrument
-    || ((a.instrument == b.instrument) && (side_before a.side b.side || (is_side a.side b.side && is_better a.side a.price b.price)))
 
 -- e comes behind n
 abbrev pub is_at_earlier_level : Entry → Entry → Bool

@@ -4,7 +4,8 @@ ghost use Rattle.plain_book.specs.Orders.{without, with_order, reordered, placed
 ghost use Rattle.plain_book.specs.Book.{EachPair, AreInBookOrder, AreInLine, slot_number, first_shown, is_enough, changed_to};
 
 use crate::entry::Entry;
-use crate::scan::{best_price, is_better_price, is_on_side, place_of, stop_place_of};
+use crate::scan::{best_price, is_on_side, place_of, stop_place_of};
+use book_order::is_better_price;
 use gx_base::{Order, ShortId, Side, Slot};
 
 /// Takes the order of a slot out, where it is there.

@@ -1,36 +1,11 @@
 //! What is read from lists of live orders.
 ghost use Rattle.std.specs.Prelude.{◌≡◌, ◌<◌, ◌≤◌, ◌^◌, ◌++◌, ℕ, true, false, length, nat_lt, option_map};
-ghost use Rattle.std.specs.Ordering.{int_eq};
-ghost use Rattle.plain_book.specs.Orders.{is_side, side_before, is_better, is_within, is_on, is_at, is_of, is_slot, is_named, is_before, level, level_of, best_of, worse_of, orders_at, stops_of, slot_of, slot_after, slot_named, order_of, HasSlot, shown_at, open_within, top_of, is_at_earlier_level, is_of_earlier_instrument, entry_at};
+ghost use Rattle.plain_book.specs.Orders.{is_better, is_within, is_on, is_at, is_of, is_slot, is_named, is_before, level, level_of, best_of, worse_of, orders_at, stops_of, slot_of, slot_after, slot_named, order_of, HasSlot, shown_at, open_within, top_of, is_at_earlier_level, is_of_earlier_instrument, entry_at};
 ghost use Rattle.plain_book.specs.Book.{slot_number};
 
 use crate::entry::Entry;
+use book_order::{is_better_price, is_same_price, is_same_side, is_side_before};
 use gx_base::{Order, Price, ShortId, Side, Slot};
-
-fn is_same_side(a: Side, b: Side) -> bool
-    ensures { result ≡ is_side a b }
-{
-    match (a, b) {
-        (Side::Buy, Side::Buy) | (Side::Sell, Side::Sell) => true,
-        (Side::Buy, Side::Sell) | (Side::Sell, Side::Buy) => false,
-    }
-}
-
-fn is_same_price(a: Price, b: Price) -> bool
-    ensures { result ≡ int_eq a.0 b.0 }
-{
-    a.0 == b.0
-}
-
-/// Whether a is a better price than b: a higher one for a buy, a lower one for a sell.
-pub(crate) fn is_better_price(side: Side, a: Price, b: Price) -> bool
-    ensures { result ≡ is_better side a.0 b.0 }
-{
-    match side {
-        Side::Buy => b.0 < a.0,
-        Side::Sell => a.0 < b.0,
-    }
-}
 
 /// Whether an order stands on a side of an instrument.
 pub(crate) fn is_on_side(entry: &Entry, instrument: u8, side: Side) -> bool
@@ -249,15 +224,6 @@ pub(crate) fn find_in(resting: &[Entry], waiting: &[Entry], firm: u8, id: &Short
         }
     }
     find_at(waiting, firm, id)
-}
-
-fn is_side_before(a: Side, b: Side) -> bool
-    ensures { result ≡ side_before a b }
-{
-    match (a, b) {
-        (Side::Buy, Side::Sell) => true,
-        (Side::Buy, Side::Buy) | (Side::Sell, _) => false,
-    }
 }
 
 /// Whether the instrument, side and price of a come before those of b.

@@ -4,7 +4,7 @@ use Rattle.std.specs.Prelude.{ℤ, pos, negsuc, int_lt, nat_lt, ◌==◌}
 use Rattle.std.proofs.lemmas.Bool.Decides.{nat_tests}
 use Rattle.gx_base.specs.declared.order.Side.{Side}
 use Rattle.gx_base.specs.declared.order.Side.TheVariants.{Buy, Sell}
-use Rattle.plain_book.specs.Orders.{Level, is_before, is_side, side_before, is_better}
+use Rattle.book_order.specs.Levels.{Level, is_before, is_side, side_before, is_better}
 
 pub nat-past : (a b c : ℕ) → nat_lt a b ≡ true → nat_lt c b ≡ false → nat_lt a c ≡ true
 nat-past a b c h g = grind (arith, nat_tests)
