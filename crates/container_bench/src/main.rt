@@ -152,7 +152,10 @@ fn run_pool(alloc: Global, live: u32, rounds: u32) -> Result<u32, AllocError> {
 }
 
 fn number_of(words: &[String], at: usize) -> u32 {
-    words.get(at).and_then(|word| word.parse().ok()).unwrap_or(0)
+    words
+        .get(at)
+        .and_then(|word| word.parse().ok())
+        .unwrap_or(0)
 }
 
 fn main(rt: HostRuntime) -> io::Result<()> {

@@ -5,7 +5,8 @@ use Rattle.order_pool.specs.Inner.Block.{Cell, with_order}
 use Rattle.order_pool.specs.Inner.Rings.{queue_at, next_at, IsPool, cells_moved, moved, queues_of, rings_of}
 use Rattle.order_pool.specs.Queues.{Queues, IsIn, IsLive, entries_at, first_slot, next_slot, order_of, appended, removed, with_entry, live_of}
 use Rattle.order_pool.proofs.Pools.{Seen, seen, with-rings, pool-back, view-back, view-out}
-use Rattle.order_pool.proofs.PoolCalls.{Free, below, first_free, not_live, live_some, live_is, first_is_in, first_is_some, first_is_none, next_is_in, next_is_some, next_is_none, IsPool-pushed, view-pushed, IsPool-unlinked, IsIn-appended}
+use Rattle.order_pool.proofs.PoolCalls.{Free, below, first_free, not_live, live_some, live_is, first_is_in, first_is_some, first_is_none, next_is_in, next_is_some, next_is_none, IsPool-pushed, view-pushed, IsPool-unlinked}
+use Rattle.order_pool.proofs.PoolFacts.{IsIn-appended}
 use Rattle.order_pool.proofs.Shown.{IsPool-ordered, view-ordered}
 
 module _ {cs : List Cell} {slots queues live : ℕ} {counts : List ℕ} (pool : IsPool cs slots queues live counts) {b : Queues} (shown : queues_of cs slots queues ≡ b) where

@@ -1,15 +1,17 @@
-pub mod Calls
-pub mod Cells
-pub mod CellsAt
-pub mod Chained
-pub mod Lent
-pub mod Ordered
-pub mod Paths
-pub mod Places
-pub mod Pools
-pub mod PoolCalls
+-- Offered to the crates above: what they may cite.
 pub mod PoolFacts
-pub mod RingMoves
-pub mod Shown
-pub mod Views
-pub mod WholeRings
+-- What the proofs of this crate alone cite.
+mod Calls
+mod Cells
+mod CellsAt
+mod Chained
+mod Lent
+mod Ordered
+mod Paths
+mod Places
+mod PoolCalls
+mod Pools
+mod RingMoves
+mod Shown
+mod Views
+mod WholeRings

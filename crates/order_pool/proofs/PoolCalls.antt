@@ -1,7 +1,6 @@
 -- What the answers of a pool's calls cite.
 use Rattle.std.proofs.Common.{◌≡◌, ℕ, ◌+◌, ◌-◌, ◌<◌, ◌≤◌, ◌^◌, Bool, cond, List, [], ◌∷◌, ◌++◌, length, map, refl, sym, ap, subst, ◌∙◌, arith, inl, inr, slice_set, get_or, take, Some, None}
-use Rattle.std.proofs.lemmas.List.{length-map, length-set, take_all, take_more}
-use Rattle.std.proofs.lemmas.Grind.{get_or-set_at}
+use Rattle.std.proofs.lemmas.List.{length-map, take_all, take_more}
 use Rattle.std.proofs.lemmas.List.Sums.{sum_by-cons, sum_by_push}
 use Rattle.std.proofs.lemmas.Bool.Decides.{eqb_tells}
 use Rattle.std.specs.Prelude.{sum_by}
@@ -195,15 +194,3 @@ module _ (cs : List Cell) (slots queues live : ℕ) (counts : List ℕ) (L : Lis
       (subst (λ (ns : List ℕ). IsPool moved_cells slots queues (live - 1) ns) (sym (ec ∙ ap (λ (j : ℕ). slice_set counts j (get_or counts j 0 - 1)) ek))
       (with-rings moved_cells slots queues (live - 1) (slice_set counts r n) (moved L i queues)
       (pool-out cs slots queues live counts L pool i queues s.slot (omega arith) (live - 1) n (omega (arith, s.tag, s.queue)) refl (omega (arith, any)) (omega (arith, more)))))
-
--- ---- what an entry that came is
-
-has_slot-push : (i : ℕ) (o : Order) (es : List Entry) → HasSlot i (es ++ (i, o) ∷ [])
-has_slot-push i o [] = inl refl
-has_slot-push i o (e ∷ es) = inr (has_slot-push i o es)
-
-pub IsIn-appended : (b : Queues) (q i : ℕ) (o : Order) → q < length b.queues → IsIn (record b { queues = appended q (i, o) b.queues }) i q
-IsIn-appended b q i o lq = (
-  omega (arith, length-set b.queues q (entries_at b.queues q ++ (i, o) ∷ [])),
-  subst (HasSlot i) (sym (get_or-set_at b.queues q q (entries_at b.queues q ++ (i, o) ∷ []) [] refl lq)) (has_slot-push i o (entries_at b.queues q)),
-)

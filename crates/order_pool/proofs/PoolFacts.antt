@@ -1,9 +1,12 @@
--- What callers of a pool cite: the entry at a place, and the one after it.
-use Rattle.std.proofs.Common.{◌≡◌, ℕ, ◌<◌, Bool, cond, List, [], ◌∷◌, length, refl, sym, ap, subst, ◌∙◌, arith, inl, inr, get_or, drop, Some}
+-- What callers of a pool cite: the entry at a place, the one behind it, and one that came.
+use Rattle.std.proofs.Common.{◌≡◌, ℕ, ◌<◌, Bool, cond, List, [], ◌∷◌, ◌++◌, length, refl, sym, ap, subst, ◌∙◌, arith, inl, inr, get_or, drop, Some}
 use Rattle.std.proofs.Math.Seq.{drop-cons}
 use Prim.Native.Nat.{zero, suc}
 use Rattle.std.proofs.lemmas.Bool.Decides.{eqb_tells}
-use Rattle.order_pool.specs.Queues.{Entry, HasSlot, NoRepeat, order_of, first_slot, next_slot}
+use Rattle.std.proofs.lemmas.List.{length-set}
+use Rattle.std.proofs.lemmas.Grind.{get_or-set_at}
+use Rattle.gx_base.specs.declared.order.Order.{Order}
+use Rattle.order_pool.specs.Queues.{Queues, Entry, HasSlot, IsIn, NoRepeat, entries_at, order_of, first_slot, next_slot, appended}
 
 has_slot-at : (es : List Entry) (k : ℕ) (d : Entry) → k < length es → HasSlot (get_or es k d).0 es
 has_slot-at [] k d lt = absurd (let l : k < 0 = lt in omega arith)
@@ -42,3 +45,15 @@ next_slot-at (x ∷ es) (suc k) i d differ lt e =
 
 pub first_slot-drop : (es : List Entry) (k : ℕ) (d : Entry) → k < length es → first_slot (drop k es) ≡ Some (get_or es k d).0
 first_slot-drop es k d lt = ap first_slot (drop-cons es k d lt)
+
+-- ---- an entry that came is there
+
+has_slot-push : (i : ℕ) (o : Order) (es : List Entry) → HasSlot i (es ++ (i, o) ∷ [])
+has_slot-push i o [] = inl refl
+has_slot-push i o (e ∷ es) = inr (has_slot-push i o es)
+
+pub IsIn-appended : (b : Queues) (q i : ℕ) (o : Order) → q < length b.queues → IsIn (record b { queues = appended q (i, o) b.queues }) i q
+IsIn-appended b q i o lq = (
+  omega (arith, length-set b.queues q (entries_at b.queues q ++ (i, o) ∷ [])),
+  subst (HasSlot i) (sym (get_or-set_at b.queues q q (entries_at b.queues q ++ (i, o) ∷ []) [] refl lq)) (has_slot-push i o (entries_at b.queues q)),
+)

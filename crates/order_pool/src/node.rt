@@ -127,6 +127,7 @@ pub(crate) fn close(nodes: &mut Vec<Node>, count: u32)
     }
 }
 
+// The links of a node lead into the block that owns it, and nobody else has them.
 unsafe impl Send for Node {}
 
 unsafe impl Sync for Node {}

@@ -1,5 +1,6 @@
-//! Raw pointers to the elements of a `Vec`. Only this file makes one, or reads or writes through one. Its three functions that
-//! are proved by hand know nothing of what the elements are.
+//! Raw pointers to the elements of a `Vec`. Only this file makes one that leads to something, and reads or writes through one.
+//! Three of its functions are proved by hand, and know nothing of what the elements are. Each begins with a copy of its
+//! pointer: there the proof says where that leads, once the `Vec` is open.
 ghost use Rattle.std.specs.Prelude.{◌≡◌, ◌<◌, slice_index_or, vec_len};
 ghost use Rattle.std.specs.Borrow.{sem};
 ghost use Rattle.std.specs.Vec.{vec_ptr, vec_follows_item};
