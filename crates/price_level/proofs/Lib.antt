@@ -1,0 +1,17 @@
+mod Lists
+mod Order
+mod Steps
+mod SideRows
+mod Parts
+mod Fields
+mod Tables
+mod Asked
+mod RowLists
+mod Placed
+mod Closed
+mod Unused
+mod Seen
+mod Kept
+mod Summed
+mod Added
+mod Gone

@@ -1,0 +1,111 @@
+-- The order of rows, by the number of their side and then by price.
+use Rattle.std.proofs.Common.{◌≡◌, ◌≢◌, ℕ, ◌<◌, Bool, true, false, ◌&&◌, ◌||◌, refl, sym, ap, subst, ◌∙◌, arith, inl, inr}
+use Rattle.std.specs.Prelude.{ℤ, pos, negsuc, int_lt, nat_lt, ◌==◌}
+use Rattle.std.proofs.lemmas.Bool.Decides.{nat_tests, Decides-int_eq}
+use Rattle.std.specs.Ordering.{int_eq}
+use Rattle.std.proofs.lemmas.Bool.{cases_lt, lt-ltb, eq-eqb, eqb-true, and_from, and_parts, or_left, or_right, false_from_ne_true}
+use Rattle.gx_base.specs.declared.price.Price.{Price}
+use Rattle.gx_base.specs.declared.order.Side.{Side}
+use Rattle.gx_base.specs.declared.order.Side.TheVariants.{Buy, Sell}
+use Rattle.book_order.specs.Levels.{Level, level, is_level, is_before, is_better, is_side, side_before}
+use Rattle.book_order.proofs.Before.{before-past, before-apart}
+use Rattle.book_order.proofs.Levels.{level_at, same, nat_lt-irrefl, is_side-same, is_side-refl}
+use Rattle.price_level.specs.declared.row.LevelRow.{LevelRow}
+use Rattle.price_level.specs.Rows.{level_of_row, row_on, row_at, row_before}
+use Rattle.price_level.specs.Inner.Sides.{side_number, row_number}
+
+-- ---- prices of one side
+
+pub better-past : (s : Side) (a b c : ℤ) → is_better s a b ≡ true → is_better s c b ≡ false → is_better s a c ≡ true
+better-past Buy a b c h g = before-past (level_at 0 Buy a) (level_at 0 Buy b) (level_at 0 Buy c) h g
+better-past Sell a b c h g = before-past (level_at 0 Sell a) (level_at 0 Sell b) (level_at 0 Sell c) h g
+
+pub better-apart : (s : Side) (a b : ℤ) → is_better s a b ≡ true → is_better s b a ≡ false
+better-apart Buy a b h = before-apart (level_at 0 Buy a) (level_at 0 Buy b) h
+better-apart Sell a b h = before-apart (level_at 0 Sell a) (level_at 0 Sell b) h
+
+-- ---- the number of a side
+
+pub number-same : (i j : ℕ) (s t : Side) → side_number i s ≡ side_number j t → (i ≡ j) × (s ≡ t)
+number-same i j Buy Buy h = (omega arith, refl)
+number-same i j Buy Sell h = absurd (omega arith)
+number-same i j Sell Buy h = absurd (omega arith)
+number-same i j Sell Sell h = (omega arith, refl)
+
+earlier : (i j : ℕ) (s t : Side) (p q : ℤ) → i < j → is_before (level_at i s p) (level_at j t q) ≡ true
+earlier i j s t p q lt = or_left (nat_lt i j) ((i == j) && (side_before s t || (is_side s t && is_better s p q))) (lt-ltb i j lt)
+
+before_side : (i j : ℕ) (s t : Side) (p q : ℤ) → side_number i s < side_number j t → is_before (level_at i s p) (level_at j t q) ≡ true
+before_side i j Buy Buy p q h = earlier i j Buy Buy p q (omega arith)
+before_side i j Buy Sell p q h = elim (cases_lt i j) [
+  | inl lt ↦ earlier i j Buy Sell p q lt
+  | inr ge ↦ let e : i ≡ j = omega arith in or_right (nat_lt i j) ((i == j) && true) (and_from (i == j) true (eq-eqb i j e) refl)
+]
+before_side i j Sell Buy p q h = earlier i j Sell Buy p q (omega arith)
+before_side i j Sell Sell p q h = earlier i j Sell Sell p q (omega arith)
+
+pub before_later : (a b : LevelRow) → row_number a < row_number b → row_before a b ≡ true
+before_later a b h = before_side a.instrument b.instrument a.side b.side a.price.0 b.price.0 h
+
+pub not_before_earlier : (a b : LevelRow) → row_number b < row_number a → row_before a b ≡ false
+not_before_earlier a b h = before-apart (level_of_row b) (level_of_row a) (before_later b a h)
+
+by_price : (i : ℕ) (s : Side) (p q : ℤ) → is_before (level_at i s p) (level_at i s q) ≡ is_better s p q
+by_price i Buy p q = λ k. nat_lt-irrefl i k || (same i k && is_better Buy p q)
+by_price i Sell p q = λ k. nat_lt-irrefl i k || (same i k && is_better Sell p q)
+
+pub before_better : (a b : LevelRow) → row_number a ≡ row_number b → row_before a b ≡ is_better a.side a.price.0 b.price.0
+before_better a b h =
+    let e = number-same a.instrument b.instrument a.side b.side h in
+    ap (λ (i : ℕ). is_before (level_of_row a) (level_at i b.side b.price.0)) (sym e.0)
+    ∙ ap (λ (s : Side). is_before (level_of_row a) (level_at a.instrument s b.price.0)) (sym e.1)
+    ∙ by_price a.instrument a.side a.price.0 b.price.0
+
+-- ---- rows on a side
+
+module _ (i : ℕ) (s : Side) (r : LevelRow) where
+  pub row_is_on : row_number r ≡ side_number i s → row_on i s r ≡ true
+  row_is_on h =
+      let e = number-same r.instrument i r.side s h in
+      and_from (r.instrument == i) (is_side r.side s) (eq-eqb r.instrument i e.0) (subst (λ (t : Side). is_side r.side t ≡ true) e.1 (is_side-refl r.side))
+
+  pub row_is_off : row_number r ≢ side_number i s → row_on i s r ≡ false
+  row_is_off ne =
+      false_from_ne_true (row_on i s r) (λ t.
+      let both = and_parts (r.instrument == i) (is_side r.side s) t in
+      ne (ap (λ (j : ℕ). side_number j r.side) (eqb-true r.instrument i both.0) ∙ ap (side_number i) (is_side-same r.side s both.1)))
+
+  at_by_parts : (a b c : Bool) → (a && (b && c)) ≡ ((a && b) && c)
+  at_by_parts true b c = refl
+  at_by_parts false b c = refl
+
+  pub row_at_price : (price : Price) → row_number r ≡ side_number i s → row_at (level i s price) r ≡ int_eq r.price.0 price.0
+  row_at_price price h = at_by_parts (r.instrument == i) (is_side r.side s) (int_eq r.price.0 price.0) ∙ ap (λ (b : Bool). b && int_eq r.price.0 price.0) (row_is_on h)
+
+  pub row_at_off : (price : Price) → row_number r ≢ side_number i s → row_at (level i s price) r ≡ false
+  row_at_off price ne = at_by_parts (r.instrument == i) (is_side r.side s) (int_eq r.price.0 price.0) ∙ ap (λ (b : Bool). b && int_eq r.price.0 price.0) (row_is_off ne)
+
+-- ---- two levels, of which one comes before the other
+
+nat_other : (a b : ℕ) (p q e : Bool) → (p ≡ false → e ≡ false → q ≡ true) → (nat_lt a b || ((a == b) && p)) ≡ false → ((b == a) && e) ≡ false → (nat_lt b a || ((b == a) && q)) ≡ true
+nat_other a b p q e k h g = grind (arith, nat_tests, k)
+
+int_other : (a b : ℤ) → int_lt a b ≡ false → a ≢ b → int_lt b a ≡ true
+int_other (pos a) (pos b) h ne = let n : a ≢ b = λ e. ne (ap pos e) in grind (arith, nat_tests)
+int_other (pos a) (negsuc b) h ne = refl
+int_other (negsuc a) (pos b) h ne = cc
+int_other (negsuc a) (negsuc b) h ne = let n : a ≢ b = λ e. ne (ap negsuc e) in grind (arith, nat_tests)
+
+better_other : (s : Side) (a b : ℤ) → is_better s a b ≡ false → int_eq b a ≡ false → is_better s b a ≡ true
+better_other Buy a b h g = int_other b a h (λ e. let t = (Decides-int_eq b a).1 e in cc)
+better_other Sell a b h g = int_other a b h (λ e. let t = (Decides-int_eq b a).1 (sym e) in cc)
+
+side_other : (s t : Side) (p q : ℤ) → (side_before s t || (is_side s t && is_better s p q)) ≡ false → (is_side t s && int_eq q p) ≡ false → (side_before t s || (is_side t s && is_better t q p)) ≡ true
+side_other Buy Buy p q h g = better_other Buy p q h g
+side_other Buy Sell p q h g = cc
+side_other Sell Buy p q h g = refl
+side_other Sell Sell p q h g = better_other Sell p q h g
+
+pub before_other : (a b : Level) → is_before a b ≡ false → is_level b a ≡ false → is_before b a ≡ true
+before_other a b h g =
+    nat_other a.instrument b.instrument (side_before a.side b.side || (is_side a.side b.side && is_better a.side a.price b.price)) (side_before b.side a.side || (is_side b.side a.side && is_better b.side b.price a.price)) (is_side b.side a.side && int_eq b.price a.price) (side_other a.side b.side a.price b.price) h g
