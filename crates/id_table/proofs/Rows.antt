@@ -1,12 +1,9 @@
 -- Rows of cells, as functions from a place: which ids they show, and what a write keeps.
-use Rattle.std.proofs.Common.{◌≡◌, ◌≢◌, ℕ, ◌+◌, ◌<◌, ◌≤◌, ◌==◌, Bool, true, false, cond, List, [], ◌∷◌, Option, Some, None, unwrap_or, bytes_eq, refl, sym, ap, subst, ◌∙◌, arith, inl, inr, ◌⊎◌}
+use Rattle.std.proofs.Common.{◌≡◌, ◌≢◌, ℕ, ◌+◌, ◌<◌, ◌≤◌, ◌==◌, true, false, cond, List, [], ◌∷◌, Option, Some, None, unwrap_or, bytes_eq, refl, sym, ap, subst, ◌∙◌, arith, inl, inr, ◌⊎◌}
 use Prim.Native.Nat.{zero, suc}
-use Rattle.std.specs.declared.cmp.Ordering.{Ordering}
-use Rattle.std.specs.declared.cmp.Ordering.TheVariants.{Less, Equal, Greater}
-use Rattle.std.specs.Ordering.{nat_cmp, eq_by_cmp, is_eq}
-use Rattle.std.specs.Cmp.{tied_itself}
-use Rattle.std.specs.Cmp.Lexicographic.{slice_cmp, nat_list_cmp_total}
-use Rattle.std.specs.FinMap.{find, slice_cmp-IsAntisymmetric, nat_cmp-IsAntisymmetric}
+use Rattle.std.specs.Ordering.{nat_cmp}
+use Rattle.std.specs.Cmp.Lexicographic.{slice_cmp}
+use Rattle.std.specs.FinMap.{find}
 use Rattle.std.proofs.lemmas.Bool.{cases_eq, cases_lt, and_parts, and_from, eqb-true, eq-eqb}
 use Rattle.std.proofs.lemmas.Slice.Eq.{bytes_eq-Decides}
 use Rattle.gx_base.specs.declared.order.Slot.{Slot}
@@ -14,25 +11,7 @@ use Rattle.id_table.specs.declared.cells.Entry.{Entry}
 use Rattle.id_table.specs.Inner.Homes.{home_of}
 use Rattle.id_table.specs.Ids.{key}
 use Rattle.id_table.specs.Inner.Cells.{cell_at, key_of, is_named, ends_at, filled, home, Differ, Reach, ReachBut}
-
--- ---- keys
-
-is_equal : (r : Ordering) → is_eq r ≡ true → r ≡ Equal
-is_equal Less e = cc
-is_equal Equal e = refl
-is_equal Greater e = cc
-
-abbrev pub same_key : List ℕ → List ℕ → Bool
-same_key q k = eq_by_cmp (slice_cmp nat_cmp) q k
-
-pub same_key-true : (q k : List ℕ) → same_key q k ≡ true → q ≡ k
-same_key-true q k e = slice_cmp-IsAntisymmetric nat_cmp-IsAntisymmetric q k (is_equal _ e)
-
-pub same_key-itself : (q : List ℕ) → same_key q q ≡ true
-same_key-itself q = ap is_eq (tied_itself nat_list_cmp_total q)
-
-pub same_key-false : (q k : List ℕ) → same_key q k ≡ false → q ≢ k
-same_key-false q k e p = let t : same_key q k ≡ true = subst (λ (x : List ℕ). same_key q x ≡ true) p (same_key-itself q) in cc
+use Rattle.id_table.proofs.Keys.{same_key, same_key-true, same_key-false}
 
 one_entry : (e f : Entry) → ◌≡◌ {A = Option Entry} (Some e) (Some f) → e ≡ f
 one_entry e f p = ap (λ (o : Option Entry). unwrap_or o e) p

@@ -14,7 +14,8 @@ use Rattle.id_table.specs.declared.cells.Entry.{Entry}
 use Rattle.id_table.specs.Inner.Homes.{home_of}
 use Rattle.id_table.specs.Ids.{key, Slots}
 use Rattle.id_table.specs.Inner.Cells.{cell_at, key_of, slot_of_entry, ends_at, filled, slots_of, filled_count, home, Differ, Reach, ReachBut, IsPlace, IsTable, IsKept}
-use Rattle.id_table.proofs.Rows.{Shows, IsAbsent, shows_one, shows_found, shows_put, differ_put, reach_put, shows_clear, differ_clear, reach_clear, shows_moved, differ_moved, reach_moved, reach_passed, reach_closed, ends_named, passes_full, absent_at, same_key}
+use Rattle.id_table.proofs.Keys.{same_key}
+use Rattle.id_table.proofs.Rows.{Shows, IsAbsent, shows_one, shows_found, shows_put, differ_put, reach_put, shows_clear, differ_clear, reach_clear, shows_moved, differ_moved, reach_moved, reach_passed, reach_closed, ends_named, passes_full, absent_at}
 
 -- ---- the map of a row
 
