@@ -1,0 +1,10 @@
+use Rattle.std.specs.Prelude.{option_map}
+use Rattle.plain_book.specs.Book.{slot_number}
+use Rattle.book_side.proofs.Seen.{rests-live, next-is}
+use Rattle.book_side.proofs.linked.LinkedBookBook.next.Goals as goal
+
+pub next-requires : goal.next-requires
+next-requires c = rests-live c.self.invariant c.self.view_is c.args.slot.0 c.requires
+
+pub returns : goal.returns
+returns c = next-is c.self.invariant c.self.view_is c.args.slot.0 (option_map slot_number c.next.result) c.requires c.rules.ensures c.next.ensures.value

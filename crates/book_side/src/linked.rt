@@ -1,0 +1,374 @@
+//! A book that keeps its orders in queues.
+ghost use Rattle.std.specs.Prelude.{◌≡◌, ◌≢◌, ◌<◌, ◌+◌, false, IfOk};
+ghost use Rattle.std.specs.Bool.{MatchBool};
+ghost use Rattle.plain_book.specs.Orders.{HasSlot, refreshed, settled, level_of, placed, without, is_live, order_of};
+ghost use Rattle.book_side.specs.Inner.Steps.{resting_as, book_reordered};
+ghost use Rattle.plain_book.specs.Book.{empty_book, live_orders, IsResting, IsWaiting, book_with_order, book_without};
+
+use crate::clearing::clear_instrument;
+use crate::steps::{
+    changed, enter_level, exchanged, filled, first_shown, is_enough, is_new_best, leave_level,
+    refreshed, with_id, with_shown,
+};
+use crate::tops::{SideTops, drop_top, no_tops, place_top, set_top_at, top_at};
+use gx_base::{Order, Price, ShortId, Side, Slot};
+use id_table::IdTable;
+use order_pool::Pool;
+use plain_book::Book;
+use price_level::Levels;
+use std::alloc::{AllocError, Global};
+use std::marker::Model;
+
+/// Keeps the orders of each level in a queue, and the stops of each instrument in another; the levels in their order, the
+/// ids in a table, and TOP of each side beside them. No call but `clear` walks over orders. Contracts see it as the content
+/// of a book.
+#[derive(Drop)]
+pub struct LinkedBook {
+    pool: Pool,
+    ids: IdTable,
+    levels: Levels,
+    tops: Vec<SideTops>,
+    capacity: u32,
+    instruments: u8,
+}
+
+impl Model for LinkedBook {
+    ghost use Rattle.plain_book.specs.Book.{Book};
+    ghost use Rattle.book_side.specs.Inner.Content.{book_of};
+    ghost use Rattle.book_side.specs.Inner.Linked.{IsLinked};
+
+    ghost Value = { Book };
+
+    ghost view = { λ p. book_of p.capacity p.instruments p.tops.items p.pool.queues p.levels.rows };
+
+    ghost invariant = { λ p. IsLinked p.capacity p.instruments p.pool p.ids p.levels p.tops.items };
+}
+
+impl LinkedBook {
+    /// An empty book for so many live orders, and so many instruments. An `Err` is want of memory, also where twice the
+    /// capacity and the instruments are together 2 to the power of 32 or more. No other call takes memory.
+    pub fn new(alloc: Global, capacity: u32, instruments: u8) -> Result<LinkedBook, AllocError>
+        ensures { IfOk result (λ b. b ≡ empty_book capacity instruments) }
+    {
+        let Some(queues) = capacity.checked_add(u32::from(instruments)) else {
+            return Err(AllocError);
+        };
+        Ok(LinkedBook {
+            pool: Pool::new(alloc, capacity, queues)?,
+            ids: IdTable::new(alloc, capacity)?,
+            levels: Levels::new(alloc, capacity, instruments)?,
+            tops: no_tops(alloc, instruments)?,
+            capacity,
+            instruments,
+        })
+    }
+}
+
+impl Book for LinkedBook {
+    ghost book = { λ b. b };
+
+    fn rules(&self) {
+        let _capacity = self.capacity;
+    }
+
+    fn capacity(&self) -> u32 {
+        self.capacity
+    }
+
+    fn live(&self) -> u32 {
+        self.pool.live()
+    }
+
+    fn best(&self, instrument: u8, side: Side) -> Option<Price> {
+        self.levels.best(instrument, side)
+    }
+
+    fn worse(&self, instrument: u8, side: Side, price: Price) -> Option<Price> {
+        self.levels.worse(instrument, side, price)
+    }
+
+    fn first(&self, instrument: u8, side: Side, price: Price) -> Option<Slot> {
+        self.levels.rules();
+        match self.levels.find(instrument, side, price) {
+            None => None,
+            Some(queue) => self.pool.first(queue),
+        }
+    }
+
+    fn next(&self, slot: Slot) -> Option<Slot> {
+        self.levels.rules();
+        self.pool.next(slot)
+    }
+
+    fn order(&self, slot: Slot) -> Order {
+        self.pool.order(slot)
+    }
+
+    fn count(&self, instrument: u8, side: Side, price: Price) -> u32 {
+        self.levels.rules();
+        match self.levels.find(instrument, side, price) {
+            None => 0,
+            Some(queue) => self.levels.row(queue).count,
+        }
+    }
+
+    fn shown_total(&self, instrument: u8, side: Side, price: Price) -> u64 {
+        self.levels.rules();
+        match self.levels.find(instrument, side, price) {
+            None => 0,
+            Some(queue) => self.levels.row(queue).shown,
+        }
+    }
+
+    fn available(&self, instrument: u8, side: Side, limit: Price) -> u64 {
+        self.levels.available(instrument, side, limit)
+    }
+
+    fn find(&self, firm: u8, id: &ShortId) -> Option<Slot> {
+        self.ids.find(firm, id)
+    }
+
+    fn place(&mut self, order: Order, top_min: Option<u32>) -> Slot {
+        let best = is_new_best(&self.levels, &order);
+        let queue = enter_level(&mut self.levels, order.instrument, order.side, order.price);
+        self.levels.rules();
+        let row = self.levels.row(queue);
+        let shown = first_shown(&order);
+        let slot = self.pool.push_back(queue, with_shown(&order, shown));
+        self.levels.set_sums(
+            queue,
+            row.count + 1,
+            row.shown + u64::from(shown),
+            row.leaves + u64::from(order.leaves),
+        );
+        self.ids.insert(order.firm, order.id, slot);
+        place_top(
+            &mut self.tops,
+            &order,
+            best,
+            is_enough(top_min, order.leaves),
+            slot,
+        );
+        slot
+    }
+
+    fn wait(&mut self, order: Order) -> Slot {
+        self.levels.rules();
+        let queue = self.capacity + u32::from(order.instrument);
+        let slot = self.pool.push_back(queue, with_shown(&order, 0));
+        self.ids.insert(order.firm, order.id, slot);
+        slot
+    }
+
+    fn trade(&mut self, slot: Slot, lots: u32) -> Order {
+        self.rules();
+        let order = self.resting(slot);
+        let given = filled(&order, lots);
+        self.settle(slot, &given);
+        given
+    }
+
+    fn remove(&mut self, slot: Slot) -> Order {
+        let order = self.order(slot);
+        if self.is_resting(slot) {
+            self.take_out(slot);
+        } else {
+            self.take_stop(slot);
+        }
+        order
+    }
+
+    fn change(&mut self, slot: Slot, id: ShortId, quantity: u32, min: u32) {
+        self.rules();
+        let order = self.order(slot);
+        let changed = changed(&order, &id, quantity, min);
+        self.set_id(slot, id);
+        self.set_live(slot, &changed);
+    }
+
+    fn set_prorated(&mut self, slot: Slot, share: u32) {
+        self.rules();
+        let mut order = self.resting(slot);
+        order.prorated = share;
+        self.set_order(slot, &order);
+    }
+
+    fn set_shown(&mut self, slot: Slot, shown: u32) {
+        self.rules();
+        let mut order = self.resting(slot);
+        order.shown = shown;
+        self.set_order(slot, &order);
+    }
+
+    fn top(&self, instrument: u8, side: Side) -> Option<Slot> {
+        top_at(&self.tops, instrument, side)
+    }
+
+    fn set_top(&mut self, instrument: u8, side: Side, slot: Option<Slot>) {
+        set_top_at(&mut self.tops, instrument, side, slot);
+    }
+
+    fn first_waiting(&self, instrument: u8) -> Option<Slot> {
+        self.pool.first(self.capacity + u32::from(instrument))
+    }
+
+    fn next_waiting(&self, slot: Slot) -> Option<Slot> {
+        self.pool.next(slot)
+    }
+
+    fn clear(&mut self) {
+        for instrument in 0..self.instruments {
+            clear_instrument(self, instrument);
+        }
+        self.rules();
+    }
+}
+
+/// Steps of the calls.
+impl LinkedBook {
+    /// A stop leaves.
+    fn take_stop(&mut self, slot: Slot)
+        requires { HasSlot slot.0 self.old.waiting }
+        ensures { self.new ≡ book_without slot.0 self.old }
+    {
+        self.pool.rules();
+        self.levels.rules();
+        let order = self.pool.unlink(slot);
+        self.ids.remove(order.firm, &order.id);
+    }
+
+    /// Whether a live order rests. Else it waits.
+    fn is_resting(&self, slot: Slot) -> bool
+        requires { HasSlot slot.0 (live_orders self.now) }
+        ensures { MatchBool result (HasSlot slot.0 self.now.resting) (HasSlot slot.0 self.now.waiting) }
+    {
+        self.pool.rules();
+        self.levels.rules();
+        self.pool.queue_of(slot) < self.capacity
+    }
+
+    /// A resting order changes, and keeps its place.
+    fn set_order(&mut self, slot: Slot, order: &Order)
+        requires rests { HasSlot slot.0 self.old.resting }
+        requires level { level_of order.now ≡ level_of (order_of slot.0 self.old.resting) }
+        requires firm { order.now.firm ≡ (order_of slot.0 self.old.resting).firm }
+        requires id { order.now.id ≡ (order_of slot.0 self.old.resting).id }
+        requires fit { IsResting self.old.instruments order.now }
+        ensures { self.new ≡ book_with_order slot.0 order.now self.old }
+    {
+        self.pool.rules();
+        self.levels.rules();
+        let old = self.pool.order(slot);
+        let queue = self.pool.queue_of(slot);
+        let row = self.levels.row(queue);
+        let shown = exchanged(row.shown, old.shown, order.shown);
+        let leaves = exchanged(row.leaves, old.leaves, order.leaves);
+        self.pool.set(slot, *order);
+        self.levels.set_sums(queue, row.count, shown, leaves);
+    }
+
+    /// A resting order leaves.
+    fn take_out(&mut self, slot: Slot)
+        requires { HasSlot slot.0 self.old.resting }
+        ensures { self.new ≡ book_without slot.0 self.old }
+    {
+        self.pool.rules();
+        self.levels.rules();
+        let queue = self.pool.queue_of(slot);
+        let order = self.pool.unlink(slot);
+        leave_level(&mut self.levels, queue, &order);
+        drop_top(&mut self.tops, &order, slot);
+        self.ids.remove(order.firm, &order.id);
+    }
+
+    /// A resting order changes, and goes behind the last order of its price. It is TOP no more.
+    fn send_back(&mut self, slot: Slot, order: &Order)
+        requires rests { HasSlot slot.0 self.old.resting }
+        requires level { level_of order.now ≡ level_of (order_of slot.0 self.old.resting) }
+        requires firm { order.now.firm ≡ (order_of slot.0 self.old.resting).firm }
+        requires id { order.now.id ≡ (order_of slot.0 self.old.resting).id }
+        requires fit { IsResting self.old.instruments order.now }
+        ensures { self.new ≡ resting_as self.old (placed (record { slot = slot.0; order = order.now; is_top = false }) (without slot.0 self.old.resting)) }
+    {
+        self.pool.rules();
+        self.levels.rules();
+        let old = self.pool.order(slot);
+        let queue = self.pool.queue_of(slot);
+        let row = self.levels.row(queue);
+        let shown = exchanged(row.shown, old.shown, order.shown);
+        let leaves = exchanged(row.leaves, old.leaves, order.leaves);
+        self.pool.to_back(slot);
+        self.pool.set(slot, *order);
+        self.levels.set_sums(queue, row.count, shown, leaves);
+        drop_top(&mut self.tops, &old, slot);
+    }
+
+    /// A live order gets another id.
+    fn set_id(&mut self, slot: Slot, id: ShortId)
+        requires live { HasSlot slot.0 (live_orders self.old) }
+        requires unnamed { is_live (order_of slot.0 (live_orders self.old)).firm id (live_orders self.old) ≡ false }
+        ensures { self.new ≡ book_reordered slot.0 (record (order_of slot.0 (live_orders self.old)) { id = id }) self.old }
+    {
+        let order = self.pool.order(slot);
+        self.pool.set(slot, with_id(&order, &id));
+        self.ids.rename(order.firm, &order.id, id);
+    }
+
+    /// A stop changes, and keeps its place.
+    fn set_stop(&mut self, slot: Slot, order: &Order)
+        requires waits { HasSlot slot.0 self.old.waiting }
+        requires level { level_of order.now ≡ level_of (order_of slot.0 (live_orders self.old)) }
+        requires firm { order.now.firm ≡ (order_of slot.0 (live_orders self.old)).firm }
+        requires id { order.now.id ≡ (order_of slot.0 (live_orders self.old)).id }
+        requires fit { IsWaiting self.old.instruments order.now }
+        ensures { self.new ≡ book_reordered slot.0 order.now self.old }
+    {
+        self.pool.set(slot, *order);
+    }
+
+    /// A live order changes, and keeps its place.
+    fn set_live(&mut self, slot: Slot, order: &Order)
+        requires live { HasSlot slot.0 (live_orders self.old) }
+        requires level { level_of order.now ≡ level_of (order_of slot.0 (live_orders self.old)) }
+        requires firm { order.now.firm ≡ (order_of slot.0 (live_orders self.old)).firm }
+        requires id { order.now.id ≡ (order_of slot.0 (live_orders self.old)).id }
+        requires rests { HasSlot slot.0 self.old.resting → IsResting self.old.instruments order.now }
+        requires waits { HasSlot slot.0 self.old.waiting → IsWaiting self.old.instruments order.now }
+        ensures { self.new ≡ book_reordered slot.0 order.now self.old }
+    {
+        self.rules();
+        if self.is_resting(slot) {
+            self.set_order(slot, order);
+        } else {
+            self.set_stop(slot, order);
+        }
+    }
+
+    /// A resting order.
+    fn resting(&self, slot: Slot) -> Order
+        requires { HasSlot slot.0 self.now.resting }
+        ensures { result ≡ order_of slot.0 self.now.resting }
+    {
+        self.pool.order(slot)
+    }
+
+    /// A resting order has become this one by a trade.
+    fn settle(&mut self, slot: Slot, order: &Order)
+        requires rests { HasSlot slot.0 self.old.resting }
+        requires level { level_of order.now ≡ level_of (order_of slot.0 self.old.resting) }
+        requires firm { order.now.firm ≡ (order_of slot.0 self.old.resting).firm }
+        requires id { order.now.id ≡ (order_of slot.0 self.old.resting).id }
+        requires stays { order.now.leaves ≢ 0 → order.now.shown ≢ 0 → IsResting self.old.instruments order.now }
+        requires goes { order.now.leaves ≢ 0 → order.now.shown ≡ 0 → IsResting self.old.instruments (refreshed order.now) }
+        ensures { self.new ≡ resting_as self.old (settled slot.0 order.now self.old.resting) }
+    {
+        self.rules();
+        if order.leaves == 0 {
+            self.take_out(slot);
+        } else if order.shown == 0 {
+            self.send_back(slot, &refreshed(order));
+        } else {
+            self.set_order(slot, order);
+        }
+    }
+}

@@ -1,0 +1,136 @@
+//! Parts of the calls of a linked book.
+ghost use Rattle.std.specs.Prelude.{◌≡◌, ◌+◌, ◌^◌, ◌<◌, ◌≤◌, length, None};
+ghost use Rattle.gx_base.specs.declared.limits.TheConstants.{MOST_LOTS};
+ghost use Rattle.plain_book.specs.Orders.{level, is_best_price, filled_by, refreshed};
+ghost use Rattle.plain_book.specs.Book.{first_shown, is_enough, changed_to};
+ghost use Rattle.price_level.specs.Rows.{best_row, HasQueue, row_of};
+ghost use Rattle.book_side.specs.Inner.Steps.{IsEntered, rows_left};
+
+use book_order::is_better_price;
+use gx_base::{Order, Price, ShortId, Side};
+use price_level::Levels;
+
+/// The queue of a level, which is made where there is none.
+pub(crate) fn enter_level(levels: &mut Levels, instrument: u8, side: Side, price: Price) -> u32
+    requires listed { instrument < levels.old.instruments }
+    requires room { length levels.old.rows < levels.old.capacity }
+    ensures { IsEntered (level instrument side price) result levels.old levels.new }
+{
+    levels.rules();
+    match levels.find(instrument, side, price) {
+        Some(queue) => queue,
+        None => levels.add_level(instrument, side, price),
+    }
+}
+
+/// Whether an order is better than every level of its side.
+pub(crate) fn is_new_best(levels: &Levels, order: &Order) -> bool
+    requires { order.now.instrument < levels.now.instruments }
+    ensures { result ≡ is_best_price order.now.side order.now.price.0 (best_row order.now.instrument order.now.side levels.now.rows) }
+{
+    match levels.best(order.instrument, order.side) {
+        None => true,
+        Some(best) => is_better_price(order.side, order.price, best),
+    }
+}
+
+/// How much of an order is shown first.
+pub(crate) fn first_shown(order: &Order) -> u32
+    ensures { result ≡ first_shown order.now }
+{
+    if order.show == 0 {
+        return order.leaves;
+    }
+    order.show.min(order.leaves)
+}
+
+/// Whether so many open lots are enough for TOP.
+pub(crate) fn is_enough(top_min: Option<u32>, leaves: u32) -> bool
+    ensures { result ≡ is_enough top_min leaves }
+{
+    match top_min {
+        None => false,
+        Some(least) => least <= leaves,
+    }
+}
+
+/// The order with another part of it shown.
+pub(crate) fn with_shown(order: &Order, shown: u32) -> Order
+    ensures { result ≡ record order.now { shown = shown } }
+{
+    let mut changed = *order;
+    changed.shown = shown;
+    changed
+}
+
+/// The order with another id.
+pub(crate) fn with_id(order: &Order, id: &ShortId) -> Order
+    ensures { result ≡ record order.now { id = id.now } }
+{
+    let mut changed = *order;
+    changed.id = *id;
+    changed
+}
+
+/// The order with less to trade and another id.
+pub(crate) fn changed(order: &Order, id: &ShortId, quantity: u32, min: u32) -> Order
+    requires { order.now.filled ≤ quantity }
+    ensures { result ≡ changed_to id.now quantity min order.now }
+{
+    let mut changed = with_id(order, id);
+    changed.quantity = quantity;
+    changed.leaves = quantity - order.filled;
+    changed.shown = order.shown.min(changed.leaves);
+    changed.min = min;
+    changed
+}
+
+/// A sum of which one part is another now.
+pub(crate) fn exchanged(sum: u64, old: u32, new: u32) -> u64
+    requires part { old ≤ sum }
+    requires small { sum < 2 ^ 63 }
+    ensures { result + old ≡ sum + new }
+{
+    sum - u64::from(old) + u64::from(new)
+}
+
+/// An order leaves its level, which goes where that was the last one.
+pub(crate) fn leave_level(levels: &mut Levels, queue: u32, order: &Order)
+    requires has { HasQueue queue levels.old.rows }
+    requires some { 1 ≤ (row_of queue levels.old.rows).count }
+    requires shown { order.now.shown ≤ (row_of queue levels.old.rows).shown }
+    requires leaves { order.now.leaves ≤ (row_of queue levels.old.rows).leaves }
+    ensures { levels.new ≡ record levels.old { rows = rows_left queue order.now levels.old.rows } }
+{
+    let row = levels.row(queue);
+    levels.set_sums(
+        queue,
+        row.count - 1,
+        row.shown - u64::from(order.shown),
+        row.leaves - u64::from(order.leaves),
+    );
+    if row.count == 1 {
+        levels.close_level(queue);
+    }
+}
+
+/// The order with some lots of it traded.
+pub(crate) fn filled(order: &Order, lots: u32) -> Order
+    requires shown { lots ≤ order.now.shown }
+    requires within { order.now.shown ≤ order.now.leaves }
+    requires whole { order.now.filled + order.now.leaves ≤ MOST_LOTS }
+    ensures { result ≡ filled_by lots order.now }
+{
+    let mut given = *order;
+    given.filled += lots;
+    given.leaves -= lots;
+    given.shown -= lots;
+    given
+}
+
+/// The order with its next part shown.
+pub(crate) fn refreshed(order: &Order) -> Order
+    ensures { result ≡ refreshed order.now }
+{
+    with_shown(order, order.show.min(order.leaves))
+}
