@@ -3,18 +3,18 @@ ghost use Rattle.std.specs.Prelude.{◌≡◌, IfOk};
 ghost use Rattle.order_kinds.specs.State.{empty_state};
 
 use book_recovery::Scratch;
+use book_side::LinkedBook;
 use exec_report::ReportBuffer;
 use fix_frame::Framer;
 use gx_station::LEAST_READ;
 use order_kinds::Core;
-use plain_book::PlainBook;
 use product_file::Product;
 use std::alloc::{AllocError, Global};
 
 /// All the memory of a run, but for the product and its text.
 #[derive(Drop)]
 pub struct Buffers {
-    pub core: Core<PlainBook>,
+    pub core: Core<LinkedBook>,
     pub scratch: Scratch,
     pub framer: Framer,
     pub chunk: Vec<u8>,
@@ -22,11 +22,11 @@ pub struct Buffers {
 }
 
 /// A core over an empty book with room for as many orders as the product allows. An `Err` is want of memory.
-fn new_core(alloc: Global, product: &Product) -> Result<Core<PlainBook>, AllocError>
+fn new_core(alloc: Global, product: &Product) -> Result<Core<LinkedBook>, AllocError>
     ensures { IfOk result (λ core. core ≡ empty_state product.now) }
 {
     let instruments = product.names().instrument_count() as u8;
-    let book = PlainBook::new(alloc, product.max_orders(), instruments)?;
+    let book = LinkedBook::new(alloc, product.max_orders(), instruments)?;
     Ok(Core::new(book, product))
 }
 
