@@ -1,0 +1,5 @@
+//! The tests of both books beside each other. It offers nothing.
+#![tactic(auto)]
+
+#[cfg(test)]
+mod tests;

@@ -1,0 +1,95 @@
+//! A core over each book, on one made stream.
+ghost use Rattle.std.specs.Prelude.{◌≤◌};
+ghost use Rattle.order_kinds.specs.Cores.{FitsProduct};
+
+use book_side::LinkedBook;
+use fix_frame::{Framer, Next};
+use fix_request::read_request;
+use gx_base::{ByteEmit, Emit};
+use gx_station::{LEAST_READ, Source};
+use order_kinds::{Core, MOST_MESSAGES};
+use order_maker::MakerSource;
+use plain_book::{Book, PlainBook};
+use product_file::{Product, read_product};
+use std::process::Abort;
+use std::test::Fail;
+
+const PRODUCT: &str = r#"exchange = "GX"
+firms = ["AAA", "BBB", "CCC", "DDD"]
+
+[[instrument]]
+name = "ESZ4"
+decimals = 2
+tick = 1
+protection = 2
+algorithm = "F"
+"#;
+
+const MESSAGES: u32 = 3_000;
+
+/// Room for all lines of the stream.
+const ROOM: usize = 4_194_304;
+
+/// Applies the whole messages that the framer holds.
+fn apply_held<B: Book>(
+    rt: &impl Abort,
+    product: &Product,
+    core: &mut Core<B>,
+    framer: &mut Framer,
+    log: &mut ByteEmit<'_>,
+)
+    requires fits { FitsProduct product.now core.old }
+    ensures fits { FitsProduct product.now core.new }
+{
+    for _message in 0..LEAST_READ {
+        let Next::Frame(start, end) = framer.next() else {
+            return;
+        };
+        let request = read_request(framer.frame(start, end), product);
+        assert!(rt; core.messages() < MOST_MESSAGES);
+        core.apply(product, &request, log);
+    }
+}
+
+/// The lines of a made stream, which a core over this book puts into the log.
+fn apply_made<B: Book>(
+    rt: &(impl Abort + AllocGlobal),
+    product: &Product,
+    core: &mut Core<B>,
+    log: &mut ByteEmit<'_>,
+) -> Result<(), Fail>
+    requires fits { FitsProduct product.now core.old }
+{
+    let mut source = MakerSource::new(rt.alloc(), product, 3, MESSAGES)?;
+    let mut framer = Framer::new(rt.alloc())?;
+    let mut into = [0; LEAST_READ];
+    for _read in 0..MESSAGES {
+        let count = source.read(&mut into)?;
+        if count == 0 {
+            break;
+        }
+        assert!(rt; count <= into.len() && framer.offset() < 1 << 40);
+        assert_eq!(rt; framer.feed(&into[..count]), count);
+        apply_held(rt, product, core, &mut framer, log);
+    }
+    assert_eq!(rt; core.messages(), u64::from(MESSAGES));
+    assert!(rt; !log.failed());
+    Ok(())
+}
+
+#[test]
+fn both_books_give_the_same_lines(rt: HostRuntime) -> Result<(), Fail> {
+    let alloc = rt.alloc();
+    let product = read_product(alloc, PRODUCT.as_bytes())?;
+    let instruments = product.names().instrument_count() as u8;
+    let book = PlainBook::new(alloc, product.max_orders(), instruments)?;
+    let mut core = Core::new(book, &product);
+    let mut log = ByteEmit::new(alloc, product.names(), ROOM)?;
+    apply_made(&rt, &product, &mut core, &mut log)?;
+    let book = LinkedBook::new(alloc, product.max_orders(), instruments)?;
+    let mut core = Core::new(book, &product);
+    let mut other = ByteEmit::new(alloc, product.names(), ROOM)?;
+    apply_made(&rt, &product, &mut core, &mut other)?;
+    assert_eq!(rt; log.bytes(), other.bytes());
+    Ok(())
+}
