@@ -1,12 +1,13 @@
-//! A core over each book, on one made stream.
+//! A core over each book, on one made stream; and a drill that a book which looks through its orders would not end in time.
 ghost use Rattle.std.specs.Prelude.{◌≤◌};
 ghost use Rattle.order_kinds.specs.Cores.{FitsProduct};
 
 use book_side::LinkedBook;
 use fix_frame::{Framer, Next};
 use fix_request::read_request;
+use globex_run::{Outcome, globex};
 use gx_base::{ByteEmit, Emit};
-use gx_station::{LEAST_READ, Source};
+use gx_station::{LEAST_READ, MemSource, MemStation, Source};
 use order_kinds::{Core, MOST_MESSAGES};
 use order_maker::MakerSource;
 use plain_book::{Book, PlainBook};
@@ -16,6 +17,20 @@ use std::test::Fail;
 
 const PRODUCT: &str = r#"exchange = "GX"
 firms = ["AAA", "BBB", "CCC", "DDD"]
+
+[[instrument]]
+name = "ESZ4"
+decimals = 2
+tick = 1
+protection = 2
+algorithm = "F"
+"#;
+
+/// The same with room for 100,000 live orders, and for the journal of the drill.
+const LARGE_PRODUCT: &str = r#"exchange = "GX"
+firms = ["AAA", "BBB", "CCC", "DDD"]
+max_orders = 100000
+journal_limit = 67108864
 
 [[instrument]]
 name = "ESZ4"
@@ -91,5 +106,37 @@ fn both_books_give_the_same_lines(rt: HostRuntime) -> Result<(), Fail> {
     let mut other = ByteEmit::new(alloc, product.names(), ROOM)?;
     apply_made(&rt, &product, &mut core, &mut other)?;
     assert_eq!(rt; log.bytes(), other.bytes());
+    Ok(())
+}
+
+/// At the end the book is full.
+#[test]
+fn drill_of_400_000_messages(rt: HostRuntime) -> Result<(), Fail> {
+    let alloc = rt.alloc();
+    let text = LARGE_PRODUCT.as_bytes().to_vec(alloc)?;
+    let mut product = MemSource::new(alloc, text, Vec::new(alloc), Vec::new(alloc))?;
+    let mut input = MemSource::new(alloc, Vec::new(alloc), Vec::new(alloc), Vec::new(alloc))?;
+    let none = Vec::new(alloc);
+    let mut station = MemStation::new(alloc, none, 1 << 26, 1 << 16, 2_000_000, Vec::new(alloc))?;
+    let mut words = Vec::new(alloc);
+    for word in ["drill", "--first", "1", "--count", "400000"] {
+        words.push(String::from_str(alloc, word)?)?;
+    }
+    let got = globex(
+        alloc,
+        words.as_slice(),
+        &mut product,
+        &mut input,
+        &mut station,
+    );
+    let served = Outcome {
+        status: 0,
+        at: 0,
+        messages: 400_000,
+    };
+    assert_eq!(rt; got, served);
+    assert!(rt; station.output().starts_with(b"messages 400000 "));
+    assert!(rt; station.output().ends_with(b" live 100000\n"));
+    assert!(rt; station.image().len() < 55_000_000);
     Ok(())
 }
