@@ -39,11 +39,11 @@ int-apart (pos a) (negsuc b) h = cc
 int-apart (negsuc a) (pos b) h = refl
 int-apart (negsuc a) (negsuc b) h = nat-apart b a h
 
-better-past : (s : Side) (a b c : ℤ) → is_better s a b ≡ true → is_better s c b ≡ false → is_better s a c ≡ true
+pub better-past : (s : Side) (a b c : ℤ) → is_better s a b ≡ true → is_better s c b ≡ false → is_better s a c ≡ true
 better-past Buy a b c h g = int-back a b c h g
 better-past Sell a b c h g = int-past a b c h g
 
-better-apart : (s : Side) (a b : ℤ) → is_better s a b ≡ true → is_better s b a ≡ false
+pub better-apart : (s : Side) (a b : ℤ) → is_better s a b ≡ true → is_better s b a ≡ false
 better-apart Buy a b h = int-apart b a h
 better-apart Sell a b h = int-apart a b h
 

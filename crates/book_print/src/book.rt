@@ -153,7 +153,7 @@ fn print_level<B: Book, S: Station>(
     let top = book.top(instrument, side);
     let mut at = book.first(instrument, side, price);
     while let Some(slot) = at {
-        print_resting(names, &book.order(slot), is_top(top, slot), buffer, station)?;
+        print_resting(names, book.order(slot), is_top(top, slot), buffer, station)?;
         at = book.next(slot);
     }
     Ok(())
@@ -194,7 +194,7 @@ fn print_stops<B: Book, S: Station>(
     book.rules();
     let mut at = book.first_waiting(instrument);
     while let Some(slot) = at {
-        print_stop(names, &book.order(slot), buffer, station)?;
+        print_stop(names, book.order(slot), buffer, station)?;
         at = book.next_waiting(slot);
     }
     Ok(())

@@ -17,7 +17,7 @@ use Rattle.plain_book.proofs.Pairs.{all-with, all-both, all-append, all-filter, 
 use Rattle.plain_book.proofs.Named.{unnamed-without}
 use Rattle.plain_book.proofs.Right.{other_slot, live-without, length-without, resting_as, live-placed}
 use Rattle.plain_book.proofs.Sorted.{IsInserted, inserted-length, put-in, book-order}
-use Rattle.book_side.proofs.Calls as calls
+use Rattle.plain_book.proofs.Calls as calls
 use Rattle.plain_book.proofs.Tops.{at-slot}
 use Rattle.order_pool.specs.Queues as pool
 use Rattle.order_pool.specs.Queues.{HasSlot, IsIn, NoRepeat, SlotsDiffer, without_slot, with_entry}

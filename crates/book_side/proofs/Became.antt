@@ -28,7 +28,7 @@ use Rattle.book_side.proofs.Placing.{IsReady, level-ready, fresh-slot, placed-vi
 use Rattle.book_side.proofs.Setting.{set-view, set-linked}
 use Rattle.book_side.proofs.Leaving.{left-view, left-linked}
 use Rattle.book_side.proofs.Backing.{back-view, back-linked}
-use Rattle.book_side.proofs.Calls.{right-back}
+use Rattle.plain_book.proofs.Calls.{right-back}
 use Rattle.book_side.proofs.Topping.{topped-view, topped-linked}
 use Rattle.book_side.proofs.Lining.{IsWaited, waited}
 use Rattle.book_side.proofs.Unlining.{unlined}
@@ -142,16 +142,16 @@ module _ {c n : ℕ} {p : pool.Queues} {ids : Ids} {lv : Rows} {tops : List Side
       (subst (λ (y : Book). o.id ≡ (orders.order_of s (live_orders y)).id) (sym seen) id) (subst (λ (y : Book). IsWaiting y.instruments o) (sym seen) fit) in
       record { view = new.view ∙ ap (book_reordered s o) seen; linked = new.linked }
 
-  pub named : {p' : pool.Queues} {ids' : Ids} (slot : Slot) (id : List ℕ) (old o : Order) → orders.HasSlot slot.0 (live_orders b) → is_live (orders.order_of slot.0 (live_orders b)).firm id (live_orders b) ≡ false
-      → IsHeldAs k seen slot.0 old → o ≡ record old { id = id } → p' ≡ record p { queues = map (with_entry slot.0 o) p.queues } → pool.live_of p' ≡ pool.live_of p
+  pub named : {p' : pool.Queues} {ids' : Ids} (slot : Slot) (id : List ℕ) (old : Order) → orders.HasSlot slot.0 (live_orders b) → is_live (orders.order_of slot.0 (live_orders b)).firm id (live_orders b) ≡ false
+      → IsHeldAs k seen slot.0 old → p' ≡ record p { queues = map (with_entry slot.0 (record old { id = id })) p.queues } → pool.live_of p' ≡ pool.live_of p
       → ((t : Slot) → finmap.get ids.slots (key old.firm old.id) ≡ Some t → ids' ≡ with_slots (finmap.insert (finmap.remove ids.slots (key old.firm old.id)) (key old.firm id) t) ids)
       → AreParts c n p' ids' lv tops (book_reordered slot.0 (record (orders.order_of slot.0 (live_orders b)) { id = id }) b)
-  named {p'} {ids'} slot id old o has u held is set live rename =
+  named {p'} {ids'} slot id old has u held set live rename =
       let back = sym seen in
       let new = naming.named c n p ids lv tops k slot id (subst (λ (y : Book). orders.HasSlot slot.0 (live_orders y)) back has)
       (subst (λ (y : Book). is_live (orders.order_of slot.0 (live_orders y)).firm id (live_orders y) ≡ false) back u) p' ids' old
       (order-is k seen slot.0 old has held ∙ ap (λ (y : Book). orders.order_of slot.0 (live_orders y)) back)
-      (set ∙ ap (λ (y : Order). (let z : pool.Queues = record p { queues = map (with_entry slot.0 y) p.queues } in z)) is) live rename in
+      set live rename in
       record { view = new.view ∙ ap (λ (y : Book). book_reordered slot.0 (record (orders.order_of slot.0 (live_orders y)) { id = id }) y) seen; linked = new.linked }
 
   -- ---- TOP
@@ -167,14 +167,13 @@ module _ {c n : ℕ} {p : pool.Queues} {ids : Ids} {lv : Rows} {tops : List Side
     pub fresh : orders.HasSlot s (live_orders b) → ⊥
     pub now : AreParts c n p' ids' lv tops (book_waited s o b)
 
-  pub stop-came : {p' : pool.Queues} {ids' : Ids} (slot : Slot) (i : ℕ) (o waits : Order) → AreRows lv → IsFitToWait b.instruments o → is_live o.firm o.id (live_orders b) ≡ false → length (live_orders b) < b.capacity
-      → i ≡ o.instrument → waits ≡ record o { shown = 0 } → p' ≡ record p { queues = pool.appended (c + i) (slot.0, waits) p.queues } → (IsLive p slot.0 → ⊥) → pool.live_of p' ≡ pool.live_of p + 1
+  pub stop-came : {p' : pool.Queues} {ids' : Ids} (slot : Slot) (i : ℕ) (o : Order) → AreRows lv → IsFitToWait b.instruments o → is_live o.firm o.id (live_orders b) ≡ false → length (live_orders b) < b.capacity
+      → i ≡ o.instrument → p' ≡ record p { queues = pool.appended (c + i) (slot.0, record o { shown = 0 }) p.queues } → (IsLive p slot.0 → ⊥) → pool.live_of p' ≡ pool.live_of p + 1
       → ids' ≡ with_slots (finmap.insert ids.slots (key o.firm o.id) slot) ids → IsWaitingNow p' ids' slot.0 o
-  stop-came {p'} {ids'} slot i o waits rules fit u room ei ew pushed dead live given =
+  stop-came {p'} {ids'} slot i o rules fit u room ei pushed dead live given =
       let back = sym seen in
       let s = slot.0 in
-      let at = pushed ∙ ap (λ (j : ℕ). (let z : pool.Queues = record p { queues = pool.appended (c + j) (s, waits) p.queues } in z)) ei
-      ∙ ap (λ (y : Order). (let z : pool.Queues = record p { queues = pool.appended (c + o.instrument) (s, y) p.queues } in z)) ew in
+      let at = pushed ∙ ap (λ (j : ℕ). (let z : pool.Queues = record p { queues = pool.appended (c + j) (s, record o { shown = 0 }) p.queues } in z)) ei in
       let new : IsWaited c n p p' ids' lv tops s o = waited c n p p' ids ids' lv tops k rules s o (subst (λ (y : Book). IsFitToWait y.instruments o) back fit)
       (subst (λ (y : Book). is_live o.firm o.id (live_orders y) ≡ false) back u) (subst (λ (y : Book). length (live_orders y) < y.capacity) back room) at dead live
       (inserted ids ids' o.firm o.id slot (id-absent k seen o.firm o.id u) given) in
@@ -212,12 +211,11 @@ module _ {c n : ℕ} {p : pool.Queues} {ids : Ids} {lv : Rows} {tops : List Side
         few-room : length (live_orders book) < c
         few-room = few room
 
-    module _ (p' : pool.Queues) (ids' : Ids) (lv' : Rows) (tops' : List SideTops) (slot : Slot) (least : Option ℕ) (rests : Order) (m shown leaves : ℕ) (r : LevelRow) (best enough : Bool) where
+    module _ (p' : pool.Queues) (ids' : Ids) (lv' : Rows) (tops' : List SideTops) (slot : Slot) (least : Option ℕ) (m shown leaves : ℕ) (r : LevelRow) (best enough : Bool) where
       -- what the parts of the call answer
       pub record IsPut : Type 0 where
         pub first : m ≡ first_shown o
-        pub rests_is : rests ≡ record o { shown = m }
-        pub queues : p' ≡ record p { queues = pool.appended q (slot.0, rests) p.queues }
+        pub queues : p' ≡ record p { queues = pool.appended q (slot.0, record o { shown = m }) p.queues }
         pub fresh : IsLive p slot.0 → ⊥
         pub live : pool.live_of p' ≡ pool.live_of p + 1
         pub row : r ≡ row_of q lv1.rows
@@ -240,9 +238,8 @@ module _ {c n : ℕ} {p : pool.Queues} {ids : Ids} {lv : Rows} {tops : List Side
           let T = top_at tops in
           let P = pool.entries_at p.queues in
           let best_is : best ≡ is_new_best o book.resting = x.best_is ∙ sym (ap (is_best_price o.side o.price.0) (best-looked T P lv.rows k.summed k.some o.instrument o.side)) in
-          let rests_is : rests ≡ record o { shown = first_shown o } = x.rests_is ∙ ap (λ (i : ℕ). (let y : Order = record o { shown = i } in y)) x.first in
           let pushed : p' ≡ record p { queues = pool.appended q (s, record o { shown = first_shown o }) p.queues } =
-          x.queues ∙ ap (λ (y : Order). (let z : pool.Queues = record p { queues = pool.appended q (s, y) p.queues } in z)) rests_is in
+          x.queues ∙ ap (λ (i : ℕ). (let z : pool.Queues = record p { queues = pool.appended q (s, record o { shown = i }) p.queues } in z)) x.first in
           let top : IsTopPlaced (is_new_best o book.resting) (is_enough least o.leaves) s o tops tops' =
           subst (λ (y : Bool). IsTopPlaced y (is_enough least o.leaves) s o tops tops') best_is (subst (λ (y : Bool). IsTopPlaced best y s o tops tops') x.enough_is x.top) in
           let names = inserted ids ids' o.firm o.id slot (id-absent k seen o.firm o.id u) x.given in

@@ -4,7 +4,7 @@ use Rattle.gx_base.specs.declared.order.Order.{Order}
 use Rattle.plain_book.specs.Orders.{HasSlot, order_of, filled_by, refreshed}
 use Rattle.plain_book.specs.Book.{Book, IsRight, IsResting}
 use Rattle.plain_book.proofs.Live.{fit_of}
-use Rattle.book_side.proofs.Fits.{fit-back, fit-stays, fit-prorated, fit-shown}
+use Rattle.plain_book.proofs.Fits.{fit-back, fit-stays, fit-prorated, fit-shown}
 
 -- x is the order of a slot, as it was answered
 module _ (b : Book) (r : IsRight b) (s : ℕ) (has : HasSlot s b.resting) (x : Order) (is : x ≡ order_of s b.resting) where

@@ -16,7 +16,7 @@ use Rattle.plain_book.proofs.Pairs.{all-both, all-filter, none-any}
 use Rattle.plain_book.proofs.Live.{orders-at, unnamed-none}
 use Rattle.plain_book.proofs.Named.{unnamed-without}
 use Rattle.plain_book.proofs.Right.{other_slot, live-without, length-without, right-without}
-use Rattle.book_side.proofs.Calls as calls
+use Rattle.plain_book.proofs.Calls as calls
 use Rattle.plain_book.proofs.Tops.{at-slot}
 use Rattle.order_pool.specs.Queues as pool
 use Rattle.order_pool.specs.Queues.{HasSlot, IsIn, NoRepeat, SlotsDiffer, without_slot}

@@ -2,10 +2,8 @@ mod Backing
 mod Became
 mod Beside
 mod Bounds
-mod Calls
 mod Cleared
 mod Empty
-mod Fits
 mod Flat
 mod Given
 mod Ids
@@ -24,7 +22,6 @@ mod Reordering
 mod Resting
 mod Seen
 mod Setting
-mod Settled
 mod Slots
 mod Stops
 mod Topping

@@ -23,7 +23,7 @@ use Rattle.book_side.proofs.Names.{inserted-named}
 use Rattle.book_side.proofs.Stops.{stops-lined}
 use Rattle.book_side.proofs.Places.{stops-of}
 use Rattle.book_side.proofs.Beside.{resting-same, summed-same, unused-same, top-same}
-use Rattle.book_side.proofs.Calls.{right-book_waited}
+use Rattle.plain_book.proofs.Calls.{right-book_waited}
 
 -- what the call makes
 pub record IsWaited (c n : ℕ) (p p' : pool.Queues) (ids' : Ids) (lv : Rows) (tops : List SideTops) (s : ℕ) (o : Order) : Type 0 where

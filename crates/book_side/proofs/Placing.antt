@@ -14,10 +14,10 @@ use Rattle.plain_book.proofs.Pairs.{all-with, all-both, all-append, none-any}
 use Rattle.plain_book.proofs.Sorted.{IsInserted, inserted-length, put-in, book-order}
 use Rattle.std.proofs.lemmas.List.{length-set}
 use Rattle.plain_book.proofs.Right.{resting_as, live-placed, ordered-marked, length-marked}
-use Rattle.book_side.proofs.Calls.{orders-marked}
+use Rattle.plain_book.proofs.Calls.{orders-marked}
 use Rattle.plain_book.proofs.Live.{AllOrders}
 use Rattle.plain_book.proofs.Named.{Unnamed}
-use Rattle.book_side.proofs.Calls.{right-book_placed}
+use Rattle.plain_book.proofs.Calls.{right-book_placed}
 use Rattle.order_pool.specs.Queues as pool
 use Rattle.price_level.specs.declared.row.LevelRow.{LevelRow}
 use Rattle.book_side.specs.declared.tops.SideTops.{SideTops}

@@ -16,7 +16,7 @@ use Rattle.plain_book.proofs.Walks.{HasSlot-with_order, HasSlot-before, order_of
 use Rattle.plain_book.proofs.Right.{live-reordered, right-reordered}
 use Rattle.book_side.specs.Inner.Steps.{book_reordered}
 use Rattle.book_side.proofs.Ids.{is_same_name}
-use Rattle.book_side.proofs.Fits.{rest-changed, wait-changed}
+use Rattle.plain_book.proofs.Fits.{rest-changed, wait-changed}
 use Rattle.book_side.proofs.Leaving.{left-named}
 use Rattle.book_side.proofs.Backing.{own-slot}
 

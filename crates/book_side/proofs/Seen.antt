@@ -157,8 +157,8 @@ module _ {c n : ℕ} {p : pool.Queues} {ids : Ids} {lv : Rows} {tops : List Side
     pub held : (r : LevelRow) → r ≡ row_of q lv.rows → IsHeld r o
     pub listed : o.instrument < length tops
 
-  pub at-row : (s q : ℕ) (o : Order) → orders.HasSlot s b.resting → SlotsDiffer p → IsIn p s q → IsHeldAs s o → IsAtRow s q o
-  at-row s q o h differ at held =
+  pub at-row : (s : ℕ) {q : ℕ} {o : Order} → orders.HasSlot s b.resting → SlotsDiffer p → IsIn p s q → IsHeldAs s o → IsAtRow s q o
+  at-row s {q} {o} h differ at held =
       let has = in-resting s h in
       let is : o ≡ orders.order_of s book.resting = held q at ∙ sym (is-order c n p ids lv tops k s has differ q at) in
       record {

@@ -6,15 +6,12 @@ ghost use Rattle.book_side.specs.Inner.Steps.{resting_as, book_reordered};
 ghost use Rattle.plain_book.specs.Book.{empty_book, live_orders, IsResting, IsWaiting, book_with_order, book_without};
 
 use crate::clearing::clear_instrument;
-use crate::steps::{
-    changed, enter_level, exchanged, filled, first_shown, is_enough, is_new_best, leave_level,
-    refreshed, with_id, with_shown,
-};
+use crate::steps::{enter_level, exchanged, filled, is_new_best, leave_level, refreshed};
 use crate::tops::{SideTops, drop_top, no_tops, place_top, set_top_at, top_at};
 use gx_base::{Order, Price, ShortId, Side, Slot};
 use id_table::IdTable;
 use order_pool::Pool;
-use plain_book::Book;
+use plain_book::{Book, changed, first_shown, is_enough};
 use price_level::Levels;
 use std::alloc::{AllocError, Global};
 use std::marker::Model;
@@ -46,7 +43,7 @@ impl Model for LinkedBook {
 
 impl LinkedBook {
     /// An empty book for so many live orders, and so many instruments. An `Err` is want of memory, also where twice the
-    /// capacity and the instruments are together 2 to the power of 32 or more. No other call takes memory.
+    /// capacity, the instruments and one more are together 2 to the power of 32 or more. No other call takes memory.
     pub fn new(alloc: Global, capacity: u32, instruments: u8) -> Result<LinkedBook, AllocError>
         ensures { IfOk result (λ b. b ≡ empty_book capacity instruments) }
     {
@@ -100,7 +97,7 @@ impl Book for LinkedBook {
         self.pool.next(slot)
     }
 
-    fn order(&self, slot: Slot) -> Order {
+    fn order(&self, slot: Slot) -> &Order {
         self.pool.order(slot)
     }
 
@@ -128,13 +125,14 @@ impl Book for LinkedBook {
         self.ids.find(firm, id)
     }
 
-    fn place(&mut self, order: Order, top_min: Option<u32>) -> Slot {
+    fn place(&mut self, mut order: Order, top_min: Option<u32>) -> Slot {
         let best = is_new_best(&self.levels, &order);
         let queue = enter_level(&mut self.levels, order.instrument, order.side, order.price);
         self.levels.rules();
         let row = self.levels.row(queue);
         let shown = first_shown(&order);
-        let slot = self.pool.push_back(queue, with_shown(&order, shown));
+        order.shown = shown;
+        let slot = self.pool.push_back(queue, &order);
         self.levels.set_sums(
             queue,
             row.count + 1,
@@ -152,24 +150,24 @@ impl Book for LinkedBook {
         slot
     }
 
-    fn wait(&mut self, order: Order) -> Slot {
+    fn wait(&mut self, mut order: Order) -> Slot {
         self.levels.rules();
+        order.shown = 0;
         let queue = self.capacity + u32::from(order.instrument);
-        let slot = self.pool.push_back(queue, with_shown(&order, 0));
+        let slot = self.pool.push_back(queue, &order);
         self.ids.insert(order.firm, order.id, slot);
         slot
     }
 
     fn trade(&mut self, slot: Slot, lots: u32) -> Order {
         self.rules();
-        let order = self.resting(slot);
-        let given = filled(&order, lots);
+        let given = filled(self.resting(slot), lots);
         self.settle(slot, &given);
         given
     }
 
     fn remove(&mut self, slot: Slot) -> Order {
-        let order = self.order(slot);
+        let order = *self.order(slot);
         if self.is_resting(slot) {
             self.take_out(slot);
         } else {
@@ -180,22 +178,21 @@ impl Book for LinkedBook {
 
     fn change(&mut self, slot: Slot, id: ShortId, quantity: u32, min: u32) {
         self.rules();
-        let order = self.order(slot);
-        let changed = changed(&order, &id, quantity, min);
+        let changed = changed(self.order(slot), &id, quantity, min);
         self.set_id(slot, id);
         self.set_live(slot, &changed);
     }
 
     fn set_prorated(&mut self, slot: Slot, share: u32) {
         self.rules();
-        let mut order = self.resting(slot);
+        let mut order = *self.resting(slot);
         order.prorated = share;
         self.set_order(slot, &order);
     }
 
     fn set_shown(&mut self, slot: Slot, shown: u32) {
         self.rules();
-        let mut order = self.resting(slot);
+        let mut order = *self.resting(slot);
         order.shown = shown;
         self.set_order(slot, &order);
     }
@@ -233,8 +230,9 @@ impl LinkedBook {
     {
         self.pool.rules();
         self.levels.rules();
-        let order = self.pool.unlink(slot);
+        let order = self.pool.order(slot);
         self.ids.remove(order.firm, &order.id);
+        self.pool.unlink(slot);
     }
 
     /// Whether a live order rests. Else it waits.
@@ -263,7 +261,7 @@ impl LinkedBook {
         let row = self.levels.row(queue);
         let shown = exchanged(row.shown, old.shown, order.shown);
         let leaves = exchanged(row.leaves, old.leaves, order.leaves);
-        self.pool.set(slot, *order);
+        self.pool.set(slot, order);
         self.levels.set_sums(queue, row.count, shown, leaves);
     }
 
@@ -275,10 +273,11 @@ impl LinkedBook {
         self.pool.rules();
         self.levels.rules();
         let queue = self.pool.queue_of(slot);
-        let order = self.pool.unlink(slot);
-        leave_level(&mut self.levels, queue, &order);
-        drop_top(&mut self.tops, &order, slot);
+        let order = self.pool.order(slot);
+        leave_level(&mut self.levels, queue, order);
+        drop_top(&mut self.tops, order, slot);
         self.ids.remove(order.firm, &order.id);
+        self.pool.unlink(slot);
     }
 
     /// A resting order changes, and goes behind the last order of its price. It is TOP no more.
@@ -297,10 +296,10 @@ impl LinkedBook {
         let row = self.levels.row(queue);
         let shown = exchanged(row.shown, old.shown, order.shown);
         let leaves = exchanged(row.leaves, old.leaves, order.leaves);
+        drop_top(&mut self.tops, old, slot);
         self.pool.to_back(slot);
-        self.pool.set(slot, *order);
+        self.pool.set(slot, order);
         self.levels.set_sums(queue, row.count, shown, leaves);
-        drop_top(&mut self.tops, &old, slot);
     }
 
     /// A live order gets another id.
@@ -309,9 +308,10 @@ impl LinkedBook {
         requires unnamed { is_live (order_of slot.0 (live_orders self.old)).firm id (live_orders self.old) ≡ false }
         ensures { self.new ≡ book_reordered slot.0 (record (order_of slot.0 (live_orders self.old)) { id = id }) self.old }
     {
-        let order = self.pool.order(slot);
-        self.pool.set(slot, with_id(&order, &id));
+        let mut order = *self.pool.order(slot);
         self.ids.rename(order.firm, &order.id, id);
+        order.id = id;
+        self.pool.set(slot, &order);
     }
 
     /// A stop changes, and keeps its place.
@@ -323,7 +323,7 @@ impl LinkedBook {
         requires fit { IsWaiting self.old.instruments order.now }
         ensures { self.new ≡ book_reordered slot.0 order.now self.old }
     {
-        self.pool.set(slot, *order);
+        self.pool.set(slot, order);
     }
 
     /// A live order changes, and keeps its place.
@@ -345,9 +345,9 @@ impl LinkedBook {
     }
 
     /// A resting order.
-    fn resting(&self, slot: Slot) -> Order
+    fn resting(&self, slot: Slot) -> &Order
         requires { HasSlot slot.0 self.now.resting }
-        ensures { result ≡ order_of slot.0 self.now.resting }
+        ensures { result.now ≡ order_of slot.0 self.now.resting }
     {
         self.pool.order(slot)
     }

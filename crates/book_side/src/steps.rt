@@ -2,12 +2,11 @@
 ghost use Rattle.std.specs.Prelude.{◌≡◌, ◌+◌, ◌^◌, ◌<◌, ◌≤◌, length, None};
 ghost use Rattle.gx_base.specs.declared.limits.TheConstants.{MOST_LOTS};
 ghost use Rattle.plain_book.specs.Orders.{level, is_best_price, filled_by, refreshed};
-ghost use Rattle.plain_book.specs.Book.{first_shown, is_enough, changed_to};
 ghost use Rattle.price_level.specs.Rows.{best_row, HasQueue, row_of};
 ghost use Rattle.book_side.specs.Inner.Steps.{IsEntered, rows_left};
 
 use book_order::is_better_price;
-use gx_base::{Order, Price, ShortId, Side};
+use gx_base::{Order, Price, Side};
 use price_level::Levels;
 
 /// The queue of a level, which is made where there is none.
@@ -32,57 +31,6 @@ pub(crate) fn is_new_best(levels: &Levels, order: &Order) -> bool
         None => true,
         Some(best) => is_better_price(order.side, order.price, best),
     }
-}
-
-/// How much of an order is shown first.
-pub(crate) fn first_shown(order: &Order) -> u32
-    ensures { result ≡ first_shown order.now }
-{
-    if order.show == 0 {
-        return order.leaves;
-    }
-    order.show.min(order.leaves)
-}
-
-/// Whether so many open lots are enough for TOP.
-pub(crate) fn is_enough(top_min: Option<u32>, leaves: u32) -> bool
-    ensures { result ≡ is_enough top_min leaves }
-{
-    match top_min {
-        None => false,
-        Some(least) => least <= leaves,
-    }
-}
-
-/// The order with another part of it shown.
-pub(crate) fn with_shown(order: &Order, shown: u32) -> Order
-    ensures { result ≡ record order.now { shown = shown } }
-{
-    let mut changed = *order;
-    changed.shown = shown;
-    changed
-}
-
-/// The order with another id.
-pub(crate) fn with_id(order: &Order, id: &ShortId) -> Order
-    ensures { result ≡ record order.now { id = id.now } }
-{
-    let mut changed = *order;
-    changed.id = *id;
-    changed
-}
-
-/// The order with less to trade and another id.
-pub(crate) fn changed(order: &Order, id: &ShortId, quantity: u32, min: u32) -> Order
-    requires { order.now.filled ≤ quantity }
-    ensures { result ≡ changed_to id.now quantity min order.now }
-{
-    let mut changed = with_id(order, id);
-    changed.quantity = quantity;
-    changed.leaves = quantity - order.filled;
-    changed.shown = order.shown.min(changed.leaves);
-    changed.min = min;
-    changed
 }
 
 /// A sum of which one part is another now.
@@ -132,5 +80,7 @@ pub(crate) fn filled(order: &Order, lots: u32) -> Order
 pub(crate) fn refreshed(order: &Order) -> Order
     ensures { result ≡ refreshed order.now }
 {
-    with_shown(order, order.show.min(order.leaves))
+    let mut refreshed = *order;
+    refreshed.shown = order.show.min(order.leaves);
+    refreshed
 }

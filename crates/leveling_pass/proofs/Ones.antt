@@ -7,7 +7,7 @@ use Rattle.plain_book.specs.declared.entry.Entry.{Entry}
 use Rattle.plain_book.specs.Orders.{Level, is_at, orders_at}
 use Rattle.plain_book.specs.Book.{AllRest, IsResting}
 use Rattle.plain_book.specs.Match.{MatchState, trade_share, trade_shares}
-use Rattle.plain_book.specs.Shares.{shares_by, AreWithin}
+use Rattle.plain_book.specs.Shares.{shares_by, AreWithin, AreNone}
 use Rattle.plain_book.specs.Steps.{ones, leveling_shares}
 use Rattle.plain_book.proofs.Pairs.{all-filter, all-with}
 use Rattle.leveling_pass.specs.OneEach.{lot_for, one_each}
@@ -44,6 +44,15 @@ ones-fit wanted lots (e ∷ es) le show =
     let n = lot_for lots e.order in
     let fits : (n ≤ e.order.shown) × (n ≤ lots) = small (is_left_out e) in
     (fits.0, omega (arith, fits.1), ones-fit (wanted - n) (lots - n) es (omega arith) show.1)
+
+-- once none is left, no order trades
+pub ones-none : (lots : ℕ) (es : List Entry) → lots ≡ 0 → AreNone (shares_by one_each (ones_of lots) es)
+ones-none lots [] zero = tt
+ones-none lots (e ∷ es) zero =
+    let small : (c : Bool) → cond c (min lots 1) 0 ≤ lots = elim [ true ↦ omega arith | false ↦ omega arith ] in
+    let n = lot_for lots e.order in
+    let fits : n ≤ lots = small (is_left_out e) in
+    (omega (arith, zero, fits), ones-none (lots - n) es (omega (arith, zero)))
 
 -- each order that rests shows a lot, and no more lots are traded than are wanted
 pub ones-within : (wanted instruments : ℕ) (k : Level) (es : List Entry) → AllRest instruments es → AreWithin one_each wanted (ones_of wanted) (orders_at k es)

@@ -24,6 +24,10 @@ impl ShareRule for OneEach {
         self.left -= 1;
         1
     }
+
+    fn is_spent(&self) -> bool {
+        self.left == 0
+    }
 }
 
 /// The leveling step at a price: one lot, by priority, goes to each order of the side opposite to the taker's at this

@@ -5,7 +5,7 @@ use Rattle.gx_base.specs.declared.order.Order.{Order}
 use Rattle.gx_base.specs.declared.event.StepName.TheVariants.{Lmm}
 use Rattle.plain_book.specs.declared.entry.Entry.{Entry}
 use Rattle.plain_book.specs.Match.{MatchState, trade_share, trade_shares}
-use Rattle.plain_book.specs.Shares.{shares_by, AreWithin}
+use Rattle.plain_book.specs.Shares.{shares_by, AreWithin, AreNone}
 use Rattle.plain_book.specs.Steps.{spent}
 use Rattle.plain_book.proofs.TradedShares.{share-leaves}
 use Rattle.lmm_pass.specs.Firms.{lots_for_firm, spending_on_firm}
@@ -44,6 +44,12 @@ spent-within wanted firm lots (e ∷ es) le =
     let n = lots_for_firm firm lots e.order in
     let w = lots-within firm lots e.order in
     (w.0, omega (arith, w.1), spent-within (wanted - n) firm (lots - n) es (omega arith))
+
+-- once none is left, no order trades
+pub spent-none : (firm lots : ℕ) (es : List Entry) → lots ≡ 0 → AreNone (shares_by spending_on_firm (spent_on firm lots) es)
+spent-none firm lots [] zero = tt
+spent-none firm lots (e ∷ es) zero =
+    let w = lots-within firm lots e.order in (omega (arith, zero, w.1), spent-none firm (lots - lots_for_firm firm lots e.order) es (omega (arith, zero)))
 
 -- at most these lots are traded
 pub spent-leaves : (lots : ℕ) (es : List Entry) (m : MatchState) → m.taker.order.leaves ≤ (trade_shares Lmm (spent lots es) m).taker.order.leaves + lots

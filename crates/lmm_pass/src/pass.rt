@@ -28,6 +28,10 @@ impl ShareRule for SpentOnFirm {
         self.left -= lots;
         lots
     }
+
+    fn is_spent(&self) -> bool {
+        self.left == 0
+    }
 }
 
 /// The LMM step at a price: each lead market maker of `shares`, in turn, gets its percentage of the lots that are wanted

@@ -159,7 +159,7 @@ fn replace_in_place<B: Book, E: Emit>(
     let head = count_report(&mut state.desk, order.firm, request.sender.time);
     out.put(&Event::Replaced {
         head,
-        order: state.book.order(slot),
+        order: *state.book.order(slot),
         old: order.id,
         old_quantity: order.quantity,
     });
@@ -231,11 +231,12 @@ fn replace_order<B: Book, E: Emit>(
     product.limits();
     state.book.rules();
     let order = state.book.order(slot);
-    match terms_of(state, product, request, &order) {
+    match terms_of(state, product, request, order) {
         Err(fault) => {
             refused(request, order.number, order.filled).report(fault, &mut state.desk, out)
         }
-        Ok(_) if keeps_place(request, &order) => {
+        Ok(_) if keeps_place(request, order) => {
+            let order = *order;
             replace_in_place(state, request, slot, &order, out)
         }
         Ok(instrument) => replace_anew(state, &instrument, request, slot, out),

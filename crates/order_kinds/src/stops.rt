@@ -47,7 +47,7 @@ impl StopSearch {
         let range = range?;
         while let Some(slot) = self.at {
             self.at = book.next_waiting(slot);
-            if is_marked(range, &book.order(slot)) {
+            if is_marked(range, book.order(slot)) {
                 return Some(slot);
             }
         }

@@ -28,11 +28,11 @@ impl Model for Block {
 
 impl Block {
     /// The order of a node.
-    pub(crate) fn order(&self, i: u32) -> Order
+    pub(crate) fn order(&self, i: u32) -> &Order
         requires { i < length self.now }
-        ensures { result ≡ (cell_at self.now i).order }
+        ensures { result.now ≡ (cell_at self.now i).order }
     {
-        self.nodes[i as usize].order
+        &self.nodes[i as usize].order
     }
 
     /// The tag of a node: the number of its queue, or of the free slots.
@@ -55,11 +55,11 @@ impl Block {
 
 impl Block {
     /// Sets the order of a node.
-    pub(crate) fn set_order(&mut self, i: u32, order: Order)
+    pub(crate) fn set_order(&mut self, i: u32, order: &Order)
         requires { i < length self.old }
-        ensures { self.new ≡ with_order self.old i order }
+        ensures { self.new ≡ with_order self.old i order.now }
     {
-        self.nodes[i as usize].order = order;
+        self.nodes[i as usize].order = *order;
     }
 
     /// Takes `i` out of its ring, and puts it before `j`, with the tag `queue`.
@@ -77,9 +77,10 @@ impl Block {
         requires { i < length self.old }
         ensures { self.new ≡ detached self.old i }
     {
-        let node = self.nodes[i as usize];
-        set_next(&mut self.nodes, node.prev, node.next);
-        set_prev(&mut self.nodes, node.next, node.prev);
+        let node = &self.nodes[i as usize];
+        let (prev, next) = (node.prev, node.next);
+        set_next(&mut self.nodes, prev, next);
+        set_prev(&mut self.nodes, next, prev);
     }
 
     /// Puts `i` before `j`, with the tag `queue`.

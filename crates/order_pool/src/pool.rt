@@ -33,8 +33,8 @@ impl Model for Pool {
 }
 
 impl Pool {
-    /// Empty queues, so many, with room for so many orders. An `Err` is want of memory, also where nodes and queues are
-    /// together 2 to the power of 32 or more. No other call takes memory.
+    /// Empty queues, so many, with room for so many orders. An `Err` is want of memory, also where nodes, queues and one more
+    /// are together 2 to the power of 32 or more. No other call takes memory.
     pub fn new(alloc: Global, nodes: u32, queues: u32) -> Result<Pool, AllocError>
         ensures { IfOk result (λ p. p ≡ empty_queues nodes queues) }
     {
@@ -103,9 +103,9 @@ impl Pool {
     }
 
     /// The order of a slot.
-    pub fn order(&self, slot: Slot) -> Order
+    pub fn order(&self, slot: Slot) -> &Order
         requires { IsLive self.now (slot_number slot) }
-        ensures { (q : ℕ) → IsIn self.now (slot_number slot) q → result ≡ order_of (slot_number slot) (entries_at self.now.queues q) }
+        ensures { (q : ℕ) → IsIn self.now (slot_number slot) q → result.now ≡ order_of (slot_number slot) (entries_at self.now.queues q) }
     {
         self.block.order(slot.0)
     }
@@ -144,11 +144,11 @@ impl Pool {
 /// What is changed. What a call does not name stays as it was.
 impl Pool {
     /// Puts an order at the end of a queue, under a slot that is in no queue.
-    pub fn push_back(&mut self, queue: u32, order: Order) -> Slot
+    pub fn push_back(&mut self, queue: u32, order: &Order) -> Slot
         requires queue_in { queue < length self.old.queues }
         requires room { live_of self.old < self.old.capacity }
         ensures fresh { IsLive self.old (slot_number result) → ⊥ }
-        ensures queues { self.new ≡ record self.old { queues = appended queue (slot_number result, order) self.old.queues } }
+        ensures queues { self.new ≡ record self.old { queues = appended queue (slot_number result, order.now) self.old.queues } }
         ensures live { live_of self.new ≡ live_of self.old + 1 }
         ensures placed { IsIn self.new (slot_number result) queue }
     {
@@ -161,20 +161,17 @@ impl Pool {
     }
 
     /// Takes an order out of its queue. From then on its slot is in none.
-    pub fn unlink(&mut self, slot: Slot) -> Order
+    pub fn unlink(&mut self, slot: Slot)
         requires { IsLive self.old (slot_number slot) }
-        ensures order { (q : ℕ) → IsIn self.old (slot_number slot) q → result ≡ order_of (slot_number slot) (entries_at self.old.queues q) }
         ensures queues { self.new ≡ record self.old { queues = removed (slot_number slot) self.old.queues } }
         ensures live { live_of self.new + 1 ≡ live_of self.old }
         ensures room { live_of self.new < self.new.capacity }
     {
-        let order = self.block.order(slot.0);
         let queue = self.block.queue(slot.0);
         self.block
             .relocate(slot.0, self.capacity + self.queues, self.queues);
         lower(&mut self.counts, queue);
         self.live -= 1;
-        order
     }
 
     /// Puts an order at the end of its queue. It keeps its slot.
@@ -188,9 +185,9 @@ impl Pool {
     }
 
     /// Gives a slot another order. It keeps its place.
-    pub fn set(&mut self, slot: Slot, order: Order)
+    pub fn set(&mut self, slot: Slot, order: &Order)
         requires { IsLive self.old (slot_number slot) }
-        ensures queues { self.new ≡ record self.old { queues = map (with_entry (slot_number slot) order) self.old.queues } }
+        ensures queues { self.new ≡ record self.old { queues = map (with_entry (slot_number slot) order.now) self.old.queues } }
         ensures live { live_of self.new ≡ live_of self.old }
     {
         self.block.set_order(slot.0, order);

@@ -1,25 +1,24 @@
 -- How a book that keeps its two lists keeps its slots, its room, and what is true of every book.
-use Rattle.std.proofs.Common.{◌≡◌, ◌≢◌, ℕ, ◌+◌, ◌-◌, ◌<◌, ◌≤◌, min, Bool, true, false, cond, ◌&&◌, List, [], ◌∷◌, ◌++◌, length, Option, None, refl, sym, ap, subst, ◌∙◌, arith, inl, inr, ◌⊎◌, length-append}
+use Rattle.std.proofs.Common.{◌≡◌, ℕ, ◌+◌, ◌<◌, ◌≤◌, Bool, true, false, cond, ◌&&◌, List, [], ◌∷◌, ◌++◌, length, Option, None, refl, sym, ap, subst, ◌∙◌, arith, inl, inr, ◌⊎◌, length-append}
 use Prim.Native.Nat.{suc}
 use Rattle.std.proofs.lemmas.List.{length-map}
-use Rattle.std.proofs.lemmas.Bool.{true≢false}
 use Rattle.std.proofs.lemmas.Bool.Decides.{eqb_tells}
-use Rattle.std.specs.List.{AllByRecursion}
 use Rattle.gx_base.specs.declared.order.Order.{Order}
 use Rattle.gx_base.specs.declared.order.Side.{Side}
 use Rattle.plain_book.specs.declared.entry.Entry.{Entry}
-use Rattle.plain_book.specs.Orders.{level_of, HasSlot, order_of, is_live, is_named, is_on, is_at_earlier_level, is_new_best, without, with_order, reordered, placed, lined_up, settled, refreshed, filled_by, with_top, topped}
-use Rattle.plain_book.specs.Book.{Book, live_orders, IsRight, IsResting, IsWaiting, IsFitToRest, IsFitToWait, CanBeTop, first_shown, is_enough, book_placed, book_waited, book_traded, book_with_order, book_without, book_changed, book_with_top, book_cleared, changed_to}
+use Rattle.plain_book.specs.Orders.{level_of, HasSlot, order_of, is_live, is_named, is_new_best, without, with_order, reordered, placed, lined_up, settled, refreshed, filled_by, with_top}
+use Rattle.plain_book.specs.Book.{EachPair, AreInBookOrder, Book, live_orders, IsRight, IsResting, IsWaiting, IsFitToRest, IsFitToWait, CanBeTop, first_shown, is_enough, book_placed, book_waited, book_traded, book_with_order, book_without, book_changed, book_with_top, book_cleared, changed_to}
 use Rattle.plain_book.specs.Inner.FreeSlots.{IsAmong, AreFree, IsKept, IsFreeList, freed}
-use Rattle.plain_book.proofs.Levels.{HasSlot-filter, HasSlot-left, slots-apart, order_of-left, order_of-right, without-none}
+use Rattle.plain_book.proofs.Levels.{HasSlot-filter, HasSlot-left, slots-apart, order_of-left, order_of-right}
 use Rattle.plain_book.proofs.Walks.{HasSlot-before}
-use Rattle.plain_book.proofs.Pairs.{all-from, all-filter, all-map, all-with, none-any}
-use Rattle.plain_book.proofs.Live.{AllOrders, orders-at, fit_of}
-use Rattle.plain_book.proofs.Named.{Unnamed, unnamed-without, named-renamed}
+use Rattle.plain_book.proofs.Pairs.{none-any}
+use Rattle.plain_book.proofs.Live.{orders-at, fit_of}
+use Rattle.plain_book.proofs.Named.{named-renamed}
 use Rattle.plain_book.proofs.Sorted.{inserted-slots, inserted-length}
-use Rattle.plain_book.proofs.Tops.{NoTopBehind, not-best-none, new-best-all, standing-not-best, on-sym}
 use Rattle.plain_book.proofs.Settled.{settled-gone, settled-back, settled-stays}
-use Rattle.plain_book.proofs.Right.{other_slot, live-without, length-without, without-gone, right-without, resting_as, waiting_as, live-placed, live-lined, right-placed, right-lined, book_reordered, live-reordered, right-reordered, waiting-same, right-with_order, slots-marked, length-marked, right-marked, right-cleared}
+use Rattle.plain_book.proofs.Fits.{fit-stays, fit-back, rest-changed, wait-changed}
+use Rattle.plain_book.proofs.Calls.{right-book_placed, right-book_waited, rests-alone, right-back}
+use Rattle.plain_book.proofs.Right.{other_slot, live-without, length-without, without-gone, right-without, resting_as, waiting_as, live-placed, live-lined, book_reordered, live-reordered, right-reordered, waiting-same, right-with_order, slots-marked, length-marked, right-marked, right-cleared}
 
 -- ---- the free slots
 
@@ -65,117 +64,6 @@ taken s (t ∷ ss) es f h a = elim a [ inl b ↦ f.0 (subst (λ (x : ℕ). HasSl
 free-other : (s : ℕ) (ss : List ℕ) (es fs : List Entry) → (IsAmong s ss → ⊥) → ((t : ℕ) → HasSlot t fs → (s ≡ t) ⊎ HasSlot t es) → AreFree ss es → AreFree ss fs
 free-other s [] es fs n h f = tt
 free-other s (t ∷ ss) es fs n h f = ((λ k. elim (h t k) [ inl a ↦ n (inl (sym a)) | inr a ↦ f.0 a ]), f.1, free-other s ss es fs (λ a. n (inr a)) h f.2)
-
--- ---- orders that stay fit
-
-abbrev filled_fit : ℕ → ℕ → Order → Type 0
-filled_fit m n o = IsFitToRest m (filled_by n o)
-
-fit-filled : (m n : ℕ) (o : Order) → IsResting m o → n ≤ o.shown → o.leaves - n ≢ 0 → filled_fit m n o
-fit-filled m n o f h a = record {
-  listed = f.fit.listed;
-  firm = f.fit.firm;
-  kind = f.fit.kind;
-  life = f.fit.life;
-  no_trigger = f.fit.no_trigger;
-  no_min = f.fit.no_min;
-  whole = omega (arith, f.fit.whole, f.within);
-  some = omega arith;
-  show = f.fit.show;
-  small = f.fit.small;
-}
-
-fit-stays : (m n : ℕ) (o : Order) → IsResting m o → n ≤ o.shown → o.leaves - n ≢ 0 → o.shown - n ≢ 0 → IsResting m (filled_by n o)
-fit-stays m n o f h a b = record {
-  fit = fit-filled m n o f h a;
-  showing = omega arith;
-  within = omega (arith, f.within);
-  display = λ e. omega (arith, f.display e);
-  unhidden = λ e. omega (arith, f.unhidden e);
-}
-
-refreshed-fit : (m : ℕ) (o : Order) → IsFitToRest m o → o.show ≢ 0 → IsResting m (refreshed o)
-refreshed-fit m o f hidden = record {
-  fit = record { listed = f.listed; firm = f.firm; kind = f.kind; life = f.life; no_trigger = f.no_trigger; no_min = f.no_min; whole = f.whole; some = f.some; show = f.show; small = f.small };
-  showing = omega (arith, hidden, f.some);
-  within = omega arith;
-  display = λ e. omega arith;
-  unhidden = λ e. absurd (hidden e);
-}
-
-fit-back : (m n : ℕ) (o : Order) → IsResting m o → n ≤ o.shown → o.leaves - n ≢ 0 → o.shown - n ≡ 0 → IsResting m (refreshed (filled_by n o))
-fit-back m n o f h a b =
-    let hidden : o.show ≢ 0 = λ e. (let u = f.unhidden e in omega arith) in
-    refreshed-fit m (filled_by n o) (fit-filled m n o f h a) hidden
-
-pub fit-prorated : (m n : ℕ) (o : Order) → IsResting m o → IsResting m (record o { prorated = n })
-fit-prorated m n o f = record { fit = same-fit f.fit; showing = f.showing; within = f.within; display = f.display; unhidden = f.unhidden }
-  where
-    same-fit : IsFitToRest m o → IsFitToRest m (record o { prorated = n })
-    same-fit f = record { listed = f.listed; firm = f.firm; kind = f.kind; life = f.life; no_trigger = f.no_trigger; no_min = f.no_min; whole = f.whole; some = f.some; show = f.show; small = f.small }
-
-pub fit-shown : (m n : ℕ) (o : Order) → IsResting m o → 1 ≤ o.show → 1 ≤ n → n ≤ min o.show o.leaves → IsResting m (record o { shown = n })
-fit-shown m n o f some one le = record { fit = same-fit f.fit; showing = one; within = omega arith; display = λ e. omega arith; unhidden = λ e. absurd (omega arith) }
-  where
-    same-fit : IsFitToRest m o → IsFitToRest m (record o { shown = n })
-    same-fit f = record { listed = f.listed; firm = f.firm; kind = f.kind; life = f.life; no_trigger = f.no_trigger; no_min = f.no_min; whole = f.whole; some = f.some; show = f.show; small = f.small }
-
-shown-fit : (m n : ℕ) (o : Order) → IsFitToRest m o → IsFitToRest m (record o { shown = n })
-shown-fit m n o f = record { listed = f.listed; firm = f.firm; kind = f.kind; life = f.life; no_trigger = f.no_trigger; no_min = f.no_min; whole = f.whole; some = f.some; show = f.show; small = f.small }
-
-fit-placed : (m : ℕ) (o : Order) → IsFitToRest m o → IsResting m (record o { shown = first_shown o })
-fit-placed m o p = elim (eqb_tells o.show 0) [
-  | inl t ↦
-      let e : first_shown o ≡ o.leaves = ap (λ (c : Bool). cond c o.leaves (min o.show o.leaves)) t.0 in
-      let zero_show : o.show ≡ 0 = t.1 in
-      record { fit = shown-fit m (first_shown o) o p; showing = omega (arith, e, p.some); within = omega (arith, e); display = λ h. absurd (omega arith); unhidden = λ h. e }
-  | inr t ↦
-      let e : first_shown o ≡ min o.show o.leaves = ap (λ (c : Bool). cond c o.leaves (min o.show o.leaves)) t.0 in
-      let n : o.show ≢ 0 = t.1 in
-      record { fit = shown-fit m (first_shown o) o p; showing = omega (arith, e, p.some); within = omega (arith, e); display = λ h. omega (arith, e); unhidden = λ h. absurd (n h) }
-]
-
-fit-waited : (m : ℕ) (o : Order) → IsFitToWait m o → IsWaiting m (record o { shown = 0 })
-fit-waited m o f = record {
-  fit = record { listed = f.listed; firm = f.firm; kind = f.kind; unfilled = f.unfilled; no_share = f.no_share; whole = f.whole; some = f.some; show = f.show; small = f.small };
-  hidden = refl;
-}
-
-rest-changed : (m : ℕ) (id : List ℕ) (quantity least : ℕ) (o : Order) → IsResting m o → o.filled < quantity → quantity ≤ o.quantity → o.show ≤ quantity → least ≡ 0 → IsResting m (changed_to id quantity least o)
-rest-changed m id quantity least o f a b s z = record {
-  fit = record {
-    listed = f.fit.listed;
-    firm = f.fit.firm;
-    kind = f.fit.kind;
-    life = f.fit.life;
-    no_trigger = f.fit.no_trigger;
-    no_min = z;
-    whole = omega arith;
-    some = omega arith;
-    show = s;
-    small = omega (arith, f.fit.small);
-  };
-  showing = omega (arith, f.showing);
-  within = omega arith;
-  display = λ h. omega (arith, f.display h);
-  unhidden = λ h. omega (arith, f.unhidden h, f.fit.whole);
-}
-
-wait-changed : (m : ℕ) (id : List ℕ) (quantity least : ℕ) (o : Order) → IsWaiting m o → o.filled < quantity → quantity ≤ o.quantity → o.show ≤ quantity → IsWaiting m (changed_to id quantity least o)
-wait-changed m id quantity least o f a b s = record {
-  fit = record {
-    listed = f.fit.listed;
-    firm = f.fit.firm;
-    kind = f.fit.kind;
-    unfilled = f.fit.unfilled;
-    no_share = f.fit.no_share;
-    whole = omega (arith, f.fit.unfilled);
-    some = omega arith;
-    show = s;
-    small = omega (arith, f.fit.small);
-  };
-  hidden = omega (arith, f.hidden);
-}
 
 -- ---- the calls
 
@@ -231,36 +119,21 @@ module _ (b : Book) (rr wr : ℕ) (ss : List ℕ) (fr rr' wr' fr' : ℕ) (k : Is
       (omega (arith, k.all, ap (λ (q : List Entry). length q) live, length-without s (live_orders b) k.right.differ h, length-append ss (s ∷ [])))
       (subst (AreFree (ss ++ s ∷ [])) (sym live) (free-push s ss (without s (live_orders b)) fewer (without-gone s (live_orders b)) (taken s ss (live_orders b) k.free h)))
 
-  -- an order that rests does not wait
-  gone-same : (s : ℕ) → HasSlot s b.resting → book_without s b ≡ resting_as b (without s b.resting)
-  gone-same s h = ap (λ (q : List Entry). record b { resting = without s b.resting; waiting = q }) (without-none s b.waiting (λ w. slots-apart s b.resting b.waiting k.right.differ h w))
-
   kept-back : (s : ℕ) (o : Order) → HasSlot s b.resting → level_of o ≡ level_of (order_of s b.resting) → o.firm ≡ (order_of s b.resting).firm → o.id ≡ (order_of s b.resting).id → IsResting b.instruments o
       → IsKept (resting_as b (placed (record { slot = s; order = o; is_top = false }) (without s b.resting))) rr' wr' ss fr'
   kept-back s o has l f i fit =
       let n : Entry = record { slot = s; order = o; is_top = false } in
       let h = HasSlot-left s b.resting b.waiting has in
-      let old = order_of s (live_orders b) in
-      let is : old ≡ order_of s b.resting = order_of-left s b.resting b.waiting has in
       let one = resting_as b (without s b.resting) in
-      let same = gone-same s has in
+      let same = rests-alone b k.right s has in
       let live : live_orders one ≡ without s (live_orders b) = ap live_orders (sym same) ∙ live-without s b in
       let right : IsRight one = subst IsRight same (right-without b s k.right h) in
       let shorter : suc (length (live_orders one)) ≡ length (live_orders b) = ap (λ (q : List Entry). suc (length q)) live ∙ length-without s (live_orders b) k.right.differ h in
-      let gone : HasSlot s (live_orders one) → ⊥ = λ q. without-gone s (live_orders b) (subst (HasSlot s) live q) in
-      let unnamed : AllOrders (Unnamed o) (live_orders one) =
-      subst (AllOrders (Unnamed o)) (sym live) (unnamed-as old o (without s (live_orders b)) (f ∙ ap (λ (x : Order). x.firm) (sym is)) (i ∙ ap (λ (x : Order). x.id) (sym is)) (unnamed-without s (live_orders b) k.right.named h)) in
-      let none : AllByRecursion (NoTopBehind n) (without s b.resting) =
-      all-filter (NoTopBehind n) (other_slot s) b.resting (not-best-none n b.resting k.right.tops (standing-not-best n s b.resting k.right.ordered has (sym l))) in
       let ins = live-placed one n right.ordered in
-      kept-of b (resting_as b (placed n (without s b.resting))) rr wr fr rr' wr' fr' ss ss k lr lw lf refl
-      (right-placed one n right (omega (arith, shorter, k.right.few)) gone unnamed fit (all-from (λ (x : Entry). false ≡ true → is_on o.instrument o.side x ≡ true → is_at_earlier_level n x ≡ true) (λ x t. absurd (true≢false (sym t))) (without s b.resting)) none)
+      kept-of b (resting_as b (placed n (without s b.resting))) rr wr fr rr' wr' fr' ss ss k lr lw lf refl (right-back b k.right s o has l f i fit)
       (omega (arith, k.all, shorter, inserted-length ins))
       (free-other s ss (live_orders b) (live_orders (resting_as b (placed n (without s b.resting)))) (taken s ss (live_orders b) k.free h)
       (λ t q. elim (inserted-slots ins t q) [ inl a ↦ inl a | inr a ↦ inr (HasSlot-filter (other_slot s) t (live_orders b) (subst (HasSlot t) live a)) ]) k.free)
-    where
-      unnamed-as : (p q : Order) (es : List Entry) → q.firm ≡ p.firm → q.id ≡ p.id → AllOrders (Unnamed p) es → AllOrders (Unnamed q) es
-      unnamed-as p q es f i h = all-with (λ (e : Entry). Unnamed p e.order) (λ (e : Entry). Unnamed q e.order) (λ e u. ap (λ (n : ℕ). is_named n q.id e) f ∙ ap (λ (n : List ℕ). is_named p.firm n e) i ∙ u) es h
 
   pub kept-traded : (s n : ℕ) → HasSlot s b.resting → 1 ≤ n → n ≤ (order_of s b.resting).shown → IsKept (book_traded s n b) rr' wr' (freed s n b.resting ss) fr'
   kept-traded s n h some shown =
@@ -273,7 +146,7 @@ module _ (b : Book) (rr wr : ℕ) (ss : List ℕ) (fr rr' wr' fr' : ℕ) (k : Is
         | inl t ↦
             subst (λ (q : List ℕ). IsKept (resting_as b (settled s o es)) rr' wr' q fr') (sym (ap test t.0))
             (subst (λ (q : List Entry). IsKept (resting_as b q) rr' wr' (ss ++ s ∷ []) fr') (sym (settled-gone s o es t.1))
-            (subst (λ (x : Book). IsKept x rr' wr' (ss ++ s ∷ []) fr') (gone-same s h) (kept-without s (HasSlot-left s es b.waiting h))))
+            (subst (λ (x : Book). IsKept x rr' wr' (ss ++ s ∷ []) fr') (rests-alone b k.right s h) (kept-without s (HasSlot-left s es b.waiting h))))
         | inr t ↦
             subst (λ (q : List ℕ). IsKept (resting_as b (settled s o es)) rr' wr' q fr') (sym (ap test t.0))
             (elim (eqb_tells o.shown 0) [
@@ -299,78 +172,39 @@ kept-cleared b rr wr ss fr rr' wr' fr' ss' k lr lw f = record {
   free = f.free;
 }
 
-abbrev entry_of : ℕ → Order → Bool → Entry
-entry_of s o top = record { slot = s; order = o; is_top = top }
-
-orders-marked : (P : Order → Type 0) (i : ℕ) (d : Side) (top : Option ℕ) (es ws : List Entry) → AllOrders P (es ++ ws) → AllOrders P (with_top i d top es ++ ws)
-orders-marked P i d top [] ws h = h
-orders-marked P i d top (e ∷ es) ws h = (h.0, orders-marked P i d top es ws h.1)
-
--- where a new best has ended TOP, no order of its side is marked
-none-marked : (n : Entry) (es : List Entry) → AllByRecursion (NoTopBehind n) (with_top n.order.instrument n.order.side None es)
-none-marked n [] = tt
-none-marked n (e ∷ es) = (
-  (λ behind top on.
-      let mine : is_on n.order.instrument n.order.side e ≡ true = on-sym e n on in
-      true≢false (sym top ∙ ap (λ (c : Bool). cond c false e.is_top) mine)),
-  none-marked n es,
-)
-
 -- an order comes, and takes the last of the free slots
 module _ (b : Book) (rr wr : ℕ) (ss : List ℕ) (fr rr' wr' fr' s : ℕ) (k : IsKept b rr wr (ss ++ s ∷ []) fr) (lr : rr ≤ rr') (lw : wr ≤ wr') (lf : fr ≤ fr') where
   one-more : length ss + 1 + length (live_orders b) ≡ b.capacity
   one-more = omega (arith, k.all, length-append ss (s ∷ []))
 
-  kept-put : (es : List Entry) (o : Order) (top : Bool) → IsRight (resting_as b es) → length (live_orders (resting_as b es)) ≡ length (live_orders b) → ((t : ℕ) → HasSlot t (live_orders (resting_as b es)) → HasSlot t (live_orders b))
-      → AllOrders (Unnamed o) (live_orders (resting_as b es)) → IsResting b.instruments o
-      → AllByRecursion (λ (x : Entry). top ≡ true → is_on o.instrument o.side x ≡ true → is_at_earlier_level (record { slot = s; order = o; is_top = top }) x ≡ true) es
-      → AllByRecursion (NoTopBehind (record { slot = s; order = o; is_top = top })) es
-      → IsKept (resting_as b (placed (record { slot = s; order = o; is_top = top }) es)) rr' wr' ss fr'
-  kept-put es o top right long slots unnamed fit first none =
-      let n : Entry = record { slot = s; order = o; is_top = top } in
-      let one = resting_as b es in
-      let gone : HasSlot s (live_orders one) → ⊥ = λ h. free-last s ss (live_orders b) k.free (slots s h) in
-      let ins = live-placed one n right.ordered in
-      kept-of b (resting_as b (placed n es)) rr wr fr rr' wr' fr' (ss ++ s ∷ []) ss k lr lw lf refl
-      (right-placed one n right (omega (arith, long, one-more)) gone unnamed fit first none)
+  room : length (live_orders b) < b.capacity
+  room = omega (arith, one-more)
+
+  kept-put : (es : List Entry) (n : Entry) → n.slot ≡ s → EachPair AreInBookOrder es → length (live_orders (resting_as b es)) ≡ length (live_orders b) → ((t : ℕ) → HasSlot t (live_orders (resting_as b es)) → HasSlot t (live_orders b))
+      → IsRight (resting_as b (placed n es)) → IsKept (resting_as b (placed n es)) rr' wr' ss fr'
+  kept-put es n at ordered long slots right =
+      let ins = live-placed (resting_as b es) n ordered in
+      kept-of b (resting_as b (placed n es)) rr wr fr rr' wr' fr' (ss ++ s ∷ []) ss k lr lw lf refl right
       (omega (arith, one-more, long, inserted-length ins))
       (free-other s ss (live_orders b) (live_orders (resting_as b (placed n es))) (last-apart s ss (live_orders b) k.free)
-      (λ t q. elim (inserted-slots ins t q) [ inl a ↦ inl a | inr a ↦ inr (slots t a) ]) (free-front s ss (live_orders b) k.free))
+      (λ t q. elim (inserted-slots ins t q) [ inl a ↦ inl (sym at ∙ a) | inr a ↦ inr (slots t a) ]) (free-front s ss (live_orders b) k.free))
 
   pub kept-placed : (o : Order) (least : Option ℕ) → IsFitToRest b.instruments o → is_live o.firm o.id (live_orders b) ≡ false → IsKept (book_placed s o least b) rr' wr' ss fr'
   kept-placed o least p u =
       let i = o.instrument in
       let d = o.side in
-      let enough = is_enough least o.leaves in
-      let rests : Order = record o { shown = first_shown o } in
-      let newcomer = λ (top : Bool). entry_of s rests top in
-      let unnamed : AllOrders (Unnamed rests) (live_orders b) = none-any (is_named o.firm o.id) (live_orders b) u in
-      let fit = fit-placed b.instruments o p in
-      let go : (c : Bool) → is_new_best o b.resting ≡ c → IsKept (resting_as b (placed (newcomer (c && enough)) (cond c (with_top i d None b.resting) b.resting))) rr' wr' ss fr' = elim [
-        | true ↦ λ best.
-            let n = newcomer enough in
-            let F = λ (x : Entry). is_on i d x ≡ true → is_at_earlier_level n x ≡ true in
-            let G = λ (x : Entry). enough ≡ true → is_on i d x ≡ true → is_at_earlier_level n x ≡ true in
-            kept-put (with_top i d None b.resting) rests enough (right-marked b i d None k.right tt) (length-marked i d None b.resting b.waiting)
-            (λ t h. slots-marked i d None t b.resting b.waiting h)
-            (orders-marked (Unnamed rests) i d None b.resting b.waiting unnamed) fit
-            (all-map F G (topped i d None) (λ x h _ on. h on) b.resting (new-best-all n b.resting k.right.ordered best))
-            (none-marked n b.resting)
-        | false ↦ λ worse.
-            let n = newcomer false in
-            kept-put b.resting rests false k.right refl (λ t h. h) unnamed fit
-            (all-from (λ (x : Entry). false ≡ true → is_on i d x ≡ true → is_at_earlier_level n x ≡ true) (λ x t. absurd (true≢false (sym t))) b.resting)
-            (not-best-none n b.resting k.right.tops worse)
-      ] in go (is_new_best o b.resting) refl
+      let n : Bool → Entry = λ (top : Bool). record { slot = s; order = record o { shown = first_shown o }; is_top = top && is_enough least o.leaves } in
+      let placed_if : Bool → Book = λ (best : Bool). resting_as b (placed (n best) (cond best (with_top i d None b.resting) b.resting)) in
+      let go : (best : Bool) → IsRight (placed_if best) → IsKept (placed_if best) rr' wr' ss fr' = elim [
+        | true ↦ kept-put (with_top i d None b.resting) (n true) refl (right-marked b i d None k.right tt).ordered (length-marked i d None b.resting b.waiting) (λ t h. slots-marked i d None t b.resting b.waiting h)
+        | false ↦ kept-put b.resting (n false) refl k.right.ordered refl (λ t h. h)
+      ] in go (is_new_best o b.resting) (right-book_placed b s k.right room (free-last s ss (live_orders b) k.free) o least p u)
 
   pub kept-waited : (o : Order) → IsFitToWait b.instruments o → is_live o.firm o.id (live_orders b) ≡ false → IsKept (book_waited s o b) rr' wr' ss fr'
   kept-waited o p u =
-      let waits : Order = record o { shown = 0 } in
-      let n : Entry = record { slot = s; order = waits; is_top = false } in
-      let unnamed : AllOrders (Unnamed waits) (live_orders b) = none-any (is_named o.firm o.id) (live_orders b) u in
+      let n : Entry = record { slot = s; order = record o { shown = 0 }; is_top = false } in
       let ins = live-lined b n k.right.lined in
-      kept-of b (waiting_as b (lined_up n b.waiting)) rr wr fr rr' wr' fr' (ss ++ s ∷ []) ss k lr lw lf refl
-      (right-lined b n k.right (omega (arith, one-more)) (free-last s ss (live_orders b) k.free) unnamed (fit-waited b.instruments o p))
+      kept-of b (waiting_as b (lined_up n b.waiting)) rr wr fr rr' wr' fr' (ss ++ s ∷ []) ss k lr lw lf refl (right-book_waited b s k.right room (free-last s ss (live_orders b) k.free) o p u)
       (omega (arith, one-more, inserted-length ins))
       (free-other s ss (live_orders b) (live_orders (waiting_as b (lined_up n b.waiting))) (last-apart s ss (live_orders b) k.free) (inserted-slots ins) (free-front s ss (live_orders b) k.free))
 

@@ -11,11 +11,13 @@ pub mod Found
 pub mod Sorted
 pub mod Tops
 pub mod Right
+pub mod Settled
+pub mod Fits
+pub mod Calls
 pub mod LineCounts
 pub mod Parts
 -- What the proofs of this crate alone cite.
 mod Mapped
-mod Settled
 mod Kept
 mod Trading
 mod Marks

@@ -10,6 +10,7 @@ use Rattle.gx_base.specs.declared.event.Event.{Event}
 use Rattle.gx_base.specs.declared.event.StepName.{StepName}
 use Rattle.plain_book.specs.Orders.{order_of, filled_by}
 use Rattle.plain_book.specs.Book.{Book}
+use Rattle.plain_book.specs.Shares.{AreNone}
 use Rattle.plain_book.specs.Match.{MatchState, match_start, Share, trade, trade_if_any, trade_share, trade_shares, fill, next_head, report_counted, taken_by, is_prorata, book_marked}
 
 abbrev pub with_events : List Event → MatchState → MatchState
@@ -54,6 +55,16 @@ share-ignores step s n es m = any-ignores step s n es (match_with (marked_in ste
 pub shares-ignore : (step : StepName) (shares : List Share) → IgnoresEvents (trade_shares step shares)
 shares-ignore step [] es m = refl
 shares-ignore step (x ∷ xs) es m = ap (trade_shares step xs) (share-ignores step x.0 x.1 es m) ∙ shares-ignore step xs es (trade_share step x.0 x.1 m)
+
+-- a share of 0 changes nothing, unless the step marks orders
+share-none : (step : StepName) (s n : ℕ) (m : MatchState) → is_prorata step ≡ false → n ≡ 0 → trade_share step s n m ≡ m
+share-none step s n m unmarked none =
+    ap (λ (x : ℕ). trade_share step s x m) none
+    ∙ ap (λ (c : Bool). trade_if_any step s 0 (record m { book = cond c (book_marked s 0 m.book) m.book })) unmarked
+
+pub shares-none : (step : StepName) (shares : List Share) → is_prorata step ≡ false → AreNone shares → (m : MatchState) → trade_shares step shares m ≡ m
+shares-none step [] unmarked none m = refl
+shares-none step (x ∷ xs) unmarked none m = ap (trade_shares step xs) (share-none step x.0 x.1 m unmarked none.0) ∙ shares-none step xs unmarked none.1 m
 
 -- one run of shares, and then another
 pub shares-append : (step : StepName) (xs ys : List Share) (m : MatchState) → trade_shares step (xs ++ ys) m ≡ trade_shares step ys (trade_shares step xs m)

@@ -63,6 +63,13 @@ module _ {E R : Type 0} (m : EmitMeanings E) (r : ShareMeanings R) (k : Level) (
     right = right;
   }
 
+  -- nothing is there to do of the step
+  pub none-due : (rule : R) → ((orders : List Entry) → (s : MatchState) → trade_shares step (shares_by r rule orders) s ≡ s) → CanTrade start.book start.desk start.taker
+      → Matches m (trade_shares step (shares_by r rule (orders_at k start.book.resting))) start start
+  none-due rule none can =
+      let shares = shares_by r rule (orders_at k start.book.resting) in
+      matches-as m (λ s. s) (trade_shares step shares) start start (sym (none (orders_at k start.book.resting) (start_at start))) (matches-none m start can)
+
   module _ (at end : Option ℕ) (rule : R) (now : MatchAt E) (w : IsWalk m r k step all start at end rule now) where
     pub walk-turn : (slot : ℕ) → at ≡ Some slot → IsTurn r k slot end rule now.book now.taker.order.leaves w.rest
     walk-turn slot is =
@@ -141,6 +148,14 @@ module _ {E R : Type 0} (m : EmitMeanings E) (r : ShareMeanings R) (k : Level) (
         let none : w.rest ≡ [] = no-slot w.rest (sym w.next ∙ is) in
         let whole : w.done ≡ all = sym (append-nil w.done) ∙ ap (λ (q : List Entry). w.done ++ shares_by r rule q) (sym none) ∙ w.leads in
         matches-as m (trade_shares step w.done) (trade_shares step all) start now (ap (λ (q : List Share). trade_shares step q (start_at start)) whole) w.matches
+
+    -- nothing is left to do of the step
+    pub walk-over : ((orders : List Entry) → (s : MatchState) → trade_shares step (shares_by r rule orders) s ≡ s) → Matches m (trade_shares step all) start now
+    walk-over none =
+        let f = trade_shares step w.done in
+        let whole : f (start_at start) ≡ trade_shares step all (start_at start) =
+        sym (none w.rest (f (start_at start))) ∙ sym (shares-append step w.done (shares_by r rule w.rest) (start_at start)) ∙ ap (λ (q : List Share). trade_shares step q (start_at start)) w.leads in
+        matches-as m f (trade_shares step all) start now whole w.matches
 
     -- how many orders are still to come
     pub walk-length : length (still_to_come at end (orders_at k now.book.resting)) ≡ length w.rest

@@ -1,8 +1,13 @@
 -- The shares of a level's orders by a rule that looks at one order after the other.
-use Rattle.std.specs.Prelude.{ℕ, ◌-◌, ◌≤◌, List, [], ◌∷◌}
+use Rattle.std.specs.Prelude.{◌≡◌, ℕ, ◌-◌, ◌≤◌, List, [], ◌∷◌}
 use Rattle.gx_base.specs.declared.order.Order.{Order}
 use Rattle.plain_book.specs.declared.entry.Entry.{Entry}
 use Rattle.plain_book.specs.Match.{Share}
+
+-- no share has any lots
+abbrev pub AreNone : List Share → Type 0
+AreNone [] = Unit {0}
+AreNone (share ∷ shares) = (share.1 ≡ 0) × AreNone shares
 
 -- what a rule says: the share of an order, and the rule for the orders behind it
 pub record ShareMeanings (R : Type 0) : Type 0 where

@@ -45,10 +45,10 @@ pub trait Book {
         requires { HasSlot slot.0 (book self.now).resting }
         ensures { let es = (book self.now).resting in option_map slot_number result ≡ slot_after slot.0 (orders_at (level_of (order_of slot.0 es)) es) };
 
-    /// A live order.
-    fn order(&self, slot: Slot) -> Order
+    /// A live order. It is lent, so that nobody pays for a copy who only reads it.
+    fn order(&self, slot: Slot) -> &Order
         requires { HasSlot slot.0 (live_orders (book self.now)) }
-        ensures { result ≡ order_of slot.0 (live_orders (book self.now)) };
+        ensures { result.now ≡ order_of slot.0 (live_orders (book self.now)) };
 
     /// How many orders rest at a price.
     fn count(&self, instrument: u8, side: Side, price: Price) -> u32

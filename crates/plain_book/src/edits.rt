@@ -101,8 +101,9 @@ pub(crate) fn is_new_best(entries: &[Entry], order: &Order) -> bool
     }
 }
 
-/// Whether so many open lots are enough for TOP.
-pub(crate) fn is_enough(top_min: Option<u32>, leaves: u32) -> bool
+/// Whether an order of which so many lots are open may be TOP, where TOP takes at least `top_min` lots. With no `top_min`
+/// no order may.
+pub fn is_enough(top_min: Option<u32>, leaves: u32) -> bool
     ensures { result ≡ is_enough top_min leaves }
 {
     match top_min {
@@ -111,8 +112,8 @@ pub(crate) fn is_enough(top_min: Option<u32>, leaves: u32) -> bool
     }
 }
 
-/// How much of an order is shown first.
-pub(crate) fn first_shown(order: &Order) -> u32
+/// How many lots of an order are shown as it comes to rest: all that are open, or at most its `show`, where it has one.
+pub fn first_shown(order: &Order) -> u32
     ensures { result ≡ first_shown order.now }
 {
     if order.show == 0 {
@@ -121,13 +122,14 @@ pub(crate) fn first_shown(order: &Order) -> u32
     order.show.min(order.leaves)
 }
 
-/// The order with less to trade and another id.
-pub(crate) fn changed(order: &Order, id: ShortId, quantity: u32, min: u32) -> Order
+/// The order under another id, with another quantity in lots, of which what was filled stays filled, and another `min`. What
+/// it shows is at most what is open then.
+pub fn changed(order: &Order, id: &ShortId, quantity: u32, min: u32) -> Order
     requires { order.now.filled ≤ quantity }
-    ensures { result ≡ changed_to id quantity min order.now }
+    ensures { result ≡ changed_to id.now quantity min order.now }
 {
     let mut changed = *order;
-    changed.id = id;
+    changed.id = *id;
     changed.quantity = quantity;
     changed.leaves = quantity - order.filled;
     changed.shown = order.shown.min(changed.leaves);

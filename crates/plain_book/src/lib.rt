@@ -12,6 +12,7 @@ mod trade;
 mod walk;
 
 pub use book::Book;
+pub use edits::{changed, first_shown, is_enough};
 pub use entry::Entry;
 pub use percent::percent_of;
 pub use plain::PlainBook;

@@ -84,10 +84,10 @@ impl Book for PlainBook {
     }
 
     fn next(&self, slot: Slot) -> Option<Slot> {
-        next_at(&self.resting, slot.0, &order_at(&self.resting, slot.0))
+        next_at(&self.resting, slot.0, order_at(&self.resting, slot.0))
     }
 
-    fn order(&self, slot: Slot) -> Order {
+    fn order(&self, slot: Slot) -> &Order {
         order_in(&self.resting, &self.waiting, slot.0)
     }
 
@@ -129,12 +129,12 @@ impl Book for PlainBook {
     }
 
     fn trade(&mut self, slot: Slot, lots: u32) -> Order {
-        let order = order_at(&self.resting, slot.0);
-        trade_order(&mut self.resting, &mut self.free, slot.0, &order, lots)
+        let order = *order_at(&self.resting, slot.0);
+        trade_order(&mut self.resting, &mut self.free, slot.0, order, lots)
     }
 
     fn remove(&mut self, slot: Slot) -> Order {
-        let order = order_in(&self.resting, &self.waiting, slot.0);
+        let order = *order_in(&self.resting, &self.waiting, slot.0);
         take_out(&mut self.resting, slot.0);
         take_out(&mut self.waiting, slot.0);
         give_slot(&mut self.free, slot.0);
@@ -143,19 +143,19 @@ impl Book for PlainBook {
 
     fn change(&mut self, slot: Slot, id: ShortId, quantity: u32, min: u32) {
         let order = order_in(&self.resting, &self.waiting, slot.0);
-        let order = changed(&order, id, quantity, min);
+        let order = changed(order, &id, quantity, min);
         put_back(&mut self.resting, slot.0, &order);
         put_back(&mut self.waiting, slot.0, &order);
     }
 
     fn set_prorated(&mut self, slot: Slot, share: u32) {
-        let mut order = order_at(&self.resting, slot.0);
+        let mut order = *order_at(&self.resting, slot.0);
         order.prorated = share;
         put_back(&mut self.resting, slot.0, &order);
     }
 
     fn set_shown(&mut self, slot: Slot, shown: u32) {
-        let mut order = order_at(&self.resting, slot.0);
+        let mut order = *order_at(&self.resting, slot.0);
         order.shown = shown;
         put_back(&mut self.resting, slot.0, &order);
     }
@@ -256,24 +256,24 @@ fn trade_order(
     entries: &mut Vec<Entry>,
     free: &mut Vec<u32>,
     slot: u32,
-    order: &Order,
+    order: Order,
     lots: u32,
 ) -> Order
-    requires order { order.now ≡ order_of slot entries.old.items }
+    requires order { order ≡ order_of slot entries.old.items }
     requires ordered { EachPair AreInBookOrder entries.old.items }
     requires some { 1 ≤ lots }
-    requires shown { lots ≤ order.now.shown }
-    requires within { order.now.shown ≤ order.now.leaves }
-    requires whole { order.now.filled + order.now.leaves ≤ MOST_LOTS }
+    requires shown { lots ≤ order.shown }
+    requires within { order.shown ≤ order.leaves }
+    requires whole { order.filled + order.leaves ≤ MOST_LOTS }
     requires free_room { vec_len free.old < vec_capacity free.old }
     requires room { length (without slot entries.old.items) < vec_capacity entries.old }
-    ensures order { result ≡ filled_by lots order.now }
+    ensures order { result ≡ filled_by lots order }
     ensures entries { entries.new.items ≡ traded slot lots entries.old.items }
     ensures free { free.new.items ≡ freed slot lots entries.old.items free.old.items }
     ensures capacity { vec_capacity entries.new ≡ vec_capacity entries.old }
     ensures free_capacity { vec_capacity free.old ≤ vec_capacity free.new }
 {
-    let mut given = *order;
+    let mut given = order;
     given.filled += lots;
     given.leaves -= lots;
     given.shown -= lots;

@@ -172,26 +172,26 @@ pub(crate) fn next_stop(entries: &[Entry], slot: u32, instrument: u8) -> Option<
 }
 
 /// The order of a slot.
-pub(crate) fn order_at(entries: &[Entry], slot: u32) -> Order
+pub(crate) fn order_at(entries: &[Entry], slot: u32) -> &Order
     requires { HasSlot slot entries.now }
-    ensures { result ≡ order_of slot entries.now }
+    ensures { result.now ≡ order_of slot entries.now }
 {
     for entry in entries {
         if entry.slot == slot {
-            return entry.order;
+            return &entry.order;
         }
     }
     unreachable!()
 }
 
 /// The order of a slot, in either of two lists.
-pub(crate) fn order_in(resting: &[Entry], waiting: &[Entry], slot: u32) -> Order
+pub(crate) fn order_in<'a>(resting: &'a [Entry], waiting: &'a [Entry], slot: u32) -> &'a Order
     requires { HasSlot slot (resting.now ++ waiting.now) }
-    ensures { result ≡ order_of slot (resting.now ++ waiting.now) }
+    ensures { result.now ≡ order_of slot (resting.now ++ waiting.now) }
 {
     for entry in resting {
         if entry.slot == slot {
-            return entry.order;
+            return &entry.order;
         }
     }
     order_at(waiting, slot)

@@ -62,12 +62,13 @@ fn lengthen(price: Price, range: Option<(Price, Price)>) -> Option<(Price, Price
     }
 }
 
-fn fill(head: Head, order: Order, lots: u32, price: Price, step: StepName, trade: u64) -> Event
-    ensures { result ≡ Event.Fill head order lots price step trade }
+/// The event of a trade, with its own copy of the order.
+fn fill(head: Head, order: &Order, lots: u32, price: Price, step: StepName, trade: u64) -> Event
+    ensures { result ≡ Event.Fill head order.now lots price step trade }
 {
     Event::Fill {
         head,
-        order,
+        order: *order,
         lots,
         price,
         step,
@@ -110,9 +111,9 @@ pub fn trade_lots<B: Book, E: Emit>(
     taker.range = lengthen(price, taker.range);
     desk.trades += 1;
     let head = count_report(desk, given.firm, taker.time);
-    let first = fill(head, given, lots, price, step, desk.trades);
+    let first = fill(head, &given, lots, price, step, desk.trades);
     let head = count_report(desk, taker.order.firm, taker.time);
-    let second = fill(head, taker.order, lots, price, step, desk.trades);
+    let second = fill(head, &taker.order, lots, price, step, desk.trades);
     put_both(out, &first, &second);
 }
 
@@ -138,7 +139,8 @@ fn trade_if_any<B: Book, E: Emit>(
     }
 }
 
-fn is_prorata(step: StepName) -> bool
+/// Whether a step marks each order with its share.
+pub(crate) fn is_prorata(step: StepName) -> bool
     ensures { result ≡ is_prorata step }
 {
     matches!(step, StepName::ProRata)

@@ -1,20 +1,23 @@
 //! A walk along a level: each order that stands there trades its share, by a rule.
-ghost use Rattle.std.specs.Prelude.{◌≡◌, ◌<◌, option_map};
+ghost use Rattle.std.specs.Prelude.{◌≡◌, ◌<◌, List, IsTrue, option_map};
 ghost use Rattle.plain_book.specs.Orders.{HasSlot, orders_at, order_of, level_of, slot_of, slot_after, is_slot_in};
 ghost use Rattle.plain_book.specs.Book.{slot_number};
-ghost use Rattle.plain_book.specs.Match.{trade_shares};
+ghost use Rattle.plain_book.specs.Match.{MatchState, trade_shares};
+ghost use Rattle.plain_book.specs.declared.entry.Entry.{Entry};
 ghost use Rattle.plain_book.specs.Matches.{match_at, Matches, CanTrade};
 ghost use Rattle.plain_book.specs.Shares.{shares_by, AreWithin};
 ghost use Rattle.plain_book.specs.Steps.{facing};
 ghost use Rattle.plain_book.specs.Inner.Walk.{is_refreshed_by, end_after, before_end};
 
 use crate::book::Book;
-use crate::trade::{opposite_side, trade_share};
+use crate::trade::{is_prorata, opposite_side, trade_share};
 use gx_base::{Desk, Emit, Order, Price, Slot, StepName, Taker};
 
 /// How many lots each order of a level trades in a step, by priority.
 pub trait ShareRule {
-    ghost use Rattle.plain_book.specs.Shares.{ShareMeanings};
+    ghost use Rattle.std.specs.Prelude.{List, IsTrue};
+    ghost use Rattle.plain_book.specs.declared.entry.Entry.{Entry};
+    ghost use Rattle.plain_book.specs.Shares.{ShareMeanings, shares_by, AreNone};
 
     ghost meanings: { ShareMeanings Self };
 
@@ -22,6 +25,17 @@ pub trait ShareRule {
     fn share(&mut self, order: &Order) -> u32
         ensures share { result ≡ meanings.share self.old order.now }
         ensures behind { self.new ≡ meanings.behind self.old order.now };
+
+    /// Whether no order has a share any more, so that a walk may end. `false` promises nothing: the walk then goes on.
+    fn is_spent(&self) -> bool
+        ensures { IsTrue result → (orders : List Entry) → AreNone (shares_by meanings self.now orders) };
+}
+
+/// Whether nothing of a step is left to do: no order has a share any more, nor is any to be marked with one.
+fn is_over<R: ShareRule>(step: StepName, rule: &R) -> bool
+    ensures { IsTrue result → (orders : List Entry) → (m : MatchState) → trade_shares step (shares_by R.meanings rule.now orders) m ≡ m }
+{
+    !is_prorata(step) && rule.is_spent()
 }
 
 /// The first order at a price that the incoming one meets.
@@ -74,7 +88,8 @@ fn end_after(end: Option<Slot>, slot: Slot, order: &Order, lots: u32) -> Option<
     end
 }
 
-/// Each order that stands at a price as the call begins trades its share, by priority: one that is refreshed trades once.
+/// Each order that stands at a price as the call begins trades its share, by priority: one that is refreshed trades once. The
+/// walk ends as soon as nothing of the step is left to do.
 pub fn trade_level<B: Book, E: Emit, R: ShareRule>(
     book: &mut B,
     desk: &mut Desk,
@@ -92,14 +107,20 @@ pub fn trade_level<B: Book, E: Emit, R: ShareRule>(
         Matches E.meanings (trade_shares step (shares_by R.meanings rule.old level)) before after }
 {
     book.rules();
+    if is_over(step, rule) {
+        return;
+    }
     let mut at = first_facing(book, taker, price);
     let mut end = None;
     while let Some(slot) = at {
         at = next_before(book, slot, end);
         let order = book.order(slot);
-        let lots = rule.share(&order);
-        end = end_after(end, slot, &order, lots);
+        let lots = rule.share(order);
+        end = end_after(end, slot, order, lots);
         trade_share(book, desk, taker, slot, lots, step, out);
         book.rules();
+        if is_over(step, rule) {
+            return;
+        }
     }
 }

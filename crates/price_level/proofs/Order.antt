@@ -8,21 +8,11 @@ use Rattle.gx_base.specs.declared.price.Price.{Price}
 use Rattle.gx_base.specs.declared.order.Side.{Side}
 use Rattle.gx_base.specs.declared.order.Side.TheVariants.{Buy, Sell}
 use Rattle.book_order.specs.Levels.{Level, level, is_level, is_before, is_better, is_side, side_before}
-use Rattle.book_order.proofs.Before.{before-past, before-apart}
+use Rattle.book_order.proofs.Before.{before-apart}
 use Rattle.book_order.proofs.Levels.{level_at, same, nat_lt-irrefl, is_side-same, is_side-refl}
 use Rattle.price_level.specs.declared.row.LevelRow.{LevelRow}
 use Rattle.price_level.specs.Rows.{level_of_row, row_on, row_at, row_before}
 use Rattle.price_level.specs.Inner.Sides.{side_number, row_number}
-
--- ---- prices of one side
-
-pub better-past : (s : Side) (a b c : ℤ) → is_better s a b ≡ true → is_better s c b ≡ false → is_better s a c ≡ true
-better-past Buy a b c h g = before-past (level_at 0 Buy a) (level_at 0 Buy b) (level_at 0 Buy c) h g
-better-past Sell a b c h g = before-past (level_at 0 Sell a) (level_at 0 Sell b) (level_at 0 Sell c) h g
-
-pub better-apart : (s : Side) (a b : ℤ) → is_better s a b ≡ true → is_better s b a ≡ false
-better-apart Buy a b h = before-apart (level_at 0 Buy a) (level_at 0 Buy b) h
-better-apart Sell a b h = before-apart (level_at 0 Sell a) (level_at 0 Sell b) h
 
 -- ---- the number of a side
 

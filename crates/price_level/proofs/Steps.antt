@@ -3,6 +3,7 @@ use Rattle.std.proofs.Common.{◌≡◌, ◌≢◌, ℕ, ◌+◌, ◌-◌, ◌<�
 use Prim.Native.Nat.{zero, suc}
 use Rattle.std.specs.Prelude.{ℤ}
 use Rattle.std.specs.List.{insert, remove, sum_by}
+use Rattle.std.specs.Ordering.{int_eq}
 use Rattle.std.proofs.lemmas.Bool.{cases_lt, cases_eq, false_from_ne_true}
 use Rattle.std.proofs.lemmas.Bool.Decides.{Decides-int_eq}
 use Rattle.std.proofs.lemmas.List.{take_more}
@@ -10,7 +11,7 @@ use Rattle.std.proofs.lemmas.List.Filters.{sum_by-filter_both}
 use Rattle.gx_base.specs.declared.price.Price.{Price}
 use Rattle.gx_base.specs.declared.order.Side.{Side}
 use Rattle.book_order.specs.Levels.{is_better}
-use Rattle.price_level.proofs.Order.{better-past, better-apart}
+use Rattle.book_order.proofs.Before.{better-past, better-apart}
 use Rattle.book_order.proofs.Levels.{is_better-irrefl}
 use Rattle.price_level.specs.declared.side.Step.{Step}
 use Rattle.price_level.specs.Inner.Steps.{no_step, step_at, AreWorstFirst, IsPlace, is_worse_step, is_step_at, is_open_step, price_of_last, with_step, without_step}
@@ -30,6 +31,16 @@ place_down side price steps i o h k from lt =
       | inl e ↦ ap (λ (x : ℕ). is_worse_step side price (step_at steps x)) e ∙ h
       | inr ne ↦ better-apart side (step_at steps k).price.0 price.0 (better-past side (step_at steps k).price.0 (step_at steps i).price.0 price.0 (o i k (omega arith) lt) h)
     ]
+
+-- the last level has the price
+pub place_last : (side : Side) (price : Price) (steps : List Step) (n : ℕ) → n + 1 ≡ length steps → AreWorstFirst side steps → is_worse_step side price (step_at steps n) ≡ false → int_eq price.0 (step_at steps n).price.0 ≡ true → IsPlace side price steps n
+place_last side price steps n e o h same =
+    let is : price.0 ≡ (step_at steps n).price.0 = (Decides-int_eq price.0 (step_at steps n).price.0).0 same in
+    record {
+      within = omega arith;
+      worse = λ k below. subst (λ (x : ℤ). is_better side x (step_at steps k).price.0 ≡ true) (sym is) (o k n below (omega arith));
+      rest = place_down side price steps n o h;
+    }
 
 -- ---- filters by places
 

@@ -14,8 +14,8 @@ use std::marker::Model;
 /// The price levels of all instruments. Contracts see them as the list of their rows in book order, with the greatest
 /// number of levels and the number of instruments.
 ///
-/// The row of a queue is read and written in one step. A search by price halves the levels of one side, and a level that
-/// comes or goes moves the better levels of its side, so near the best price next to none.
+/// The row of a queue is read and written in one step. A search by price looks at the best level of a side first, and then
+/// halves its levels, and a level that comes or goes moves the better levels of its side, so near the best price next to none.
 #[derive(Drop)]
 pub struct Levels {
     /// The row of each queue. That of a free queue means nothing.

@@ -13,8 +13,27 @@ pub(crate) struct Step {
     pub queue: u32,
 }
 
-/// How many levels have a worse price.
+/// How many levels have a worse price. At the best price and ahead of it, where most happens, nothing is searched.
 fn place_of(steps: &[Step], side: Side, price: Price) -> usize
+    requires { AreWorstFirst side steps.now }
+    ensures { IsPlace side price steps.now result }
+{
+    let count = steps.len();
+    if count == 0 {
+        return 0;
+    }
+    let best = steps[count - 1].price;
+    if is_better_price(side, price, best) {
+        return count;
+    }
+    if is_same_price(price, best) {
+        return count - 1;
+    }
+    place_by_halves(steps, side, price)
+}
+
+/// How many levels have a worse price.
+fn place_by_halves(steps: &[Step], side: Side, price: Price) -> usize
     requires { AreWorstFirst side steps.now }
     ensures { IsPlace side price steps.now result }
 {

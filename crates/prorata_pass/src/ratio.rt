@@ -55,4 +55,8 @@ impl ShareRule for Ratio {
     fn share(&mut self, order: &Order) -> u32 {
         self.share_of(order.shown)
     }
+
+    fn is_spent(&self) -> bool {
+        false
+    }
 }

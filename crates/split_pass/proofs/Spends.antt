@@ -2,7 +2,7 @@
 use Rattle.std.proofs.Common.{◌≡◌, ℕ, ◌-◌, ◌≤◌, min, List, [], ◌∷◌, refl, ap, arith}
 use Rattle.plain_book.specs.declared.entry.Entry.{Entry}
 use Rattle.plain_book.specs.Match.{Share}
-use Rattle.plain_book.specs.Shares.{shares_by, AreWithin}
+use Rattle.plain_book.specs.Shares.{shares_by, AreWithin, AreNone}
 use Rattle.plain_book.specs.Steps.{spent}
 use Rattle.split_pass.specs.Spending.{spending}
 use Rattle.split_pass.specs.declared.split.Spent.{Spent}
@@ -19,3 +19,8 @@ pub spent-within : (wanted lots : ℕ) (es : List Entry) → lots ≤ wanted →
 spent-within wanted lots [] le = tt
 spent-within wanted lots (e ∷ es) le =
     let n = min lots e.order.shown in (omega arith, omega arith, spent-within (wanted - n) (lots - n) es (omega arith))
+
+-- once none is left, no order trades
+pub spent-none : (lots : ℕ) (es : List Entry) → lots ≡ 0 → AreNone (shares_by spending (spent_of lots) es)
+spent-none lots [] zero = tt
+spent-none lots (e ∷ es) zero = (omega (arith, zero), spent-none (lots - min lots e.order.shown) es (omega (arith, zero)))

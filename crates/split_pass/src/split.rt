@@ -22,6 +22,10 @@ impl ShareRule for Spent {
         self.left -= lots;
         lots
     }
+
+    fn is_spent(&self) -> bool {
+        self.left == 0
+    }
 }
 
 /// The SPLIT step at a price: of the lots that are wanted, a percentage from 1 to 100, rounded down, goes to the orders of

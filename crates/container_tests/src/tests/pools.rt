@@ -17,15 +17,17 @@ type Line = Vec<(Slot, Order)>;
 #[test]
 fn queues_after_a_few_calls(rt: HostRuntime) -> Result<(), Fail> {
     let mut pool = Pool::new(rt.alloc(), 3, 2)?;
-    let a = pool.push_back(0, order(1));
-    let b = pool.push_back(0, order(2));
-    let c = pool.push_back(0, order(3));
+    let a = pool.push_back(0, &order(1));
+    let b = pool.push_back(0, &order(2));
+    let c = pool.push_back(0, &order(3));
     assert!(rt; pool.is_live(b));
-    assert_eq!(rt; pool.unlink(b), order(2));
-    let d = pool.push_back(1, order(4));
+    assert_eq!(rt; *pool.order(b), order(2));
+    pool.unlink(b);
+    let d = pool.push_back(1, &order(4));
     assert!(rt; pool.is_live(c));
-    assert_eq!(rt; pool.unlink(c), order(3));
-    let e = pool.push_back(0, order(5));
+    assert_eq!(rt; *pool.order(c), order(3));
+    pool.unlink(c);
+    let e = pool.push_back(0, &order(5));
     assert!(rt; pool.is_live(a));
     pool.to_back(a);
     expect_queue(&rt, &pool, 0, &[(e, order(5)), (a, order(1))]);
@@ -58,7 +60,7 @@ fn expect_queue(rt: &impl Abort, pool: &Pool, queue: u32, line: &[(Slot, Order)]
     for &(slot, order) in line {
         assert_eq!(rt; next, Some(slot));
         assert!(rt; pool.is_live(slot));
-        assert_eq!(rt; pool.order(slot), order);
+        assert_eq!(rt; *pool.order(slot), order);
         assert_eq!(rt; pool.queue_of(slot), queue);
         next = pool.next(slot);
     }
@@ -86,7 +88,7 @@ impl Pair {
         let line = self.lines.get_mut(queue as usize).ok_or("no queue")?;
         if line.is_empty() || draws.random_range(0..8) < 3 {
             if self.pool.live() < self.pool.capacity() {
-                let slot = self.pool.push_back(queue, *order);
+                let slot = self.pool.push_back(queue, order);
                 line.push((slot, *order))?;
             }
             return Ok(());
@@ -96,7 +98,8 @@ impl Pair {
         assert!(rt; self.pool.is_live(slot));
         match draws.random_range(0..3) {
             0 => {
-                assert_eq!(rt; self.pool.unlink(slot), was);
+                assert_eq!(rt; *self.pool.order(slot), was);
+                self.pool.unlink(slot);
                 assert!(rt; !self.pool.is_live(slot));
                 line.remove(place);
             }
@@ -106,7 +109,7 @@ impl Pair {
                 line.push((slot, was))?;
             }
             _ => {
-                self.pool.set(slot, *order);
+                self.pool.set(slot, order);
                 line[place] = (slot, *order);
             }
         }

@@ -25,12 +25,12 @@ same_line names e o top slot mark same told is =
     ∙ ap (λ b. resting_line names (record { slot = 0; order = e.order; is_top = b })) (told ∙ sym is)
     ∙ sym (line-alone (resting_line names) e)
 
-its_line : (g : Over) (c : After-is_top g) (n : Next c.loop-at.invariant.rest c.in-Some.slot.0) → resting_line c.args.names.now (record { slot = 0; order = c.order.result; is_top = c.is_top.result }) ≡ flat_map (resting_line c.args.names.now) (n.e ∷ [])
+its_line : (g : Over) (c : After-is_top g) (n : Next c.loop-at.invariant.rest c.in-Some.slot.0) → resting_line c.args.names.now (record { slot = 0; order = c.order.result.now; is_top = c.is_top.result }) ≡ flat_map (resting_line c.args.names.now) (n.e ∷ [])
 its_line g c n =
     let b = g.B.Book.book c.args.book.now in
     let w = c.loop-at.invariant in
     let slot = c.in-Some.slot.0 in
-    same_line c.args.names.now n.e c.order.result (option_map slot_number c.top-top.result) slot c.is_top.result
+    same_line c.args.names.now n.e c.order.result.now (option_map slot_number c.top-top.result) slot c.is_top.result
     (c.order.ensures ∙ level-order c.args.instrument c.args.side c.args.price b c.rules.ensures w.done w.rest slot w.whole n)
     c.is_top.ensures
     (level-top c.args.instrument c.args.side c.args.price b c.rules.ensures w.done w.rest slot w.whole n ∙ ap (λ (t : Option ℕ). is_slot_in t slot) (sym c.top-top.ensures))

@@ -16,10 +16,10 @@ next : (g : Over) (c : In-Some g) → Next c.loop-at.invariant.rest c.in-Some.sl
 next g c = next-of (option_map slot_number c.loop-at.at) c.in-Some.slot.0 c.loop-at.invariant.rest c.loop-at.invariant.next (ap (option_map slot_number) c.in-Some.is)
 
 -- its line, by what the book tells of it
-its_line : (g : Over) (c : After-order g) (n : Next c.loop-at.invariant.rest c.in-Some.slot.0) → stop_line c.args.names.now (record { slot = 0; order = c.order.result; is_top = false }) ≡ flat_map (stop_line c.args.names.now) (n.e ∷ [])
+its_line : (g : Over) (c : After-order g) (n : Next c.loop-at.invariant.rest c.in-Some.slot.0) → stop_line c.args.names.now (record { slot = 0; order = c.order.result.now; is_top = false }) ≡ flat_map (stop_line c.args.names.now) (n.e ∷ [])
 its_line g c n =
     let w = c.loop-at.invariant in
-    let same : c.order.result ≡ n.e.order = c.order.ensures ∙ stop-live c.args.instrument (g.B.Book.book c.args.book.now) c.rules.ensures w.done w.rest c.in-Some.slot.0 w.whole n in
+    let same : c.order.result.now ≡ n.e.order = c.order.ensures ∙ stop-live c.args.instrument (g.B.Book.book c.args.book.now) c.rules.ensures w.done w.rest c.in-Some.slot.0 w.whole n in
     ap (λ (o : Order). stop_line c.args.names.now (record { slot = 0; order = o; is_top = false })) same ∙ sym (line-alone (stop_line c.args.names.now) n.e)
 
 pub order-requires : goal.order-requires

@@ -12,7 +12,7 @@ use Rattle.book_print.proofs.lots.waiting_open.Goals.{In-Some, After-order}
 next : (g : Over) (c : In-Some g) → Next c.loop-at.invariant.rest c.in-Some.slot.0
 next g c = next-of (option_map slot_number c.loop-at.at) c.in-Some.slot.0 c.loop-at.invariant.rest c.loop-at.invariant.next (ap (option_map slot_number) c.in-Some.is)
 
-leaves : (g : Over) (c : After-order g) (n : Next c.loop-at.invariant.rest c.in-Some.slot.0) → c.order.result.leaves ≡ n.e.order.leaves
+leaves : (g : Over) (c : After-order g) (n : Next c.loop-at.invariant.rest c.in-Some.slot.0) → c.order.result.now.leaves ≡ n.e.order.leaves
 leaves g c n =
     let w = c.loop-at.invariant in
     ap (λ (o : Order). o.leaves) (c.order.ensures ∙ stop-live c.args.instrument (g.B.Book.book c.args.book.now) c.rules.ensures w.done w.rest c.in-Some.slot.0 w.whole n)

@@ -44,5 +44,5 @@ returns-clause-emits g c =
     let was = subst (λ (x : State). c.args.order.now ≡ order_of s (live_orders x.book)) (sym c.state.view_is) c.requires.order in
     subst (λ (x : State). Emits m c.args.out.now c.put.new.self (replaced_in_place request s x).1) c.state.view_is
     (emits_as m _ _ _ _
-    (kept-events request s old (g.B.Book.book c.change.new.self) c.args.order.now c.order.result c.least_after-least.result c.count_report-head.result has was c.least_after-least.ensures c.change.ensures c.order.ensures c.count_report-head.ensures.head)
+    (kept-events request s old (g.B.Book.book c.change.new.self) c.args.order.now c.order.result.now c.least_after-least.result c.count_report-head.result has was c.least_after-least.ensures c.change.ensures c.order.ensures c.count_report-head.ensures.head)
     (emits_one m _ _ _ c.put.ensures))

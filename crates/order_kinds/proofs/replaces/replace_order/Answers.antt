@@ -26,8 +26,8 @@ pub replace_in_place-requires-clause-allowed : goal.replace_in_place-requires-cl
 replace_in_place-requires-clause-allowed g c =
     let s = c.args.slot.0 in
     let right = subst (λ (x : State). IsRight x.book) c.state.view_is c.rules.ensures in
-    let was = subst (λ (x : State). c.order-order.result ≡ order_of s (live_orders x.book)) c.state.view_is c.order-order.ensures in
-    (found-allowed c.args.product.now c.args.request.now s c.args.state.now c.order-order.result (listed_instrument c.in-Ok.field-0) right c.requires.fits c.requires.valid c.requires.named was
+    let was = subst (λ (x : State). c.order-order.result.now ≡ order_of s (live_orders x.book)) c.state.view_is c.order-order.ensures in
+    (found-allowed c.args.product.now c.args.request.now s c.args.state.now c.order-order.result.now (listed_instrument c.in-Ok.field-0) right c.requires.fits c.requires.valid c.requires.named was
     (sym c.terms_of.ensures ∙ ap map_instrument c.in-Ok.is)).0
 
 pub replace_anew-requires-clause-live : goal.replace_anew-requires-clause-live
@@ -37,17 +37,17 @@ pub replace_anew-requires-clause-allowed : goal.replace_anew-requires-clause-all
 replace_anew-requires-clause-allowed g c =
     let s = c.args.slot.0 in
     let right = subst (λ (x : State). IsRight x.book) c.state.view_is c.rules.ensures in
-    let was = subst (λ (x : State). c.order-order.result ≡ order_of s (live_orders x.book)) c.state.view_is c.order-order.ensures in
+    let was = subst (λ (x : State). c.order-order.result.now ≡ order_of s (live_orders x.book)) c.state.view_is c.order-order.ensures in
     subst (λ (o : Order). IsAllowed c.args.state.now.book c.args.request.now o) was
-    (found-allowed c.args.product.now c.args.request.now s c.args.state.now c.order-order.result (listed_instrument c.in-Ok.field-0) right c.requires.fits c.requires.valid c.requires.named was
+    (found-allowed c.args.product.now c.args.request.now s c.args.state.now c.order-order.result.now (listed_instrument c.in-Ok.field-0) right c.requires.fits c.requires.valid c.requires.named was
     (sym c.terms_of.ensures ∙ ap map_instrument c.in-Ok.is)).0
 
 pub replace_anew-requires-clause-priced : goal.replace_anew-requires-clause-priced
 replace_anew-requires-clause-priced g c =
     let s = c.args.slot.0 in
     let right = subst (λ (x : State). IsRight x.book) c.state.view_is c.rules.ensures in
-    let was = subst (λ (x : State). c.order-order.result ≡ order_of s (live_orders x.book)) c.state.view_is c.order-order.ensures in
-    (found-allowed c.args.product.now c.args.request.now s c.args.state.now c.order-order.result (listed_instrument c.in-Ok.field-0) right c.requires.fits c.requires.valid c.requires.named was
+    let was = subst (λ (x : State). c.order-order.result.now ≡ order_of s (live_orders x.book)) c.state.view_is c.order-order.ensures in
+    (found-allowed c.args.product.now c.args.request.now s c.args.state.now c.order-order.result.now (listed_instrument c.in-Ok.field-0) right c.requires.fits c.requires.valid c.requires.named was
     (sym c.terms_of.ensures ∙ ap map_instrument c.in-Ok.is)).1
 
 pub returns-in-Err-clause-takes : goal.returns-in-Err-clause-takes
@@ -56,7 +56,7 @@ returns-in-Err-clause-takes g c =
     let product = c.args.product.now in
     let request = c.args.request.now in
     let s = c.args.slot.0 in
-    let o = c.order-order.result in
+    let o = c.order-order.result.now in
     let fault = c.in-Err.fault in
     let old : State = record { book = g.B.Book.book c.state.inside.book; last = c.state.inside.last.items; desk = c.state.inside.desk } in
     let terms : replace_terms product request o c.args.state.now ≡ Err fault = sym c.terms_of.ensures ∙ ap map_instrument c.in-Err.is in
@@ -71,7 +71,7 @@ returns-in-Ok-clause-takes g c =
     let product = c.args.product.now in
     let request = c.args.request.now in
     let s = c.args.slot.0 in
-    let o = c.order-order.result in
+    let o = c.order-order.result.now in
     let old = c.args.state.now in
     let was = subst (λ (x : State). o ≡ order_of s (live_orders x.book)) c.state.view_is c.order-order.ensures in
     let step = step-in_place product request s old o was (listed_instrument c.in-Ok.field-0) (sym c.terms_of.ensures ∙ ap map_instrument c.in-Ok.is) (sym c.keeps_place.ensures ∙ c.if-keeps_place.true) in

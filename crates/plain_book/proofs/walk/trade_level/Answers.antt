@@ -9,7 +9,7 @@ use Rattle.plain_book.specs.Shares.{shares_by}
 use Rattle.plain_book.specs.Steps.{facing}
 use Rattle.plain_book.specs.Inner.Walk.{end_after}
 use Rattle.plain_book.proofs.WalkSteps.{still_to_come}
-use Rattle.plain_book.proofs.WalkLevel.{IsWalk, walk-start, walk-turn, walk-more, walk-more-rest, walk-length}
+use Rattle.plain_book.proofs.WalkLevel.{IsWalk, walk-start, walk-turn, walk-more, walk-more-rest, walk-over, walk-length}
 use Rattle.plain_book.proofs.walk.trade_level.Goals as goal
 
 pub loop-at-init : goal.loop-at-init
@@ -73,7 +73,7 @@ trade_share-requires-clause-shown g c =
     let k = facing c.args.price c.args.taker.now in
     let all = shares_by r c.args.rule.now (orders_at k before.book.resting) in
     let turn = walk-turn m r k c.args.step all before at end l.rule now l.invariant c.in-Some.slot.0 (ap (option_map slot_number) c.in-Some.is) in
-    let order : c.order-order.result ≡ turn.entry.order = c.order-order.ensures ∙ turn.live_order in
+    let order : c.order-order.result.now ≡ turn.entry.order = c.order-order.ensures ∙ turn.live_order in
     let lots : c.share-lots.result ≡ r.share l.rule turn.entry.order = c.share-lots.ensures.share ∙ ap (r.share l.rule) order in
     omega (arith, lots, turn.showing.fits, ap (λ (o : Order). o.shown) turn.order)
 
@@ -89,7 +89,7 @@ trade_share-requires-clause-wanted g c =
     let k = facing c.args.price c.args.taker.now in
     let all = shares_by r c.args.rule.now (orders_at k before.book.resting) in
     let turn = walk-turn m r k c.args.step all before at end l.rule now l.invariant c.in-Some.slot.0 (ap (option_map slot_number) c.in-Some.is) in
-    let order : c.order-order.result ≡ turn.entry.order = c.order-order.ensures ∙ turn.live_order in
+    let order : c.order-order.result.now ≡ turn.entry.order = c.order-order.ensures ∙ turn.live_order in
     let lots : c.share-lots.result ≡ r.share l.rule turn.entry.order = c.share-lots.ensures.share ∙ ap (r.share l.rule) order in
     omega (arith, lots, turn.wanted_of)
 
@@ -105,7 +105,7 @@ loop-at-smaller g c =
     let k = facing c.args.price c.args.taker.now in
     let all = shares_by r c.args.rule.now (orders_at k before.book.resting) in
     let turn = walk-turn m r k c.args.step all before at end l.rule now l.invariant c.in-Some.slot.0 (ap (option_map slot_number) c.in-Some.is) in
-    let order : c.order-order.result ≡ turn.entry.order = c.order-order.ensures ∙ turn.live_order in
+    let order : c.order-order.result.now ≡ turn.entry.order = c.order-order.ensures ∙ turn.live_order in
     let lots : c.share-lots.result ≡ r.share l.rule turn.entry.order = c.share-lots.ensures.share ∙ ap (r.share l.rule) order in
     let t = c.trade_share in
     let next = match_at (g.B.Book.book t.new.book) t.new.desk t.new.taker t.new.out in
@@ -135,7 +135,7 @@ loop-at-preserved g c =
     let k = facing c.args.price c.args.taker.now in
     let all = shares_by r c.args.rule.now (orders_at k before.book.resting) in
     let turn = walk-turn m r k c.args.step all before at end l.rule now l.invariant c.in-Some.slot.0 (ap (option_map slot_number) c.in-Some.is) in
-    let order : c.order-order.result ≡ turn.entry.order = c.order-order.ensures ∙ turn.live_order in
+    let order : c.order-order.result.now ≡ turn.entry.order = c.order-order.ensures ∙ turn.live_order in
     let lots : c.share-lots.result ≡ r.share l.rule turn.entry.order = c.share-lots.ensures.share ∙ ap (r.share l.rule) order in
     let t = c.trade_share in
     let next = match_at (g.B.Book.book t.new.book) t.new.desk t.new.taker t.new.out in
@@ -148,3 +148,27 @@ loop-at-preserved g c =
     subst (λ (x : g.row.R.Denot). IsWalk m r k c.args.step all before (option_map slot_number c.next_before-at.result) (option_map slot_number c.end_after-end.result) x next) is_rule
     (subst (λ (x : Option ℕ). IsWalk m r k c.args.step all before (option_map slot_number c.next_before-at.result) x (r.behind l.rule turn.entry.order) next) is_end
     (subst (λ (x : Option ℕ). IsWalk m r k c.args.step all before x (end_after end c.in-Some.slot.0 (r.share l.rule turn.entry.order) turn.entry.order) (r.behind l.rule turn.entry.order) next) is_at came))
+
+pub returns-then-is_over-2 : goal.returns-then-is_over-2
+returns-then-is_over-2 g c =
+    let l = c.loop-at in
+    let at = option_map slot_number l.at in
+    let end = option_map slot_number l.end in
+    let m = g.E.Emit.meanings in
+    let r = g.R.ShareRule.meanings in
+    let before = match_at (g.B.Book.book c.args.book.now) c.args.desk.now c.args.taker.now c.args.out.now in
+    let now = match_at (g.B.Book.book l.book) l.desk l.taker l.out in
+    let k = facing c.args.price c.args.taker.now in
+    let all = shares_by r c.args.rule.now (orders_at k before.book.resting) in
+    let turn = walk-turn m r k c.args.step all before at end l.rule now l.invariant c.in-Some.slot.0 (ap (option_map slot_number) c.in-Some.is) in
+    let order : c.order-order.result.now ≡ turn.entry.order = c.order-order.ensures ∙ turn.live_order in
+    let lots : c.share-lots.result ≡ r.share l.rule turn.entry.order = c.share-lots.ensures.share ∙ ap (r.share l.rule) order in
+    let t = c.trade_share in
+    let next = match_at (g.B.Book.book t.new.book) t.new.desk t.new.taker t.new.out in
+    let traded = subst (λ (n : ℕ). Matches m (trade_share c.args.step c.in-Some.slot.0 n) now next) lots t.ensures in
+    let came = walk-more m r k c.args.step all before at end l.rule now l.invariant c.in-Some.slot.0 turn next c.rules-in-Some.ensures traded in
+    let is_rule : r.behind l.rule turn.entry.order ≡ c.share-lots.new.self = ap (r.behind l.rule) (sym order) ∙ sym c.share-lots.ensures.behind in
+    let at_next = slot_of turn.more in
+    let end_next = end_after end c.in-Some.slot.0 (r.share l.rule turn.entry.order) turn.entry.order in
+    let came_to = subst (λ (x : g.row.R.Denot). IsWalk m r k c.args.step all before at_next end_next x next) is_rule came in
+    walk-over m r k c.args.step all before at_next end_next c.share-lots.new.self next came_to (c.is_over-in-Some.ensures c.if-is_over-2.true)

@@ -1,18 +1,13 @@
-use Rattle.std.proofs.Common.{◌≡◌, ◌+◌, ◌-◌, ◌/◌, true, false, sym, arith}
-use Rattle.price_level.specs.Inner.Steps.{step_at, is_worse_step}
-use Rattle.price_level.proofs.Steps.{place_up, place_down}
+use Rattle.std.proofs.Common.{◌-◌, length, arith, sym}
+use Rattle.price_level.proofs.Steps.{place_up, place_last}
 use Rattle.price_level.proofs.side.place_of.Goals as goal
 
-pub loop-low-preserved-then-is_better_price : goal.loop-low-preserved-then-is_better_price
-loop-low-preserved-then-is_better_price c =
-    let v = c.loop-low.invariant in
-    let n = c.loop-low.low + (c.loop-low.high - c.loop-low.low) / 2 in
-    let h : is_worse_step c.args.side c.args.price (step_at c.args.steps.now n) ≡ true = sym c.if-is_better_price.ensures in
-    record { apart = omega arith; within = v.within; worse = place_up c.args.side c.args.price c.args.steps.now n c.requires (omega arith) h; rest = v.rest }
+pub returns-then-is_better_price : goal.returns-then-is_better_price
+returns-then-is_better_price c =
+    let n = length c.args.steps.now in
+    let worse = place_up c.args.side c.args.price c.args.steps.now (n - 1) c.requires (omega (arith, c.if-count-eq0.false)) (sym c.if-is_better_price.ensures) in
+    record { within = omega arith; worse = λ k lt. worse k (omega arith); rest = λ k le lt. absurd (omega arith) }
 
-pub loop-low-preserved : goal.loop-low-preserved
-loop-low-preserved c =
-    let v = c.loop-low.invariant in
-    let n = c.loop-low.low + (c.loop-low.high - c.loop-low.low) / 2 in
-    let h : is_worse_step c.args.side c.args.price (step_at c.args.steps.now n) ≡ false = sym c.if-is_better_price.ensures in
-    record { apart = omega arith; within = omega arith; worse = v.worse; rest = place_down c.args.side c.args.price c.args.steps.now n c.requires h }
+pub returns-then-is_same_price : goal.returns-then-is_same_price
+returns-then-is_same_price c =
+    place_last c.args.side c.args.price c.args.steps.now (length c.args.steps.now - 1) (omega (arith, c.if-count-eq0.false)) c.requires (sym c.if-is_better_price.ensures) (sym c.if-is_same_price.ensures)

@@ -31,9 +31,9 @@ returns-then-is_same_price g c =
     let n = c.min-lots.result in
     let r = c.trade_share in
     let met = met_top c.args.taker.now _ (g.B.Book.book c.args.book.now) _ c.in-Some.slot c.rules.ensures c.opposite_side-side.ensures c.top.ensures c.in-Some.is in
-    let lots : n ≡ min t.order.leaves (min c.order-order.result.shown c.args.rule.now.max) = omega (arith, c.min.ensures, c.min-lots.ensures) in
+    let lots : n ≡ min t.order.leaves (min c.order-order.result.now.shown c.args.rule.now.max) = omega (arith, c.min.ensures, c.min-lots.ensures) in
     matches-as g.E.Emit.meanings (trade_share Top s n) (top c.args.rule.now c.args.price) (match_at b c.args.desk.now t c.args.out.now) (match_at (g.B.Book.book r.new.book) r.new.desk r.new.taker r.new.out)
-    (top_here c.args.rule.now c.args.price (match_start b c.args.desk.now t) s met c.order-order.result n _ c.order-order.ensures c.is_same_price.ensures c.if-is_same_price.true lots) r.ensures
+    (top_here c.args.rule.now c.args.price (match_start b c.args.desk.now t) s met c.order-order.result.now n _ c.order-order.ensures c.is_same_price.ensures c.if-is_same_price.true lots) r.ensures
 
 pub returns-else-is_same_price : goal.returns-else-is_same_price
 returns-else-is_same_price g c =
@@ -43,4 +43,4 @@ returns-else-is_same_price g c =
     let at = match_at b c.args.desk.now t c.args.out.now in
     let met = met_top c.args.taker.now _ (g.B.Book.book c.args.book.now) _ c.in-Some.slot c.rules.ensures c.opposite_side-side.ensures c.top.ensures c.in-Some.is in
     matches-as g.E.Emit.meanings (λ m. m) (top c.args.rule.now c.args.price) at at
-    (top_away c.args.rule.now c.args.price (match_start b c.args.desk.now t) s met c.order-order.result _ c.order-order.ensures c.is_same_price.ensures c.if-is_same_price.false) (matches-none g.E.Emit.meanings at c.requires.can)
+    (top_away c.args.rule.now c.args.price (match_start b c.args.desk.now t) s met c.order-order.result.now _ c.order-order.ensures c.is_same_price.ensures c.if-is_same_price.false) (matches-none g.E.Emit.meanings at c.requires.can)

@@ -1,7 +1,7 @@
 use Rattle.std.proofs.Common.{sym, ap, ◌∙◌}
 use Rattle.plain_book.proofs.Right.{resting_as}
-use Rattle.book_side.proofs.Calls.{rests-alone}
-use Rattle.book_side.proofs.Settled.{settled-gone}
+use Rattle.plain_book.proofs.Calls.{rests-alone}
+use Rattle.plain_book.proofs.Settled.{settled-gone}
 use Rattle.book_side.proofs.linked.LinkedBook.settle.Goals as goal
 
 pub returns-then-order-eq0 : goal.returns-then-order-eq0

@@ -3,21 +3,24 @@ use Rattle.book_side.proofs.Seen.{waits-live, id-there}
 use Rattle.book_side.proofs.Became.{stop-left}
 use Rattle.book_side.proofs.linked.LinkedBook.take_stop.Goals as goal
 
-pub unlink-order-requires : goal.unlink-order-requires
-unlink-order-requires c = waits-live c.self.invariant c.self.view_is c.args.slot.0 c.requires
+pub order-order-requires : goal.order-order-requires
+order-order-requires c = waits-live c.self.invariant c.self.view_is c.args.slot.0 c.requires
+
+pub unlink-requires : goal.unlink-requires
+unlink-requires c = waits-live c.self.invariant c.self.view_is c.args.slot.0 c.requires
 
 pub remove-requires : goal.remove-requires
 remove-requires c =
     let b = c.args.self.now in
     let s = c.args.slot.0 in
-    id-there c.self.invariant c.self.view_is s c.unlink-order.result (HasSlot-right s b.resting b.waiting c.requires) c.unlink-order.ensures.order
+    id-there c.self.invariant c.self.view_is s c.order-order.result.now (HasSlot-right s b.resting b.waiting c.requires) c.order-order.ensures
 
 pub invariant_of-self : goal.invariant_of-self
 invariant_of-self c =
-    let out = c.unlink-order.ensures in
-    (stop-left c.self.invariant c.self.view_is c.args.slot.0 c.unlink-order.result c.requires c.rules.ensures c.rules-2.ensures out.order out.queues out.live c.remove.ensures).linked
+    let out = c.unlink.ensures in
+    (stop-left c.self.invariant c.self.view_is c.args.slot.0 c.order-order.result.now c.requires c.rules.ensures c.rules-2.ensures c.order-order.ensures out.queues out.live c.remove.ensures).linked
 
 pub returns : goal.returns
 returns c =
-    let out = c.unlink-order.ensures in
-    (stop-left c.self.invariant c.self.view_is c.args.slot.0 c.unlink-order.result c.requires c.rules.ensures c.rules-2.ensures out.order out.queues out.live c.remove.ensures).view
+    let out = c.unlink.ensures in
+    (stop-left c.self.invariant c.self.view_is c.args.slot.0 c.order-order.result.now c.requires c.rules.ensures c.rules-2.ensures c.order-order.ensures out.queues out.live c.remove.ensures).view

@@ -5,4 +5,4 @@ pub order-requires : goal.order-requires
 order-requires c = live c.self.invariant c.self.view_is c.args.slot.0 c.requires
 
 pub returns : goal.returns
-returns c = order-is c.self.invariant c.self.view_is c.args.slot.0 c.order.result c.requires c.order.ensures
+returns c = order-is c.self.invariant c.self.view_is c.args.slot.0 c.order.result.now c.requires c.order.ensures

@@ -9,11 +9,11 @@ pub invariant_of-self : goal.invariant_of-self
 invariant_of-self c =
     let r = c.requires in
     let pushed = c.push_back-slot.ensures in
-    (stop-came c.self.invariant c.self.view_is c.push_back-slot.result c.from.result c.args.order c.with_shown.result c.rules.ensures r.fit r.unnamed r.room c.from.ensures c.with_shown.ensures pushed.queues pushed.fresh pushed.live c.insert.ensures).now.linked
+    (stop-came c.self.invariant c.self.view_is c.push_back-slot.result c.from.result c.args.order c.rules.ensures r.fit r.unnamed r.room c.from.ensures pushed.queues pushed.fresh pushed.live c.insert.ensures).now.linked
 
 pub returns : goal.returns
 returns c =
     let r = c.requires in
     let pushed = c.push_back-slot.ensures in
-    let new = stop-came c.self.invariant c.self.view_is c.push_back-slot.result c.from.result c.args.order c.with_shown.result c.rules.ensures r.fit r.unnamed r.room c.from.ensures c.with_shown.ensures pushed.queues pushed.fresh pushed.live c.insert.ensures in
+    let new = stop-came c.self.invariant c.self.view_is c.push_back-slot.result c.from.result c.args.order c.rules.ensures r.fit r.unnamed r.room c.from.ensures pushed.queues pushed.fresh pushed.live c.insert.ensures in
     record { fresh = new.fresh; waited = new.now.view }

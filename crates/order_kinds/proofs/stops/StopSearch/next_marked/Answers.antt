@@ -33,7 +33,7 @@ returns-then-is_marked-clause-found g c =
     let range = c.in_ok-range.range in
     let slot = c.in-Some.slot.0 in
     let s = stands g (goal.at.returns-then-is_marked-clause-found g c).In-Some in
-    let here : c.order.result ≡ s.stop.order = c.order.ensures ∙ at-live i (Some range) b c.rules.ensures slot s in
+    let here : c.order.result.now ≡ s.stop.order = c.order.ensures ∙ at-live i (Some range) b c.rules.ensures slot s in
     let marked : is_marked range s.stop ≡ true =
     ap (λ (o : Order). is_reached o.side o.trigger (stop_end o.side range)) (sym here) ∙ sym c.is_marked.ensures ∙ c.if-is_marked.true in
     let behind = option_map slot_number c.next_waiting-self.result in
@@ -59,7 +59,7 @@ loop-self-preserved g c =
     let range = c.in_ok-range.range in
     let slot = c.in-Some.slot.0 in
     let s = stands g (goal.at.loop-self-preserved g c).In-Some in
-    let here : c.order.result ≡ s.stop.order = c.order.ensures ∙ at-live i (Some range) b c.rules.ensures slot s in
+    let here : c.order.result.now ≡ s.stop.order = c.order.ensures ∙ at-live i (Some range) b c.rules.ensures slot s in
     let unmarked : is_marked range s.stop ≡ false =
     ap (λ (o : Order). is_reached o.side o.trigger (stop_end o.side range)) (sym here) ∙ sym c.is_marked.ensures ∙ c.if-is_marked.false in
     record {

@@ -12,5 +12,5 @@ returns c =
     let i = c.args.i in
     let lt : i < length v.items = omega (arith, ap length c.self.view_is, length-map v.items (cell_of v.ptr), c.requires) in
     let e = get_or_read v.items i _ lt c.index_mut.ensures.value no_node in
-    ap (λ (n : Node). cells_of v.ptr (with_item v i (record n { order = c.args.order })).items) e
-    ∙ cells-with_order v.ptr v.items i c.args.order lt ∙ ap (λ (cs : List Cell). with_order cs i c.args.order) c.self.view_is
+    ap (λ (n : Node). cells_of v.ptr (with_item v i (record n { order = c.args.order.now })).items) e
+    ∙ cells-with_order v.ptr v.items i c.args.order.now lt ∙ ap (λ (cs : List Cell). with_order cs i c.args.order.now) c.self.view_is

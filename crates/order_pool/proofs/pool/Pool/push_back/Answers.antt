@@ -15,14 +15,14 @@ invariant_of-self c =
     let p = c.self.inside in
     let i = c.next-slot.result in
     let q = c.args.queue in
-    let e : c.relocate.new.self ≡ cells_moved (with_order p.block i c.args.order) p.capacity i q = c.relocate.ensures ∙ ap (λ (ds : List Cell). attached (detached ds i) i (p.capacity + q) q) c.set_order.ensures in
-    (pushed c.self.invariant c.self.view_is i q c.args.order c.relocate.new.self c.raise.new.counts.items c.next-slot.ensures.value c.requires.room c.requires.queue_in e c.raise.ensures).kept
+    let e : c.relocate.new.self ≡ cells_moved (with_order p.block i c.args.order.now) p.capacity i q = c.relocate.ensures ∙ ap (λ (ds : List Cell). attached (detached ds i) i (p.capacity + q) q) c.set_order.ensures in
+    (pushed c.self.invariant c.self.view_is i q c.args.order.now c.relocate.new.self c.raise.new.counts.items c.next-slot.ensures.value c.requires.room c.requires.queue_in e c.raise.ensures).kept
 
 pub returns : goal.returns
 returns c =
     let p = c.self.inside in
     let i = c.next-slot.result in
     let q = c.args.queue in
-    let e : c.relocate.new.self ≡ cells_moved (with_order p.block i c.args.order) p.capacity i q = c.relocate.ensures ∙ ap (λ (ds : List Cell). attached (detached ds i) i (p.capacity + q) q) c.set_order.ensures in
-    let new = pushed c.self.invariant c.self.view_is i q c.args.order c.relocate.new.self c.raise.new.counts.items c.next-slot.ensures.value c.requires.room c.requires.queue_in e c.raise.ensures in
+    let e : c.relocate.new.self ≡ cells_moved (with_order p.block i c.args.order.now) p.capacity i q = c.relocate.ensures ∙ ap (λ (ds : List Cell). attached (detached ds i) i (p.capacity + q) q) c.set_order.ensures in
+    let new = pushed c.self.invariant c.self.view_is i q c.args.order.now c.relocate.new.self c.raise.new.counts.items c.next-slot.ensures.value c.requires.room c.requires.queue_in e c.raise.ensures in
     record { fresh = new.fresh; queues = new.is; live = new.more; placed = new.placed }

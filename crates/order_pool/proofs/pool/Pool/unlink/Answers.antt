@@ -1,11 +1,7 @@
 use Rattle.std.proofs.Common.{ℕ, ◌<◌, get_or, sym, subst, ◌∙◌, arith}
-use Rattle.order_pool.proofs.Pools.{order_of-seen}
 use Rattle.order_pool.proofs.PoolCalls.{live_some, count_some}
 use Rattle.order_pool.proofs.Calls.{in_queue, unlinked}
 use Rattle.order_pool.proofs.pool.Pool.unlink.Goals as goal
-
-pub order-order-requires : goal.order-order-requires
-order-order-requires c = (in_queue c.self.invariant c.self.view_is c.args.slot.0 c.requires.0 c.requires.1).cell
 
 pub queue-queue-requires : goal.queue-queue-requires
 queue-queue-requires c = (in_queue c.self.invariant c.self.view_is c.args.slot.0 c.requires.0 c.requires.1).cell
@@ -35,10 +31,8 @@ invariant_of-self c =
 
 pub returns : goal.returns
 returns c =
-    let p = c.self.inside in
     let new = unlinked c.self.invariant c.self.view_is c.args.slot.0 c.requires.0 c.queue-queue.result c.relocate.new.self c.lower.new.counts.items c.requires.1 c.queue-queue.ensures c.relocate.ensures c.lower.ensures in
     record {
-      order = λ q h. c.order-order.ensures ∙ sym (order_of-seen p.block p.capacity p.queues _ c.self.invariant.whole _ c.args.slot.0 q c.self.view_is (in_queue c.self.invariant c.self.view_is c.args.slot.0 q h));
       queues = new.is;
       live = new.fewer;
       room = new.room;

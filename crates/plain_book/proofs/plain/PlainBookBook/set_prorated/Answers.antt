@@ -6,7 +6,8 @@ use Rattle.plain_book.specs.Orders.{HasSlot, order_of, with_order}
 use Rattle.plain_book.specs.Book.{Book, IsResting}
 use Rattle.plain_book.specs.Inner.FreeSlots.{book_of, IsKept}
 use Rattle.plain_book.proofs.Live.{fit_of}
-use Rattle.plain_book.proofs.Kept.{kept-with_order, fit-prorated}
+use Rattle.plain_book.proofs.Fits.{fit-prorated}
+use Rattle.plain_book.proofs.Kept.{kept-with_order}
 use Rattle.plain_book.proofs.plain.PlainBookBook.set_prorated.Goals as goal
 
 pub invariant_of-self : goal.invariant_of-self
@@ -24,6 +25,6 @@ invariant_of-self c =
     let change : Order → Order = λ x. record x { prorated = c.args.share } in
     let o : Order = change (order_of s xs) in
     let fits : IsResting p.instruments (order_of s xs) = fit_of p.instruments s xs c.self.invariant.right.rest has in
-    let o_is : change c.order_at-order.result ≡ o = ap change (c.order_at-order.ensures ∙ ap (order_of s) c.deref.ensures.value) in
+    let o_is : change c.order_at.result.now ≡ o = ap change (c.order_at.ensures ∙ ap (order_of s) c.deref.ensures.value) in
     subst (λ (l : List Entry). IsKept (book_of p.capacity p.instruments l p.waiting.items) er wr p.free.items fr) (sym (e.entries ∙ ap (λ (x : Order). with_order s x xs) o_is))
     (kept-with_order b (vec_capacity p.resting) wr p.free.items fr er wr fr c.self.invariant (omega (arith, e.capacity)) (omega arith) (omega arith) s o has refl refl refl (fit-prorated p.instruments c.args.share (order_of s xs) fits))

@@ -6,7 +6,8 @@ use Rattle.plain_book.specs.Orders.{HasSlot, order_of, with_order}
 use Rattle.plain_book.specs.Book.{Book, IsResting}
 use Rattle.plain_book.specs.Inner.FreeSlots.{book_of, IsKept}
 use Rattle.plain_book.proofs.Live.{fit_of}
-use Rattle.plain_book.proofs.Kept.{kept-with_order, fit-shown}
+use Rattle.plain_book.proofs.Fits.{fit-shown}
+use Rattle.plain_book.proofs.Kept.{kept-with_order}
 use Rattle.plain_book.proofs.plain.PlainBookBook.set_shown.Goals as goal
 
 pub invariant_of-self : goal.invariant_of-self
@@ -26,6 +27,6 @@ invariant_of-self c =
     let fits : IsResting p.instruments (order_of s xs) = fit_of p.instruments s xs c.self.invariant.right.rest has in
     let display : 1 ≤ (order_of s xs).show = subst (λ (x : Book). 1 ≤ (order_of s x.resting).show) back c.requires.display in
     let within : c.args.shown ≤ min (order_of s xs).show (order_of s xs).leaves = subst (λ (x : Book). c.args.shown ≤ min (order_of s x.resting).show (order_of s x.resting).leaves) back c.requires.within in
-    let o_is : change c.order_at-order.result ≡ o = ap change (c.order_at-order.ensures ∙ ap (order_of s) c.deref.ensures.value) in
+    let o_is : change c.order_at.result.now ≡ o = ap change (c.order_at.ensures ∙ ap (order_of s) c.deref.ensures.value) in
     subst (λ (l : List Entry). IsKept (book_of p.capacity p.instruments l p.waiting.items) er wr p.free.items fr) (sym (e.entries ∙ ap (λ (x : Order). with_order s x xs) o_is))
     (kept-with_order b (vec_capacity p.resting) wr p.free.items fr er wr fr c.self.invariant (omega (arith, e.capacity)) (omega arith) (omega arith) s o has refl refl refl (fit-shown p.instruments c.args.shown (order_of s xs) fits display c.requires.some within))

@@ -15,7 +15,7 @@ trade_order-requires-clause-within c =
     let p = c.self.inside in
     let s = c.args.slot.0 in
     let has : HasSlot s p.resting.items = subst (λ (b : Book). HasSlot s b.resting) (sym c.self.view_is) c.requires.rests in
-    let fits : IsResting p.instruments c.order_at-order.result = subst (IsResting p.instruments) (sym (c.order_at-order.ensures ∙ ap (order_of s) c.deref.ensures.value)) (fit_of p.instruments s p.resting.items c.self.invariant.right.rest has) in
+    let fits : IsResting p.instruments c.order_at-order.result.now = subst (IsResting p.instruments) (sym (c.order_at-order.ensures ∙ ap (order_of s) c.deref.ensures.value)) (fit_of p.instruments s p.resting.items c.self.invariant.right.rest has) in
     fits.within
 
 pub trade_order-requires-clause-whole : goal.trade_order-requires-clause-whole
@@ -23,7 +23,7 @@ trade_order-requires-clause-whole c =
     let p = c.self.inside in
     let s = c.args.slot.0 in
     let has : HasSlot s p.resting.items = subst (λ (b : Book). HasSlot s b.resting) (sym c.self.view_is) c.requires.rests in
-    let fits : IsResting p.instruments c.order_at-order.result = subst (IsResting p.instruments) (sym (c.order_at-order.ensures ∙ ap (order_of s) c.deref.ensures.value)) (fit_of p.instruments s p.resting.items c.self.invariant.right.rest has) in
+    let fits : IsResting p.instruments c.order_at-order.result.now = subst (IsResting p.instruments) (sym (c.order_at-order.ensures ∙ ap (order_of s) c.deref.ensures.value)) (fit_of p.instruments s p.resting.items c.self.invariant.right.rest has) in
     omega (arith, fits.fit.whole, fits.fit.small)
 
 pub trade_order-requires-clause-room : goal.trade_order-requires-clause-room

@@ -1,7 +1,7 @@
 use Rattle.std.proofs.Common.{◌≡◌, ℕ, ◌<◌, ◌≤◌, ◌-◌, length, true, false}
 use Rattle.book_order.specs.Levels.{is_better}
 use Rattle.price_level.specs.Inner.Steps.{step_at}
-use Rattle.price_level.proofs.side.place_of.Given as goal
+use Rattle.price_level.proofs.side.place_by_halves.Given as goal
 
 abbrev pub invariant-loop-low : goal.invariant-loop-low
 invariant-loop-low l = record {

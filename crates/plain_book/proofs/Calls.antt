@@ -14,7 +14,7 @@ use Rattle.plain_book.proofs.Live.{AllOrders}
 use Rattle.plain_book.proofs.Named.{Unnamed, unnamed-without}
 use Rattle.plain_book.proofs.Tops.{NoTopBehind, not-best-none, new-best-all, standing-not-best, on-sym}
 use Rattle.plain_book.proofs.Right.{other_slot, live-without, length-without, without-gone, right-without, resting_as, right-placed, right-lined, slots-marked, length-marked, right-marked}
-use Rattle.book_side.proofs.Fits.{fit-placed, fit-waited}
+use Rattle.plain_book.proofs.Fits.{fit-placed, fit-waited}
 
 -- ---- an order comes
 
