@@ -1,5 +1,6 @@
 pub mod Delivered
 pub mod Counted
+mod Applied
 mod Pushed
 mod Walked
 mod Texts

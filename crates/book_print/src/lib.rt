@@ -2,6 +2,7 @@
 //! of messages.
 #![tactic(auto)]
 
+mod applying;
 mod book;
 mod fills;
 mod ledger;

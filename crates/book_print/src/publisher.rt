@@ -1,17 +1,18 @@
-//! What becomes of the events of messages: a publisher applies each message, and sends or counts its events.
-ghost use Rattle.std.specs.Prelude.{◌≡◌, ◌+◌, ◌<◌, [], IsTrue, IsOk, OnOk, flat_map};
+//! What becomes of the events of messages: a publisher applies the messages, and sends or counts their events.
+ghost use Rattle.std.specs.Prelude.{◌≡◌, ◌+◌, ◌≤◌, [], length, IsTrue, IsOk, OnOk, flat_map};
 ghost use Rattle.gx_station.specs.Quiet.{Sends};
-ghost use Rattle.fix_request.specs.ValidRequests.{IsValidRequest};
 ghost use Rattle.order_kinds.specs.declared.core_state.TheConstants.{MOST_MESSAGES};
 ghost use Rattle.order_kinds.specs.Cores.{FitsProduct, AreNumbered};
 ghost use Rattle.order_kinds.specs.State.{state_numbered};
-ghost use Rattle.order_kinds.specs.Step.{with_message, is_passed, request_step};
+ghost use Rattle.order_kinds.specs.Step.{state_after, events_from};
+ghost use Rattle.book_print.specs.Publishers.{ArePassed};
 
+use crate::applying::apply_given;
 use crate::fills::FillEmit;
 use crate::ledger::{LedgerEmit, Totals};
 use crate::tally::TallyEmit;
 use exec_report::{Outgoing, ReportBuffer, SendFault};
-use fix_request::Request;
+use fix_frame::Framer;
 use gx_station::Station;
 use order_kinds::Core;
 use plain_book::Book;
@@ -23,30 +24,30 @@ pub trait Publisher {
 
     ghost meanings: { PublisherMeanings Self };
 
-    /// Applies a request, which counts as a message, and sends what the publisher makes of its events. A session message has
-    /// none, and the station is not called. `SendFault` comes only where the count of send faults rose; a part is sent then.
+    /// Applies the messages of the frames that a framer has given since it was fed, in their order, and then sends what the
+    /// publisher makes of all their events. Session messages have none: where all are such, the station is not called.
+    /// `SendFault` comes only where the count of send faults rose; a part is sent then, and all messages are applied.
     fn publish<B: Book, S: Station>(
         &mut self,
         product: &Product,
         core: &mut Core<B>,
-        request: &Request,
+        framer: &Framer,
         buffer: &mut ReportBuffer,
         station: &mut S,
     ) -> Result<(), SendFault>
-        requires few { core.old.desk.messages < MOST_MESSAGES }
-        requires valid { IsValidRequest product.now request.now }
+        requires few { core.old.desk.messages + length framer.now.given ≤ MOST_MESSAGES }
         requires fits { FitsProduct product.now core.old }
         requires numbered { AreNumbered core.old }
         requires empty { buffer.old ≡ [] }
-        ensures state { state_numbered core.new ≡ (request_step product.now request.now (with_message (state_numbered core.old))).0 }
-        ensures count { core.new.desk.messages ≡ core.old.desk.messages + 1 }
+        ensures state { state_numbered core.new ≡ state_after product.now (state_numbered core.old) framer.now.given }
+        ensures count { core.new.desk.messages ≡ core.old.desk.messages + length framer.now.given }
         ensures fits { FitsProduct product.now core.new }
         ensures numbered { AreNumbered core.new }
-        ensures sends { Sends S.meanings station.old station.new (flat_map (meanings.text product.now.names) (request_step product.now request.now (with_message (state_numbered core.old))).1) result }
-        ensures silent { IsTrue (is_passed request.now) → IsOk result × (station.new ≡ station.old) }
+        ensures sends { Sends S.meanings station.old station.new (flat_map (meanings.text product.now.names) (events_from product.now (state_numbered core.old) framer.now.given)) result }
+        ensures silent { ArePassed product.now framer.now.given → IsOk result × (station.new ≡ station.old) }
         ensures never_sends { IsTrue meanings.is_silent → IsOk result × (station.new ≡ station.old) }
         ensures empty { OnOk result (buffer.new ≡ []) }
-        ensures after { OnOk result (self.new ≡ meanings.after self.old (request_step product.now request.now (with_message (state_numbered core.old))).1) };
+        ensures after { OnOk result (self.new ≡ meanings.after self.old (events_from product.now (state_numbered core.old) framer.now.given)) };
 }
 
 /// Sends the report line of each event.
@@ -78,12 +79,12 @@ impl Publisher for ReportPublisher {
         &mut self,
         product: &Product,
         core: &mut Core<B>,
-        request: &Request,
+        framer: &Framer,
         buffer: &mut ReportBuffer,
         station: &mut S,
     ) -> Result<(), SendFault> {
         let mut out = Outgoing::new(buffer, station, product.names());
-        core.apply(product, request, &mut out);
+        apply_given(core, product, framer, &mut out);
         out.flush()
     }
 }
@@ -97,12 +98,12 @@ impl Publisher for FillPublisher {
         &mut self,
         product: &Product,
         core: &mut Core<B>,
-        request: &Request,
+        framer: &Framer,
         buffer: &mut ReportBuffer,
         station: &mut S,
     ) -> Result<(), SendFault> {
         let mut out = FillEmit::new(buffer, station, product.names());
-        core.apply(product, request, &mut out);
+        apply_given(core, product, framer, &mut out);
         out.flush()
     }
 }
@@ -116,12 +117,12 @@ impl Publisher for LedgerPublisher {
         &mut self,
         product: &Product,
         core: &mut Core<B>,
-        request: &Request,
+        framer: &Framer,
         buffer: &mut ReportBuffer,
         station: &mut S,
     ) -> Result<(), SendFault> {
         let mut out = LedgerEmit::new(buffer, station, &mut self.totals);
-        core.apply(product, request, &mut out);
+        apply_given(core, product, framer, &mut out);
         out.flush()
     }
 }
@@ -135,11 +136,11 @@ impl Publisher for TallyPublisher {
         &mut self,
         product: &Product,
         core: &mut Core<B>,
-        request: &Request,
+        framer: &Framer,
         _buffer: &mut ReportBuffer,
         _station: &mut S,
     ) -> Result<(), SendFault> {
-        core.apply(product, request, &mut self.tally);
+        apply_given(core, product, framer, &mut self.tally);
         Ok(())
     }
 }

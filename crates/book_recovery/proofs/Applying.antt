@@ -1,6 +1,6 @@
 -- Applying one frame after the other.
-use Rattle.std.proofs.Common.{◌≡◌, ℕ, ◌+◌, ◌≤◌, ◌∷◌, List, length, refl, sym, subst, ◌∙◌, ap, arith, length-append}
-use Rattle.fix_frame.specs.Grammar.{IsFrame, BeginsWithNone}
+use Rattle.std.proofs.Common.{◌≡◌, ℕ, ◌+◌, ◌≤◌, List, [], ◌∷◌, ◌++◌, length, refl, sym, ◌∙◌, ap, arith, append_assoc, length-append}
+use Rattle.fix_frame.specs.Grammar.{BeginsWithNone}
 use Rattle.fix_frame.specs.Stream.{messages_of, rest_of}
 use Rattle.fix_frame.specs.StreamLaws.{messages_of-frame-append, rest_of-frame-append}
 use Rattle.fix_frame.specs.FrameLaws.{frame_least}
@@ -22,11 +22,15 @@ module _ (old new : Framing) (start end : ℕ) (gives : GivesFrame old new start
   pub rest_left : rest_of old.rest ≡ rest_of new.rest
   rest_left = ap rest_of gives.front ∙ rest_of-frame-append gives.frame new.rest gives.is_frame
 
+  -- the frames given and those left are the same
+  pub given_left : new.given ++ messages_of new.rest ≡ old.given ++ messages_of old.rest
+  given_left =
+      ap (λ (l : List (List ℕ)). l ++ messages_of new.rest) gives.given
+      ∙ append_assoc old.given (gives.frame ∷ []) (messages_of new.rest)
+      ∙ ap (λ (l : List (List ℕ)). old.given ++ l) (sym messages_left)
+
   pub least_left : 22 + length new.rest ≤ length old.rest
   least_left = omega (arith, ap length gives.front, length-append gives.frame new.rest, frame_least gives.frame gives.is_frame)
-
-  pub lent_is_frame : (bytes : List ℕ) → bytes ≡ given_bytes new start end → IsFrame bytes
-  lent_is_frame bytes is = subst IsFrame (sym (is ∙ bytes_given old new start end gives)) gives.is_frame
 
   -- the state after all messages is the same once the first was applied
   pub state_left : (product : ProductLists) (bytes : List ℕ) (request : Request) (s then : State) → bytes ≡ given_bytes new start end → request ≡ request_of product bytes → then ≡ (request_step product request (with_message s)).0

@@ -1,6 +1,8 @@
 -- Reading one record more of an image.
 use Rattle.std.proofs.Common.{◌≡◌, ◌≢◌, inl, inr, ℕ, ◌+◌, List, [], ◌∷◌, ◌++◌, length, get_or, take, drop, refl, sym, subst, ◌∙◌, ap, arith}
-use Rattle.fix_frame.specs.Stream.{rest_of}
+use Rattle.std.specs.List.{concat}
+use Rattle.fix_frame.specs.Stream.{messages_of, rest_of}
+use Rattle.fix_frame.specs.StreamLaws.{concat-messages_of-whole}
 use Rattle.match_journal.specs.Journal.{IsJournal, journal_front}
 use Rattle.match_journal.specs.Walking.{IsHead, IsBadHead}
 use Rattle.match_journal.specs.declared.entry.Entry.{Entry}
@@ -8,6 +10,17 @@ use Rattle.book_recovery.specs.BadPlaces.{BeginsWithRecords, AreFirstRecords}
 use Rattle.book_recovery.specs.Inner.Reading.{IsOneMore, IsBadBehind}
 use Rattle.book_recovery.proofs.Images.{length-push, payload_size, begins_more, begins_closed}
 use Rattle.book_recovery.proofs.Replaying.{whole-append}
+
+-- all frames of a whole payload were given
+module _ (payload : List ℕ) (given behind : List (List ℕ)) (none_before : given ≡ []) (are : behind ≡ given ++ messages_of payload) (whole : rest_of payload ≡ []) where
+  messages_given : behind ≡ messages_of payload
+  messages_given = are ∙ ap (λ (l : List (List ℕ)). l ++ messages_of payload) none_before
+
+  pub payload_given : concat behind ≡ payload
+  payload_given = ap concat messages_given ∙ concat-messages_of-whole payload whole
+
+  pub given_are_all : behind ≡ messages_of (concat behind)
+  given_are_all = messages_given ∙ ap messages_of (sym payload_given)
 
 module _ (text : List ℕ) (limit : ℕ) (image : List ℕ) (before : List (List ℕ)) (first : AreFirstRecords text limit before image) (gate : ℕ) (place : gate ≡ length (journal_front text before)) where
   pub closed_behind : get_or image gate 0 ≢ 1 → IsJournal text limit before image

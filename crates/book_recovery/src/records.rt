@@ -1,7 +1,8 @@
 //! Reading the records one after the other, each whole when it is come to.
-ghost use Rattle.std.specs.Prelude.{◌≡◌, ℕ, ◌+◌, ◌<◌, ◌≤◌, ◌↔◌, List, [], length, Some, IsTrue, IfOk, IsErrOf};
+ghost use Rattle.std.specs.Prelude.{◌≡◌, ℕ, ◌+◌, ◌<◌, ◌≤◌, ◌↔◌, List, [], ◌++◌, length, Some, IsTrue, IfOk, IsErrOf};
+ghost use Rattle.std.specs.List.{concat};
 ghost use Rattle.gx_station.specs.Counts.{Rose};
-ghost use Rattle.fix_frame.specs.Stream.{rest_of};
+ghost use Rattle.fix_frame.specs.Stream.{messages_of, rest_of};
 ghost use Rattle.match_journal.specs.Journal.{journal_front};
 ghost use Rattle.match_journal.specs.Standing.{IsStanding, moved};
 ghost use Rattle.book_recovery.specs.BadPlaces.{AreFirstRecords};
@@ -9,7 +10,7 @@ ghost use Rattle.book_recovery.specs.Recovering.{ReadsOnly};
 ghost use Rattle.book_recovery.specs.Inner.Reading.{ReadsRecord};
 
 use crate::recovery::RecoverFault;
-use crate::replay::{hold, read_payload};
+use crate::replay::read_payload;
 use crate::scratch::Scratch;
 use fix_frame::{Framer, Next};
 use gx_station::Station;
@@ -17,16 +18,18 @@ use match_journal::{Journal, WalkFault};
 
 /// Whether the bytes that a framer holds are whole frames. The frames are given.
 fn are_whole(framer: &mut Framer) -> bool
-    ensures { IsTrue result ↔ (rest_of framer.old.rest ≡ []) }
+    ensures whole { IsTrue result ↔ (rest_of framer.old.rest ≡ []) }
+    ensures given { framer.new.given ≡ framer.old.given ++ messages_of framer.old.rest }
+    ensures rest { framer.new.rest ≡ rest_of framer.old.rest }
 {
     'frames: while let Next::Frame(_, _) = framer.next() {}
     framer.rest() == 0
 }
 
 /// Reads the next record, its head and its payload, and passes it by. `Ok(true)` leaves the whole payload in the scratch's
-/// framer, none of it given yet; `Ok(false)` comes exactly at a closed gate. `Bad` comes exactly where the record is bad: its head,
-/// or its payload, which is not whole frames; it has the record's gate. `Store` comes only where the count of store faults
-/// rose. Nothing is written, synced or sent.
+/// framer, all its frames given and nothing behind them; `Ok(false)` comes exactly at a closed gate. `Bad` comes exactly where
+/// the record is bad: its head, or its payload, which is not whole frames; it has the record's gate. `Store` comes only where
+/// the count of store faults rose. Nothing is written, synced or sent.
 pub fn next_record<S: Station>(
     station: &mut S,
     journal: &mut Journal,
@@ -39,11 +42,13 @@ pub fn next_record<S: Station>(
     ensures none { (IsErrOf result RecoverFault.Store → ⊥) → S.meanings.store_faults station.new ≡ S.meanings.store_faults station.old }
     ensures stands { IsStanding journal.new }
     ensures same { journal.new ≡ moved journal.old journal.new.gate journal.new.is_at_end }
-    ensures rises { IfOk result (λ found. IsTrue found → journal.new.gate ≡ journal.old.gate + 6 + length scratch.new.framer.rest) }
+    ensures rises { IfOk result (λ found. IsTrue found → journal.new.gate ≡ journal.old.gate + 6 + length (concat scratch.new.framer.given)) }
+    ensures frames { IfOk result (λ found. IsTrue found → scratch.new.framer.given ≡ messages_of (concat scratch.new.framer.given)) }
+    ensures rest { IfOk result (λ found. IsTrue found → scratch.new.framer.rest ≡ []) }
     ensures in_limit { IfOk result (λ found. IsTrue found → journal.new.gate < journal.new.limit) }
     ensures records { (text image : List ℕ) (before : List (List ℕ)) → S.meanings.holds station.old ≡ Some image → length image ≡ journal.old.known
         → AreFirstRecords text journal.old.limit before image → journal.old.gate ≡ length (journal_front text before)
-        → ReadsRecord text journal.old.limit image before journal.new.gate scratch.new.framer.rest result }
+        → ReadsRecord text journal.old.limit image before journal.new.gate (concat scratch.new.framer.given) result }
 {
     let entry = match journal.next_entry(station) {
         Ok(Some(entry)) => entry,
@@ -62,8 +67,6 @@ pub fn next_record<S: Station>(
         return Err(RecoverFault::Store);
     }
     if are_whole(&mut scratch.framer) {
-        let payload = &scratch.payload.as_slice()[..entry.length as usize];
-        hold(&mut scratch.framer, payload);
         return Ok(true);
     }
     Err(RecoverFault::Bad(entry.at))

@@ -1,5 +1,5 @@
 //! Applying the messages of all records.
-ghost use Rattle.std.specs.Prelude.{◌≡◌, ℕ, ◌+◌, ◌*◌, ◌<◌, ◌≤◌, List, length, take, drop, vec_len, false, true, Some, OnOk, IsErrOf};
+ghost use Rattle.std.specs.Prelude.{◌≡◌, ℕ, ◌+◌, ◌*◌, ◌<◌, ◌≤◌, List, [], length, take, drop, vec_len, false, true, Some, OnOk, IsErrOf};
 ghost use Rattle.gx_station.specs.Counts.{Rose};
 ghost use Rattle.gx_station.specs.StoreCalls.{OnStore};
 ghost use Rattle.fix_frame.specs.Stream.{messages_of, rest_of};
@@ -44,16 +44,17 @@ fn apply_frames<B: Book>(framer: &mut Framer, product: &Product, core: &mut Core
     }
 }
 
-/// Gives a framer these bytes alone.
-pub(crate) fn hold(framer: &mut Framer, bytes: &[u8])
+/// Feeds a framer these bytes alone.
+fn hold(framer: &mut Framer, bytes: &[u8])
     requires { length bytes.now ≤ MOST_PAYLOAD }
-    ensures { framer.new.rest ≡ bytes.now }
+    ensures rest { framer.new.rest ≡ bytes.now }
+    ensures given { framer.new.given ≡ [] }
 {
     framer.clear();
     let _ = framer.feed(bytes);
 }
 
-/// Reads the payload of a record into the front of `payload`. It is then all that a framer holds.
+/// Reads the payload of a record into the front of `payload`. It is then all that a framer holds, none of it given yet.
 pub(crate) fn read_payload<S: Station>(
     station: &mut S,
     journal: &mut Journal,
@@ -69,6 +70,7 @@ pub(crate) fn read_payload<S: Station>(
     ensures on_store { OnStore S.meanings station.old station.new result }
     ensures stays { journal.new ≡ journal.old }
     ensures room { vec_len payload.new ≡ MOST_PAYLOAD }
+    ensures given { OnOk result (framer.new.given ≡ []) }
     ensures size { OnOk result (length framer.new.rest ≡ entry.now.length) }
     ensures held { OnOk result (framer.new.rest ≡ take entry.now.length payload.new.items) }
     ensures bytes { OnOk result ((image : List ℕ) → S.meanings.holds station.old ≡ Some image → framer.new.rest ≡ take entry.now.length (drop (entry.now.at + 6) image)) }

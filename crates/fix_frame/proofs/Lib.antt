@@ -4,4 +4,5 @@ mod Places
 mod Scanning
 mod Ends
 mod Framings
+mod GivenEnds
 mod Bodies

@@ -1,6 +1,8 @@
 //! A buffer that is fed in pieces, and gives the frames of the stream.
-ghost use Rattle.std.specs.Prelude.{◌≡◌, ℕ, ◌+◌, ◌-◌, ◌^◌, ◌<◌, ◌≤◌, min, [], ◌++◌, length, take, IfOk};
-ghost use Rattle.fix_frame.specs.Framing.{Framing, IsGiven, given_bytes, GivesNext, CanBeLent, LeavesRoom};
+ghost use Rattle.std.specs.Prelude.{◌≡◌, ℕ, ◌+◌, ◌-◌, ◌^◌, ◌<◌, ◌≤◌, min, [], ◌∷◌, ◌++◌, length, take, slice_index_or, vec_len, vec_capacity, IfOk};
+ghost use Rattle.fix_frame.specs.Grammar.{IsFrame};
+ghost use Rattle.fix_frame.specs.Stream.{messages_of, rest_of};
+ghost use Rattle.fix_frame.specs.Framing.{Framing, place_of, IsGiven, given_bytes, GivesNext, CanBeLent, LeavesRoom, TakesBack};
 
 use crate::next::Next;
 use crate::scan::{Front, Scan};
@@ -9,6 +11,12 @@ use std::marker::Model;
 
 /// How many bytes a framer holds at most.
 pub const ROOM: usize = 8192;
+
+/// How many bytes a frame has at least.
+const SHORTEST_FRAME: usize = 22;
+
+/// How many frames a framer gives at most between two calls of `feed`.
+const MOST_GIVEN: usize = ROOM / SHORTEST_FRAME;
 
 /// Takes a stream in pieces and gives its frames. Contracts see the bytes taken since the last frame given, the offset
 /// of the first of them in the stream, and the frames given since the last `feed` or `clear`.
@@ -19,6 +27,8 @@ pub struct Framer {
     /// The frames given lie in `0..start`, and the bytes held in `start..end`.
     start: usize,
     end: usize,
+    /// Where each of the frames given ends. There is room for `MOST_GIVEN`.
+    ends: Vec<usize>,
     /// The offset in the stream of the buffer's first byte.
     base: u64,
     /// Of the bytes held.
@@ -30,14 +40,15 @@ impl Model for Framer {
 
     ghost Value = { Framing };
 
-    ghost use Rattle.std.specs.Prelude.{◌≡◌, ◌+◌, ◌-◌, ◌^◌, ◌<◌, ◌≤◌, [], take, vec_len, slice_range};
-    ghost use Rattle.fix_frame.specs.declared.framer.TheConstants.{ROOM};
+    ghost use Rattle.std.specs.Prelude.{◌≡◌, ◌+◌, ◌-◌, ◌^◌, ◌<◌, ◌≤◌, [], take, vec_len, vec_capacity, slice_range};
+    ghost use Rattle.fix_frame.specs.declared.framer.TheConstants.{ROOM, MOST_GIVEN};
     ghost use Rattle.fix_frame.specs.Stream.{messages_of, rest_of};
+    ghost use Rattle.fix_frame.specs.GivenEnds.{ends_from};
     ghost use Rattle.fix_frame.specs.Scans.{IsScanOf};
 
     ghost view = { λ f. record { given = messages_of (take f.start f.buffer.items); rest = slice_range f.buffer.items f.start f.end; offset = f.base + f.start } };
 
-    ghost invariant = { λ f. (vec_len f.buffer ≡ ROOM) × (f.start ≤ f.end) × (f.end ≤ ROOM) × (rest_of (take f.start f.buffer.items) ≡ []) × (f.base + f.end < 2 ^ 63) × IsScanOf f.scan (slice_range f.buffer.items f.start f.end) };
+    ghost invariant = { λ f. (vec_len f.buffer ≡ ROOM) × (f.start ≤ f.end) × (f.end ≤ ROOM) × (rest_of (take f.start f.buffer.items) ≡ []) × (f.base + f.end < 2 ^ 63) × IsScanOf f.scan (slice_range f.buffer.items f.start f.end) × (f.ends.items ≡ ends_from 0 (messages_of (take f.start f.buffer.items))) × (MOST_GIVEN ≤ vec_capacity f.ends) };
 }
 
 impl Framer {
@@ -49,6 +60,7 @@ impl Framer {
             buffer: vec![in alloc; 0; ROOM]?,
             start: 0,
             end: 0,
+            ends: Vec::with_capacity(alloc, MOST_GIVEN)?,
             base: 0,
             scan: Scan::new(),
         })
@@ -68,6 +80,7 @@ impl Framer {
             self.base += self.start as u64;
             self.end -= self.start;
             self.start = 0;
+            self.ends.clear();
         }
         let count = bytes.len().min(ROOM - self.end);
         let end = self.end + count;
@@ -89,6 +102,7 @@ impl Framer {
                 let start = self.start;
                 self.start += length;
                 self.scan = Scan::new();
+                keep_end(&mut self.ends, self.start);
                 Next::Frame(start, self.start)
             }
             Front::NeedsMore => Next::More,
@@ -102,6 +116,50 @@ impl Framer {
         ensures { result.now ≡ given_bytes self.now start end }
     {
         &self.buffer[start..end]
+    }
+
+    /// How many frames were given since the last `feed` or `clear`.
+    pub fn given_count(&self) -> usize
+        ensures { result ≡ length self.now.given }
+    {
+        self.ends.len()
+    }
+
+    /// Lends a frame that was given since the last `feed` or `clear`. The first of them has number 0.
+    pub fn given(&self, number: usize) -> &[u8]
+        requires { number < length self.now.given }
+        ensures bytes { result.now ≡ slice_index_or self.now.given number [] }
+        ensures is_frame { IsFrame result.now }
+    {
+        &self.buffer[self.place(number)..self.ends[number]]
+    }
+
+    /// Where so many of the frames given end, one behind the other.
+    fn place(&self, count: usize) -> usize
+        requires { count ≤ length self.now.given }
+        ensures { result ≡ place_of self.now count }
+    {
+        if count == 0 { 0 } else { self.ends[count - 1] }
+    }
+
+    /// Lends the bytes of all frames given since the last `feed` or `clear`, one behind the other.
+    pub fn all_given(&self) -> &[u8]
+        ensures frames { messages_of result.now ≡ self.now.given }
+        ensures whole { rest_of result.now ≡ [] }
+        ensures fits { length result.now + length self.now.rest ≤ ROOM }
+    {
+        &self.buffer[..self.start]
+    }
+
+    /// Takes the last frame back that was given since the last `feed` or `clear`: the bytes held begin with it again.
+    pub fn take_back(&mut self)
+        requires { 0 < length self.old.given }
+        ensures { TakesBack self.old self.new }
+    {
+        let last = self.ends.len() - 1;
+        self.start = self.place(last);
+        self.ends.truncate(last);
+        self.scan = Scan::new();
     }
 
     /// The offset in the stream of the first byte taken since the last frame given.
@@ -125,7 +183,19 @@ impl Framer {
     {
         self.start = 0;
         self.end = 0;
+        self.ends.clear();
         self.base = 0;
         self.scan = Scan::new();
+    }
+}
+
+/// Keeps where one more frame ends. No memory is taken.
+fn keep_end(ends: &mut Vec<usize>, end: usize)
+    requires room { vec_len ends.old < vec_capacity ends.old }
+    ensures items { ends.new.items ≡ ends.old.items ++ end ∷ [] }
+    ensures capacity { vec_capacity ends.old ≤ vec_capacity ends.new }
+{
+    if ends.push(end).is_err() {
+        unreachable!()
     }
 }

@@ -1,5 +1,5 @@
--- One frame: its record is added, and then what is sent of its message.
-use Rattle.std.proofs.Common.{◌≡◌, ◌⊎◌, inl, inr, ⊎_elim, ℕ, ◌+◌, ◌<◌, ◌≤◌, ◌↔◌, max, true, false, List, [], ◌∷◌, ◌++◌, length, flat_map, Some, Result, Ok, IsErrOf, refl, sym, ◌∙◌, ap, subst, arith, append-nil}
+-- One record: it is added, and then what is sent of its messages.
+use Rattle.std.proofs.Common.{◌≡◌, ◌⊎◌, inl, inr, ⊎_elim, ℕ, ◌+◌, ◌<◌, ◌≤◌, ◌↔◌, max, true, false, List, [], ◌∷◌, ◌++◌, length, Some, Result, Ok, IsErrOf, refl, sym, ◌∙◌, ap, subst, arith, append-nil}
 use Rattle.std.specs.Result.{is_err}
 use Rattle.std.proofs.lemmas.Bool.{cases_lt}
 use Rattle.gx_base.specs.KnownBytes.{IsKnownPrefix, known_itself, known_then}
@@ -9,7 +9,7 @@ use Rattle.gx_station.specs.Honest.{IsHonestNow, IsSettled}
 use Rattle.gx_station.specs.Moments.{AddsOnly}
 use Rattle.gx_station.specs.Quiet.{Sends}
 use Rattle.gx_station.specs.SendLaws.{sends_as}
-use Rattle.fix_frame.specs.Grammar.{IsFrame}
+use Rattle.fix_frame.specs.Stream.{messages_of}
 use Rattle.match_journal.specs.Journal.{IsJournal}
 use Rattle.match_journal.specs.Appending.{IsJournalTo, IsBeforeOrAfter, IsAdded}
 use Rattle.match_journal.specs.declared.faults.AppendFault.{AppendFault}
@@ -17,16 +17,13 @@ use Rattle.match_journal.specs.declared.faults.AppendFault.TheVariants.{Full}
 use Rattle.match_journal.specs.Causes.{SendsNothing}
 use Rattle.match_journal.specs.Steps.{Steps, HoldsOne}
 use Rattle.match_journal.specs.StepLaws.{adds_then, adds_weaker, steps_hold}
-use Rattle.fix_request.specs.Requests.{request_of}
-use Rattle.fix_request.specs.declared.request.Request.{Request}
 use Rattle.product_file.specs.Products.{ProductLists}
 use Rattle.order_kinds.specs.State.{State}
-use Rattle.order_kinds.specs.Step.{with_message, request_step}
-use Rattle.book_recovery.specs.Kept.{messages_in}
+use Rattle.order_kinds.specs.Step.{state_after}
+use Rattle.book_recovery.specs.Kept.{IsWhole, messages_in}
 use Rattle.book_print.specs.Publishers.{LineForm}
 use Rattle.globex_run.specs.Inner.Recording.{lines_from, IsRecordCrash, RestsAtEnd, AllKept, Serves, Served}
 use Rattle.globex_run.specs.Inner.Serving.{FailsToKeep, FailsToSend}
-use Rattle.globex_run.proofs.FrameRecords.{frame_whole, frame_message, request_state, request_lines}
 use Rattle.globex_run.proofs.SentReports.{on_ok, on_err, known_more, sends_at_most}
 
 -- where an append did not find too little room, there was room
@@ -36,16 +33,16 @@ has_room r limit end full other = elim (cases_lt limit end) [
   | inr short ↦ short
 ]
 
-module _ {S : Type 0} (m : StationMeanings S) (line : LineForm) (product : ProductLists) (limit : ℕ) (first : S) (gate : ℕ) (state : State) (frame : List ℕ) (is : IsFrame frame) (fits : gate + 7 + length frame ≤ limit) where
+module _ {S : Type 0} (m : StationMeanings S) (line : LineForm) (product : ProductLists) (limit : ℕ) (first : S) (gate : ℕ) (state : State) (payload : List ℕ) (whole : IsWhole payload) (fits : gate + 7 + length payload ≤ limit) where
   abbrev next : ℕ
-  next = gate + 6 + length frame
+  next = gate + 6 + length payload
 
   abbrev its_lines : List ℕ
-  its_lines = lines_from line product state (messages_in (frame ∷ []))
+  its_lines = lines_from line product state (messages_in (payload ∷ []))
 
   -- what a crash since then leaves
   abbrev Left : List ℕ → List (List ℕ) → ℕ → List ℕ → List ℕ → Type 0
-  Left text kept most = IsRecordCrash line product state text limit kept (frame ∷ []) most (m.sent first)
+  Left text kept most = IsRecordCrash line product state text limit kept (payload ∷ []) most (m.sent first)
 
   -- nothing was sent yet
   unsent : (out xs : List ℕ) → m.sent first ≡ Some out → IsBetween (m.sent first) out (sent_and (m.sent first) xs)
@@ -55,7 +52,7 @@ module _ {S : Type 0} (m : StationMeanings S) (line : LineForm) (product : Produ
   }
 
   -- while the record is added
-  appending : (text : List ℕ) (kept : List (List ℕ)) (most : ℕ) (image left out : List ℕ) → length image ≤ most → IsBeforeOrAfter text limit kept frame image next left → m.sent first ≡ Some out → Left text kept most left out
+  appending : (text : List ℕ) (kept : List (List ℕ)) (most : ℕ) (image left out : List ℕ) → length image ≤ most → IsBeforeOrAfter text limit kept payload image next left → m.sent first ≡ Some out → Left text kept most left out
   appending text kept most image left out short here sent = ⊎_elim
       (λ before. record {
         count = 0;
@@ -76,7 +73,7 @@ module _ {S : Type 0} (m : StationMeanings S) (line : LineForm) (product : Produ
   -- what appending says
   abbrev Appends : {T F : Type 0} → S → Result T F → Type 0
   Appends mid r = (text image : List ℕ) (payloads : List (List ℕ)) → IsJournalTo text limit payloads gate image
-      → Steps m first mid image (IsBeforeOrAfter text limit payloads frame image next) (IsAdded text limit payloads frame image next) r
+      → Steps m first mid image (IsBeforeOrAfter text limit payloads payload image next) (IsAdded text limit payloads payload image next) r
 
   -- what is added of pairs on the way
   adds_appended : {T F : Type 0} (mid : S) (r : Result T F) → Appends mid r → (text : List ℕ) (kept : List (List ℕ)) (most : ℕ) → RestsAtEnd m text limit kept gate most first → AddsOnly m first mid (Left text kept most)
@@ -86,32 +83,36 @@ module _ {S : Type 0} (m : StationMeanings S) (line : LineForm) (product : Produ
 
   -- the append has failed
   module _ {T F : Type 0} (mid : S) (r : Result T F) (appends : Appends mid r) (silent : SendsNothing m first mid) (now : (s : S) → m.is_honest s → IsHonestNow m s) where
-    unkept_serves : Serves m line product limit first mid gate state (frame ∷ [])
+    unkept_serves : Serves m line product limit first mid gate state (payload ∷ [])
     unkept_serves = record {
-      whole = frame_whole frame is;
+      whole = (whole, tt);
       part = subst (λ o. IsKnownPrefix o (sent_and (m.sent first) its_lines)) (sym silent.sent) (known_more (m.sent first) its_lines);
       adds = adds_appended mid r appends;
     }
 
     -- the earlier records are kept, or this one too
-    unkept_holds : (text : List ℕ) (kept : List (List ℕ)) (most : ℕ) → RestsAtEnd m text limit kept gate most first → HoldsOne m (λ image. IsJournal text limit kept image ⊎ IsJournal text limit (kept ++ frame ∷ []) image) mid
+    unkept_holds : (text : List ℕ) (kept : List (List ℕ)) (most : ℕ) → RestsAtEnd m text limit kept gate most first → HoldsOne m (λ image. IsJournal text limit kept image ⊎ IsJournal text limit (kept ++ payload ∷ []) image) mid
     unkept_holds text kept most at =
         let steps = appends text at.image kept at.journal in
-        let here : IsBeforeOrAfter text limit kept frame at.image next at.image = record { keeps = inl at.journal.journal; no_longer = omega arith } in
-        let held = steps_hold m now first mid at.image (IsBeforeOrAfter text limit kept frame at.image next) here at.honest at.rests (steps.moments at.honest at.rests) in
+        let here : IsBeforeOrAfter text limit kept payload at.image next at.image = record { keeps = inl at.journal.journal; no_longer = omega arith } in
+        let held = steps_hold m now first mid at.image (IsBeforeOrAfter text limit kept payload at.image next) here at.honest at.rests (steps.moments at.honest at.rests) in
         record { image = held.image; read = held.read; has = held.has.keeps }
 
-    pub answers_unkept : Rose (m.store_faults first) (m.store_faults mid) → Serves m line product limit first mid gate state (frame ∷ []) × (state ≡ state) × FailsToKeep m line product limit first mid gate frame
+    pub answers_unkept : Rose (m.store_faults first) (m.store_faults mid) → Serves m line product limit first mid gate state (payload ∷ []) × (state ≡ state) × FailsToKeep m line product limit first mid gate payload
     answers_unkept rose = (unkept_serves, refl, record { rose = rose; sent = silent.sent; send_faults = silent.send_faults; keeps = unkept_holds })
 
-  -- the record is kept, and nothing is pending; then the reports are sent, or a part of them
-  module _ {T F T' F' : Type 0} (mid : S) (x : T) (appends : Appends {T = T} {F = F} mid (Ok x)) (settles : m.is_honest first → IsSettled m mid) (silent : SendsNothing m first mid) (store : m.store_faults mid ≡ m.store_faults first) (last : S) (r' : Result T' F') (request : Request) (read : request ≡ request_of product frame) (by_request : Sends m mid last (flat_map (line product.names) (request_step product request (with_message state)).1) r') where
+  -- the record is kept, and nothing is pending; then the reports of its messages are sent, or a part of them
+  module _ {T F T' F' : Type 0} (mid : S) (x : T) (appends : Appends {T = T} {F = F} mid (Ok x)) (settles : m.is_honest first → IsSettled m mid) (silent : SendsNothing m first mid) (store : m.store_faults mid ≡ m.store_faults first) (last : S) (r' : Result T' F') (frames : List (List ℕ)) (are : messages_of payload ≡ frames) (by_frames : Sends m mid last (lines_from line product state frames) r') where
+    -- its messages are these frames
+    messages : messages_in (payload ∷ []) ≡ frames
+    messages = append-nil (messages_of payload) ∙ are
+
     -- what is sent are the reports of the record
     sends : Sends m mid last its_lines r'
-    sends = sends_as m mid last (flat_map (line product.names) (request_step product request (with_message state)).1) its_lines r' (request_lines line product state frame is request read) by_request
+    sends = sends_as m mid last (lines_from line product state frames) its_lines r' (ap (lines_from line product state) (sym messages)) by_frames
 
     -- where the append is done
-    at_mid : (text : List ℕ) (kept : List (List ℕ)) (most : ℕ) → RestsAtEnd m text limit kept gate most first → RestsAtEnd m text limit (kept ++ frame ∷ []) next (max most limit) mid
+    at_mid : (text : List ℕ) (kept : List (List ℕ)) (most : ℕ) → RestsAtEnd m text limit kept gate most first → RestsAtEnd m text limit (kept ++ payload ∷ []) next (max most limit) mid
     at_mid text kept most at =
         let steps = appends text at.image kept at.journal in
         let done = steps.ends at.rests.read in
@@ -135,7 +136,7 @@ module _ {S : Type 0} (m : StationMeanings S) (line : LineForm) (product : Produ
         record {
           count = 1;
           within = omega arith;
-          keeps = inl (subst (λ (l : List ℕ). IsJournal text limit (kept ++ frame ∷ []) l) same here.journal.journal);
+          keeps = inl (subst (λ (l : List ℕ). IsJournal text limit (kept ++ payload ∷ []) l) same here.journal.journal);
           sent_is = record {
             low = subst (λ o. IsKnownPrefix o (Some out)) silent.sent pair.1.low;
             high = known_then (Some out) (m.sent last) (sent_and (m.sent first) its_lines) pair.1.high high;
@@ -143,15 +144,15 @@ module _ {S : Type 0} (m : StationMeanings S) (line : LineForm) (product : Produ
           no_longer = omega (arith, ap length same, here.short);
         }
 
-    kept_serves : Serves m line product limit first last gate state (frame ∷ [])
+    kept_serves : Serves m line product limit first last gate state (payload ∷ [])
     kept_serves = record {
-      whole = frame_whole frame is;
+      whole = (whole, tt);
       part = high;
       adds = λ text kept most at. adds_then m first mid last _ _ (λ h. sending text kept most at) (adds_appended {T = T} {F = F} mid (Ok x) appends text kept most at) sends.quiet.moments;
     }
 
     -- sends change no image
-    all_kept : AllKept m limit first last gate next (frame ∷ [])
+    all_kept : AllKept m limit first last gate next (payload ∷ [])
     all_kept = record {
       at_end = λ text kept most at.
           let here = at_mid text kept most at in
@@ -165,31 +166,34 @@ module _ {S : Type 0} (m : StationMeanings S) (line : LineForm) (product : Produ
       grown = omega arith;
     }
 
-    -- the gate and the state after the frame
-    module _ (end : ℕ) (then : State) (end_is : end ≡ next) (count : then.desk.messages ≡ state.desk.messages + 1) where
-      kept_at : AllKept m limit first last gate end (frame ∷ [])
-      kept_at = subst (λ e. AllKept m limit first last gate e (frame ∷ [])) (sym end_is) all_kept
+    -- the gate and the state after the record
+    module _ (end : ℕ) (then : State) (end_is : end ≡ next) (count : then.desk.messages ≡ state.desk.messages + length frames) where
+      kept_at : AllKept m limit first last gate end (payload ∷ [])
+      kept_at = subst (λ e. AllKept m limit first last gate e (payload ∷ [])) (sym end_is) all_kept
 
-      pub answers_served : is_err r' ≡ false → then ≡ (request_step product request (with_message state)).0 → Serves m line product limit first last gate state (frame ∷ []) × Served m line product limit first last gate end state then (frame ∷ [])
-      answers_served ok by_step = (
+      counted : then.desk.messages ≡ state.desk.messages + length (messages_in (payload ∷ []))
+      counted = count ∙ ap (λ (l : List (List ℕ)). state.desk.messages + length l) (sym messages)
+
+      pub answers_served : is_err r' ≡ false → then ≡ state_after product state frames → Serves m line product limit first last gate state (payload ∷ []) × Served m line product limit first last gate end state then (payload ∷ [])
+      answers_served ok by_frames = (
         kept_serves,
         record {
           all_kept = kept_at;
           sent = on_ok r' ok sends.all ∙ ap (λ o. sent_and o its_lines) silent.sent;
           store_faults = sends.quiet.store_faults ∙ store;
           send_faults = on_ok r' ok sends.cause.ok ∙ silent.send_faults;
-          is_state = by_step ∙ request_state line product state frame is request read;
-          count = count ∙ ap (λ (frames : List (List ℕ)). state.desk.messages + length frames) (sym (frame_message frame is));
+          is_state = by_frames ∙ ap (state_after product state) (sym messages);
+          count = counted;
         },
       )
 
-      pub answers_unsent : is_err r' ≡ true → Serves m line product limit first last gate state (frame ∷ []) × FailsToSend m line product limit first last gate end state then frame
+      pub answers_unsent : is_err r' ≡ true → Serves m line product limit first last gate state (payload ∷ []) × FailsToSend m line product limit first last gate end state then payload
       answers_unsent err = (
         kept_serves,
         record {
           rose = subst (λ faults. Rose faults (m.send_faults last)) silent.send_faults (on_err r' err sends.cause.failed);
           store_faults = sends.quiet.store_faults ∙ store;
           all_kept = kept_at;
-          count = count;
+          count = counted;
         },
       )

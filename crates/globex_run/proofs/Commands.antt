@@ -34,7 +34,7 @@ use Rattle.globex_run.specs.Words.{IsPrinting}
 use Rattle.globex_run.specs.ProductTexts.{TakesAtMost, IsProductText}
 use Rattle.globex_run.specs.RunResult.{CommandResult, CommandEnded, RunEnded, DrillEnded, first_messages}
 use Rattle.globex_run.specs.Journals.{AnswersImage}
-use Rattle.globex_run.specs.Headline.{Premises, InputPremises, SendsExactlyTheReports, EndsOtherwise, RunLeavesCrashPrefixes, RunBeforeTheFirstSync, KeepsEveryReported, HasNoRoom, CanBeServed, IsServed}
+use Rattle.globex_run.specs.Headline.{Premises, InputPremises, SendsExactlyTheReports, EndsOtherwise, RunLeavesCrashPrefixes, RunBeforeTheFirstSync, KeepsEveryReported, KeepsARecordPerRead, HasNoRoom, CanBeServed, IsServed}
 use Rattle.globex_run.specs.Drills.{made_bytes, KeepsAndSumsUp, DrillEndsOtherwise, DrillLeavesCrashPrefixes, DrillBeforeTheFirstSync, CanBeDrilled}
 use Rattle.globex_run.specs.Prints.{PrintPremises, PrintsAs, CanBePrinted, outcome_printed, outcome_sent}
 use Rattle.globex_run.specs.Inner.Drilling.{DrillResult, DrillsMade, DrillAnswers, outcome_summed}
@@ -43,7 +43,7 @@ use Rattle.globex_run.specs.declared.outcome.Outcome.{Outcome}
 use Rattle.globex_run.specs.declared.ending.Ending.{Ending}
 use Rattle.globex_run.specs.declared.ending.Ending.TheVariants.{Done, ReadFault, StoreFault, SendFault, BadFrame, Truncated, NotAJournal, JournalBad, ProductDiffers, Full}
 use Rattle.globex_run.proofs.Told.{outside_of}
-use Rattle.globex_run.proofs.Runs.{short-text, few-of-product, told-product, run-exactly, run-otherwise, run-every-moment, run-first-sync, run-every-message, run-balanced, run-full, run-all}
+use Rattle.globex_run.proofs.Runs.{short-text, few-of-product, told-product, run-exactly, run-otherwise, run-every-moment, run-first-sync, run-every-message, run-balanced, run-full, run-record-per-read, run-all}
 use Rattle.globex_run.proofs.Drills.{empty_front, drill-all, drill-otherwise, drill-moments, drill-first-sync, drill-full}
 use Rattle.globex_run.proofs.Complete.{served}
 
@@ -141,6 +141,9 @@ module _ {P I S : Type 0} (m : StationMeanings S) (p q : SourceAt P) (i j : Sour
 
         pub full : outcome.status ≡ 12 → HasNoRoom m entry exit outcome given read.taken
         full twelve = run-full m p q i j old new Any ran.then outcome text lent same product took gives ran.session given read twelve
+
+      pub each-read : (given : Premises m entry exit outcome.status) → KeepsARecordPerRead m entry exit outcome given
+      each-read given = run-record-per-read m p q i j old new Any ran.then outcome text lent same product took gives ran.session given
 
       pub all-served : (can : CanBeServed m entry) → IsQuiet entry exit → IsServed can.bytes outcome.status
       all-served can quiet = run-all m p q i j old new Any ran.then outcome text lent same product took gives ran.session can quiet

@@ -45,6 +45,7 @@ any-published m line product text before after Published then outcome session = 
         added = from.added;
         behind = from.behind;
         are = from.are;
+        reads = from.reads;
         whole = from.whole;
         part = from.part;
         adds = from.adds;

@@ -22,7 +22,7 @@ use Rattle.order_kinds.specs.State.{State}
 use Rattle.book_print.specs.Publishers.{LineForm}
 use Rattle.gx_base.specs.declared.event.Event.{Event}
 use Rattle.order_kinds.specs.Step.{state_after, events_from}
-use Rattle.globex_run.specs.Outside.{Streams, streams_at}
+use Rattle.globex_run.specs.Outside.{Streams, AreWithinReads, streams_at}
 use Rattle.globex_run.specs.Outcomes.{outcome_of}
 use Rattle.globex_run.specs.Journals.{AnswersImage}
 use Rattle.globex_run.specs.RunResult.{EndsAs}
@@ -77,6 +77,7 @@ module _ {I S : Type 0} (inputs : SourceMeanings I) (m : StationMeanings S) (lin
         added = [];
         behind = [];
         are = refl;
+        reads = inl (omega arith);
         whole = tt;
         part = subst (λ o. IsKnownPrefix o (sent_and (m.sent old) [])) (sym silent) (known_more (m.sent old) []);
         adds = opening_adds [] new opens.moments;
@@ -192,14 +193,15 @@ module _ {I S : Type 0} (inputs : SourceMeanings I) (m : StationMeanings S) (lin
     done_state (ProductDiffers place) done ends = absurd done
     done_state (Full place) done ends = absurd done
 
-    pub from_opened : (ending : Ending) → (IsDone ending → Published (events_from product state (messages_in added))) → EndsServing m line product product.journal_limit (streams_at inputs m input mid) at_exit journal.gate end state then ending added behind
+    pub from_opened : (ending : Ending) → AreWithinReads at_entry.input at_exit.input (length added) → (IsDone ending → Published (events_from product state (messages_in added))) → EndsServing m line product product.journal_limit (streams_at inputs m input mid) at_exit journal.gate end state then ending added behind
         → SessionFrom m line product text at_entry at_exit Published then image payloads kept (concat added ++ behind) ending count
-    from_opened ending published ends = record {
+    from_opened ending reads published ends = record {
       at_rest = λ done. done_rests ending done ends;
       is_state = λ done. done_state ending done ends ∙ ap (λ (s : State). state_after product s (messages_in added)) state_is;
       added = added;
       behind = behind;
       are = refl;
+      reads = reads;
       whole = serves.whole;
       part = part;
       adds = adds;
@@ -351,6 +353,6 @@ module _ {I S : Type 0} (inputs : SourceMeanings I) (m : StationMeanings S) (lin
         serving = record { taken = concat served.added ++ served.behind; took = served.took; some = taken.0; ends = taken.1 };
         from = λ image kept honest read startable.
             let from_image = opens image startable.payloads honest read startable.keeps startable.whole in
-            from_opened inputs m line Published product text image startable.payloads kept old right.least_limit mid state journal from_image silent.sent (from_image.is_state ∙ ap (state_kept product) (sym startable.are)) input input' new end then served.added served.behind served.serves outcome.messages counted ending served.published
+            from_opened inputs m line Published product text image startable.payloads kept old right.least_limit mid state journal from_image silent.sent (from_image.is_state ∙ ap (state_kept product) (sym startable.are)) input input' new end then served.added served.behind served.serves outcome.messages counted ending served.reads served.published
             served.ends;
       }

@@ -3,9 +3,10 @@ mod ProductReads
 mod Folds
 mod Additions
 mod SentReports
-mod FrameRecords
+mod Records
 mod Appended
 mod Joining
+mod ReadCounts
 mod Turns
 mod Openings
 mod TakenBytes
@@ -14,6 +15,7 @@ mod Reported
 mod Told
 mod Headlines
 mod RunHeadlines
+mod ReadRecords
 mod Complete
 mod Drills
 mod Drilled

@@ -17,7 +17,7 @@ use Rattle.order_kinds.specs.State.{State}
 use Rattle.globex_run.specs.Outside.{SourceAt, Outside, NoFault, IsQuiet}
 use Rattle.globex_run.specs.ProductTexts.{TakesAtMost, IsProductText, IsRefusedAt}
 use Rattle.globex_run.specs.RunResult.{EndsAs, first_messages}
-use Rattle.globex_run.specs.Headline.{new_reports, Premises, InputPremises, SendsExactlyTheReports, EndsOtherwise, RunLeavesCrashPrefixes, RunBeforeTheFirstSync, KeepsEveryReported, HasNoRoom, CanBeServed, IsServed}
+use Rattle.globex_run.specs.Headline.{new_reports, Premises, InputPremises, SendsExactlyTheReports, EndsOtherwise, RunLeavesCrashPrefixes, RunBeforeTheFirstSync, KeepsEveryReported, KeepsARecordPerRead, HasNoRoom, CanBeServed, IsServed}
 use Rattle.globex_run.specs.Inner.ProductReading.{TakesNone}
 use Rattle.globex_run.specs.Inner.Sessions.{SessionFrom, SessionResult}
 use Rattle.globex_run.specs.Inner.Statuses.{outcome_without}
@@ -27,6 +27,7 @@ use Rattle.globex_run.specs.declared.product_text.NoProduct.TheVariants.{NoMemor
 use Rattle.globex_run.proofs.Told.{outside_of, left_parts, nil_from_end, same-taken}
 use Rattle.globex_run.proofs.Headlines as headline
 use Rattle.globex_run.proofs.RunHeadlines as run
+use Rattle.globex_run.proofs.ReadRecords.{record-per-read}
 use Rattle.globex_run.proofs.Reported.{fewer-reports}
 use Rattle.globex_run.proofs.Complete.{served}
 
@@ -153,6 +154,12 @@ module _ {P I S : Type 0} (m : StationMeanings S) (p q : SourceAt P) (i j : Sour
     -- status 12
     pub run-full : outcome.status ≡ 12 → HasNoRoom m entry exit outcome given read.taken
     run-full twelve = headline.full m p q i j old new line_of Published then outcome given read.taken sends told.ending told.is ends from twelve
+
+  -- one record for each read
+  pub run-record-per-read : Session product lent → (given : Premises m entry exit outcome.status) → KeepsARecordPerRead m entry exit outcome given
+  run-record-per-read session given =
+      let good = told-session given.text given.product given.text_known given.gives session in
+      record-per-read m p q i j old new line_of Published then outcome given good.serving.taken good.ending (good.from given.image given.kept given.honest given.image_known given.startable)
 
   -- a good run is served to its end
   pub run-all : Session product lent → (can : CanBeServed m entry) → IsQuiet entry exit → IsServed can.bytes outcome.status

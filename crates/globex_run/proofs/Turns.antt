@@ -1,234 +1,266 @@
 -- How serving goes on, turn by turn, and how it ends.
-use Rattle.std.proofs.Common.{◌≡◌, ◌⊎◌, ℕ, ◌+◌, ◌≤◌, max, List, [], ◌∷◌, ◌++◌, length, Option, Result, Ok, Err, refl, sym, ap, subst, ◌∙◌, append_assoc, length-append, arith}
+use Rattle.std.proofs.Common.{◌≡◌, ◌⊎◌, inl, inr, ⊎_elim, ℕ, ◌+◌, ◌-◌, ◌*◌, ◌<◌, ◌≤◌, max, List, [], ◌∷◌, ◌++◌, length, Option, Result, Ok, Err, refl, sym, ap, subst, ◌∙◌, append_assoc, append-nil, length-append, arith}
 use Rattle.std.specs.List.{concat}
 use Rattle.std.proofs.lemmas.List.{nil_from_length}
 use Rattle.gx_station.specs.Counts.{Rose}
 use Rattle.gx_station.specs.Sources.{and_left, IsAtEnd}
 use Rattle.gx_station.specs.Stations.{StationMeanings}
-use Rattle.fix_frame.specs.Grammar.{IsFrame, IsUnfinished, IsRefused}
-use Rattle.fix_frame.specs.Framing.{Framing, GivesFrame, given_bytes}
-use Rattle.fix_frame.specs.FramingLaws.{bytes_given, concat-push}
+use Rattle.fix_frame.specs.Grammar.{IsUnfinished, IsRefused}
+use Rattle.fix_frame.specs.Framing.{Framing}
+use Rattle.fix_frame.specs.FramingLaws.{concat-append}
 use Rattle.match_journal.specs.Journal.{IsJournal}
-use Rattle.match_journal.specs.declared.standing.Standing.{Standing}
 use Rattle.book_recovery.specs.Kept.{messages_in}
 use Rattle.product_file.specs.Products.{ProductLists}
 use Rattle.order_kinds.specs.State.{State}
-use Rattle.book_print.specs.Publishers.{LineForm}
+use Rattle.book_print.specs.Publishers.{LineForm, PublisherMeanings}
 use Rattle.gx_base.specs.declared.event.Event.{Event}
 use Rattle.order_kinds.specs.Step.{events_from}
-use Rattle.globex_run.specs.Outside.{SourceAt, Streams, station_at}
-use Rattle.globex_run.specs.Inner.Recording.{RestsAtEnd, AllKept, Serves, Served}
-use Rattle.globex_run.specs.Inner.Serving.{TakesMore, AnswersFrame, IsEmptyFramer, CausedBy, EndsServing, ServesInput, ending_at}
-use Rattle.globex_run.specs.declared.serve_frame.Unserved.{Unserved}
-use Rattle.globex_run.specs.declared.serve_frame.Unserved.TheVariants as unserved
+use Rattle.globex_run.specs.Outside.{SourceAt, Streams, AreWithinReads, station_at}
+use Rattle.globex_run.specs.Journals.{records_length}
+use Rattle.globex_run.specs.Inner.Recording.{Serves, Served}
+use Rattle.globex_run.specs.Inner.Serving.{TakesMore, record_of, HasNoRoomBehind, GivesFrames, AnswersFrames, IsEmptyFramer, CausedBy, HasNoRoomAt, EndsServing, ServesInput, ending_by}
+use Rattle.globex_run.specs.declared.give_frames.Behind.{Behind}
+use Rattle.globex_run.specs.declared.serve_record.Unserved.{Unserved}
+use Rattle.globex_run.specs.declared.serve_record.Unserved.TheVariants as unserved
 use Rattle.globex_run.specs.declared.ending.Ending.{Ending}
-use Rattle.globex_run.specs.declared.ending.Ending.TheVariants.{Done, ReadFault, BadFrame, Truncated}
+use Rattle.globex_run.specs.declared.ending.Ending.TheVariants.{Done, ReadFault, BadFrame, Truncated, Full}
 use Rattle.globex_run.proofs.Lists.{and_left-then, and_left-none}
 use Rattle.globex_run.proofs.Folds.{messages_in-append, events_both}
 use Rattle.globex_run.proofs.Additions.{one_record}
-use Rattle.globex_run.proofs.FrameRecords.{frame_message}
+use Rattle.globex_run.proofs.Records.{record_bytes, one_at_most}
+use Rattle.globex_run.proofs.ReadCounts.{none_placed, some_placed, same_reads, one_read, fewer_records}
 use Rattle.globex_run.proofs.Joining.{serves_none, served_none, serves_then, served_then, kept_then}
 
--- Some frames were kept and served, each in a record of its own, and the framer holds what was read behind them. No fault has
--- come.
-pub record IsServing {I S : Type 0} (m : StationMeanings S) (line : LineForm) (product : ProductLists) (limit : ℕ) (before : Streams I S) (input : SourceAt I) (now : S) (gate end : ℕ) (state then : State) (framing : Framing) (Published : List Event → Type 0) : Type 0 where
+-- Some records were kept and served, and the framer holds what was read behind them. No fault has come, and there were as many
+-- reads as records and so many more.
+pub record IsServing {I S : Type 0} (m : StationMeanings S) (line : LineForm) (product : ProductLists) (limit : ℕ) (before : Streams I S) (more : ℕ) (input : SourceAt I) (now : S) (gate end : ℕ) (state then : State) (framing : Framing) (Published : List Event → Type 0) : Type 0 where
   pub served : List (List ℕ)
   pub took : before.input.left ≡ and_left (concat served ++ framing.rest) input.left
   pub offset : framing.offset ≡ length (concat served)
   pub serves : Serves m line product limit before.station.object now gate state served
   pub did : Served m line product limit before.station.object now gate end state then served
-  pub reads : input.faults ≡ before.input.faults
+  pub faults : input.faults ≡ before.input.faults
+  pub reads : AreWithinReads before.input input (length served + more)
   pub published : Published (events_from product state (messages_in served))
 
--- the limit of a journal stays
-pub same_limit : {S : Type 0} (m : StationMeanings S) (line : LineForm) (product : ProductLists) (limit within : ℕ) (old new : S) (journal after : Standing) (state then : State) (frame : List ℕ) (result : Result (Unit {0}) Unserved) → within ≡ limit → AnswersFrame m line product within old new journal after state then frame result
-    → AnswersFrame m line product limit old new journal after state then frame result
-same_limit m line product limit within old new journal after state then frame result is did = subst (λ (n : ℕ). AnswersFrame m line product n old new journal after state then frame result) is did
+-- no bytes are the front of a frame: here of the shortest
+pub nothing_unfinished : IsUnfinished []
+nothing_unfinished = record { more = 56 ∷ 61 ∷ 70 ∷ 73 ∷ 88 ∷ 46 ∷ 52 ∷ 46 ∷ 50 ∷ 1 ∷ 57 ∷ 61 ∷ 49 ∷ 1 ∷ 1 ∷ 49 ∷ 48 ∷ 61 ∷ 50 ∷ 48 ∷ 48 ∷ 1 ∷ []; some = omega arith; whole = refl }
+
+-- ---- turns
 
 module _ {I S : Type 0} (m : StationMeanings S) (line : LineForm) (product : ProductLists) (limit : ℕ) (before : Streams I S) (gate : ℕ) (state : State) where
-  abbrev Turn : SourceAt I → S → ℕ → State → Framing → (List Event → Type 0) → Type 0
-  Turn input now end then framing Published = IsServing m line product limit before input now gate end state then framing Published
+  abbrev Turn : ℕ → SourceAt I → S → ℕ → State → Framing → (List Event → Type 0) → Type 0
+  Turn more input now end then framing Published = IsServing m line product limit before more input now gate end state then framing Published
 
-  pub turn_first : (framing : Framing) (Published : List Event → Type 0) → Published [] → IsEmptyFramer framing → Turn before.input before.station.object gate state framing Published
+  pub turn_first : (framing : Framing) (Published : List Event → Type 0) → Published [] → IsEmptyFramer framing → Turn 0 before.input before.station.object gate state framing Published
   turn_first framing Published none empty = record {
     served = [];
     took = subst (λ (l : List ℕ). before.input.left ≡ and_left l before.input.left) (sym empty.rest) (and_left-none before.input.left);
     offset = empty.offset;
     serves = serves_none m line product limit before.station.object gate state;
     did = served_none m line product limit before.station.object gate state;
-    reads = refl;
+    faults = refl;
+    reads = inl (omega arith);
     published = none;
   }
 
-  -- more was read, behind an answer that left the framer as it was
-  pub turn_read : {F : Type 0} (input then : SourceAt I) (now : S) (end : ℕ) (s : State) (framing same next : Framing) (Published : List Event → Type 0) (result : Result ℕ F) → same ≡ framing → Turn input now end s framing Published → TakesMore input then same next result → then.faults ≡ input.faults → Turn then now end s next Published
-  turn_read input then now end s framing same next Published result is turn takes quiet =
-      let held : same.rest ≡ framing.rest = ap (λ (f : Framing). f.rest) is in
-      record {
-        served = turn.served;
-        took =
-            turn.took
-            ∙ ap (λ (l : Option (List ℕ)). and_left (concat turn.served ++ framing.rest) l) takes.left
-            ∙ and_left-then (concat turn.served ++ framing.rest) takes.taken then.left
-            ∙ ap (λ (l : List ℕ). and_left l then.left) (append_assoc (concat turn.served) framing.rest takes.taken ∙ ap (λ (l : List ℕ). concat turn.served ++ l) (ap (λ (l : List ℕ). l ++ takes.taken) (sym held) ∙ sym takes.rest));
-        offset = takes.offset ∙ ap (λ (f : Framing). f.offset) is ∙ turn.offset;
-        serves = turn.serves;
-        did = turn.did;
-        reads = quiet ∙ turn.reads;
-        published = turn.published;
-      }
+  -- more was read
+  pub turn_read : {F : Type 0} (input then : SourceAt I) (now : S) (end : ℕ) (s : State) (framing next : Framing) (Published : List Event → Type 0) (n : ℕ) → (n ≡ 0 → ⊥) → Turn 0 input now end s framing Published → TakesMore {F = F} input then framing next (Ok n) → Turn 1 then now end s next Published
+  turn_read {F = F} input then now end s framing next Published n some turn takes = record {
+    served = turn.served;
+    took =
+        turn.took
+        ∙ ap (λ (l : Option (List ℕ)). and_left (concat turn.served ++ framing.rest) l) takes.left
+        ∙ and_left-then (concat turn.served ++ framing.rest) takes.taken then.left
+        ∙ ap (λ (l : List ℕ). and_left l then.left) (append_assoc (concat turn.served) framing.rest takes.taken ∙ ap (λ (l : List ℕ). concat turn.served ++ l) (sym takes.rest));
+    offset = takes.offset ∙ turn.offset;
+    serves = turn.serves;
+    did = turn.did;
+    faults = takes.cause.ok ∙ turn.faults;
+    reads = fewer_records before.input then ((length turn.served + 0) + 1) (length turn.served + 1) (omega arith) (one_read before.input input then (length turn.served + 0) (takes.reads ∙ some_placed F n input.reads some) turn.reads);
+    published = turn.published;
+  }
 
-  module _ (input : SourceAt I) (now : S) (end : ℕ) (s : State) (framing : Framing) (Published : List Event → Type 0) (turn : Turn input now end s framing Published) where
-    -- nothing more was taken
-    module _ (then : SourceAt I) (left : input.left ≡ then.left) where
-      abbrev Ends : Ending → Type 0
-      Ends ending = ServesInput m line product limit before (record { input = then; station = station_at m now }) gate end state s Published ending
+  -- ---- no more was read
 
-      ended : (ending : Ending) → EndsServing m line product limit before (record { input = then; station = station_at m now }) gate end state s ending turn.served framing.rest → Ends ending
-      ended ending ends = record {
-        added = turn.served;
-        behind = framing.rest;
-        took = turn.took ∙ ap (λ (l : Option (List ℕ)). and_left (concat turn.served ++ framing.rest) l) left;
-        serves = turn.serves;
-        ends = ends;
-        published = λ done. turn.published;
-      }
+  module _ (input : SourceAt I) (now : S) (end : ℕ) (s : State) (framing : Framing) (Published : List Event → Type 0) (turn : Turn 0 input now end s framing Published) where
+    -- all that was served
+    ended : (then : SourceAt I) → input.left ≡ then.left → then.reads ≡ input.reads → (ending : Ending) → EndsServing m line product limit before (record { input = then; station = station_at m now }) gate end state s ending turn.served framing.rest
+        → ServesInput m line product limit before (record { input = then; station = station_at m now }) gate end state s Published ending
+    ended then left reads ending ends = record {
+      added = turn.served;
+      behind = framing.rest;
+      took = turn.took ∙ ap (λ (l : Option (List ℕ)). and_left (concat turn.served ++ framing.rest) l) left;
+      reads = same_reads before.input input then (length turn.served) reads (fewer_records before.input input (length turn.served + 0) (length turn.served) (omega arith) turn.reads);
+      serves = turn.serves;
+      ends = ends;
+      published = λ done. turn.published;
+    }
 
-    unread : {F : Type 0} (then : SourceAt I) (same next : Framing) (result : Result ℕ F) (takes : TakesMore input then same next result) → takes.taken ≡ [] → input.left ≡ then.left
-    unread then same next result takes none = takes.left ∙ ap (λ (l : List ℕ). and_left l then.left) none ∙ sym (and_left-none then.left)
+    unread : {F : Type 0} (then : SourceAt I) (next : Framing) (result : Result ℕ F) (takes : TakesMore input then framing next result) → takes.taken ≡ [] → input.left ≡ then.left
+    unread then next result takes none = takes.left ∙ ap (λ (l : List ℕ). and_left l then.left) none ∙ sym (and_left-none then.left)
 
-    none_taken : {F : Type 0} (then : SourceAt I) (same next : Framing) (n : ℕ) (takes : TakesMore {F = F} input then same next (Ok n)) → n ≡ 0 → takes.taken ≡ []
-    none_taken then same next n takes zero = nil_from_length takes.taken (omega (arith, takes.count, zero))
+    none_taken : {F : Type 0} (then : SourceAt I) (next : Framing) (n : ℕ) (takes : TakesMore {F = F} input then framing next (Ok n)) → n ≡ 0 → takes.taken ≡ []
+    none_taken then next n takes zero = nil_from_length takes.taken (omega (arith, takes.count, zero))
 
-    pub ends_read_fault : {F : Type 0} (then : SourceAt I) (same next : Framing) (fault : F) (at : ℕ) → TakesMore input then same next (Err fault) → IsUnfinished framing.rest → at ≡ framing.offset + length framing.rest
+    pub ends_read_fault : {F : Type 0} (then : SourceAt I) (next : Framing) (fault : F) (at : ℕ) → TakesMore input then framing next (Err fault) → IsUnfinished framing.rest → at ≡ framing.offset + length framing.rest
         → ServesInput m line product limit before (record { input = then; station = station_at m now }) gate end state s Published (ReadFault at)
-    ends_read_fault then same next fault at takes front is =
-        ended then (unread then same next (Err fault) takes takes.none) (ReadFault at) (turn.did, omega (arith, is, turn.offset, length-append (concat turn.served) framing.rest), front)
+    ends_read_fault then next fault at takes front is =
+        ended then (unread then next (Err fault) takes takes.none) takes.reads (ReadFault at) (turn.did, omega (arith, is, turn.offset, length-append (concat turn.served) framing.rest), front)
 
     -- the source is at its end
-    module _ {F : Type 0} (then : SourceAt I) (same next : Framing) (n : ℕ) (zero : n ≡ 0) (takes : TakesMore {F = F} input then same next (Ok n)) where
+    module _ {F : Type 0} (then : SourceAt I) (next : Framing) (n : ℕ) (zero : n ≡ 0) (takes : TakesMore {F = F} input then framing next (Ok n)) where
+      left_is : input.left ≡ then.left
+      left_is = unread then next (Ok n) takes (none_taken then next n takes zero)
+
+      reads_are : then.reads ≡ input.reads
+      reads_are = takes.reads ∙ none_placed F n input.reads zero
+
       at_end : IsAtEnd then.left
-      at_end = subst (λ (l : Option (List ℕ)). IsAtEnd l) (unread then same next (Ok n) takes (none_taken then same next n takes zero)) (takes.end zero)
+      at_end = subst (λ (l : Option (List ℕ)). IsAtEnd l) left_is (takes.end zero)
 
       pub ends_done : length framing.rest ≡ 0 → ServesInput m line product limit before (record { input = then; station = station_at m now }) gate end state s Published Done
-      ends_done empty = ended then (unread then same next (Ok n) takes (none_taken then same next n takes zero)) Done (turn.did, at_end, nil_from_length framing.rest empty)
+      ends_done empty = ended then left_is reads_are Done (turn.did, at_end, nil_from_length framing.rest empty)
 
       pub ends_truncated : (at : ℕ) → at ≡ framing.offset → (length framing.rest ≡ 0 → ⊥) → IsUnfinished framing.rest → ServesInput m line product limit before (record { input = then; station = station_at m now }) gate end state s Published (Truncated at)
       ends_truncated at is some front =
-          ended then (unread then same next (Ok n) takes (none_taken then same next n takes zero)) (Truncated at) (turn.did, at_end, is ∙ turn.offset, front, λ none. some (ap (λ (l : List ℕ). length l) none))
+          ended then left_is reads_are (Truncated at) (turn.did, at_end, is ∙ turn.offset, front, λ none. some (ap (λ (l : List ℕ). length l) none))
 
+    -- behind the frames stand bytes that are the front of none
     pub ends_broken : (at : ℕ) → at ≡ framing.offset → IsRefused framing.rest → ServesInput m line product limit before (record { input = input; station = station_at m now }) gate end state s Published (BadFrame at)
-    ends_broken at is broken = ended input refl (BadFrame at) (turn.did, is ∙ turn.offset, broken)
+    ends_broken at is broken = ended input refl refl (BadFrame at) (turn.did, is ∙ turn.offset, broken)
 
-    -- a frame was given
-    module _ (next : Framing) (start stop : ℕ) (given : GivesFrame framing next start stop) (frame : List ℕ) (lent : frame ≡ given_bytes next start stop) where
-      frame_is : frame ≡ given.frame
-      frame_is = lent ∙ bytes_given framing next start stop given
+    -- or a frame that has no room
+    pub ends_full : (at : ℕ) → at ≡ framing.offset → HasNoRoomAt limit end framing.rest → ServesInput m line product limit before (record { input = input; station = station_at m now }) gate end state s Published (Full at)
+    ends_full at is full = ended input refl refl (Full at) (turn.did, is ∙ turn.offset, full)
 
-      front : framing.rest ≡ frame ++ next.rest
-      front = given.front ∙ ap (λ (l : List ℕ). l ++ next.rest) (sym frame_is)
+  -- ---- frames were given
 
-      bytes : concat turn.served ++ framing.rest ≡ concat (turn.served ++ frame ∷ []) ++ next.rest
-      bytes = ap (λ (l : List ℕ). concat turn.served ++ l) front ∙ sym (append_assoc (concat turn.served) frame next.rest) ∙ ap (λ (l : List ℕ). l ++ next.rest) (sym (concat-push turn.served frame))
+  module _ (input : SourceAt I) (now : S) (end : ℕ) (s : State) (framing : Framing) (Published : List Event → Type 0) (turn : Turn 1 input now end s framing Published) (room : ℕ) (next : Framing) (stands : Behind) (gives : GivesFrames room framing next stands) where
+    abbrev frames : List (List ℕ)
+    frames = next.given
 
-      took_frame : before.input.left ≡ and_left (concat (turn.served ++ frame ∷ []) ++ next.rest) input.left
-      took_frame = turn.took ∙ ap (λ (l : List ℕ). and_left l input.left) bytes
+    -- the bytes read are those of the records, of the frames, and what stands behind
+    bytes : (payloads : List (List ℕ)) → concat payloads ≡ concat frames → concat turn.served ++ framing.rest ≡ concat (turn.served ++ payloads) ++ next.rest
+    bytes payloads are =
+        ap (λ (l : List ℕ). concat turn.served ++ l) gives.front
+        ∙ sym (append_assoc (concat turn.served) (concat frames) next.rest)
+        ∙ ap (λ (l : List ℕ). (concat turn.served ++ l) ++ next.rest) (sym are)
+        ∙ ap (λ (l : List ℕ). l ++ next.rest) (sym (concat-append turn.served payloads))
 
-      -- and served
-      pub turn_more : (then : S) (journal after : Standing) (s' : State) (t : Unit {0}) (Published' : List Event → Type 0) → ((events : List Event) → Published events → Published' (events ++ events_from product s (messages_in (frame ∷ [])))) → journal.gate ≡ end → AnswersFrame m line product limit now then journal after s s' frame (Ok t)
-          → Turn input then after.gate s' next Published'
-      turn_more then journal after s' t Published' publishes at did =
-          let serves = subst (λ (g : ℕ). Serves m line product limit now then g s (frame ∷ [])) at did.0 in
-          let served = subst (λ (g : ℕ). Served m line product limit now then g after.gate s s' (frame ∷ [])) at did.1 in
-          record {
-            served = turn.served ++ frame ∷ [];
-            took = took_frame;
-            offset = given.offset ∙ omega (arith, turn.offset, ap (λ (l : List ℕ). length l) (sym frame_is), ap (λ (l : List ℕ). length l) (concat-push turn.served frame), length-append (concat turn.served) frame);
-            serves = serves_then m line product limit before.station.object now then gate end after.gate state s s' turn.served (frame ∷ []) turn.serves turn.did serves;
-            did = served_then m line product limit before.station.object now then gate end after.gate state s s' turn.served (frame ∷ []) turn.serves turn.did served;
-            reads = turn.reads;
-            published = subst Published' (sym (events_both product state s turn.served (frame ∷ []) turn.did.is_state)) (publishes (events_from product state (messages_in turn.served)) turn.published);
-          }
+    took_frames : (payloads : List (List ℕ)) → concat payloads ≡ concat frames → before.input.left ≡ and_left (concat (turn.served ++ payloads) ++ next.rest) input.left
+    took_frames payloads are = turn.took ∙ ap (λ (l : List ℕ). and_left l input.left) (bytes payloads are)
 
-      -- the record is longer than the frame
-      pub gate_more : (then : S) (journal after : Standing) (s' : State) (t : Unit {0}) → AnswersFrame m line product limit now then journal after s s' frame (Ok t) → (after.gate ≡ journal.gate + 6 + length frame) × (framing.offset ≤ journal.gate → next.offset ≤ after.gate)
-      gate_more then journal after s' t did =
-          let grown : after.gate ≡ journal.gate + 6 + length frame = omega (arith, did.1.all_kept.grown, one_record frame) in
-          (grown, λ le. omega (arith, le, grown, given.offset, ap (λ (l : List ℕ). length l) frame_is))
+    reads_frames : (payloads : List (List ℕ)) → length payloads ≤ 1 → AreWithinReads before.input input (length (turn.served ++ payloads))
+    reads_frames payloads few = fewer_records before.input input (length turn.served + 1) (length (turn.served ++ payloads)) (omega (arith, few, length-append turn.served payloads)) turn.reads
 
-      -- or not, or not to its end
-      module _ (then : S) (journal after : Standing) (s' : State) (Published' : List Event → Type 0) (at : journal.gate ≡ end) where
-        abbrev Stops : Ending → Type 0
-        Stops ending = ServesInput m line product limit before (record { input = input; station = station_at m then }) gate after.gate state s' Published' ending
+    -- and served
+    pub turn_more : (then : S) (end' : ℕ) (s' : State) (t : Unit {0}) (Published' : List Event → Type 0) → ((events : List Event) → Published events → Published' (events ++ events_from product s (messages_in (record_of frames)))) → AnswersFrames m line product limit now then end end' s s' frames (Ok t) → Turn 0 input then end' s' next Published'
+    turn_more then end' s' t Published' publishes did = record {
+      served = turn.served ++ record_of frames;
+      took = took_frames (record_of frames) (record_bytes frames);
+      offset = gives.offset ∙ omega (arith, turn.offset, ap (λ (l : List ℕ). length l) (concat-append turn.served (record_of frames)), ap (λ (l : List ℕ). length l) (record_bytes frames), length-append (concat turn.served) (concat (record_of frames)));
+      serves = serves_then m line product limit before.station.object now then gate end end' state s s' turn.served (record_of frames) turn.serves turn.did did.0;
+      did = served_then m line product limit before.station.object now then gate end end' state s s' turn.served (record_of frames) turn.serves turn.did did.1;
+      faults = turn.faults;
+      reads = fewer_records before.input input (length (turn.served ++ record_of frames)) (length (turn.served ++ record_of frames) + 0) (omega arith) (reads_frames (record_of frames) (one_at_most frames));
+      published = subst Published' (sym (events_both product state s turn.served (record_of frames) turn.did.is_state)) (publishes (events_from product state (messages_in turn.served)) turn.published);
+    }
 
-        all_serves : Serves m line product limit now then journal.gate s (frame ∷ []) → Serves m line product limit before.station.object then gate state (turn.served ++ frame ∷ [])
-        all_serves serves =
-            serves_then m line product limit before.station.object now then gate end after.gate state s s' turn.served (frame ∷ []) turn.serves turn.did (subst (λ (g : ℕ). Serves m line product limit now then g s (frame ∷ [])) at serves)
+    -- or not, or not to its end
+    module _ (then : S) (end' : ℕ) (s' : State) (Published' : List Event → Type 0) where
+      abbrev Stops : Ending → Type 0
+      Stops ending = ServesInput m line product limit before (record { input = input; station = station_at m then }) gate end' state s' Published' ending
 
-        one_more : IsFrame given.frame → length (messages_in (turn.served ++ frame ∷ [])) ≡ length (messages_in turn.served) + 1
-        one_more is =
-            let one = frame_message frame (subst (λ (l : List ℕ). IsFrame l) (sym frame_is) is) in
-            omega (arith, ap (λ (l : List (List ℕ)). length l) (messages_in-append turn.served (frame ∷ [])), length-append (messages_in turn.served) (messages_in (frame ∷ [])), ap (λ (l : List (List ℕ)). length l) one)
+      abbrev one : List (List ℕ)
+      one = concat frames ∷ []
 
-        stops : (why : Unserved) → AnswersFrame m line product limit now then journal after s s' frame (Err why) → (place : ℕ) → place ≡ framing.offset → Stops (ending_at why place)
-        stops unserved.Full did place is = record {
-          added = turn.served;
-          behind = framing.rest;
-          took = turn.took;
-          serves = subst (λ (x : S). Serves m line product limit before.station.object x gate state turn.served) (sym did.0) turn.serves;
-          ends = (
-            subst (λ (x : S). Served m line product limit before.station.object x gate after.gate state s' turn.served) (sym did.0)
-                (subst (λ (g : ℕ). Served m line product limit before.station.object now gate g state s' turn.served) (sym (ap (λ (j : Standing). j.gate) did.1 ∙ at))
-                (subst (λ (x : State). Served m line product limit before.station.object now gate end state x turn.served) (sym did.2) turn.did)),
-            is ∙ turn.offset,
-            record { frame = frame; more = next.rest; is_frame = subst (λ (l : List ℕ). IsFrame l) (sym frame_is) given.is_frame; front = front; too_long = omega (arith, did.3, ap (λ (j : Standing). j.gate) did.1) },
-          );
-          published = λ done. absurd done;
-        }
-        stops unserved.StoreFault did place is = record {
-          added = turn.served ++ frame ∷ [];
-          behind = next.rest;
-          took = took_frame;
-          serves = all_serves did.0;
-          ends = record {
-            served = turn.served;
-            last = frame;
-            are = refl;
-            sent = did.2.sent ∙ turn.did.sent;
-            count = ap (λ (x : State). x.desk.messages) did.1 ∙ turn.did.count;
-            keeps = λ text kept most here.
-                let held = did.2.keeps text (kept ++ turn.served) (max most limit) (subst (λ (g : ℕ). RestsAtEnd m text limit (kept ++ turn.served) g (max most limit) now) (sym at) (turn.did.all_kept.at_end text kept most here)) in
-                record {
-                  image = held.image;
-                  read = held.read;
-                  has = subst (λ (l : List (List ℕ)). IsJournal text limit (kept ++ turn.served) held.image ⊎ IsJournal text limit l held.image) (append_assoc kept turn.served (frame ∷ [])) held.has;
-                };
-          };
-          published = λ done. absurd done;
-        }
-        stops unserved.SendFault did place is = record {
-          added = turn.served ++ frame ∷ [];
-          behind = next.rest;
-          took = took_frame;
-          serves = all_serves did.0;
-          ends = record {
-            all_kept = kept_then m limit before.station.object now then gate end after.gate turn.served (frame ∷ []) turn.did.all_kept (subst (λ (g : ℕ). AllKept m limit now then g after.gate (frame ∷ [])) at did.1.all_kept);
-            count = omega (arith, did.1.count, turn.did.count, one_more given.is_frame);
-          };
-          published = λ done. absurd done;
-        }
+      one_bytes : concat one ≡ concat frames
+      one_bytes = append-nil (concat frames)
 
-        -- which count of faults rose
-        caused : (why : Unserved) → AnswersFrame m line product limit now then journal after s s' frame (Err why) → (place : ℕ) → CausedBy (ending_at why place) (record { input = before.input; station = station_at m before.station.object }) (record { input = input; station = station_at m then })
-        caused unserved.Full did place =
-            (turn.reads, ap m.store_faults did.0 ∙ turn.did.store_faults, ap m.send_faults did.0 ∙ turn.did.send_faults)
-        caused unserved.StoreFault did place =
-            (turn.reads, subst (λ (n : ℕ). Rose n (m.store_faults then)) turn.did.store_faults did.2.rose, did.2.send_faults ∙ turn.did.send_faults)
-        caused unserved.SendFault did place =
-            (turn.reads, did.1.store_faults ∙ turn.did.store_faults, subst (λ (n : ℕ). Rose n (m.send_faults then)) turn.did.send_faults did.1.rose)
+      stops : (why : Unserved) → AnswersFrames m line product limit now then end end' s s' frames (Err why) → Stops (ending_by why)
+      stops unserved.StoreFault did = record {
+        added = turn.served ++ one;
+        behind = next.rest;
+        took = took_frames one one_bytes;
+        reads = reads_frames one (omega arith);
+        serves = serves_then m line product limit before.station.object now then gate end end' state s s' turn.served one turn.serves turn.did did.0;
+        ends = record {
+          served = turn.served;
+          last = concat frames;
+          are = refl;
+          sent = did.2.sent ∙ turn.did.sent;
+          count = ap (λ (x : State). x.desk.messages) did.1 ∙ turn.did.count;
+          keeps = λ text kept most here.
+              let held = did.2.keeps text (kept ++ turn.served) (max most limit) (turn.did.all_kept.at_end text kept most here) in
+              record {
+                image = held.image;
+                read = held.read;
+                has = subst (λ (l : List (List ℕ)). IsJournal text limit (kept ++ turn.served) held.image ⊎ IsJournal text limit l held.image) (append_assoc kept turn.served one) held.has;
+              };
+        };
+        published = λ done. absurd done;
+      }
+      stops unserved.SendFault did = record {
+        added = turn.served ++ one;
+        behind = next.rest;
+        took = took_frames one one_bytes;
+        reads = reads_frames one (omega arith);
+        serves = serves_then m line product limit before.station.object now then gate end end' state s s' turn.served one turn.serves turn.did did.0;
+        ends = record {
+          all_kept = kept_then m limit before.station.object now then gate end end' turn.served one turn.did.all_kept did.1.all_kept;
+          count = omega (arith, did.1.count, turn.did.count, ap (λ (l : List (List ℕ)). length l) (messages_in-append turn.served one), length-append (messages_in turn.served) (messages_in one));
+        };
+        published = λ done. absurd done;
+      }
 
-        pub ends_stopped : (why : Unserved) → AnswersFrame m line product limit now then journal after s s' frame (Err why) → (place : ℕ) → place ≡ framing.offset → (ending : Ending) → ending ≡ ending_at why place → Stops ending
-        ends_stopped why did place is ending ends = subst (λ (e : Ending). Stops e) (sym ends) (stops why did place is)
+      -- which count of faults rose
+      caused : (why : Unserved) → AnswersFrames m line product limit now then end end' s s' frames (Err why) → CausedBy (ending_by why) (record { input = before.input; station = station_at m before.station.object }) (record { input = input; station = station_at m then })
+      caused unserved.StoreFault did =
+          (turn.faults, subst (λ (n : ℕ). Rose n (m.store_faults then)) turn.did.store_faults did.2.rose, did.2.send_faults ∙ turn.did.send_faults)
+      caused unserved.SendFault did =
+          (turn.faults, did.1.store_faults ∙ turn.did.store_faults, subst (λ (n : ℕ). Rose n (m.send_faults then)) turn.did.send_faults did.1.rose)
 
-        pub cause_stopped : (why : Unserved) → AnswersFrame m line product limit now then journal after s s' frame (Err why) → (place : ℕ) → (ending : Ending) → ending ≡ ending_at why place → CausedBy ending (record { input = before.input; station = station_at m before.station.object }) (record { input = input; station = station_at m then })
-        cause_stopped why did place ending ends = subst (λ (e : Ending). CausedBy e (record { input = before.input; station = station_at m before.station.object }) (record { input = input; station = station_at m then })) (sym ends) (caused why did place)
+      pub ends_stopped : (why : Unserved) → AnswersFrames m line product limit now then end end' s s' frames (Err why) → (ending : Ending) → ending ≡ ending_by why → Stops ending
+      ends_stopped why did ending ends = subst (λ (e : Ending). Stops e) (sym ends) (stops why did)
+
+      pub cause_stopped : (why : Unserved) → AnswersFrames m line product limit now then end end' s s' frames (Err why) → (ending : Ending) → ending ≡ ending_by why → CausedBy ending (record { input = before.input; station = station_at m before.station.object }) (record { input = input; station = station_at m then })
+      cause_stopped why did ending ends = subst (λ (e : Ending). CausedBy e (record { input = before.input; station = station_at m before.station.object }) (record { input = input; station = station_at m then })) (sym ends) (caused why did)
+
+-- ---- the journal's end
+
+-- behind the record of some frames
+pub gate_of : (frames : List (List ℕ)) → ((length (concat frames) ≡ 0) × (records_length (record_of frames) ≡ 0)) ⊎ (records_length (record_of frames) ≡ length (concat frames) + 6)
+gate_of [] = inl (refl, refl)
+gate_of (f ∷ frames) = inr (one_record (concat (f ∷ frames)))
+
+-- the next frame has no room behind it
+pub no_room : (limit gate end : ℕ) (frames : List (List ℕ)) (rest : List ℕ) → end ≡ gate + records_length (record_of frames) → HasNoRoomBehind (limit - (gate + 7)) frames rest → HasNoRoomAt limit end rest
+no_room limit gate end frames rest end_is behind = record {
+  frame = behind.frame;
+  more = behind.more;
+  is_frame = behind.is_frame;
+  front = behind.front;
+  too_long = omega (arith, end_is, behind.too_long);
+}
+
+-- what was served has no more bytes than the journal
+pub offset_behind : (gate end : ℕ) (frames : List (List ℕ)) (at next : ℕ) → end ≡ gate + records_length (record_of frames) → next ≡ at + length (concat frames) → at ≤ gate → next ≤ end
+offset_behind gate end frames at next end_is next_is few = ⊎_elim (λ none. omega (arith, end_is, next_is, few, none.0)) (λ long. omega (arith, end_is, next_is, few, long)) (gate_of frames)
+
+-- each turn lengthens the journal, or what the framer holds
+pub turn_falls : (limit gate end : ℕ) (frames : List (List ℕ)) (held taken rest behind : List ℕ) → end ≡ gate + records_length (record_of frames) → end < limit → length held < 4096 → (length taken ≡ 0 → ⊥) → rest ≡ held ++ taken → rest ≡ concat frames ++ behind
+    → (limit - end) * 8193 + (8192 - length behind) < (limit - gate) * 8193 + (8192 - length held)
+turn_falls limit gate end frames held taken rest behind end_is below short some read front =
+    let all : length (concat frames) + length behind ≡ length held + length taken = omega (arith, ap (λ (l : List ℕ). length l) (sym front ∙ read), length-append (concat frames) behind, length-append held taken) in
+    ⊎_elim (λ none. omega (arith, end_is, below, short, some, all, none.0, none.1)) (λ long. omega (arith, end_is, below, all, long)) (gate_of frames)
+
+-- the limit of a journal stays
+pub same_limit : {S : Type 0} (m : StationMeanings S) (line : LineForm) (product : ProductLists) (limit within : ℕ) (old new : S) (gate end : ℕ) (state s : State) (frames : List (List ℕ)) (result : Result (Unit {0}) Unserved) → within ≡ limit → AnswersFrames m line product within old new gate end state s frames result
+    → AnswersFrames m line product limit old new gate end state s frames result
+same_limit m line product limit within old new gate end state s frames result is did = subst (λ (n : ℕ). AnswersFrames m line product n old new gate end state s frames result) is did
+
+-- where some records are published, and then another
+pub published_then : {P : Type 0} (p : PublisherMeanings P) (first mid last : P) (events more : List Event) → mid ≡ p.after first events → last ≡ p.after mid more → last ≡ p.after first (events ++ more)
+published_then {P = P} p first mid last events more here did = did ∙ ap (λ (x : P). p.after x more) here ∙ sym (p.after_then first events more)

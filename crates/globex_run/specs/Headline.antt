@@ -1,5 +1,5 @@
 -- The headline: what a run sends and keeps, and what a crash leaves at every moment of it.
-use Rattle.std.specs.Prelude.{◌≡◌, ◌≢◌, ◌⊎◌, ℕ, ◌+◌, ◌<◌, ◌≤◌, max, List, [], ◌∷◌, ◌++◌, length, take, drop, Option, Some, Ok}
+use Rattle.std.specs.Prelude.{◌≡◌, ◌≢◌, ◌⊎◌, ℕ, ◌+◌, ◌-◌, ◌<◌, ◌≤◌, max, List, [], ◌∷◌, ◌++◌, length, take, drop, Option, Some, Ok}
 use Rattle.gx_base.specs.KnownBytes.{IsPrefix, IsKnownPrefix}
 use Rattle.gx_station.specs.Stations.{StationMeanings, sent_and}
 use Rattle.gx_station.specs.Moments.{AddsOnly}
@@ -9,9 +9,10 @@ use Rattle.fix_frame.specs.Stream.{messages_of, rest_of, IsBroken, IsCut}
 use Rattle.product_file.specs.Products.{ProductLists}
 use Rattle.product_file.specs.ProductTexts.{product_of}
 use Rattle.match_journal.specs.Journal.{IsJournal}
+use Rattle.match_journal.specs.Classes.{Keeps}
 use Rattle.book_recovery.specs.Kept.{KeepsMessages}
 use Rattle.order_kinds.specs.Step.{reports_of}
-use Rattle.globex_run.specs.Outside.{SourceAt, Outside, NoFault}
+use Rattle.globex_run.specs.Outside.{SourceAt, Outside, NoFault, AreWithinReads}
 use Rattle.globex_run.specs.Journals.{records_length, end_of_journal}
 use Rattle.globex_run.specs.RunResult.{first_messages, AreAll, end_of_messages, bytes_at}
 use Rattle.globex_run.specs.declared.outcome.Outcome.{Outcome}
@@ -152,6 +153,17 @@ module _ {P I S : Type 0} (m : StationMeanings S) (before after : Outside P I S)
 
   abbrev pub KeepsEveryReported : Type 0
   KeepsEveryReported = KeepsEverySent m before after outcome given messages_read reports_behind
+
+-- ---- one record for each read
+
+-- The image that a read gives keeps, beyond the records of the image of entry, at most as many as reads of the input have placed
+-- bytes in this call; or the count of reads stands at its last value.
+pub record KeepsARecordPerRead {P I S : Type 0} (m : StationMeanings S) (before after : Outside P I S) (outcome : Outcome) (given : Premises m before after outcome.status) : Type 0 where
+  pub image : List ℕ
+  pub image_known : after.streams.station.image ≡ Some image
+  pub payloads : List (List ℕ)
+  pub keeps : Keeps given.text given.product.journal_limit payloads image
+  pub few : AreWithinReads before.streams.input after.streams.input (length payloads - length given.startable.payloads)
 
 -- ---- the next message has no room
 

@@ -1,4 +1,4 @@
--- What the private functions promise each other: the reads, the opening, one frame, what holds between two messages. A reader
+-- What the private functions promise each other: the reads, the opening, one record, what holds between two records. A reader
 -- need not believe any of it: `globex` speaks only of the files beside this one.
 pub mod ProductReading
 pub mod Statuses

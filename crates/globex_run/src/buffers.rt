@@ -5,8 +5,7 @@ ghost use Rattle.order_kinds.specs.State.{empty_state};
 use book_recovery::Scratch;
 use book_side::LinkedBook;
 use exec_report::ReportBuffer;
-use fix_frame::Framer;
-use gx_station::LEAST_READ;
+use fix_frame::{Framer, ROOM};
 use order_kinds::Core;
 use product_file::Product;
 use std::alloc::{AllocError, Global};
@@ -41,7 +40,7 @@ impl Buffers {
             core: new_core(alloc, product)?,
             scratch: Scratch::new(alloc)?,
             framer: Framer::new(alloc)?,
-            chunk: vec![in alloc; 0; LEAST_READ]?,
+            chunk: vec![in alloc; 0; ROOM]?,
             reports: ReportBuffer::new(alloc)?,
         })
     }

@@ -5,13 +5,14 @@ mod buffers;
 mod drill;
 mod ending;
 mod execute;
+mod give_frames;
 mod open;
 mod outcome;
 mod printing;
 mod product_text;
 mod run;
 mod serve;
-mod serve_frame;
+mod serve_record;
 mod session;
 
 pub use outcome::Outcome;

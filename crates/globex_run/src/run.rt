@@ -12,7 +12,7 @@ ghost use Rattle.globex_run.specs.Outside.{source_at, outside_at, IsQuiet};
 ghost use Rattle.globex_run.specs.Outcomes.{is_outcome};
 ghost use Rattle.globex_run.specs.ProductTexts.{TakesAtMost};
 ghost use Rattle.globex_run.specs.RunResult.{CommandResult, first_messages};
-ghost use Rattle.globex_run.specs.Headline.{Premises, InputPremises, SendsExactlyTheReports, EndsOtherwise, RunLeavesCrashPrefixes, RunBeforeTheFirstSync, KeepsEveryReported, HasNoRoom, CanBeServed, IsServed};
+ghost use Rattle.globex_run.specs.Headline.{Premises, InputPremises, SendsExactlyTheReports, EndsOtherwise, RunLeavesCrashPrefixes, RunBeforeTheFirstSync, KeepsEveryReported, KeepsARecordPerRead, HasNoRoom, CanBeServed, IsServed};
 ghost use Rattle.globex_run.specs.Drills.{made_bytes, KeepsAndSumsUp, DrillEndsOtherwise, DrillLeavesCrashPrefixes, DrillBeforeTheFirstSync, CanBeDrilled};
 ghost use Rattle.globex_run.specs.Prints.{PrintPremises, PrintsAs, CanBePrinted};
 ghost use Rattle.globex_run.specs.Inner.Statuses.{outcome_without, outcome_of_words};
@@ -49,14 +49,14 @@ fn outcome_without(reason: NoProduct) -> Outcome
 
 /// Executes the command of the words: `run`, `drill`, or one of those that only print: `replay`, `book`, `fills`, `ledger`, `steps`.
 ///
-/// `run` takes the product, opens its journal and recovers the state of the messages kept there, and serves the input: each message
-/// is kept in the journal before it is applied, and its reports are sent before the next one is looked at. However the input is
-/// cut into reads, what is sent are exactly the reports of the first messages of the bytes taken, behind those that the journal
-/// kept, of as many as `messages` says: all of these, or at a send fault a part from their front. And at every moment, inside a
-/// write or a send too, a crash leaves a journal that keeps the earlier messages and then a prefix of those read, with every message
-/// of whose reports a byte was sent. `drill` serves messages that are made by rule in the same way, but that it reports none of them
-/// and sends one line that sums them up, once all are kept. The others send what they print, and write nothing. `Outcome` lists the
-/// statuses.
+/// `run` takes the product, opens its journal and recovers the state of the messages kept there, and serves the input: all whole
+/// messages at hand are kept in one record of the journal, then applied, and then their reports are sent, before more is read.
+/// However the input is cut into reads, what is sent are exactly the reports of the first messages of the bytes taken, behind
+/// those that the journal kept, of as many as `messages` says: all of these, or at a send fault a part from their front. And at
+/// every moment, inside a write or a send too, a crash leaves a journal that keeps the earlier messages and then a prefix of
+/// those read, with every message of whose reports a byte was sent. `drill` serves messages that are made by rule in the same
+/// way, but that it reports none of them and sends one line that sums them up, once all are kept. The others send what they
+/// print, and write nothing. `Outcome` lists the statuses.
 ///
 /// The words are tried first: 2 comes exactly where they are no command. The product is tried next: 3 comes exactly where its text
 /// breaks a rule. Memory is taken only before the first call on the station and the first read of the input; want of it is status 1.
@@ -81,6 +81,9 @@ pub fn globex<P: Source, I: Source, S: Station>(
     ensures at_every_moment { let before = outside_at P.meanings I.meanings S.meanings product.old input.old station.old in let after = outside_at P.meanings I.meanings S.meanings product.new input.new station.new in AsksFor words.now command.Run → (given : Premises S.meanings before after result.status) → (read : InputPremises before.streams.input after.streams.input) → RunLeavesCrashPrefixes S.meanings before after result given read }
     ensures before_the_first_sync { let before = outside_at P.meanings I.meanings S.meanings product.old input.old station.old in let after = outside_at P.meanings I.meanings S.meanings product.new input.new station.new in AsksFor words.now command.Run → (given : Premises S.meanings before after result.status) → (read : InputPremises before.streams.input after.streams.input) → RunBeforeTheFirstSync S.meanings before after result given read }
     ensures with_every_message { let before = outside_at P.meanings I.meanings S.meanings product.old input.old station.old in let after = outside_at P.meanings I.meanings S.meanings product.new input.new station.new in AsksFor words.now command.Run → (given : Premises S.meanings before after result.status) → (read : InputPremises before.streams.input after.streams.input) → KeepsEveryReported S.meanings before after result given read }
+
+    // All whole frames at hand share one record.
+    ensures record_per_read { let before = outside_at P.meanings I.meanings S.meanings product.old input.old station.old in let after = outside_at P.meanings I.meanings S.meanings product.new input.new station.new in AsksFor words.now command.Run → (given : Premises S.meanings before after result.status) → KeepsARecordPerRead S.meanings before after result given }
 
     // The quantities in the reports of all messages that are kept, the earlier ones and those of this call, add up.
     ensures balanced { let before = outside_at P.meanings I.meanings S.meanings product.old input.old station.old in let after = outside_at P.meanings I.meanings S.meanings product.new input.new station.new in AsksFor words.now command.Run → (given : Premises S.meanings before after result.status) → (read : InputPremises before.streams.input after.streams.input) → IsBalanced given.product (given.kept ++ first_messages result.messages read.taken) }

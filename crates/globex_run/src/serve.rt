@@ -1,5 +1,7 @@
-//! Serving the input: frames in, reports out, one message after the other.
+//! Serving the input: frames in, reports out, one record for each read.
 ghost use Rattle.std.specs.Prelude.{◌≡◌, ◌+◌, ◌*◌, ◌^◌, ◌<◌, ◌≤◌, ◌≢◌, [], true, IsTrue, vec_len, length};
+ghost use Rattle.fix_frame.specs.declared.framer.TheConstants.{ROOM};
+ghost use Rattle.fix_frame.specs.declared.place.TheConstants.{FRONT_LIMIT};
 ghost use Rattle.order_kinds.specs.State.{state_numbered};
 ghost use Rattle.order_kinds.specs.Cores.{FitsProduct, AreNumbered};
 ghost use Rattle.book_recovery.specs.declared.recovery.TheConstants.{SHORTEST_FRAME};
@@ -7,36 +9,43 @@ ghost use Rattle.globex_run.specs.Outside.{source_at, streams_at};
 ghost use Rattle.globex_run.specs.Inner.Serving.{TakesMore, CausedBy, IsDone, ServesInput, IsEmptyFramer};
 
 use crate::ending::Ending;
-use crate::serve_frame::serve_frame;
+use crate::give_frames::{Behind, give_frames};
+use crate::serve_record::serve_record;
 use book_print::Publisher;
 use exec_report::ReportBuffer;
-use fix_frame::{FRONT_LIMIT, Framer, Next};
+use fix_frame::{FRONT_LIMIT, Framer, ROOM};
 use gx_station::{Failed, LEAST_READ, Source, Station};
 use match_journal::Journal;
 use order_kinds::Core;
 use plain_book::Book;
 use product_file::Product;
 
-/// Reads once, and feeds what was read.
+/// Reads once, as much as the framer has room for, and feeds what was read.
 fn take_more<I: Source>(
     framer: &mut Framer,
     chunk: &mut Vec<u8>,
     input: &mut I,
 ) -> Result<usize, Failed>
-    requires chunk { vec_len chunk.old ≡ LEAST_READ }
+    requires chunk { vec_len chunk.old ≡ ROOM }
     requires room { length framer.old.rest < FRONT_LIMIT }
     requires offset { framer.old.offset < 2 ^ 62 }
     ensures takes { TakesMore (source_at I.meanings input.old) (source_at I.meanings input.new) framer.old framer.new result }
-    ensures chunk { vec_len chunk.new ≡ LEAST_READ }
+    ensures chunk { vec_len chunk.new ≡ ROOM }
 {
-    let n = input.read(chunk.as_mut_slice())?;
-    let _ = framer.feed(&chunk.as_slice()[..n]);
-    Ok(n)
+    let room = ROOM - framer.rest();
+    match input.read(&mut chunk.as_mut_slice()[0..room]) {
+        Ok(n) => {
+            let _ = framer.feed(&chunk.as_slice()[..n]);
+            Ok(n)
+        }
+        Err(fault) => Err(fault),
+    }
 }
 
-/// Serves the input to its end, or as far as it can be served: each message is kept in a record of its own, applied, and its
-/// events are published, before the next one. It ends since each frame lengthens the journal towards its limit, and each read that
-/// does not end the input takes at least one byte into a bounded buffer.
+/// Serves the input to its end, or as far as it can be served. Each turn reads once; all whole frames at hand are then kept in
+/// one record, cut where the journal's limit cuts it; their messages are applied, and then their events are published. It ends
+/// since each record lengthens the journal towards its limit, and each read that does not end the input takes at least one
+/// byte into a bounded buffer.
 pub fn serve<P: Publisher, B: Book, I: Source, S: Station>(
     publisher: &mut P,
     product: &Product,
@@ -56,7 +65,7 @@ pub fn serve<P: Publisher, B: Book, I: Source, S: Station>(
     requires fits { FitsProduct product.now core.old }
     requires numbered { AreNumbered core.old }
     requires framer { IsEmptyFramer framer.old }
-    requires chunk { vec_len chunk.old ≡ LEAST_READ }
+    requires chunk { vec_len chunk.old ≡ ROOM }
     requires buffer { buffer.old ≡ [] }
     ensures silent { IsTrue P.meanings.is_silent → result ≢ Ending.SendFault }
     ensures empty { IsDone result → buffer.new ≡ [] }
@@ -67,22 +76,22 @@ pub fn serve<P: Publisher, B: Book, I: Source, S: Station>(
     'turns: loop {
         let at = framer.offset();
         let held = framer.rest();
-        match framer.next() {
-            Next::Frame(start, end) => {
-                let frame = framer.frame(start, end);
-                if let Err(reason) = serve_frame(
-                    publisher, product, core, journal, buffer, station, frame,
-                ) {
-                    return reason.ending(at);
-                }
-            }
-            Next::More => match take_more(framer, chunk, input) {
-                Ok(0) if held == 0 => return Ending::Done,
-                Ok(0) => return Ending::Truncated(at),
-                Ok(_) => {}
-                Err(Failed) => return Ending::ReadFault(at + held as u64),
-            },
-            Next::Bad(at) => return Ending::BadFrame(at),
+        match take_more(framer, chunk, input) {
+            Ok(0) if held == 0 => return Ending::Done,
+            Ok(0) => return Ending::Truncated(at),
+            Ok(_) => {}
+            Err(Failed) => return Ending::ReadFault(at + held as u64),
+        }
+        let behind = give_frames(framer, journal.room());
+        if let Err(reason) = serve_record(
+            publisher, product, core, journal, framer, buffer, station,
+        ) {
+            return reason.ending();
+        }
+        match behind {
+            Behind::Front => {}
+            Behind::NoRoom => return Ending::Full(framer.offset()),
+            Behind::Broken => return Ending::BadFrame(framer.offset()),
         }
     }
 }

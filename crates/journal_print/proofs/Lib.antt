@@ -1,6 +1,5 @@
 -- What the proofs of this crate alone cite.
 mod Stations
-mod Publishing
 mod RecordSteps
 mod Printing
 mod LedgerTotals

@@ -1,12 +1,16 @@
 -- Publishing the messages of records, one after the other.
-use Rattle.std.proofs.Common.{◌≡◌, ℕ, ◌+◌, List, [], ◌∷◌, ◌++◌, length, Bool, true, false, Result, Ok, Err, refl, sym, subst, ◌∙◌, ap, arith, append_assoc, length-append}
-use Rattle.std.specs.List.{flat_map}
+use Rattle.std.proofs.Common.{◌≡◌, ℕ, ◌+◌, ◌*◌, ◌≤◌, List, [], ◌∷◌, ◌++◌, length, Bool, true, false, Result, Ok, Err, refl, sym, subst, ◌∙◌, ap, arith, append_assoc, length-append}
+use Rattle.std.specs.List.{flat_map, concat}
+use Rattle.std.proofs.lemmas.List.Elements.{All-same}
 use Rattle.std.proofs.lemmas.Grind.{flat_map-append}
 use Rattle.gx_base.specs.KnownBytes.{IsKnownPrefix, known_itself}
 use Rattle.gx_base.specs.declared.event.Event.{Event}
 use Rattle.gx_station.specs.Stations.{StationMeanings, sent_and}
 use Rattle.gx_station.specs.SendLaws.{sent_and_none, sent_and-append}
+use Rattle.fix_frame.specs.Grammar.{IsFrame}
 use Rattle.fix_frame.specs.Stream.{messages_of}
+use Rattle.fix_frame.specs.StreamLaws.{messages_of-are_frames}
+use Rattle.fix_frame.specs.FramingLaws.{frames_least}
 use Rattle.product_file.specs.Products.{ProductLists}
 use Rattle.match_journal.specs.Journal.{IsJournal, journal_front}
 use Rattle.match_journal.specs.declared.standing.Standing.{Standing}
@@ -75,34 +79,41 @@ module _ {S P : Type 0} (m : StationMeanings S) (p : PublisherMeanings P) (produ
         ∙ sym (sent_and-append (m.sent old) (lines_in p.text product (messages_in at.before)) line)
         ∙ ap (sent_and (m.sent old)) (sym (flat_map-append (p.text product.names) (events_of product (messages_in at.before)) new) ∙ ap (flat_map (p.text product.names)) (sym (all_events payload)))
 
-    module _ (next : ℕ) (payload : List ℕ) (more : IsOneMore text product.journal_limit image at.before next payload) (new : S) where
-      pub publishing_more : (behind : P) (after : State) → m.sent new ≡ sent_and (m.sent mid) (flat_map (p.text product.names) (events_from product (state_numbered state) (messages_of payload)))
-          → behind ≡ p.after then (events_from product (state_numbered state) (messages_of payload))
-          → state_numbered after ≡ state_after product (state_numbered state) (messages_of payload) → after.desk.messages ≡ state.desk.messages + length (messages_of payload)
-          → IsPublishing old new publisher behind after next
+    -- the messages of one record more were published
+    module _ (next : ℕ) (payload : List ℕ) (more : IsOneMore text product.journal_limit image at.before next payload) (new : S) (messages : List (List ℕ)) (are : messages ≡ messages_of payload) where
+      abbrev events : List (List ℕ) → List Event
+      events frames = events_from product (state_numbered state) frames
+
+      all_sent_of : sent_and (m.sent mid) (flat_map (p.text product.names) (events messages)) ≡ sent_and (m.sent old) (lines_in p.text product (messages_in (at.before ++ payload ∷ [])))
+      all_sent_of = ap (λ (frames : List (List ℕ)). sent_and (m.sent mid) (flat_map (p.text product.names) (events frames))) are ∙ all_sent payload
+
+      pub publishing_more : (behind : P) (after : State) → m.sent new ≡ sent_and (m.sent mid) (flat_map (p.text product.names) (events messages)) → behind ≡ p.after then (events messages)
+          → state_numbered after ≡ state_after product (state_numbered state) messages → after.desk.messages ≡ state.desk.messages + length messages → IsPublishing old new publisher behind after next
       publishing_more behind after sent published is_state count = record {
         before = at.before ++ payload ∷ [];
         first = more.first;
         place = more.gate_is;
         published = record {
-          sent = sent ∙ all_sent payload;
+          sent = sent ∙ all_sent_of;
           publisher_is =
               published
-              ∙ ap (λ x. p.after x (events_from product (state_numbered state) (messages_of payload))) at.published.publisher_is
-              ∙ sym (p.after_then publisher (events_of product (messages_in at.before)) (events_from product (state_numbered state) (messages_of payload)))
+              ∙ ap (λ (frames : List (List ℕ)). p.after then (events frames)) are
+              ∙ ap (λ x. p.after x (events (messages_of payload))) at.published.publisher_is
+              ∙ sym (p.after_then publisher (events_of product (messages_in at.before)) (events (messages_of payload)))
               ∙ ap (p.after publisher) (sym (all_events payload));
           state_is =
               is_state
+              ∙ ap (state_after product (state_numbered state)) are
               ∙ ap (λ (e : State). state_after product e (messages_of payload)) at.published.state_is
               ∙ sym (state-append product (empty_state product) (messages_in at.before) (messages_of payload))
               ∙ ap (state_kept product) (sym (messages-push at.before payload));
-          count_is = omega (arith, count, at.published.count_is, ap length (messages-push at.before payload), length-append (messages_in at.before) (messages_of payload));
+          count_is = omega (arith, count, ap length are, at.published.count_is, ap length (messages-push at.before payload), length-append (messages_in at.before) (messages_of payload));
         };
       }
 
       -- a send has failed
-      pub publishing_part : IsKnownPrefix (m.sent new) (sent_and (m.sent mid) (flat_map (p.text product.names) (events_from product (state_numbered state) (messages_of payload)))) → SentPart m product text image old new p.text
-      publishing_part sent = record { payloads = at.before ++ payload ∷ []; first = more.first; sent = subst (λ o. IsKnownPrefix (m.sent new) o) (all_sent payload) sent }
+      pub publishing_part : IsKnownPrefix (m.sent new) (sent_and (m.sent mid) (flat_map (p.text product.names) (events messages))) → SentPart m product text image old new p.text
+      publishing_part sent = record { payloads = at.before ++ payload ∷ []; first = more.first; sent = subst (λ o. IsKnownPrefix (m.sent new) o) all_sent_of sent }
 
     -- nothing more was sent
     now_sent : m.sent mid ≡ sent_and (m.sent old) (lines_in p.text product (messages_in at.before))
@@ -123,6 +134,10 @@ module _ {S P : Type 0} (m : StationMeanings S) (p : PublisherMeanings P) (produ
     publishing_bad place bad = record { bad = bad.bad; sent = now_sent ∙ ap (λ (l : List (List ℕ)). sent_and (m.sent old) (lines_in p.text product (messages_in l))) (sym bad.behind) }
 
 -- ---- what was read
+
+-- the messages of a payload have bytes enough to be few
+pub messages_fit : (messages : List (List ℕ)) → messages ≡ messages_of (concat messages) → length messages * 22 ≤ length (concat messages)
+messages_fit messages are = frames_least messages (All-same IsFrame messages (messages_of (concat messages)) are (messages_of-are_frames (concat messages)))
 
 pub read_more : (text : List ℕ) (limit : ℕ) (image : List ℕ) (before : List (List ℕ)) (next : ℕ) (payload : List ℕ) (found : Bool) → found ≡ true → ReadsRecord text limit image before next payload (Ok found) → IsOneMore text limit image before next payload
 read_more text limit image before next payload found is told = subst (λ (b : Bool). ReadsRecord text limit image before next payload (Ok b)) is told

@@ -15,8 +15,8 @@ pub struct Entry {
     pub length: u32,
 }
 
-/// How many bytes stand before the payload: the gate, the kind and the length.
-pub(crate) const HEAD: usize = 6;
+/// How many bytes of a record stand before its payload: the gate, the kind and the length.
+pub const HEAD: usize = 6;
 
 /// How many bytes a record has besides its payload: its head, and the next gate.
 pub(crate) const AROUND: u64 = 7;

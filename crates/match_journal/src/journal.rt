@@ -1,10 +1,10 @@
 //! A journal, and its places.
-ghost use Rattle.std.specs.Prelude.{◌≡◌, ◌+◌, ◌<◌, ◌≤◌, length, false};
+ghost use Rattle.std.specs.Prelude.{◌≡◌, ◌+◌, ◌-◌, ◌<◌, ◌≤◌, length, false};
 ghost use Rattle.match_journal.specs.Standing.{IsStanding, moved, at_first};
 ghost use Rattle.match_journal.specs.declared.limits.TheConstants.{MOST_LIMIT};
 
 use crate::class::TEXT_AT;
-use crate::entry::{Entry, HEAD};
+use crate::entry::{AROUND, Entry, HEAD};
 use crate::limits::MOST_PAYLOAD;
 use crate::standing::Standing;
 use std::marker::Model;
@@ -86,5 +86,13 @@ impl Journal {
         ensures stands { IsStanding self.now }
     {
         self.standing.gate
+    }
+
+    /// How many bytes the payload of a record behind the last gate met may have, so that the record ends within the limit.
+    pub fn room(&self) -> u64
+        ensures { result ≡ self.now.limit - (self.now.gate + 7) }
+    {
+        let behind = self.standing.limit.saturating_sub(self.standing.gate);
+        behind.saturating_sub(AROUND)
     }
 }

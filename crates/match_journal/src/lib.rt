@@ -16,7 +16,7 @@ mod start;
 mod text;
 mod walk;
 
-pub use entry::{Entry, EntryKind};
+pub use entry::{Entry, EntryKind, HEAD};
 pub use faults::{AppendFault, StartFault, StoreFault, WalkFault};
 pub use journal::Journal;
 pub use laws::{

@@ -1,6 +1,6 @@
 -- The memory of a run, before the first message.
 use Rattle.std.specs.Prelude.{◌≡◌, [], vec_len}
-use Rattle.gx_station.specs.declared.source.TheConstants.{LEAST_READ}
+use Rattle.fix_frame.specs.declared.framer.TheConstants.{ROOM}
 use Rattle.product_file.specs.Products.{ProductLists}
 use Rattle.order_kinds.specs.State.{empty_state}
 use Rattle.globex_run.specs.Inner.Serving.{IsEmptyFramer}
@@ -9,5 +9,5 @@ use Rattle.globex_run.specs.declared.buffers.Buffers.{Buffers}
 pub record AreNew (product : ProductLists) (buffers : Buffers) : Type 0 where
   pub core : buffers.core ≡ empty_state product
   pub framer : IsEmptyFramer buffers.framer
-  pub chunk : vec_len buffers.chunk ≡ LEAST_READ
+  pub chunk : vec_len buffers.chunk ≡ ROOM
   pub reports : buffers.reports ≡ []

@@ -1,24 +1,27 @@
--- What the steps of serving do: reading, serving one frame, and all that was served so far.
-use Rattle.std.specs.Prelude.{◌≡◌, ◌≢◌, ◌⊎◌, ℕ, ◌+◌, ◌<◌, List, [], ◌∷◌, ◌++◌, length, Result, Ok, Err, IfOk, OnErr}
+-- What the steps of serving do: reading, giving the frames at hand, serving one record, and all that was served so far.
+use Rattle.std.specs.Prelude.{◌≡◌, ◌≢◌, ◌⊎◌, ℕ, ◌+◌, ◌<◌, ◌≤◌, List, [], ◌∷◌, ◌++◌, length, Result, Ok, Err, IfOk, OnErr}
 use Rattle.std.specs.List.{concat}
 use Rattle.gx_station.specs.Counts.{Rose, HasCause}
-use Rattle.gx_station.specs.Sources.{and_left, IsAtEnd}
+use Rattle.gx_station.specs.Sources.{and_left, reads_after, IsAtEnd}
 use Rattle.gx_station.specs.Stations.{StationMeanings, sent_and}
 use Rattle.fix_frame.specs.Framing.{Framing}
 use Rattle.fix_frame.specs.Grammar.{IsFrame, IsUnfinished, IsRefused}
+use Rattle.fix_frame.specs.declared.place.TheConstants.{FRONT_LIMIT}
 use Rattle.match_journal.specs.Journal.{IsJournal}
 use Rattle.match_journal.specs.Steps.{HoldsOne}
-use Rattle.match_journal.specs.declared.standing.Standing.{Standing}
 use Rattle.book_recovery.specs.Kept.{messages_in}
 use Rattle.product_file.specs.Products.{ProductLists}
 use Rattle.gx_base.specs.declared.event.Event.{Event}
 use Rattle.order_kinds.specs.State.{State}
 use Rattle.order_kinds.specs.Step.{events_from}
 use Rattle.book_print.specs.Publishers.{LineForm}
-use Rattle.globex_run.specs.Outside.{SourceAt, Streams}
+use Rattle.globex_run.specs.Outside.{SourceAt, Streams, AreWithinReads}
+use Rattle.globex_run.specs.Journals.{records_length}
 use Rattle.globex_run.specs.Inner.Recording.{lines_from, RestsAtEnd, Serves, AllKept, Served}
-use Rattle.globex_run.specs.declared.serve_frame.Unserved.{Unserved}
-use Rattle.globex_run.specs.declared.serve_frame.Unserved.TheVariants as unserved
+use Rattle.globex_run.specs.declared.give_frames.Behind.{Behind}
+use Rattle.globex_run.specs.declared.give_frames.Behind.TheVariants as behind
+use Rattle.globex_run.specs.declared.serve_record.Unserved.{Unserved}
+use Rattle.globex_run.specs.declared.serve_record.Unserved.TheVariants as unserved
 use Rattle.globex_run.specs.declared.ending.Ending.{Ending}
 use Rattle.globex_run.specs.declared.ending.Ending.TheVariants.{Done, ReadFault, StoreFault, SendFault, BadFrame, Truncated, NotAJournal, JournalBad, ProductDiffers, Full}
 
@@ -30,45 +33,70 @@ pub record TakesMore {I F : Type 0} (before after : SourceAt I) (held holds : Fr
   pub rest : holds.rest ≡ held.rest ++ taken
   pub offset : holds.offset ≡ held.offset
   pub left : before.left ≡ and_left taken after.left
+  pub given : IfOk result (λ n. holds.given ≡ [])
   pub end : IfOk result (λ n. n ≡ 0 → IsAtEnd before.left)
   pub cause : HasCause before.faults after.faults result
+  pub reads : after.reads ≡ reads_after before.reads result
 
--- ---- one frame
+-- ---- one record
+
+-- frames as the payloads of records: one record of them all, and none where there are none
+abbrev pub record_of : List (List ℕ) → List (List ℕ)
+record_of [] = []
+record_of (frame ∷ frames) = concat (frame ∷ frames) ∷ []
+
+-- a frame stands here, and in a record of its own behind that of the frames given it ends past this room
+pub record HasNoRoomBehind (room : ℕ) (given : List (List ℕ)) (rest : List ℕ) : Type 0 where
+  pub frame : List ℕ
+  pub more : List ℕ
+  pub is_frame : IsFrame frame
+  pub front : rest ≡ frame ++ more
+  pub too_long : room < records_length (record_of given) + length frame
+
+-- what stands behind the frames that were given
+abbrev pub StandsBehind : ℕ → Framing → Behind → Type 0
+StandsBehind room f behind.Front = IsUnfinished f.rest × (length f.rest < FRONT_LIMIT)
+StandsBehind room f behind.NoRoom = HasNoRoomBehind room f.given f.rest
+StandsBehind room f behind.Broken = IsRefused f.rest
+
+-- of the bytes held frames were given, which have this room together
+pub record GivesFrames (room : ℕ) (old new : Framing) (behind : Behind) : Type 0 where
+  pub front : old.rest ≡ concat new.given ++ new.rest
+  pub offset : new.offset ≡ old.offset + length (concat new.given)
+  pub fits : length (concat new.given) ≤ room
+  pub stands : StandsBehind room new behind
 
 module _ {S : Type 0} (m : StationMeanings S) (line : LineForm) (product : ProductLists) (limit : ℕ) where
   -- an append has failed: nothing was sent, and the image keeps the records before, or those and this one
-  pub record FailsToKeep (old new : S) (gate : ℕ) (frame : List ℕ) : Type 0 where
+  pub record FailsToKeep (old new : S) (gate : ℕ) (payload : List ℕ) : Type 0 where
     pub rose : Rose (m.store_faults old) (m.store_faults new)
     pub sent : m.sent new ≡ m.sent old
     pub send_faults : m.send_faults new ≡ m.send_faults old
-    pub keeps : (text : List ℕ) (kept : List (List ℕ)) (most : ℕ) → RestsAtEnd m text limit kept gate most old → HoldsOne m (λ image. IsJournal text limit kept image ⊎ IsJournal text limit (kept ++ frame ∷ []) image) new
+    pub keeps : (text : List ℕ) (kept : List (List ℕ)) (most : ℕ) → RestsAtEnd m text limit kept gate most old → HoldsOne m (λ image. IsJournal text limit kept image ⊎ IsJournal text limit (kept ++ payload ∷ []) image) new
 
   -- a send has failed behind the append: the record is kept, and a part of its reports was sent
-  pub record FailsToSend (old new : S) (gate end : ℕ) (state then : State) (frame : List ℕ) : Type 0 where
+  pub record FailsToSend (old new : S) (gate end : ℕ) (state then : State) (payload : List ℕ) : Type 0 where
     pub rose : Rose (m.send_faults old) (m.send_faults new)
     pub store_faults : m.store_faults new ≡ m.store_faults old
-    pub all_kept : AllKept m limit old new gate end (frame ∷ [])
-    pub count : then.desk.messages ≡ state.desk.messages + 1
+    pub all_kept : AllKept m limit old new gate end (payload ∷ [])
+    pub count : then.desk.messages ≡ state.desk.messages + length (messages_in (payload ∷ []))
 
-  -- Whatever happened to one frame, and how far it came: it was kept and served; or there was no room for it, and nothing was
-  -- done; or an append or a send has failed.
-  abbrev pub AnswersFrame : S → S → Standing → Standing → State → State → List ℕ → Result (Unit {0}) Unserved → Type 0
-  AnswersFrame old new journal after state then frame (Ok t) =
-      Serves m line product limit old new journal.gate state (frame ∷ []) × Served m line product limit old new journal.gate after.gate state then (frame ∷ [])
-  AnswersFrame old new journal after state then frame (Err unserved.Full) =
-      (new ≡ old) × (after ≡ journal) × (then ≡ state) × (limit < journal.gate + 7 + length frame)
-  AnswersFrame old new journal after state then frame (Err unserved.StoreFault) =
-      Serves m line product limit old new journal.gate state (frame ∷ []) × (then ≡ state) × FailsToKeep old new journal.gate frame
-  AnswersFrame old new journal after state then frame (Err unserved.SendFault) =
-      Serves m line product limit old new journal.gate state (frame ∷ []) × FailsToSend old new journal.gate after.gate state then frame
+  -- Whatever happened to some frames, and how far they came: they were kept in one record and served; or an append or a send
+  -- has failed.
+  abbrev pub AnswersFrames : S → S → ℕ → ℕ → State → State → List (List ℕ) → Result (Unit {0}) Unserved → Type 0
+  AnswersFrames old new gate end state then frames (Ok t) =
+      Serves m line product limit old new gate state (record_of frames) × Served m line product limit old new gate end state then (record_of frames)
+  AnswersFrames old new gate end state then frames (Err unserved.StoreFault) =
+      Serves m line product limit old new gate state (concat frames ∷ []) × (then ≡ state) × FailsToKeep old new gate (concat frames)
+  AnswersFrames old new gate end state then frames (Err unserved.SendFault) =
+      Serves m line product limit old new gate state (concat frames ∷ []) × FailsToSend old new gate end state then (concat frames)
 
--- how serving ends at a frame at this place
-abbrev pub ending_at : Unserved → ℕ → Ending
-ending_at unserved.Full place = Full place
-ending_at unserved.StoreFault place = StoreFault
-ending_at unserved.SendFault place = SendFault
+-- how serving ends that a record has stopped
+abbrev pub ending_by : Unserved → Ending
+ending_by unserved.StoreFault = StoreFault
+ending_by unserved.SendFault = SendFault
 
--- ---- all frames
+-- ---- all records
 
 -- Which count of faults rose: at a read fault that of the input, at a store fault and a send fault that of such calls, and
 -- else none.
@@ -130,12 +158,13 @@ module _ {I S : Type 0} (m : StationMeanings S) (line : LineForm) (product : Pro
   EndsServing (Full place) added behind =
       Served m line product limit before.station.object after.station.object gate end state then added × (place ≡ length (concat added)) × HasNoRoomAt limit end behind
 
-  -- The bytes read are those of the records added, and then some. Where all of the input was served, the events of their
-  -- messages were published.
+  -- The bytes read are those of the records added, and then some; there is at most one record for each read. Where all of the
+  -- input was served, the events of their messages were published.
   pub record ServesInput (Published : List Event → Type 0) (ending : Ending) : Type 0 where
     pub added : List (List ℕ)
     pub behind : List ℕ
     pub took : before.input.left ≡ and_left (concat added ++ behind) after.input.left
+    pub reads : AreWithinReads before.input after.input (length added)
     pub serves : Serves m line product limit before.station.object after.station.object gate state added
     pub ends : EndsServing ending added behind
     pub published : IsDone ending → Published (events_from product state (messages_in added))

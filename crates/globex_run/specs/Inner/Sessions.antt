@@ -19,7 +19,7 @@ use Rattle.gx_base.specs.declared.event.Event.{Event}
 use Rattle.order_kinds.specs.State.{State}
 use Rattle.order_kinds.specs.Step.{state_after, events_from}
 use Rattle.book_print.specs.Publishers.{LineForm}
-use Rattle.globex_run.specs.Outside.{Streams}
+use Rattle.globex_run.specs.Outside.{Streams, AreWithinReads}
 use Rattle.globex_run.specs.Outcomes.{outcome_of}
 use Rattle.globex_run.specs.Journals.{AnswersImage, records_length}
 use Rattle.globex_run.specs.RunResult.{ServingResult}
@@ -118,6 +118,7 @@ module _ {I S : Type 0} (m : StationMeanings S) (line : LineForm) (product : Pro
     pub added : List (List ℕ)
     pub behind : List ℕ
     pub are : taken ≡ concat added ++ behind
+    pub reads : AreWithinReads before.input after.input (length added)
     pub whole : AreWhole added
     pub part : IsKnownPrefix after.station.sent (sent_and before.station.sent (lines_from line product (state_kept product kept) (messages_in added)))
     pub adds : AddsOnly m before.station.object after.station.object (IsRecordCrash line product (state_kept product kept) text product.journal_limit payloads added (length image) before.station.sent)

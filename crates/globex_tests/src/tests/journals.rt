@@ -1,9 +1,10 @@
 //! Runs over journals: byte for byte, after a crash at each call, where one is full, bad, or of another product, and over a file.
 ghost use Rattle.std.specs.Prelude.{◌≤◌, length};
 
+use super::printed::execute;
 use super::{
     ACCEPTED, DUPLICATE, FILLED, ORDER, PRODUCT, ROOM, SECOND_ACCEPTED, SECOND_FILLED,
-    SECOND_ORDER, ended, frames_of, join, run, run_over, station_over,
+    SECOND_ORDER, ended, frames_of, join, push_frame, run, run_over, station_over,
 };
 use globex_run::{Outcome, globex};
 use gx_station::{FileStation, MemSource, MemStation};
@@ -38,28 +39,35 @@ pub(super) fn journal_of(alloc: Global, records: &[&[u8]]) -> Result<Vec<u8>, Al
     )
 }
 
-/// Runs over this image, the product of this text and this input.
+/// Runs over this image and this input, of which the first read gives so many bytes, and the next one all others.
 fn run_from(
     rt: &(impl Abort + AllocGlobal),
-    product: &str,
     image: &[u8],
     input: &[u8],
+    first: usize,
 ) -> Result<(Outcome, MemStation), Fail> {
     let alloc = rt.alloc();
-    let text = product.as_bytes().to_vec(alloc)?;
+    let text = PRODUCT.as_bytes().to_vec(alloc)?;
     let mut product = MemSource::new(alloc, text, Vec::new(alloc), Vec::new(alloc))?;
-    let mut source = MemSource::new(
-        alloc,
-        input.to_vec(alloc)?,
-        Vec::new(alloc),
-        Vec::new(alloc),
-    )?;
+    assert!(rt; first >= 1);
+    let pieces = vec![in alloc; first]?;
+    let mut source = MemSource::new(alloc, input.to_vec(alloc)?, pieces, Vec::new(alloc))?;
     assert!(rt; image.len() <= ROOM);
     let mut station = station_over(alloc, image, Vec::new(alloc))?;
     let outcome = run_over(alloc, "run", &mut product, &mut source, &mut station)?;
     Ok((outcome, station))
 }
 
+/// The reports of both orders.
+const REPORTS: [&str; 4] = [ACCEPTED, SECOND_ACCEPTED, FILLED, SECOND_FILLED];
+
+/// How many bytes the two orders have together.
+const BOTH: usize = 221;
+
+/// How many bytes the first of them has.
+const ONE: usize = 111;
+
+/// What one read gives shares a record. The reports are the same, and so is what `replay` prints.
 #[test]
 fn journals_byte_for_byte(rt: HostRuntime) -> Result<(), Fail> {
     let alloc = rt.alloc();
@@ -71,17 +79,26 @@ fn journals_byte_for_byte(rt: HostRuntime) -> Result<(), Fail> {
     let orders = join(alloc, &[ORDER, SECOND_ORDER])?;
     let first = join(alloc, &[ORDER])?;
     let second = join(alloc, &[SECOND_ORDER])?;
+    let reports = join(alloc, &REPORTS)?;
+    let twice = image_of(alloc, &[reports.as_slice(), reports.as_slice()])?;
+    let one_read = journal_of(alloc, &[b"\x01M\x00\x00\x00\xDD", orders.as_slice()])?;
     let records: [&[u8]; 4] = [
         b"\x01M\x00\x00\x00\x6F",
         first.as_slice(),
         b"\x01M\x00\x00\x00\x6E",
         second.as_slice(),
     ];
-    let both = journal_of(alloc, &records)?;
-    assert_eq!(rt; both.len(), 383);
-    let (got, station) = run_from(&rt, PRODUCT, b"", orders.as_slice())?;
-    assert_eq!(rt; got, ended(0, 0, 2));
-    assert_eq!(rt; station.image(), both.as_slice());
+    let two_reads = journal_of(alloc, &records)?;
+    for (size, image, length) in [(BOTH, one_read, 377), (ONE, two_reads, 383)] {
+        let (got, mut station) = run_from(&rt, b"", orders.as_slice(), size)?;
+        assert_eq!(rt; got, ended(0, 0, 2));
+        assert_eq!(rt; station.image(), image.as_slice());
+        assert_eq!(rt; image.len(), length);
+        assert_eq!(rt; station.output(), reports.as_slice());
+        let got = execute(alloc, "replay", &[], &mut station)?;
+        assert_eq!(rt; got, ended(0, 0, 2));
+        assert_eq!(rt; station.output(), twice.as_slice());
+    }
     Ok(())
 }
 
@@ -94,44 +111,47 @@ fn expect_kept(rt: &(impl Abort + AllocGlobal), image: &[u8], kept: u64) -> Resu
         1 => join(alloc, &[DUPLICATE])?,
         _ => frames_of(alloc, &[THIRD_REFUSAL])?,
     };
-    let (got, station) = run_from(rt, PRODUCT, image, order.as_slice())?;
+    let (got, station) = run_from(rt, image, order.as_slice(), BOTH)?;
     assert_eq!(rt; got, ended(0, 0, 1));
     assert_eq!(rt; station.output(), want.as_slice());
     Ok(())
 }
 
-/// The gates of the two records are written by the calls 15 and 20, and synced by the next ones.
+/// With a record for each order their gates are written by the calls 15 and 20, and synced by the next ones; with one record for
+/// both its gate is written by the call 15.
 #[test]
 fn crash_at_each_call(rt: HostRuntime) -> Result<(), Fail> {
     let alloc = rt.alloc();
     let orders = join(alloc, &[ORDER, SECOND_ORDER])?;
     let second_order = join(alloc, &[SECOND_ORDER])?;
     let others = join(alloc, &[SECOND_ACCEPTED, FILLED, SECOND_FILLED])?;
-    let (got, station) = run_from(&rt, PRODUCT, b"", orders.as_slice())?;
-    assert_eq!(rt; got, ended(0, 0, 2));
-    assert_eq!(rt; station.calls(), 22);
-    for call in 0..=station.calls() {
-        for fill in [0, 1, 200] {
-            let image = station.crash_image(alloc, call, fill)?;
-            let first = call > 15 || call == 15 && fill == 1;
-            let second = call > 20 || call == 20 && fill == 1;
-            expect_kept(&rt, image.as_slice(), first as u64 + second as u64)?;
-            if first && !second {
-                let (got, later) = run_from(
-                    &rt,
-                    PRODUCT,
-                    image.as_slice(),
-                    second_order.as_slice(),
-                )?;
-                assert_eq!(rt; got, ended(0, 0, 1));
-                assert_eq!(rt; later.output(), others.as_slice());
+    for (size, calls, second_gate) in [(ONE, 22, 20), (BOTH, 17, 15)] {
+        let (got, station) = run_from(&rt, b"", orders.as_slice(), size)?;
+        assert_eq!(rt; got, ended(0, 0, 2));
+        assert_eq!(rt; station.calls(), calls);
+        for call in 0..=station.calls() {
+            for fill in [0, 1, 200] {
+                let image = station.crash_image(alloc, call, fill)?;
+                let first = call > 15 || call == 15 && fill == 1;
+                let second = call > second_gate || call == second_gate && fill == 1;
+                expect_kept(&rt, image.as_slice(), first as u64 + second as u64)?;
+                if first && !second {
+                    let (got, later) = run_from(
+                        &rt,
+                        image.as_slice(),
+                        second_order.as_slice(),
+                        BOTH,
+                    )?;
+                    assert_eq!(rt; got, ended(0, 0, 1));
+                    assert_eq!(rt; later.output(), others.as_slice());
+                }
             }
         }
     }
     Ok(())
 }
 
-/// A run over two and over three calls sends and keeps what one call does.
+/// A run over three calls sends what one call does, and keeps the same messages.
 #[test]
 fn continued_runs(rt: HostRuntime) -> Result<(), Fail> {
     let alloc = rt.alloc();
@@ -141,19 +161,23 @@ fn continued_runs(rt: HostRuntime) -> Result<(), Fail> {
         (&[ORDER], &[]),
     ];
     let mut image = Vec::new(alloc);
+    let mut sent = Vec::new(alloc);
     for (frames, reports) in texts {
         let input = join(alloc, frames)?;
-        let (got, station) = run_from(&rt, PRODUCT, image.as_slice(), input.as_slice())?;
+        let (got, station) = run_from(&rt, image.as_slice(), input.as_slice(), BOTH)?;
         assert_eq!(rt; got, ended(0, 0, 1));
         if !reports.is_empty() {
             assert_eq!(rt; station.output(), join(alloc, reports)?.as_slice());
         }
+        sent.extend_from_slice(station.output())?;
         image = station.image().to_vec(alloc)?;
     }
     let all = join(alloc, &[ORDER, SECOND_ORDER, ORDER])?;
-    let (got, whole) = run_from(&rt, PRODUCT, b"", all.as_slice())?;
+    let (got, whole) = run_from(&rt, b"", all.as_slice(), 3 * ONE)?;
     assert_eq!(rt; got, ended(0, 0, 3));
-    assert_eq!(rt; whole.image(), image.as_slice());
+    assert_eq!(rt; whole.output(), sent.as_slice());
+    // Two records less have two heads of six bytes less.
+    assert_eq!(rt; whole.image().len() + 12, image.len());
     Ok(())
 }
 
@@ -169,38 +193,71 @@ protection = 2
 algorithm = "F"
 "#;
 
+/// Adds a heartbeat of which the text has so many bytes.
+fn push_heartbeat(alloc: Global, bytes: &mut Vec<u8>, count: usize) -> Result<(), AllocError> {
+    let mut body = String::from_str(alloc, "35=0|49=AAA|56=GX|34=1|52=20240102-09:30:00|58=")?;
+    for _ in 0..count {
+        body.push('x')?;
+    }
+    body.push('|')?;
+    push_frame(alloc, bytes, body.as_str())
+}
+
 /// 32 heartbeats of the longest body, and one of which the text has so many bytes.
 fn heartbeats(alloc: Global, last: usize) -> Result<Vec<u8>, AllocError> {
     let mut bytes = Vec::new(alloc);
-    for i in 0..33 {
-        let count = if i < 32 { 3952 } else { last };
-        let mut body = String::from_str(alloc, "35=0|49=AAA|56=GX|34=1|52=20240102-09:30:00|58=")?;
-        for _ in 0..count {
-            body.push('x')?;
-        }
-        body.push('|')?;
-        super::push_frame(alloc, &mut bytes, body.as_str())?;
+    for _ in 0..32 {
+        push_heartbeat(alloc, &mut bytes, 3952)?;
     }
+    push_heartbeat(alloc, &mut bytes, last)?;
     Ok(bytes)
 }
 
-/// With the last heartbeat the journal has just as many bytes as it may, or would have one more.
+/// Two heartbeats of the longest body share a record, and the last heartbeat stands in one record with the two orders, as far as
+/// each has room in a record of its own behind those before it. How long the text of that heartbeat is, the outcome, how many of
+/// the reports are sent, and how long the journal is then.
+const LIMITS: [(usize, (u8, u64, u64), usize, usize); 6] = [
+    (1730, (0, 0, 35), 4, 131_066),
+    (1731, (12, 130_682, 34), 1, 130_957),
+    (1840, (12, 130_791, 34), 1, 131_066),
+    (1841, (12, 130_681, 33), 0, 130_956),
+    (1957, (12, 130_797, 33), 0, 131_072),
+    (1958, (12, 128_768, 32), 0, 129_037),
+];
+
 #[test]
 fn journal_limit(rt: HostRuntime) -> Result<(), Fail> {
     let alloc = rt.alloc();
-    let rows = [
-        (1861, ended(0, 0, 33), 131_072),
-        (1862, ended(12, 128_768, 32), 129_133),
-    ];
-    for (last, outcome, length) in rows {
+    for (last, (status, at, messages), sent, length) in LIMITS {
         let text = LIMITED_PRODUCT.as_bytes().to_vec(alloc)?;
         let mut product = MemSource::new(alloc, text, Vec::new(alloc), Vec::new(alloc))?;
-        let bytes = heartbeats(alloc, last)?;
+        let mut bytes = heartbeats(alloc, last)?;
+        bytes.extend_from_slice(join(alloc, &[ORDER, SECOND_ORDER])?.as_slice())?;
         let mut input = MemSource::new(alloc, bytes, Vec::new(alloc), Vec::new(alloc))?;
         let none = Vec::new(alloc);
-        let mut station = MemStation::new(alloc, Vec::new(alloc), 140_000, 0, 1_000, none)?;
+        let mut station = MemStation::new(alloc, Vec::new(alloc), 140_000, 1_000, 1_000, none)?;
         let got = run_over(alloc, "run", &mut product, &mut input, &mut station)?;
-        assert_eq!(rt; got, outcome);
+        assert_eq!(rt; got, ended(status, at, messages));
+        assert_eq!(rt; station.output(), join(alloc, &REPORTS[..sent])?.as_slice());
+        assert_eq!(rt; station.image().len(), length);
+    }
+    Ok(())
+}
+
+/// What one read gives makes a record of just as many bytes as one may have; or its last frame lacks a byte, and comes with the
+/// next read.
+#[test]
+fn longest_record(rt: HostRuntime) -> Result<(), Fail> {
+    let alloc = rt.alloc();
+    for (last, length) in [(73, 8_465), (74, 8_466)] {
+        let mut bytes = Vec::new(alloc);
+        for count in [3952, 3952, last] {
+            push_heartbeat(alloc, &mut bytes, count)?;
+        }
+        bytes.extend_from_slice(join(alloc, &[ORDER])?.as_slice())?;
+        let (got, station) = run(alloc, "run", PRODUCT, bytes.as_slice(), Vec::new(alloc))?;
+        assert_eq!(rt; got, ended(0, 0, 4));
+        assert_eq!(rt; station.output(), join(alloc, &[ACCEPTED])?.as_slice());
         assert_eq!(rt; station.image().len(), length);
     }
     Ok(())
@@ -245,7 +302,7 @@ fn refused_journals(rt: HostRuntime) -> Result<(), Fail> {
         (two_bad.as_slice(), ended(10, 160, 0)),
     ];
     for (image, outcome) in rows {
-        let (got, station) = run_from(&rt, PRODUCT, image, order.as_slice())?;
+        let (got, station) = run_from(&rt, image, order.as_slice(), BOTH)?;
         assert_eq!(rt; got, outcome);
         assert_eq!(rt; station.image(), image);
         assert_eq!(rt; station.output(), b"".as_slice());
@@ -288,7 +345,7 @@ fn runs_over_a_file(rt: HostRuntime) -> Result<(), Fail> {
     }
     let kept = fs::read(&rt, path)?;
     let orders = join(alloc, &[ORDER, SECOND_ORDER])?;
-    let (_, station) = run_from(&rt, PRODUCT, b"", orders.as_slice())?;
+    let (_, station) = run_from(&rt, b"", orders.as_slice(), ONE)?;
     assert_eq!(rt; kept.as_slice(), station.image());
     fs::remove_file(&rt, path)?;
     Ok(())

@@ -10,7 +10,7 @@ use std::process::Abort;
 use std::test::Fail;
 
 /// Executes the command of these words over the product and this input.
-fn execute(
+pub(super) fn execute(
     alloc: Global,
     line: &str,
     input: &[&str],
@@ -126,18 +126,18 @@ fn drills(rt: HostRuntime) -> Result<(), Fail> {
     )
 }
 
-/// The send of the first reports fails; they can be sent later.
+/// The send of the reports fails; they can be sent later.
 #[test]
 fn replay_after_a_failed_send(rt: HostRuntime) -> Result<(), Fail> {
     let alloc = rt.alloc();
     let fail = vec![in alloc; 17]?;
     let mut station = station_over(alloc, b"", fail)?;
     let got = execute(alloc, "run", &[ORDER, SECOND_ORDER], &mut station)?;
-    assert_eq!(rt; got, ended(6, 0, 1));
+    assert_eq!(rt; got, ended(6, 0, 2));
     assert!(rt; station.output().is_empty());
     let got = execute(alloc, "replay", &[], &mut station)?;
-    assert_eq!(rt; got, ended(0, 0, 1));
-    let sent = join(alloc, &[ACCEPTED])?;
+    assert_eq!(rt; got, ended(0, 0, 2));
+    let sent = join(alloc, REPORTS)?;
     assert_eq!(rt; station.output(), sent.as_slice());
     Ok(())
 }

@@ -167,9 +167,9 @@ fn expect_failing(rt: &(impl Abort + AllocGlobal), row: &Failing) -> Result<(), 
 const BOTH: &[&str] = &[ORDER, SECOND_ORDER];
 
 /// An empty image is opened by ten calls, of which the first is a sync, and a journal with no record is recovered by two reads.
-/// Each message takes a write, a sync, a write and a sync, and then, where it has reports, a send: so the first message is
-/// reported before the second is kept.
-const FAILING: [Failing; 12] = [
+/// Each record takes a write, a sync, a write and a sync, and then, where it has reports, a send. What one read gives shares a
+/// record; so with two reads the first message is reported before the second is kept.
+const FAILING: [Failing; 15] = [
     (
         "heartbeat is not answered",
         &[HEARTBEAT],
@@ -243,18 +243,36 @@ const FAILING: [Failing; 12] = [
         (13, 150),
     ),
     (
-        "failed sync of the second gate",
+        "failed sync of the gate of both",
         BOTH,
         221,
+        (NEVER, NEVER, 16),
+        (5, 0, 0),
+        &[],
+        (16, 377),
+    ),
+    (
+        "failed sync of the second gate",
+        BOTH,
+        111,
         (NEVER, NEVER, 21),
         (5, 0, 1),
         &[ACCEPTED],
         (21, 383),
     ),
     (
-        "failed send of the first order",
+        "failed send for both",
         BOTH,
         221,
+        (NEVER, NEVER, 17),
+        (6, 0, 2),
+        &[],
+        (17, 377),
+    ),
+    (
+        "failed send of the first order",
+        BOTH,
+        111,
         (NEVER, NEVER, 17),
         (6, 0, 1),
         &[],
@@ -263,16 +281,25 @@ const FAILING: [Failing; 12] = [
     (
         "failed send of the second order",
         BOTH,
-        221,
+        111,
         (NEVER, NEVER, 22),
         (6, 0, 2),
         &[ACCEPTED],
         (22, 383),
     ),
     (
-        "no failure",
+        "one record",
         BOTH,
         221,
+        (NEVER, NEVER, NEVER),
+        (0, 0, 2),
+        &[ACCEPTED, SECOND_ACCEPTED, FILLED, SECOND_FILLED],
+        (17, 377),
+    ),
+    (
+        "two records",
+        BOTH,
+        111,
         (NEVER, NEVER, NEVER),
         (0, 0, 2),
         &[ACCEPTED, SECOND_ACCEPTED, FILLED, SECOND_FILLED],

@@ -1,9 +1,10 @@
-use Rattle.std.proofs.Common.{take, true≢false, sym, ◌∙◌, ap}
+use Rattle.std.proofs.Common.{ℕ, ◌+◌, length, true≢false, sym, ◌∙◌, ap}
+use Rattle.std.specs.List.{concat}
 use Rattle.fix_frame.specs.Stream.{rest_of}
 use Rattle.match_journal.specs.declared.standing.Standing.{Standing}
 use Rattle.book_recovery.proofs.Counting.{head_found, gate_found, bad_found}
 use Rattle.book_recovery.proofs.Looks.{reads_itself, reads_then, on_ok}
-use Rattle.book_recovery.proofs.Reading.{closed_behind, bad_head_behind, one_more, bad_payload_behind}
+use Rattle.book_recovery.proofs.Reading.{payload_given, given_are_all, closed_behind, bad_head_behind, one_more, bad_payload_behind}
 use Rattle.book_recovery.proofs.Standings.{some_moved}
 use Rattle.book_recovery.proofs.records.next_record.Goals as goal
 
@@ -30,18 +31,37 @@ returns-clause-reads g c =
     let m = g.S.Station.meanings in
     reads_then m _ _ _ c.in-Ok-Some.entry.length (reads_then m _ _ _ 6 (reads_itself m c.args.station.now) c.next_entry.ensures.looks) c.read_payload-read.ensures.looks
 
+-- what was read, and is given
+pub returns-then-are_whole-clause-rises : goal.returns-then-are_whole-clause-rises
+returns-then-are_whole-clause-rises g c = λ found.
+    let good = sym c.is_err.ensures.value ∙ c.if-is_err.false in
+    let none = on_ok c.read_payload-read.result good c.read_payload-read.ensures.given in
+    let given = payload_given c.read_payload-read.new.framer.rest c.read_payload-read.new.framer.given c.are_whole.new.framer.given none c.are_whole.ensures.given (c.are_whole.ensures.whole.0 c.if-are_whole.true) in
+    let size = on_ok c.read_payload-read.result good c.read_payload-read.ensures.size in
+    let step = c.read_payload-read.ensures.stays ∙ some_moved c.args.journal.now c.next_entry.new.self c.in-Ok-Some.field-0 c.in-Ok-Some.entry c.in-Ok-Some.field-0-is c.in-Ok-Some.ensures.moves in
+    ap (λ (s : Standing). s.gate) step ∙ ap (λ (n : ℕ). c.args.journal.now.gate + 6 + n) (sym (ap length given ∙ size))
+
+pub returns-then-are_whole-clause-frames : goal.returns-then-are_whole-clause-frames
+returns-then-are_whole-clause-frames g c = λ found.
+    let none = on_ok c.read_payload-read.result (sym c.is_err.ensures.value ∙ c.if-is_err.false) c.read_payload-read.ensures.given in
+    given_are_all c.read_payload-read.new.framer.rest c.read_payload-read.new.framer.given c.are_whole.new.framer.given none c.are_whole.ensures.given (c.are_whole.ensures.whole.0 c.if-are_whole.true)
+
+pub returns-then-are_whole-clause-rest : goal.returns-then-are_whole-clause-rest
+returns-then-are_whole-clause-rest g c = λ found. c.are_whole.ensures.rest ∙ c.are_whole.ensures.whole.0 c.if-are_whole.true
+
 pub returns-then-are_whole-clause-records : goal.returns-then-are_whole-clause-records
 returns-then-are_whole-clause-records g c = λ text image before read known first place.
     let head = head_found image _ _ c.in-Ok-Some.field-0 c.in-Ok-Some.entry c.in-Ok-Some.field-0-is (c.in-Ok-Some.ensures.walks image read known) in
     let good = sym c.is_err.ensures.value ∙ c.if-is_err.false in
-    let same = c.hold.ensures ∙ ap (take c.in-Ok-Some.entry.length) c.as_slice.ensures.value ∙ sym (on_ok c.read_payload-read.result good c.read_payload-read.ensures.held) in
-    let is = same ∙ on_ok c.read_payload-read.result good c.read_payload-read.ensures.bytes image (c.next_entry.ensures.looks.keeps.holds ∙ read) in
-    let none = ap rest_of same ∙ c.are_whole.ensures.0 c.if-are_whole.true in
+    let none = on_ok c.read_payload-read.result good c.read_payload-read.ensures.given in
+    let whole = c.are_whole.ensures.whole.0 c.if-are_whole.true in
+    let given = payload_given c.read_payload-read.new.framer.rest c.read_payload-read.new.framer.given c.are_whole.new.framer.given none c.are_whole.ensures.given whole in
+    let is = given ∙ on_ok c.read_payload-read.result good c.read_payload-read.ensures.bytes image (c.next_entry.ensures.looks.keeps.holds ∙ read) in
     let step = c.read_payload-read.ensures.stays ∙ some_moved c.args.journal.now c.next_entry.new.self c.in-Ok-Some.field-0 c.in-Ok-Some.entry c.in-Ok-Some.field-0-is c.in-Ok-Some.ensures.moves in
-    one_more text _ image before first _ place c.in-Ok-Some.entry head c.hold.new.framer.rest is c.read_payload-read.new.journal.gate none (ap (λ (s : Standing). s.gate) step)
+    one_more text _ image before first _ place c.in-Ok-Some.entry head (concat c.are_whole.new.framer.given) is c.read_payload-read.new.journal.gate (ap rest_of given ∙ whole) (ap (λ (s : Standing). s.gate) step)
 
 pub returns-clause-records : goal.returns-clause-records
 returns-clause-records g c = λ text image before read known first place.
     let head = head_found image _ _ c.in-Ok-Some.field-0 c.in-Ok-Some.entry c.in-Ok-Some.field-0-is (c.in-Ok-Some.ensures.walks image read known) in
     let is = on_ok c.read_payload-read.result (sym c.is_err.ensures.value ∙ c.if-is_err.false) c.read_payload-read.ensures.bytes image (c.next_entry.ensures.looks.keeps.holds ∙ read) in
-    bad_payload_behind text _ image before first _ place c.in-Ok-Some.entry head _ is (λ none. true≢false (sym (c.are_whole.ensures.1 none) ∙ c.if-are_whole.false))
+    bad_payload_behind text _ image before first _ place c.in-Ok-Some.entry head _ is (λ none. true≢false (sym (c.are_whole.ensures.whole.1 none) ∙ c.if-are_whole.false))

@@ -15,17 +15,17 @@ front_of bytes held slice post tail n room is whole size few =
 pub returns-clause-size : goal.returns-clause-size
 returns-clause-size g c =
     let size : length c.read_entry.new.into ≡ c.args.entry.now.length = grind (arith, common_steps) in
-    let same : c.hold.new.framer.rest ≡ c.read_entry.new.into = front_of c.read_entry.new.into _ _ _ _ _ _ c.hold.ensures c.as_slice.ensures.value size (omega arith) in
+    let same : c.hold.new.framer.rest ≡ c.read_entry.new.into = front_of c.read_entry.new.into _ _ _ _ _ _ c.hold.ensures.rest c.as_slice.ensures.value size (omega arith) in
     ap length same ∙ size
 
 pub returns-clause-bytes : goal.returns-clause-bytes
 returns-clause-bytes g c = λ image read.
     let size : length c.read_entry.new.into ≡ c.args.entry.now.length = grind (arith, common_steps) in
-    let same : c.hold.new.framer.rest ≡ c.read_entry.new.into = front_of c.read_entry.new.into _ _ _ _ _ _ c.hold.ensures c.as_slice.ensures.value size (omega arith) in
+    let same : c.hold.new.framer.rest ≡ c.read_entry.new.into = front_of c.read_entry.new.into _ _ _ _ _ _ c.hold.ensures.rest c.as_slice.ensures.value size (omega arith) in
     same ∙ c.in_ok-read_entry.ensures.bytes image read
 
 pub returns-clause-payload : goal.returns-clause-payload
 returns-clause-payload g c = λ text image before after gate read found.
     let size : length c.read_entry.new.into ≡ c.args.entry.now.length = grind (arith, common_steps) in
-    let same : c.hold.new.framer.rest ≡ c.read_entry.new.into = front_of c.read_entry.new.into _ _ _ _ _ _ c.hold.ensures c.as_slice.ensures.value size (omega arith) in
+    let same : c.hold.new.framer.rest ≡ c.read_entry.new.into = front_of c.read_entry.new.into _ _ _ _ _ _ c.hold.ensures.rest c.as_slice.ensures.value size (omega arith) in
     same ∙ c.in_ok-read_entry.ensures.payload text image before after gate read found

@@ -1,4 +1,5 @@
 use Rattle.std.proofs.Common.{◌≡◌, ◌<◌, ◌≤◌, ◌+◌, ◌-◌, ◌*◌, List, [], true, length, vec_len}
+use Rattle.fix_frame.specs.Grammar.{IsUnfinished}
 use Rattle.gx_base.specs.declared.event.Event.{Event}
 use Rattle.order_kinds.specs.Cores.{FitsProduct, AreNumbered}
 use Rattle.order_kinds.specs.State.{state_numbered}
@@ -11,7 +12,9 @@ invariant-turns g l =
     let m = g.S.Station.meanings in
     let inputs = g.I.Source.meanings in
     record {
-      turn : IsServing m g.P.Publisher.meanings.text l.product l.fn.journal.limit (streams_at inputs m l.fn.input l.fn.station) (source_at inputs l.input) l.station l.fn.journal.gate l.journal.gate (state_numbered l.fn.core) (state_numbered l.core) l.framer (λ (events : List Event). l.publisher ≡ g.P.Publisher.meanings.after l.fn.publisher events);
+      turn : IsServing m g.P.Publisher.meanings.text l.product l.fn.journal.limit (streams_at inputs m l.fn.input l.fn.station) 0 (source_at inputs l.input) l.station l.fn.journal.gate l.journal.gate (state_numbered l.fn.core) (state_numbered l.core) l.framer (λ (events : List Event). l.publisher ≡ g.P.Publisher.meanings.after l.fn.publisher events);
+      front : IsUnfinished l.framer.rest;
+      short : length l.framer.rest < 4096;
       limit : l.journal.limit ≡ l.fn.journal.limit;
       at_end : l.journal.is_at_end ≡ true;
       reach : l.journal.known ≤ m.reach l.station;
@@ -19,7 +22,7 @@ invariant-turns g l =
       few : l.core.desk.messages * 22 ≤ l.journal.gate;
       fits : FitsProduct l.product l.core;
       numbered : AreNumbered l.core;
-      chunk : vec_len l.chunk ≡ 4096;
+      chunk : vec_len l.chunk ≡ 8192;
       buffer : l.buffer ≡ [];
       offset : l.framer.offset ≤ l.journal.gate;
     }

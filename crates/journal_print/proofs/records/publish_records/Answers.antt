@@ -1,8 +1,9 @@
 use Rattle.std.proofs.Common.{Ok, Err, refl, sym, ◌∙◌, ap, arith}
+use Rattle.std.specs.List.{concat}
 use Rattle.match_journal.specs.declared.standing.Standing.{Standing}
 use Rattle.book_recovery.proofs.Standings.{moved_then}
 use Rattle.journal_print.proofs.Stations.{on_ok, on_err, reading_only, sending_only, reading_then}
-use Rattle.journal_print.proofs.RecordSteps.{record_read, read_more, read_end, read_bad, publishing_more, publishing_part, publishing_unread, publishing_done, publishing_bad}
+use Rattle.journal_print.proofs.RecordSteps.{record_read, read_more, read_end, read_bad, messages_fit, publishing_more, publishing_part, publishing_unread, publishing_done, publishing_bad}
 use Rattle.journal_print.proofs.records.publish_records.Goals as goal
 
 pub returns-then-is_err-clause-publishes : goal.returns-then-is_err-clause-publishes
@@ -14,11 +15,23 @@ returns-then-is_err-clause-publishes g c = λ text image read known begins first
     let looked = c.next_record.ensures.reads.looks.silent.sent in
     let limit = ap (λ (s : Standing). s.limit) before.same ∙ c.requires.limit in
     let told =
-    record_read m p c.args.product.now text image c.args.station.now c.records.station c.next_record.new.station c.args.publisher.now c.records.publisher c.records.core c.records.journal.gate at looked c.records.journal c.next_record.new.journal.gate c.next_record.new.scratch.framer.rest (Ok c.in-Ok-true.field-0) limit refl
+    record_read m p c.args.product.now text image c.args.station.now c.records.station c.next_record.new.station c.args.publisher.now c.records.publisher c.records.core c.records.journal.gate at looked c.records.journal c.next_record.new.journal.gate (concat c.next_record.new.scratch.framer.given) (Ok c.in-Ok-true.field-0) limit refl
     (λ whole place. c.in-Ok-true.ensures.records text image at.before (before.reads.holds ∙ read) (known ∙ sym (ap (λ (s : Standing). s.known) before.same)) whole place) in
     let more = read_more text _ image at.before _ _ c.in-Ok-true.field-0 c.in-Ok-true.field-0-test told in
-    publishing_part m p c.args.product.now text image c.args.station.now c.records.station c.next_record.new.station c.args.publisher.now c.records.publisher c.records.core c.records.journal.gate at looked c.next_record.new.journal.gate c.next_record.new.scratch.framer.rest more c.publish_frames.new.station
-    (on_err c.publish_frames.result (sym c.is_err.ensures.value ∙ c.if-is_err.true) c.publish_frames.ensures.sends.part)
+    let messages = c.in-Ok-true.ensures.frames c.in-Ok-true.field-0-test in
+    publishing_part m p c.args.product.now text image c.args.station.now c.records.station c.next_record.new.station c.args.publisher.now c.records.publisher c.records.core c.records.journal.gate at looked c.next_record.new.journal.gate (concat c.next_record.new.scratch.framer.given) more c.publish.new.station c.next_record.new.scratch.framer.given messages
+    (on_err c.publish.result (sym c.is_err.ensures.value ∙ c.if-is_err.true) c.publish.ensures.sends.part)
+
+pub returns-then-is_err-clause-reads : goal.returns-then-is_err-clause-reads
+returns-then-is_err-clause-reads g c =
+    let m = g.S.Station.meanings in
+    reading_then m _ _ _ (reading_then m _ _ _ c.records.invariant.reads (reading_only m _ _ c.next_record.ensures.reads)) (sending_only m _ _ c.publish.ensures.sends.quiet)
+
+pub publish-requires-clause-few : goal.publish-requires-clause-few
+publish-requires-clause-few g c =
+    let step = moved_then c.args.journal.now c.records.journal c.next_record.new.journal _ _ c.records.invariant.same c.next_record.ensures.same in
+    let limit = ap (λ (s : Standing). s.limit) step in
+    omega (arith, c.records.invariant.few, limit, c.in-Ok-true.ensures.rises c.in-Ok-true.field-0-test, c.in-Ok-true.ensures.in_limit c.in-Ok-true.field-0-test, c.next_record.ensures.stands.in_limit, messages_fit c.next_record.new.scratch.framer.given (c.in-Ok-true.ensures.frames c.in-Ok-true.field-0-test))
 
 pub records-preserved : goal.records-preserved
 records-preserved g c =
@@ -26,7 +39,7 @@ records-preserved g c =
     let p = g.P.Publisher.meanings in
     let before = c.records.invariant in
     let looks = c.next_record.ensures.reads.looks in
-    let quiet = c.publish_frames.ensures.sends.quiet in
+    let quiet = c.publish.ensures.sends.quiet in
     let good = sym c.is_err.ensures.value ∙ c.if-is_err.false in
     let step = moved_then c.args.journal.now c.records.journal c.next_record.new.journal _ _ before.same c.next_record.ensures.same in
     let risen = c.in-Ok-true.ensures.rises c.in-Ok-true.field-0-test in
@@ -35,26 +48,27 @@ records-preserved g c =
       reads = reading_then m _ _ _ (reading_then m _ _ _ before.reads (reading_only m _ _ c.next_record.ensures.reads)) (sending_only m _ _ quiet);
       reach = quiet.reach ∙ c.next_record.ensures.reach ∙ before.reach;
       store = quiet.store_faults ∙ c.in-Ok-true.ensures.none (λ e. cc e) ∙ before.store;
-      send = on_ok c.publish_frames.result good c.publish_frames.ensures.sends.cause.ok ∙ looks.silent.send_faults ∙ before.send;
+      send = on_ok c.publish.result good c.publish.ensures.sends.cause.ok ∙ looks.silent.send_faults ∙ before.send;
       same = step;
       in_limit = omega (arith, inside, ap (λ (s : Standing). s.limit) step);
-      fits = c.publish_frames.ensures.fits;
-      numbered = c.publish_frames.ensures.numbered;
-      empty = on_ok c.publish_frames.result good c.publish_frames.ensures.empty;
-      few = omega (arith, before.few, risen, on_ok c.publish_frames.result good c.publish_frames.ensures.few);
+      fits = c.publish.ensures.fits;
+      numbered = c.publish.ensures.numbered;
+      empty = on_ok c.publish.result good c.publish.ensures.empty;
+      few = omega (arith, before.few, risen, c.publish.ensures.count, messages_fit c.next_record.new.scratch.framer.given (c.in-Ok-true.ensures.frames c.in-Ok-true.field-0-test));
       publishing = λ text image read known begins first.
           let at = before.publishing text image read known begins first in
           let looked = looks.silent.sent in
           let limit = ap (λ (s : Standing). s.limit) before.same ∙ c.requires.limit in
           let told =
-          record_read m p c.args.product.now text image c.args.station.now c.records.station c.next_record.new.station c.args.publisher.now c.records.publisher c.records.core c.records.journal.gate at looked c.records.journal c.next_record.new.journal.gate c.next_record.new.scratch.framer.rest (Ok c.in-Ok-true.field-0) limit refl
+          record_read m p c.args.product.now text image c.args.station.now c.records.station c.next_record.new.station c.args.publisher.now c.records.publisher c.records.core c.records.journal.gate at looked c.records.journal c.next_record.new.journal.gate (concat c.next_record.new.scratch.framer.given) (Ok c.in-Ok-true.field-0) limit refl
           (λ whole place. c.in-Ok-true.ensures.records text image at.before (before.reads.holds ∙ read) (known ∙ sym (ap (λ (s : Standing). s.known) before.same)) whole place) in
           let more = read_more text _ image at.before _ _ c.in-Ok-true.field-0 c.in-Ok-true.field-0-test told in
-          publishing_more m p c.args.product.now text image c.args.station.now c.records.station c.next_record.new.station c.args.publisher.now c.records.publisher c.records.core c.records.journal.gate at looked c.next_record.new.journal.gate c.next_record.new.scratch.framer.rest more c.publish_frames.new.station c.publish_frames.new.publisher c.publish_frames.new.core
-          (on_ok c.publish_frames.result good c.publish_frames.ensures.sends.all)
-          (on_ok c.publish_frames.result good c.publish_frames.ensures.after)
-          (on_ok c.publish_frames.result good c.publish_frames.ensures.state)
-          (on_ok c.publish_frames.result good c.publish_frames.ensures.count);
+          let messages = c.in-Ok-true.ensures.frames c.in-Ok-true.field-0-test in
+          publishing_more m p c.args.product.now text image c.args.station.now c.records.station c.next_record.new.station c.args.publisher.now c.records.publisher c.records.core c.records.journal.gate at looked c.next_record.new.journal.gate (concat c.next_record.new.scratch.framer.given) more c.publish.new.station c.next_record.new.scratch.framer.given messages c.publish.new.self c.publish.new.core
+          (on_ok c.publish.result good c.publish.ensures.sends.all)
+          (on_ok c.publish.result good c.publish.ensures.after)
+          c.publish.ensures.state
+          c.publish.ensures.count;
     }
 
 pub returns-in-Ok-false-clause-publishes : goal.returns-in-Ok-false-clause-publishes
@@ -66,7 +80,7 @@ returns-in-Ok-false-clause-publishes g c = λ text image read known begins first
     let looked = c.next_record.ensures.reads.looks.silent.sent in
     let limit = ap (λ (s : Standing). s.limit) before.same ∙ c.requires.limit in
     let told =
-    record_read m p c.args.product.now text image c.args.station.now c.records.station c.next_record.new.station c.args.publisher.now c.records.publisher c.records.core c.records.journal.gate at looked c.records.journal c.next_record.new.journal.gate c.next_record.new.scratch.framer.rest (Ok c.in-Ok-false.field-0) limit refl
+    record_read m p c.args.product.now text image c.args.station.now c.records.station c.next_record.new.station c.args.publisher.now c.records.publisher c.records.core c.records.journal.gate at looked c.records.journal c.next_record.new.journal.gate (concat c.next_record.new.scratch.framer.given) (Ok c.in-Ok-false.field-0) limit refl
     (λ whole place. c.in-Ok-false.ensures.records text image at.before (before.reads.holds ∙ read) (known ∙ sym (ap (λ (s : Standing). s.known) before.same)) whole place) in
     publishing_done m p c.args.product.now text image c.args.station.now c.records.station c.next_record.new.station c.args.publisher.now c.records.publisher c.records.core c.records.journal.gate at looked
     (read_end text _ image at.before _ _ c.in-Ok-false.field-0 c.in-Ok-false.field-0-test told)
@@ -85,7 +99,7 @@ returns-in-Err-Bad-clause-publishes g c = λ text image read known begins first.
     let looked = c.next_record.ensures.reads.looks.silent.sent in
     let limit = ap (λ (s : Standing). s.limit) before.same ∙ c.requires.limit in
     let told =
-    record_read m p c.args.product.now text image c.args.station.now c.records.station c.next_record.new.station c.args.publisher.now c.records.publisher c.records.core c.records.journal.gate at looked c.records.journal c.next_record.new.journal.gate c.next_record.new.scratch.framer.rest (Err c.in-Err-Bad.field-0) limit refl
+    record_read m p c.args.product.now text image c.args.station.now c.records.station c.next_record.new.station c.args.publisher.now c.records.publisher c.records.core c.records.journal.gate at looked c.records.journal c.next_record.new.journal.gate (concat c.next_record.new.scratch.framer.given) (Err c.in-Err-Bad.field-0) limit refl
     (λ whole place. c.in-Err-Bad.ensures.records text image at.before (before.reads.holds ∙ read) (known ∙ sym (ap (λ (s : Standing). s.known) before.same)) whole place) in
     publishing_bad m p c.args.product.now text image c.args.station.now c.records.station c.next_record.new.station c.args.publisher.now c.records.publisher c.records.core c.records.journal.gate at looked c.in-Err-Bad.at
-    (read_bad text _ image at.before c.next_record.new.journal.gate c.next_record.new.scratch.framer.rest c.in-Err-Bad.field-0 c.in-Err-Bad.at c.in-Err-Bad.field-0-is told)
+    (read_bad text _ image at.before c.next_record.new.journal.gate (concat c.next_record.new.scratch.framer.given) c.in-Err-Bad.field-0 c.in-Err-Bad.at c.in-Err-Bad.field-0-is told)

@@ -3,7 +3,7 @@ use Rattle.std.specs.List.{flat_map}
 use Rattle.gx_base.specs.NameLists.{NameLists}
 use Rattle.gx_station.specs.SendLaws.{sends_to, sends_as}
 use Rattle.order_kinds.specs.State.{state_numbered}
-use Rattle.order_kinds.specs.Step.{with_message, request_step}
+use Rattle.order_kinds.specs.Step.{events_from}
 use Rattle.book_print.specs.FillText.{fill_line}
 use Rattle.book_print.proofs.Delivered.{fills_delivered, fills_silent}
 use Rattle.book_print.proofs.publisher.FillPublisherPublisher.publish.Goals as goal
@@ -11,11 +11,11 @@ use Rattle.book_print.proofs.publisher.FillPublisherPublisher.publish.Goals as g
 pub returns-clause-sends : goal.returns-clause-sends
 returns-clause-sends g c =
     let m = g.S.Station.meanings in
-    let events = (request_step c.args.product.now c.args.request.now (with_message (state_numbered c.args.core.now))).1 in
+    let events = events_from c.args.product.now (state_numbered c.args.core.now) c.args.framer.now.given in
     sends_to m c.args.station.now c.flush.new.self.station.now _ (flat_map (fill_line c.args.product.now.names) events) c.flush.result (search rules)
     (sends_as m c.args.station.now c.flush.new.self.station.now (flat_map (fill_line c.names.result.now) events) (flat_map (fill_line c.args.product.now.names) events) c.flush.result (ap (λ (n : NameLists). flat_map (fill_line n) events) c.names.ensures)
-    (fills_delivered m c.new-out.result c.apply.new.out c.flush.new.self _ _ c.names.result.now events c.flush.result c.new-out.ensures (c.apply.ensures.step c.requires.numbered).emits c.flush.ensures.flushes))
+    (fills_delivered m c.new-out.result c.apply_given.new.out c.flush.new.self _ _ c.names.result.now events c.flush.result c.new-out.ensures c.apply_given.ensures.emits c.flush.ensures.flushes))
 
 pub returns-clause-silent : goal.returns-clause-silent
 returns-clause-silent g c = λ passed.
-    fills_silent g.S.Station.meanings c.new-out.result c.apply.new.out c.flush.new.self _ _ _ c.flush.result _ c.new-out.ensures (c.apply.ensures.silent passed) c.flush.ensures.idle (search rules)
+    fills_silent g.S.Station.meanings c.new-out.result c.apply_given.new.out c.flush.new.self _ _ _ c.flush.result _ c.new-out.ensures (c.apply_given.ensures.silent passed) c.flush.ensures.idle (search rules)

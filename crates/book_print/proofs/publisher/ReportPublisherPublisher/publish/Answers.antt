@@ -5,13 +5,13 @@ use Rattle.gx_base.specs.Line.{line_of}
 use Rattle.gx_station.specs.SendLaws.{sends_to, sends_as}
 use Rattle.exec_report.specs.OutgoingLaws.{delivered}
 use Rattle.order_kinds.specs.State.{state_numbered}
-use Rattle.order_kinds.specs.Step.{with_message, request_step}
+use Rattle.order_kinds.specs.Step.{events_from}
 use Rattle.book_print.proofs.publisher.ReportPublisherPublisher.publish.Goals as goal
 
 pub returns-clause-sends : goal.returns-clause-sends
 returns-clause-sends g c =
     let m = g.S.Station.meanings in
-    let events = (request_step c.args.product.now c.args.request.now (with_message (state_numbered c.args.core.now))).1 in
+    let events = events_from c.args.product.now (state_numbered c.args.core.now) c.args.framer.now.given in
     sends_to m c.args.station.now c.flush.new.self.station.now _ (flat_map (line_of c.args.product.now.names) events) c.flush.result (search rules)
     (sends_as m c.args.station.now c.flush.new.self.station.now (flat_map (line_of c.names.result.now) events) (flat_map (line_of c.args.product.now.names) events) c.flush.result (ap (λ (n : NameLists). flat_map (line_of n) events) c.names.ensures)
-    (delivered m c.new-out.result c.apply.new.out c.flush.new.self _ _ c.names.result.now events c.flush.result c.new-out.ensures (c.apply.ensures.step c.requires.numbered).emits c.flush.ensures.flushes))
+    (delivered m c.new-out.result c.apply_given.new.out c.flush.new.self _ _ c.names.result.now events c.flush.result c.new-out.ensures c.apply_given.ensures.emits c.flush.ensures.flushes))

@@ -1,0 +1,65 @@
+-- One record for each read: how many records the image keeps beyond those of entry.
+use Rattle.std.proofs.Common.{⊎_elim, inl, inr, ℕ, ◌-◌, ◌≤◌, List, ◌++◌, length, ap, arith, length-append}
+use Rattle.gx_station.specs.Stations.{StationMeanings}
+use Rattle.match_journal.specs.Classes.{Keeps}
+use Rattle.match_journal.specs.Steps.{HoldsOne}
+use Rattle.product_file.specs.Products.{ProductLists}
+use Rattle.book_print.specs.Publishers.{LineForm}
+use Rattle.gx_base.specs.declared.event.Event.{Event}
+use Rattle.order_kinds.specs.State.{State}
+use Rattle.globex_run.specs.Outside.{SourceAt, Outside, Streams}
+use Rattle.globex_run.specs.Headline.{Premises, KeepsARecordPerRead}
+use Rattle.globex_run.specs.Inner.Sessions.{EndsSession, SessionFrom}
+use Rattle.globex_run.specs.declared.ending.Ending.{Ending}
+use Rattle.globex_run.specs.declared.ending.Ending.TheVariants.{Done, ReadFault, StoreFault, SendFault, BadFrame, Truncated, NotAJournal, JournalBad, ProductDiffers, Full}
+use Rattle.globex_run.specs.declared.outcome.Outcome.{Outcome}
+use Rattle.globex_run.proofs.Told.{outside_of}
+
+-- the image keeps these records, and then at most as many as were added
+record KeepsNoMore {S : Type 0} (m : StationMeanings S) (text : List ℕ) (limit : ℕ) (now : S) (payloads added : List (List ℕ)) : Type 0 where
+  more : List (List ℕ)
+  few : length more ≤ length added
+  holds : HoldsOne m (Keeps text limit (payloads ++ more)) now
+
+module _ {I S : Type 0} (m : StationMeanings S) (line : LineForm) (product : ProductLists) (text : List ℕ) (before after : Streams I S) (count : ℕ) (payloads kept added : List (List ℕ)) (behind : List ℕ) where
+  abbrev Keeping : Type 0
+  Keeping = KeepsNoMore m text product.journal_limit after.station.object payloads added
+
+  all_added : HoldsOne m (Keeps text product.journal_limit (payloads ++ added)) after.station.object → Keeping
+  all_added holds = record { more = added; few = omega arith; holds = holds }
+
+  keeps_no_more : (ending : Ending) → EndsSession m line product text before after ending count payloads kept added behind → Keeping
+  keeps_no_more Done ends = all_added ends.keeps
+  keeps_no_more (ReadFault place) ends = all_added ends.keeps
+  keeps_no_more StoreFault ends = ⊎_elim
+      (λ holds. record { more = ends.served; few = omega (arith, ap (λ (l : List (List ℕ)). length l) ends.are, length-append ends.served ends.others); holds = holds })
+      (λ holds. all_added holds)
+      ends.keeps
+  keeps_no_more SendFault ends = all_added ends.keeps
+  keeps_no_more (BadFrame place) ends = all_added ends.keeps
+  keeps_no_more (Truncated place) ends = all_added ends.keeps
+  keeps_no_more (NotAJournal place) ends = absurd ends
+  keeps_no_more (JournalBad place) ends = absurd ends
+  keeps_no_more (ProductDiffers place) ends = absurd ends
+  keeps_no_more (Full place) ends = all_added ends.0.keeps
+
+module _ {P I S : Type 0} (m : StationMeanings S) (p q : SourceAt P) (i j : SourceAt I) (old new : S) (line : LineForm) (Published : List Event → Type 0) (then : State) (outcome : Outcome) where
+  abbrev entry : Outside P I S
+  entry = outside_of m p i old
+
+  abbrev exit : Outside P I S
+  exit = outside_of m q j new
+
+  pub record-per-read : (given : Premises m entry exit outcome.status) (taken : List ℕ) (ending : Ending) → SessionFrom m line given.product given.text entry.streams exit.streams Published then given.image given.startable.payloads given.kept taken ending outcome.messages → KeepsARecordPerRead m entry exit outcome given
+  record-per-read given taken ending from =
+      let first = given.startable.payloads in
+      let keeping = keeps_no_more m line given.product given.text entry.streams exit.streams outcome.messages first given.kept from.added from.behind ending from.ends in
+      let count = length (first ++ keeping.more) - length first in
+      let few : count ≤ length from.added = omega (arith, keeping.few, length-append first keeping.more) in
+      record {
+        image = keeping.holds.image;
+        image_known = keeping.holds.read;
+        payloads = first ++ keeping.more;
+        keeps = keeping.holds.has;
+        few = ⊎_elim (λ within. inl (omega (arith, within, few))) (λ last. inr last) from.reads;
+      }
