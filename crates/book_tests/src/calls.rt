@@ -1,0 +1,318 @@
+//! Both books over one long list of drawn calls, which have to give the same answers.
+ghost use Rattle.std.specs.Prelude.{◌≡◌, ◌<◌, ◌≤◌, length, true, false, IfSome, option_map};
+ghost use Rattle.plain_book.specs.Orders.{HasSlot, is_live};
+ghost use Rattle.plain_book.specs.Book.{CanBeTop, live_orders, slot_number};
+
+mod draws;
+mod reads;
+
+use book_side::LinkedBook;
+use draws::{INSTRUMENTS, Random};
+use gx_base::{Kind, Order, ShortId, Side, Slot};
+use plain_book::{Book, PlainBook};
+use reads::{
+    Answer, Call, Log, ROOM, answer_at, early_at, named, order_at, read_numbers, read_orders,
+    top_of,
+};
+use std::alloc::{AllocError, Global};
+use std::test::Fail;
+
+/// So few that the books are full at times.
+const CAPACITY: u32 = 64;
+
+/// Each step makes one drawn call, and then reads the book.
+const STEPS: u32 = 20_000;
+
+/// How often a run makes each call at least.
+const LEAST: [(Call, usize); 31] = [
+    (Call::Capacity, 1_000),
+    (Call::Live, 1_000),
+    (Call::Best, 1_000),
+    (Call::Worse, 1_000),
+    (Call::First, 1_000),
+    (Call::Next, 1_000),
+    (Call::Count, 1_000),
+    (Call::ShownTotal, 1_000),
+    (Call::Available, 1_000),
+    (Call::Find, 1_000),
+    (Call::Top, 1_000),
+    (Call::FirstWaiting, 1_000),
+    (Call::NextWaiting, 1_000),
+    (Call::Place, 100),
+    (Call::PlaceWithShow, 100),
+    (Call::PlaceForTop, 100),
+    (Call::PlaceForTopWithShow, 100),
+    (Call::Wait, 100),
+    (Call::Full, 100),
+    (Call::TradePart, 100),
+    (Call::TradeShown, 100),
+    (Call::TradeAll, 100),
+    (Call::RemoveResting, 100),
+    (Call::RemoveWaiting, 100),
+    (Call::ChangeResting, 100),
+    (Call::ChangeWaiting, 100),
+    (Call::SetProrated, 100),
+    (Call::SetShown, 100),
+    (Call::SetTop, 100),
+    (Call::EndTop, 100),
+    (Call::Clear, 20),
+];
+
+/// Whether an order with this name can come. Where there is no room for it, that is written down.
+fn can_come<B: Book>(book: &B, firm: u8, id: &ShortId, log: &mut Log) -> bool
+    ensures room { result ≡ true → length (live_orders (B.book book.now)) < (B.book book.now).capacity }
+    ensures unnamed { result ≡ true → is_live firm id.now (live_orders (B.book book.now)) ≡ false }
+{
+    if book.live() >= book.capacity() {
+        log.note(Call::Full, named(book, firm, id));
+        return false;
+    }
+    book.find(firm, id).is_none()
+}
+
+/// The least open quantity of which an order is made TOP.
+fn top_min(random: &mut Random) -> Option<u32> {
+    if random.is_one_in(2) {
+        return None;
+    }
+    Some(random.below(8))
+}
+
+fn placing(order: &Order, top_min: Option<u32>) -> Call {
+    match (order.show, top_min) {
+        (0, None) => Call::Place,
+        (_, None) => Call::PlaceWithShow,
+        (0, Some(_)) => Call::PlaceForTop,
+        (_, Some(_)) => Call::PlaceForTopWithShow,
+    }
+}
+
+fn place<B: Book>(book: &mut B, random: &mut Random, log: &mut Log)
+    requires { (B.book book.old).instruments ≡ INSTRUMENTS }
+    ensures { (B.book book.new).instruments ≡ INSTRUMENTS }
+{
+    let order = random.order(log.lines().len() as u64);
+    let top_min = top_min(random);
+    if can_come(book, order.firm, &order.id, log) {
+        let slot = book.place(order, top_min);
+        log.note(placing(&order, top_min), answer_at(book, Some(slot)));
+    }
+}
+
+fn wait<B: Book>(book: &mut B, random: &mut Random, log: &mut Log)
+    requires { (B.book book.old).instruments ≡ INSTRUMENTS }
+    ensures { (B.book book.new).instruments ≡ INSTRUMENTS }
+{
+    let order = random.stop(log.lines().len() as u64);
+    if can_come(book, order.firm, &order.id, log) {
+        let slot = book.wait(order);
+        log.note(Call::Wait, answer_at(book, Some(slot)));
+    }
+}
+
+/// One of the first orders at a drawn price.
+fn resting_slot<B: Book>(book: &B, random: &mut Random) -> Option<Slot>
+    requires { (B.book book.now).instruments ≡ INSTRUMENTS }
+    ensures { IfSome result (λ slot. HasSlot slot.0 (B.book book.now).resting) }
+{
+    let instrument = random.instrument();
+    let side = random.side();
+    let price = random.price();
+    early_at(book, random, instrument, side, price)
+}
+
+/// An order with a drawn name.
+fn live_slot<B: Book>(book: &B, random: &mut Random) -> Option<Slot>
+    ensures { IfSome result (λ slot. HasSlot slot.0 (live_orders (B.book book.now))) }
+{
+    book.find(random.firm(), &random.id())
+}
+
+/// How a trade that leaves this of an order is called.
+fn trading(order: &Order) -> Call {
+    if order.shown > 0 {
+        Call::TradePart
+    } else if order.leaves > 0 {
+        Call::TradeShown
+    } else {
+        Call::TradeAll
+    }
+}
+
+/// A part of what is shown, or all that is.
+fn lots_of(random: &mut Random, order: &Order) -> u32
+    requires { 1 ≤ order.now.shown }
+    ensures some { 1 ≤ result }
+    ensures shown { result ≤ order.now.shown }
+{
+    if random.is_one_in(2) {
+        order.shown
+    } else {
+        1 + random.below(order.shown)
+    }
+}
+
+fn trade<B: Book>(book: &mut B, random: &mut Random, log: &mut Log)
+    requires { (B.book book.old).instruments ≡ INSTRUMENTS }
+    ensures { (B.book book.new).instruments ≡ INSTRUMENTS }
+{
+    book.rules();
+    if let Some(slot) = resting_slot(book, random) {
+        let lots = lots_of(random, &order_at(book, slot));
+        let order = book.trade(slot, lots);
+        log.note(trading(&order), Answer::Order(order));
+        log.note(Call::Find, named(book, order.firm, &order.id));
+    }
+}
+
+fn remove<B: Book>(book: &mut B, random: &mut Random, log: &mut Log)
+    requires { (B.book book.old).instruments ≡ INSTRUMENTS }
+    ensures { (B.book book.new).instruments ≡ INSTRUMENTS }
+{
+    if let Some(slot) = live_slot(book, random) {
+        let order = book.remove(slot);
+        let call = match order.kind {
+            Kind::Limit | Kind::Market => Call::RemoveResting,
+            Kind::StopLimit => Call::RemoveWaiting,
+        };
+        log.note(call, Answer::Order(order));
+    }
+}
+
+fn change<B: Book>(book: &mut B, random: &mut Random, log: &mut Log)
+    requires { (B.book book.old).instruments ≡ INSTRUMENTS }
+    ensures { (B.book book.new).instruments ≡ INSTRUMENTS }
+{
+    book.rules();
+    let Some(slot) = live_slot(book, random) else {
+        return;
+    };
+    let order = order_at(book, slot);
+    let id = random.id();
+    if book.find(order.firm, &id).is_none() {
+        let quantity = random.lower_quantity(&order);
+        let min = random.least_quantity(&order);
+        book.change(slot, id, quantity, min);
+        let call = match order.kind {
+            Kind::Limit | Kind::Market => Call::ChangeResting,
+            Kind::StopLimit => Call::ChangeWaiting,
+        };
+        log.note(call, named(book, order.firm, &id));
+    }
+}
+
+fn set_prorated<B: Book>(book: &mut B, random: &mut Random, log: &mut Log)
+    requires { (B.book book.old).instruments ≡ INSTRUMENTS }
+    ensures { (B.book book.new).instruments ≡ INSTRUMENTS }
+{
+    if let Some(slot) = resting_slot(book, random) {
+        let order = order_at(book, slot);
+        book.set_prorated(slot, random.below(12));
+        log.note(Call::SetProrated, named(book, order.firm, &order.id));
+    }
+}
+
+fn set_shown<B: Book>(book: &mut B, random: &mut Random, log: &mut Log)
+    requires { (B.book book.old).instruments ≡ INSTRUMENTS }
+    ensures { (B.book book.new).instruments ≡ INSTRUMENTS }
+{
+    if let Some(slot) = resting_slot(book, random) {
+        let order = order_at(book, slot);
+        let most = order.show.min(order.leaves);
+        if most > 0 {
+            book.set_shown(slot, 1 + random.below(most));
+            log.note(Call::SetShown, named(book, order.firm, &order.id));
+        }
+    }
+}
+
+/// An order at the best price of a side, or none.
+fn top_slot<B: Book>(book: &B, random: &mut Random, instrument: u8, side: Side) -> Option<Slot>
+    requires { instrument < (B.book book.now).instruments }
+    ensures { CanBeTop instrument side (option_map slot_number result) (B.book book.now).resting }
+{
+    book.rules();
+    let price = book.best(instrument, side)?;
+    early_at(book, random, instrument, side, price)
+}
+
+fn set_top<B: Book>(book: &mut B, random: &mut Random, log: &mut Log)
+    requires { (B.book book.old).instruments ≡ INSTRUMENTS }
+    ensures { (B.book book.new).instruments ≡ INSTRUMENTS }
+{
+    let instrument = random.instrument();
+    let side = random.side();
+    let slot = top_slot(book, random, instrument, side);
+    book.set_top(instrument, side, slot);
+    let call = if slot.is_some() {
+        Call::SetTop
+    } else {
+        Call::EndTop
+    };
+    log.note(call, top_of(book, instrument, side));
+}
+
+fn clear<B: Book>(book: &mut B, log: &mut Log)
+    requires { (B.book book.old).instruments ≡ INSTRUMENTS }
+    ensures { (B.book book.new).instruments ≡ INSTRUMENTS }
+{
+    book.clear();
+    log.note(Call::Clear, Answer::Number(u64::from(book.live())));
+}
+
+/// Makes one drawn call.
+fn make_call<B: Book>(book: &mut B, random: &mut Random, log: &mut Log)
+    requires { (B.book book.old).instruments ≡ INSTRUMENTS }
+    ensures { (B.book book.new).instruments ≡ INSTRUMENTS }
+{
+    match random.below(32) {
+        0..=9 => place(book, random, log),
+        10..=12 => wait(book, random, log),
+        13..=17 => trade(book, random, log),
+        18..=20 => remove(book, random, log),
+        21..=24 => change(book, random, log),
+        25 => set_prorated(book, random, log),
+        26..=27 => set_shown(book, random, log),
+        28..=30 => set_top(book, random, log),
+        _ => {
+            if random.is_one_in(8) {
+                clear(book, log);
+            }
+        }
+    }
+}
+
+/// The calls of a run on this book, and what it answers.
+fn run<B: Book>(alloc: Global, book: &mut B) -> Result<Log, AllocError>
+    requires { (B.book book.old).instruments ≡ INSTRUMENTS }
+{
+    let mut random = Random::new();
+    let mut log = Log::new(alloc)?;
+    for _step in 0..STEPS {
+        make_call(book, &mut random, &mut log);
+        read_numbers(book, &mut random, &mut log);
+        if random.is_one_in(8) {
+            read_orders(book, &mut log);
+        }
+    }
+    Ok(log)
+}
+
+#[test]
+fn both_books_give_the_same_answers(rt: HostRuntime) -> Result<(), Fail> {
+    let alloc = rt.alloc();
+    let mut book = PlainBook::new(alloc, CAPACITY, INSTRUMENTS)?;
+    let log = run(alloc, &mut book)?;
+    let mut book = LinkedBook::new(alloc, CAPACITY, INSTRUMENTS)?;
+    let other = run(alloc, &mut book)?;
+    for (place, (line, other)) in log.lines().iter().zip(other.lines()).enumerate() {
+        assert_eq!(rt; *line, *other, "line {place}");
+    }
+    assert_eq!(rt; log.lines().len(), other.lines().len());
+    assert!(rt; log.lines().len() < ROOM);
+    for (call, least) in LEAST {
+        let times = log.times(call);
+        assert!(rt; times >= least, "{call:?} is made {times} times");
+    }
+    Ok(())
+}
