@@ -1,5 +1,5 @@
 //! Inputs that end within their first frame, and inputs that no frame begins with.
-use super::{PRODUCT, bytes_of, ended, frames_of, run};
+use run_fixtures::{PRODUCT, bytes_of, ended, frames_of, run};
 use std::process::Abort;
 use std::test::Fail;
 

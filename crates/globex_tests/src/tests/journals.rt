@@ -2,12 +2,12 @@
 ghost use Rattle.std.specs.Prelude.{◌≤◌, length};
 
 use super::printed::execute;
-use super::{
-    ACCEPTED, DUPLICATE, FILLED, ORDER, PRODUCT, ROOM, SECOND_ACCEPTED, SECOND_FILLED,
-    SECOND_ORDER, ended, frames_of, join, push_frame, run, run_over, station_over,
-};
+use super::{ACCEPTED, DUPLICATE, FILLED, ORDER, SECOND_ACCEPTED, SECOND_FILLED, SECOND_ORDER};
 use globex_run::{Outcome, globex};
 use gx_station::{FileStation, MemSource, MemStation};
+use run_fixtures::{
+    PRODUCT, ROOM, ended, frames_of, join, push_frame, run, run_over, station_over,
+};
 use std::alloc::{AllocError, Global};
 use std::fs;
 use std::fs::OpenOptions;

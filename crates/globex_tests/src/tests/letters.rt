@@ -2,13 +2,13 @@
 ghost use Rattle.std.specs.Prelude.{◌≤◌};
 ghost use Rattle.order_kinds.specs.Cores.{FitsProduct};
 
-use super::{PRODUCT, frames_of};
 use fix_frame::{Framer, Next};
 use fix_request::read_request;
 use gx_base::{ByteEmit, Emit};
 use order_kinds::{Core, MOST_MESSAGES};
 use plain_book::{Book, PlainBook};
 use product_file::{Product, read_product};
+use run_fixtures::{PRODUCT, frames_of};
 use std::process::Abort;
 use std::test::Fail;
 

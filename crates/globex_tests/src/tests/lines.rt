@@ -1,10 +1,10 @@
 //! The longest line, byte by byte, and the text of a price fault.
-use super::bytes_of;
 use gx_base::{
     Event, Head, Kind, LONGEST_LINE, Life, Order, Price, PriceFault, ShortId, Side, Stamp,
     StepName, write_line,
 };
 use product_file::read_product;
+use run_fixtures::bytes_of;
 use std::test::Fail;
 
 /// An exchange, a firm and an instrument of 24 bytes each, with prices of 8 decimals.

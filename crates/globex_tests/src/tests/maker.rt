@@ -1,8 +1,8 @@
 //! The first messages that are made for a product, byte for byte.
-use super::{PRODUCT, join};
 use gx_station::{LEAST_READ, Source};
 use order_maker::MakerSource;
 use product_file::read_product;
+use run_fixtures::{PRODUCT, join};
 use std::test::Fail;
 
 /// The stream of three messages with the first state 1, with `|` for SOH.

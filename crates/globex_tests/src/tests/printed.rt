@@ -1,10 +1,8 @@
 //! What the commands print of the stored example and of made messages.
-use super::{
-    ACCEPTED, FILLED, ORDER, PRODUCT, SECOND_ACCEPTED, SECOND_FILLED, SECOND_ORDER, ended, join,
-    run_over, station_over,
-};
+use super::{ACCEPTED, FILLED, ORDER, SECOND_ACCEPTED, SECOND_FILLED, SECOND_ORDER};
 use globex_run::Outcome;
 use gx_station::{MemSource, MemStation};
+use run_fixtures::{PRODUCT, ended, join, run_over, station_over};
 use std::alloc::{AllocError, Global};
 use std::process::Abort;
 use std::test::Fail;

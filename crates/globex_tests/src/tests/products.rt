@@ -1,6 +1,6 @@
 //! Products that are refused, before the input is read: by which rule, and with which text.
-use super::{PRODUCT, ended, run};
 use product_file::read_product;
+use run_fixtures::{PRODUCT, ended, run};
 use std::alloc::{AllocError, Global};
 use std::process::Abort;
 use std::test::Fail;

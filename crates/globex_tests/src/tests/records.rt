@@ -1,8 +1,9 @@
 //! Journals in memory: two messages in one record, images that are opened or refused, and what failed calls leave.
 use super::journals::journal_of;
-use super::{ORDER, PRODUCT, ROOM, SECOND_ORDER, join, station_over};
+use super::{ORDER, SECOND_ORDER};
 use gx_station::Station;
 use match_journal::{AppendFault, Entry, EntryKind, Journal, StartFault};
+use run_fixtures::{PRODUCT, ROOM, join, station_over};
 use std::test::Fail;
 
 const LIMIT: u64 = 131_072;

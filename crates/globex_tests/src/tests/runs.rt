@@ -2,12 +2,10 @@
 ghost use Rattle.std.specs.Prelude.{◌≤◌};
 ghost use Rattle.std.specs.List.{AllByRecursion};
 
-use super::{
-    ACCEPTED, DUPLICATE, FILLED, ORDER, PRODUCT, SECOND_ACCEPTED, SECOND_FILLED, SECOND_ORDER,
-    ended, join, run, run_over, station_over,
-};
+use super::{ACCEPTED, DUPLICATE, FILLED, ORDER, SECOND_ACCEPTED, SECOND_FILLED, SECOND_ORDER};
 use globex_run::Outcome;
 use gx_station::MemSource;
+use run_fixtures::{PRODUCT, ended, join, run, run_over, station_over};
 use std::process::Abort;
 use std::test::Fail;
 

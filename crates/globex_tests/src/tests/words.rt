@@ -1,6 +1,6 @@
 //! Words that are a command, and words that are none.
-use super::words_of;
 use command_words::{Command, WordsFault, read_command};
+use run_fixtures::words_of;
 use std::alloc::Global;
 use std::test::Fail;
 

@@ -1,5 +1,6 @@
 //! What messages are answered that name nothing known, or break a session rule.
-use super::{Case, PRODUCT, expect_reports};
+use super::{Case, expect_reports};
+use run_fixtures::PRODUCT;
 use std::test::Fail;
 
 const UNKNOWN_ORDER_FIRM_AND_INSTRUMENT: [&str; 3] = [

@@ -1,5 +1,6 @@
 //! Stop limit orders: which a message triggers, in which order, and what they then trade.
-use super::{Case, PRODUCT, expect_reports};
+use super::{Case, expect_reports};
+use run_fixtures::PRODUCT;
 use std::test::Fail;
 
 /// A buy stop and a sell stop, and a buy that trades at 99.90 and at 100.05.

@@ -1,5 +1,6 @@
 //! What orders and cancels are answered, report by report.
-use super::{Case, PRODUCT, SMALL_PRODUCT, WIDE_TICK_PRODUCT, expect_reports};
+use super::{Case, SMALL_PRODUCT, WIDE_TICK_PRODUCT, expect_reports};
+use run_fixtures::PRODUCT;
 use std::test::Fail;
 
 const NUMBERS_AS_WRITTEN: [&str; 12] = [

@@ -1,5 +1,6 @@
 //! Orders of each kind and life: what they may trade, and where their rest goes.
-use super::{Case, PRODUCT, expect_reports};
+use super::{Case, expect_reports};
+use run_fixtures::PRODUCT;
 use std::test::Fail;
 
 /// A sell of 100 that shows 10, one of 20 behind it, and a buy of 45.

@@ -1,5 +1,6 @@
 //! Levels and books worked by hand: who gives how much, and in which step.
-use super::{Case, PRODUCT, expect_reports};
+use super::{Case, expect_reports};
+use run_fixtures::PRODUCT;
 use std::test::Fail;
 
 /// Pro rata, where a share of one lot is given, and then FIFO.
