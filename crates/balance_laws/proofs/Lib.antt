@@ -1,13 +1,13 @@
 -- Offered to the crates above: what they may cite.
 pub mod Streams
 pub mod Bounds
+pub mod Sweeps
+pub mod Entered
+pub mod Requests
 -- What the proofs of this crate alone cite.
 mod Events
 mod Growth
 mod Told
 mod Books
 mod Trades
-mod Sweeps
-mod Entered
-mod Requests
 mod Replaces

@@ -7,5 +7,3 @@ mod Texts
 mod Parts
 mod StepTexts
 mod OpenLots
-mod SideLevels
-mod OrderWalks

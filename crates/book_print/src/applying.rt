@@ -2,7 +2,7 @@
 ghost use Rattle.std.specs.Prelude.{◌≡◌, ◌+◌, ◌≤◌, length};
 ghost use Rattle.gx_base.specs.Emits.{Emits};
 ghost use Rattle.order_kinds.specs.declared.core_state.TheConstants.{MOST_MESSAGES};
-ghost use Rattle.order_kinds.specs.Cores.{FitsProduct, AreNumbered};
+ghost use Rattle.order_kinds.specs.Cores.{FitsProduct, AreNumbered, PutsEvents};
 ghost use Rattle.order_kinds.specs.State.{state_numbered};
 ghost use Rattle.order_kinds.specs.Step.{state_after, events_from};
 ghost use Rattle.book_print.specs.Publishers.{ArePassed};
@@ -15,7 +15,8 @@ use plain_book::Book;
 use product_file::Product;
 
 /// Applies the messages of the frames that a framer has given since it was fed, in their order, and puts their events: none
-/// where all are session messages. All are applied, also where a put has failed.
+/// where all are session messages. All are applied, also where a put has failed. Where the order numbers of the core differ,
+/// these are the steps of the engine; over any other core that fits, each message counts and some events are put.
 pub(crate) fn apply_given<B: Book, E: Emit>(
     core: &mut Core<B>,
     product: &Product,
@@ -24,13 +25,13 @@ pub(crate) fn apply_given<B: Book, E: Emit>(
 )
     requires few { core.old.desk.messages + length framer.now.given ≤ MOST_MESSAGES }
     requires fits { FitsProduct product.now core.old }
-    requires numbered { AreNumbered core.old }
-    ensures state { state_numbered core.new ≡ state_after product.now (state_numbered core.old) framer.now.given }
     ensures count { core.new.desk.messages ≡ core.old.desk.messages + length framer.now.given }
     ensures fits { FitsProduct product.now core.new }
-    ensures numbered { AreNumbered core.new }
-    ensures emits { Emits E.meanings out.old out.new (events_from product.now (state_numbered core.old) framer.now.given) }
+    ensures puts { PutsEvents E.meanings out.old out.new }
     ensures silent { ArePassed product.now framer.now.given → out.new ≡ out.old }
+    ensures numbered { AreNumbered core.old → AreNumbered core.new }
+    ensures state { AreNumbered core.old → state_numbered core.new ≡ state_after product.now (state_numbered core.old) framer.now.given }
+    ensures emits { AreNumbered core.old → Emits E.meanings out.old out.new (events_from product.now (state_numbered core.old) framer.now.given) }
 {
     for number in 0..framer.given_count() {
         let request = read_request(framer.given(number), product);

@@ -1,6 +1,7 @@
 //! What becomes of the events of messages: a publisher applies the messages, and sends or counts their events.
 ghost use Rattle.std.specs.Prelude.{◌≡◌, ◌+◌, ◌≤◌, [], length, IsTrue, IsOk, OnOk, flat_map};
-ghost use Rattle.gx_station.specs.Quiet.{Sends};
+ghost use Rattle.gx_station.specs.Counts.{HasCause};
+ghost use Rattle.gx_station.specs.Quiet.{Quiet, Sends};
 ghost use Rattle.order_kinds.specs.declared.core_state.TheConstants.{MOST_MESSAGES};
 ghost use Rattle.order_kinds.specs.Cores.{FitsProduct, AreNumbered};
 ghost use Rattle.order_kinds.specs.State.{state_numbered};
@@ -27,6 +28,9 @@ pub trait Publisher {
     /// Applies the messages of the frames that a framer has given since it was fed, in their order, and then sends what the
     /// publisher makes of all their events. Session messages have none: where all are such, the station is not called.
     /// `SendFault` comes only where the count of send faults rose; a part is sent then, and all messages are applied.
+    ///
+    /// Where the order numbers of the core differ, the state, what is sent and the publisher are those of the engine's
+    /// events. Over any other core that fits, the call only sends to the station, and counts the messages.
     fn publish<B: Book, S: Station>(
         &mut self,
         product: &Product,
@@ -37,17 +41,22 @@ pub trait Publisher {
     ) -> Result<(), SendFault>
         requires few { core.old.desk.messages + length framer.now.given ≤ MOST_MESSAGES }
         requires fits { FitsProduct product.now core.old }
-        requires numbered { AreNumbered core.old }
         requires empty { buffer.old ≡ [] }
-        ensures state { state_numbered core.new ≡ state_after product.now (state_numbered core.old) framer.now.given }
+
+        // Over any core that fits, nothing but sends happens to the station, and a fault comes with its count.
         ensures count { core.new.desk.messages ≡ core.old.desk.messages + length framer.now.given }
         ensures fits { FitsProduct product.now core.new }
-        ensures numbered { AreNumbered core.new }
-        ensures sends { Sends S.meanings station.old station.new (flat_map (meanings.text product.now.names) (events_from product.now (state_numbered core.old) framer.now.given)) result }
+        ensures quiet { Quiet S.meanings station.old station.new }
+        ensures cause { HasCause (S.meanings.send_faults station.old) (S.meanings.send_faults station.new) result }
         ensures silent { ArePassed product.now framer.now.given → IsOk result × (station.new ≡ station.old) }
         ensures never_sends { IsTrue meanings.is_silent → IsOk result × (station.new ≡ station.old) }
         ensures empty { OnOk result (buffer.new ≡ []) }
-        ensures after { OnOk result (self.new ≡ meanings.after self.old (events_from product.now (state_numbered core.old) framer.now.given)) };
+
+        // Where order numbers differ, these are the steps of the engine, and its events are sent or counted.
+        ensures numbered { AreNumbered core.old → AreNumbered core.new }
+        ensures state { AreNumbered core.old → state_numbered core.new ≡ state_after product.now (state_numbered core.old) framer.now.given }
+        ensures sends { AreNumbered core.old → Sends S.meanings station.old station.new (flat_map (meanings.text product.now.names) (events_from product.now (state_numbered core.old) framer.now.given)) result }
+        ensures after { AreNumbered core.old → OnOk result (self.new ≡ meanings.after self.old (events_from product.now (state_numbered core.old) framer.now.given)) };
 }
 
 /// Sends the report line of each event.

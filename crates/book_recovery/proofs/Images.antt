@@ -3,12 +3,10 @@ use Rattle.std.proofs.Common.{◌≡◌, ◌≢◌, ℕ, ◌+◌, ◌≤◌, Lis
 use Rattle.std.specs.Int.{w32, to_be_bytes}
 use Rattle.std.specs.List.{flat_map}
 use Rattle.std.proofs.lemmas.List.{take-append-drop, drop_at, drop-drop, get_or_at, append-nil, length-take-le}
-use Rattle.match_journal.specs.Journal.{IsJournal, IsPayload, journal_front, header, open_record}
+use Rattle.match_journal.specs.Journal.{IsJournal, IsRecord, Record, kind_byte, journal_front, header, open_record}
 use Rattle.match_journal.specs.Opening.{IsOpened}
-use Rattle.match_journal.specs.Walking.{IsHead, kind_byte}
+use Rattle.match_journal.specs.Walking.{IsHead}
 use Rattle.match_journal.specs.declared.entry.Entry.{Entry}
-use Rattle.match_journal.specs.declared.entry.EntryKind.{EntryKind}
-use Rattle.match_journal.specs.declared.entry.EntryKind.TheVariants as kind
 use Rattle.match_journal.specs.declared.limits.TheConstants.{LEAST_LIMIT}
 use Rattle.match_journal.proofs.Records.{journal_front-push, length-record, all-push}
 use Rattle.match_journal.proofs.Walked.{front-split, all-behind}
@@ -19,8 +17,8 @@ use Rattle.book_recovery.specs.BadPlaces.{BeginsWithRecords}
 pub length-first : (text : List ℕ) → length (journal_front text []) ≡ 13 + length text
 length-first text = omega (arith, length-append text (let none : List ℕ = [] in none))
 
-pub length-push : (text : List ℕ) (before : List (List ℕ)) (payload : List ℕ) → length (journal_front text (before ++ payload ∷ [])) ≡ length (journal_front text before) + 6 + length payload
-length-push text before payload = omega (arith, ap length (journal_front-push text before payload), length-append (journal_front text before) (open_record payload), length-record payload)
+pub length-push : (text : List ℕ) (before : List Record) (r : Record) → length (journal_front text (before ++ r ∷ [])) ≡ length (journal_front text before) + 6 + length r.payload
+length-push text before r = omega (arith, ap length (journal_front-push text before r), length-append (journal_front text before) (open_record r), length-record r)
 
 -- a good first gate and header
 pub opened_begins : (text : List ℕ) (limit : ℕ) (image : List ℕ) → IsOpened text image → LEAST_LIMIT ≤ limit → BeginsWithRecords text limit [] image
@@ -37,8 +35,8 @@ opened_begins text limit (x ∷ xs) opened least = record {
 }
 
 -- a journal begins with its records
-pub journal_begins : (text : List ℕ) (limit : ℕ) (payloads : List (List ℕ)) (image : List ℕ) → IsJournal text limit payloads image → BeginsWithRecords text limit payloads image
-journal_begins text limit payloads image journal = record {
+pub journal_begins : (text : List ℕ) (limit : ℕ) (records : List Record) (image : List ℕ) → IsJournal text limit records image → BeginsWithRecords text limit records image
+journal_begins text limit records image journal = record {
   rest = journal.gate ∷ journal.behind;
   is = journal.is;
   gate_inside = omega arith;
@@ -50,30 +48,27 @@ journal_begins text limit payloads image journal = record {
 gate_byte : (front : List ℕ) (image : List ℕ) (gate : ℕ) (behind : List ℕ) → image ≡ front ++ gate ∷ behind → get_or image (length front) 0 ≡ gate
 gate_byte front image gate behind is = ap (λ (l : List ℕ). get_or l (length front) 0) is ∙ get_or_at front gate behind 0 (length front) refl
 
-pub gate_closed : (text : List ℕ) (limit : ℕ) (payloads : List (List ℕ)) (image : List ℕ) → IsJournal text limit payloads image → get_or image (length (journal_front text payloads)) 0 ≢ 1
-gate_closed text limit payloads image journal one = journal.closed (sym (gate_byte (journal_front text payloads) image journal.gate journal.behind journal.is) ∙ one)
+pub gate_closed : (text : List ℕ) (limit : ℕ) (records : List Record) (image : List ℕ) → IsJournal text limit records image → get_or image (length (journal_front text records)) 0 ≢ 1
+gate_closed text limit records image journal one = journal.closed (sym (gate_byte (journal_front text records) image journal.gate journal.behind journal.is) ∙ one)
 
 -- no record follows
-pub begins_closed : (text : List ℕ) (limit : ℕ) (payloads : List (List ℕ)) (image : List ℕ) → BeginsWithRecords text limit payloads image → get_or image (length (journal_front text payloads)) 0 ≢ 1 → IsJournal text limit payloads image
-begins_closed text limit payloads image begins shut = closed begins.rest begins.is begins.gate_inside
+pub begins_closed : (text : List ℕ) (limit : ℕ) (records : List Record) (image : List ℕ) → BeginsWithRecords text limit records image → get_or image (length (journal_front text records)) 0 ≢ 1 → IsJournal text limit records image
+begins_closed text limit records image begins shut = closed begins.rest begins.is begins.gate_inside
   where
-    closed : (rest : List ℕ) → image ≡ journal_front text payloads ++ rest → 1 ≤ length rest → IsJournal text limit payloads image
+    closed : (rest : List ℕ) → image ≡ journal_front text records ++ rest → 1 ≤ length rest → IsJournal text limit records image
     closed [] is some = absurd (omega (arith, some))
     closed (gate ∷ behind) is some = record {
       gate = gate;
       behind = behind;
       is = is;
-      closed = λ one. shut (gate_byte (journal_front text payloads) image gate behind is ∙ one);
+      closed = λ one. shut (gate_byte (journal_front text records) image gate behind is ∙ one);
       sized = begins.sized;
       in_limit = begins.in_limit;
     }
 
 -- ---- one record more
 
-only_kind : (k : EntryKind) → kind_byte k ≡ 77
-only_kind kind.Frames = refl
-
-module _ (text : List ℕ) (limit : ℕ) (before : List (List ℕ)) (image : List ℕ) (begins : BeginsWithRecords text limit before image) (entry : Entry) (head : IsHead image limit (length (journal_front text before)) entry) where
+module _ (text : List ℕ) (limit : ℕ) (before : List Record) (image : List ℕ) (begins : BeginsWithRecords text limit before image) (entry : Entry) (head : IsHead image limit (length (journal_front text before)) entry) where
   abbrev gate : ℕ
   gate = length (journal_front text before)
 
@@ -83,67 +78,70 @@ module _ (text : List ℕ) (limit : ℕ) (before : List (List ℕ)) (image : Lis
   abbrev tail : List ℕ
   tail = drop entry.length (drop (gate + 6) image)
 
+  -- the record that stands there
+  abbrev pub record_there : Record
+  record_there = record { kind = entry.kind; payload = payload }
+
   pub payload_size : length payload ≡ entry.length
   payload_size = length-take-le entry.length (drop (gate + 6) image) (omega (arith, length-drop (gate + 6) image, head.fits.inside, head.at_is))
 
   at_gate : drop gate image ≡ begins.rest
   at_gate = ap (drop gate) begins.is ∙ drop_at (journal_front text before) begins.rest gate refl
 
-  head_is : take 6 begins.rest ≡ 1 ∷ 77 ∷ to_be_bytes w32 (length payload)
-  head_is =
-      ap (take 6) (sym at_gate)
-      ∙ head.stands
-      ∙ ap (λ k. 1 ∷ k ∷ to_be_bytes w32 entry.length) (only_kind entry.kind)
-      ∙ ap (λ n. 1 ∷ 77 ∷ to_be_bytes w32 n) (sym payload_size)
+  abbrev head_bytes : ℕ → List ℕ
+  head_bytes n = 1 ∷ kind_byte entry.kind ∷ to_be_bytes w32 n
+
+  head_is : take 6 begins.rest ≡ head_bytes (length payload)
+  head_is = ap (take 6) (sym at_gate) ∙ head.stands ∙ ap head_bytes (sym payload_size)
 
   behind_head : drop 6 begins.rest ≡ payload ++ tail
   behind_head = ap (drop 6) (sym at_gate) ∙ drop-drop 6 gate image ∙ sym (take-append-drop entry.length (drop (gate + 6) image))
 
-  rest_is : begins.rest ≡ open_record payload ++ tail
+  rest_is : begins.rest ≡ open_record record_there ++ tail
   rest_is =
       sym (take-append-drop 6 begins.rest)
       ∙ ap (λ (l : List ℕ). l ++ drop 6 begins.rest) head_is
-      ∙ ap (λ (l : List ℕ). (1 ∷ 77 ∷ to_be_bytes w32 (length payload)) ++ l) behind_head
-      ∙ sym (append_assoc (1 ∷ 77 ∷ to_be_bytes w32 (length payload)) payload tail)
+      ∙ ap (λ (l : List ℕ). head_bytes (length payload) ++ l) behind_head
+      ∙ sym (append_assoc (head_bytes (length payload)) payload tail)
 
-  pub begins_more : BeginsWithRecords text limit (before ++ payload ∷ []) image
+  pub begins_more : BeginsWithRecords text limit (before ++ record_there ∷ []) image
   begins_more = record {
     rest = tail;
     is =
         begins.is
         ∙ ap (λ (l : List ℕ). journal_front text before ++ l) rest_is
-        ∙ sym (append_assoc (journal_front text before) (open_record payload) tail)
-        ∙ ap (λ (l : List ℕ). l ++ tail) (sym (journal_front-push text before payload));
+        ∙ sym (append_assoc (journal_front text before) (open_record record_there) tail)
+        ∙ ap (λ (l : List ℕ). l ++ tail) (sym (journal_front-push text before record_there));
     gate_inside = omega (arith, length-drop entry.length (drop (gate + 6) image), length-drop (gate + 6) image, head.fits.inside, head.at_is);
-    sized = all-push IsPayload before payload begins.sized record { some = omega (arith, payload_size, head.fits.some); few = omega (arith, payload_size, head.fits.few) };
-    in_limit = omega (arith, length-push text before payload, payload_size, head.fits.in_limit, head.at_is);
+    sized = all-push IsRecord before record_there begins.sized record { some = omega (arith, payload_size, head.fits.some); few = omega (arith, payload_size, head.fits.few) };
+    in_limit = omega (arith, length-push text before record_there, payload_size, head.fits.in_limit, head.at_is);
   }
 
 -- ---- the head of each record is good
 
-module _ (text : List ℕ) (limit : ℕ) (before : List (List ℕ)) (payload : List ℕ) (more : List (List ℕ)) (image : List ℕ) (begins : BeginsWithRecords text limit (before ++ payload ∷ more) image) where
+module _ (text : List ℕ) (limit : ℕ) (before : List Record) (r : Record) (more : List Record) (image : List ℕ) (begins : BeginsWithRecords text limit (before ++ r ∷ more) image) where
   abbrev entry_at : ℕ
   entry_at = length (journal_front text before)
 
-  split : image ≡ journal_front text before ++ (flat_map open_record (payload ∷ more) ++ begins.rest)
+  split : image ≡ journal_front text before ++ (flat_map open_record (r ∷ more) ++ begins.rest)
   split =
       begins.is
-      ∙ ap (λ (l : List ℕ). l ++ begins.rest) (front-split text before (payload ∷ more))
-      ∙ append_assoc (journal_front text before) (flat_map open_record (payload ∷ more)) begins.rest
+      ∙ ap (λ (l : List ℕ). l ++ begins.rest) (front-split text before (r ∷ more))
+      ∙ append_assoc (journal_front text before) (flat_map open_record (r ∷ more)) begins.rest
 
-  right : IsPayload payload
-  right = (all-behind IsPayload before (payload ∷ more) begins.sized).0
+  right : IsRecord r
+  right = (all-behind IsRecord before (r ∷ more) begins.sized).0
 
-  pub good_head : IsHead image limit entry_at (record { at = entry_at; kind = kind.Frames; length = length payload })
+  pub good_head : IsHead image limit entry_at (record { at = entry_at; kind = r.kind; length = length r.payload })
   good_head =
-      let records : length (flat_map open_record (payload ∷ more)) ≡ length payload + 6 + length (flat_map open_record more) = omega (arith, length-append (open_record payload) (flat_map open_record more), length-record payload) in
+      let long : length (flat_map open_record (r ∷ more)) ≡ length r.payload + 6 + length (flat_map open_record more) = omega (arith, length-append (open_record r) (flat_map open_record more), length-record r) in
       record {
         at_is = refl;
-        stands = ap (take 6) (ap (drop entry_at) split ∙ drop_at (journal_front text before) (flat_map open_record (payload ∷ more) ++ begins.rest) entry_at refl);
+        stands = ap (take 6) (ap (drop entry_at) split ∙ drop_at (journal_front text before) (flat_map open_record (r ∷ more) ++ begins.rest) entry_at refl);
         fits = record {
           some = right.some;
           few = right.few;
-          inside = omega (arith, records, ap length split, length-append (journal_front text before) (flat_map open_record (payload ∷ more) ++ begins.rest), length-append (flat_map open_record (payload ∷ more)) begins.rest, begins.gate_inside);
-          in_limit = omega (arith, records, begins.in_limit, ap length (front-split text before (payload ∷ more)), length-append (journal_front text before) (flat_map open_record (payload ∷ more)));
+          inside = omega (arith, long, ap length split, length-append (journal_front text before) (flat_map open_record (r ∷ more) ++ begins.rest), length-append (flat_map open_record (r ∷ more)) begins.rest, begins.gate_inside);
+          in_limit = omega (arith, long, begins.in_limit, ap length (front-split text before (r ∷ more)), length-append (journal_front text before) (flat_map open_record (r ∷ more)));
         };
       }

@@ -6,6 +6,8 @@ pub mod Applying
 pub mod Replaying
 -- What the proofs of this crate alone cite.
 mod Looks
+mod Starting
 mod Passes
 mod Counting
 mod Reading
+mod TrueImages

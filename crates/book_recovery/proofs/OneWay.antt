@@ -1,13 +1,13 @@
 -- One answer of a recovery fits an image.
-use Rattle.std.proofs.Common.{◌≡◌, ◌≢◌, ◌⊎◌, inl, inr, ⊎_elim, ℕ, List, [], ◌∷◌, ◌++◌, length, get_or, take, drop, Option, Some, None, Result, Ok, Err, refl, sym, subst, ◌∙◌, ap, arith, append_assoc, append-nil}
+use Rattle.std.proofs.Common.{◌≡◌, ◌≢◌, ◌⊎◌, inl, inr, ⊎_elim, ℕ, List, [], ◌∷◌, ◌++◌, length, get_or, take, drop, Option, Some, None, Result, Ok, Err, refl, sym, subst, ◌∙◌, ap, append_assoc, append-nil}
 use Rattle.std.specs.List.{flat_map, AllByRecursion}
 use Rattle.std.proofs.lemmas.List.{append_cancel_left}
-use Rattle.match_journal.specs.Journal.{IsJournal, IsPayload, journal_front, header, open_record}
+use Rattle.match_journal.specs.Journal.{IsJournal, IsRecord, Record, journal_front, header, open_record}
 use Rattle.match_journal.specs.Walking.{IsHead, IsBadHead}
 use Rattle.match_journal.specs.declared.entry.Entry.{Entry}
 use Rattle.match_journal.specs.declared.faults.WalkFault.{WalkFault}
-use Rattle.match_journal.proofs.Walked.{one_size}
-use Rattle.match_journal.proofs.Unique.{same_front, one_walk, one_keeping}
+use Rattle.match_journal.proofs.Walked.{one_size, one_kind, below}
+use Rattle.match_journal.proofs.Unique.{same_front, one_record, one_walk, one_keeping}
 use Rattle.product_file.specs.Products.{ProductLists}
 use Rattle.order_kinds.specs.State.{State}
 use Rattle.book_recovery.specs.Kept.{IsWhole, AreWhole, messages_in}
@@ -20,23 +20,24 @@ use Rattle.book_recovery.proofs.Images.{journal_begins, gate_closed, good_head}
 
 -- ---- of the records with which one image begins, some lists are the front of others
 
-abbrev IsBehind : List (List ℕ) → List (List ℕ) → Type 0
-IsBehind xs ys = (more : List (List ℕ)) × (ys ≡ xs ++ more)
+abbrev IsBehind : List Record → List Record → Type 0
+IsBehind xs ys = (more : List Record) × (ys ≡ xs ++ more)
 
-cons_behind : (p q : List ℕ) (ps qs : List (List ℕ)) → p ≡ q → IsBehind ps qs → IsBehind (p ∷ ps) (q ∷ qs)
-cons_behind p q ps qs same (more, is) = (more, ap (λ (l : List (List ℕ)). q ∷ l) is ∙ ap (λ (x : List ℕ). x ∷ (ps ++ more)) (sym same))
+cons_behind : (p q : Record) (ps qs : List Record) → p ≡ q → IsBehind ps qs → IsBehind (p ∷ ps) (q ∷ qs)
+cons_behind p q ps qs same (more, is) = (more, ap (λ (l : List Record). q ∷ l) is ∙ ap (λ (x : Record). x ∷ (ps ++ more)) (sym same))
 
-along : (ps qs : List (List ℕ)) (x y : List ℕ) → AllByRecursion IsPayload ps → AllByRecursion IsPayload qs → flat_map open_record ps ++ x ≡ flat_map open_record qs ++ y → IsBehind ps qs ⊎ IsBehind qs ps
+along : (ps qs : List Record) (x y : List ℕ) → AllByRecursion IsRecord ps → AllByRecursion IsRecord qs → flat_map open_record ps ++ x ≡ flat_map open_record qs ++ y → IsBehind ps qs ⊎ IsBehind qs ps
 along [] qs x y sized sized' e = inl (qs, refl)
 along (p ∷ ps) [] x y sized sized' e = inr (p ∷ ps, refl)
 along (p ∷ ps) (q ∷ qs) x y sized sized' e =
-    let size : length p ≡ length q = one_size (length p) (length q) (omega (arith, sized.0.few)) (omega (arith, sized'.0.few)) (ap (λ (l : List ℕ). take 4 (drop 2 l)) e) in
-    let rest : p ++ (flat_map open_record ps ++ x) ≡ q ++ (flat_map open_record qs ++ y) =
-    sym (append_assoc p (flat_map open_record ps) x) ∙ ap (drop 6) e ∙ append_assoc q (flat_map open_record qs) y in
-    let both = same_front p q _ _ size rest in
-    ⊎_elim (λ b. inl (cons_behind p q ps qs both.0 b)) (λ b. inr (cons_behind q p qs ps (sym both.0) b)) (along ps qs x y sized.1 sized'.1 both.1)
+    let size : length p.payload ≡ length q.payload = one_size (length p.payload) (length q.payload) (below p.kind (length p.payload) sized.0.few) (below q.kind (length q.payload) sized'.0.few) (ap (λ (l : List ℕ). take 4 (drop 2 l)) e) in
+    let rest : p.payload ++ (flat_map open_record ps ++ x) ≡ q.payload ++ (flat_map open_record qs ++ y) =
+    sym (append_assoc p.payload (flat_map open_record ps) x) ∙ ap (drop 6) e ∙ append_assoc q.payload (flat_map open_record qs) y in
+    let both = same_front p.payload q.payload _ _ size rest in
+    let same = one_record p q (one_kind p.kind q.kind (ap (λ (l : List ℕ). get_or l 1 0) e)) both.0 in
+    ⊎_elim (λ b. inl (cons_behind p q ps qs same b)) (λ b. inr (cons_behind q p qs ps (sym same) b)) (along ps qs x y sized.1 sized'.1 both.1)
 
-begins_along : (text : List ℕ) (limit : ℕ) (ps qs : List (List ℕ)) (image : List ℕ) → BeginsWithRecords text limit ps image → BeginsWithRecords text limit qs image → IsBehind ps qs ⊎ IsBehind qs ps
+begins_along : (text : List ℕ) (limit : ℕ) (ps qs : List Record) (image : List ℕ) → BeginsWithRecords text limit ps image → BeginsWithRecords text limit qs image → IsBehind ps qs ⊎ IsBehind qs ps
 begins_along text limit ps qs image a b =
     along ps qs a.rest b.rest a.sized b.sized (append_cancel_left (1 ∷ header text) _ _
     (sym (append_assoc (1 ∷ header text) (flat_map open_record ps) a.rest) ∙ sym a.is ∙ b.is ∙ append_assoc (1 ∷ header text) (flat_map open_record qs) b.rest))
@@ -44,14 +45,14 @@ begins_along text limit ps qs image a b =
 -- ---- the place of a bad head
 
 -- none stands where a record follows
-followed : (text : List ℕ) (limit : ℕ) (image : List ℕ) (at : ℕ) (bad : HasBadHeadAt text limit image at) (p : List ℕ) (more : List (List ℕ)) → BeginsWithRecords text limit (bad.before ++ p ∷ more) image → ⊥
+followed : (text : List ℕ) (limit : ℕ) (image : List ℕ) (at : ℕ) (bad : HasBadHeadAt text limit image at) (p : Record) (more : List Record) → BeginsWithRecords text limit (bad.before ++ p ∷ more) image → ⊥
 followed text limit image at bad p more begins = bad.bad.no_head _ (good_head text limit bad.before p more image begins)
 
 same_place : (text : List ℕ) (limit : ℕ) (image : List ℕ) (at at' : ℕ) (a : HasBadHeadAt text limit image at) (b : HasBadHeadAt text limit image at') → IsBehind a.before b.before → at ≡ at'
 same_place text limit image at at' a b ([], is) =
-    a.bad.at_is ∙ ap (λ (l : List (List ℕ)). length (journal_front text l)) (sym (is ∙ append-nil a.before)) ∙ sym b.bad.at_is
+    a.bad.at_is ∙ ap (λ (l : List Record). length (journal_front text l)) (sym (is ∙ append-nil a.before)) ∙ sym b.bad.at_is
 same_place text limit image at at' a b (p ∷ more, is) =
-    absurd (followed text limit image at a p more (subst (λ (l : List (List ℕ)). BeginsWithRecords text limit l image) is b.begins))
+    absurd (followed text limit image at a p more (subst (λ (l : List Record). BeginsWithRecords text limit l image) is b.begins))
 
 one_bad_head : (text : List ℕ) (limit : ℕ) (image : List ℕ) (at at' : ℕ) → HasBadHeadAt text limit image at → HasBadHeadAt text limit image at' → at ≡ at'
 one_bad_head text limit image at at' a b =
@@ -65,36 +66,36 @@ not_both image limit gate entry head shut =
     cc same
 
 -- a journal has no bad head
-bad_behind : (text : List ℕ) (limit : ℕ) (ps : List (List ℕ)) (image : List ℕ) (at : ℕ) → IsJournal text limit ps image → (bad : HasBadHeadAt text limit image at) → IsBehind ps bad.before → ⊥
+bad_behind : (text : List ℕ) (limit : ℕ) (ps : List Record) (image : List ℕ) (at : ℕ) → IsJournal text limit ps image → (bad : HasBadHeadAt text limit image at) → IsBehind ps bad.before → ⊥
 bad_behind text limit ps image at journal bad ([], is) =
-    gate_closed text limit ps image journal (ap (λ (l : List (List ℕ)). get_or image (length (journal_front text l)) 0) (sym (is ∙ append-nil ps)) ∙ bad.bad.opened)
+    gate_closed text limit ps image journal (ap (λ (l : List Record). get_or image (length (journal_front text l)) 0) (sym (is ∙ append-nil ps)) ∙ bad.bad.opened)
 bad_behind text limit ps image at journal bad (p ∷ more, is) =
-    not_both image limit (length (journal_front text ps)) _ (good_head text limit ps p more image (subst (λ (l : List (List ℕ)). BeginsWithRecords text limit l image) is bad.begins)) (gate_closed text limit ps image journal)
+    not_both image limit (length (journal_front text ps)) _ (good_head text limit ps p more image (subst (λ (l : List Record). BeginsWithRecords text limit l image) is bad.begins)) (gate_closed text limit ps image journal)
 
-bad_before : (text : List ℕ) (limit : ℕ) (ps : List (List ℕ)) (image : List ℕ) (at : ℕ) → IsJournal text limit ps image → (bad : HasBadHeadAt text limit image at) → IsBehind bad.before ps → ⊥
+bad_before : (text : List ℕ) (limit : ℕ) (ps : List Record) (image : List ℕ) (at : ℕ) → IsJournal text limit ps image → (bad : HasBadHeadAt text limit image at) → IsBehind bad.before ps → ⊥
 bad_before text limit ps image at journal bad ([], is) = bad_behind text limit ps image at journal bad ([], sym (append-nil ps ∙ is ∙ append-nil bad.before))
 bad_before text limit ps image at journal bad (p ∷ more, is) =
-    followed text limit image at bad p more (subst (λ (l : List (List ℕ)). BeginsWithRecords text limit l image) is (journal_begins text limit ps image journal))
+    followed text limit image at bad p more (subst (λ (l : List Record). BeginsWithRecords text limit l image) is (journal_begins text limit ps image journal))
 
-no_bad_head : (text : List ℕ) (limit : ℕ) (ps : List (List ℕ)) (image : List ℕ) (at : ℕ) → IsJournal text limit ps image → HasBadHeadAt text limit image at → ⊥
+no_bad_head : (text : List ℕ) (limit : ℕ) (ps : List Record) (image : List ℕ) (at : ℕ) → IsJournal text limit ps image → HasBadHeadAt text limit image at → ⊥
 no_bad_head text limit ps image at journal bad =
     ⊎_elim (λ t. bad_behind text limit ps image at journal bad t) (λ t. bad_before text limit ps image at journal bad t) (begins_along text limit ps bad.before image (journal_begins text limit ps image journal) bad.begins)
 
 -- ---- the place of a bad payload
 
-one_journal : (text : List ℕ) (limit : ℕ) (image : List ℕ) (ps qs : List (List ℕ)) → IsJournal text limit ps image → IsJournal text limit qs image → ps ≡ qs
+one_journal : (text : List ℕ) (limit : ℕ) (image : List ℕ) (ps qs : List Record) → IsJournal text limit ps image → IsJournal text limit qs image → ps ≡ qs
 one_journal text limit image ps qs a b = one_keeping text limit image ps qs (inl a) (inl b)
 
-not_all_whole : (before : List (List ℕ)) (p : List ℕ) (more : List (List ℕ)) → AreWhole (before ++ p ∷ more) → IsWhole p
+not_all_whole : (before : List Record) (p : Record) (more : List Record) → AreWhole (before ++ p ∷ more) → IsWhole p
 not_all_whole [] p more all = all.0
 not_all_whole (x ∷ before) p more all = not_all_whole before p more all.1
 
-no_bad_payload : (text : List ℕ) (limit : ℕ) (ps : List (List ℕ)) (image : List ℕ) (at : ℕ) → IsJournal text limit ps image → AreWhole ps → HasBadPayloadAt text limit image at → ⊥
+no_bad_payload : (text : List ℕ) (limit : ℕ) (ps : List Record) (image : List ℕ) (at : ℕ) → IsJournal text limit ps image → AreWhole ps → HasBadPayloadAt text limit image at → ⊥
 no_bad_payload text limit ps image at journal whole bad =
-    bad.not_whole (not_all_whole bad.before bad.payload bad.behind (subst AreWhole (one_journal text limit image ps (bad.before ++ bad.payload ∷ bad.behind) journal bad.heads) whole))
+    bad.not_whole (not_all_whole bad.before bad.bad bad.behind (subst AreWhole (one_journal text limit image ps (bad.before ++ bad.bad ∷ bad.behind) journal bad.heads) whole))
 
 -- the first list up to one that is not whole
-first_broken : (xs ys : List (List ℕ)) (p q : List ℕ) (more more' : List (List ℕ)) → AreWhole xs → AreWhole ys → (IsWhole p → ⊥) → (IsWhole q → ⊥) → xs ++ p ∷ more ≡ ys ++ q ∷ more' → xs ≡ ys
+first_broken : (xs ys : List Record) (p q : Record) (more more' : List Record) → AreWhole xs → AreWhole ys → (IsWhole p → ⊥) → (IsWhole q → ⊥) → xs ++ p ∷ more ≡ ys ++ q ∷ more' → xs ≡ ys
 first_broken [] [] p q more more' all all' broken broken' e = refl
 first_broken [] (y ∷ ys) p q more more' all all' broken broken' e = let same : p ≡ y = cc e in absurd (broken (subst IsWhole (sym same) all'.0))
 first_broken (x ∷ xs) [] p q more more' all all' broken broken' e = let same : x ≡ q = cc e in absurd (broken' (subst IsWhole same all.0))
@@ -106,9 +107,9 @@ first_broken (x ∷ xs) (y ∷ ys) p q more more' all all' broken broken' e =
 
 one_bad_payload : (text : List ℕ) (limit : ℕ) (image : List ℕ) (at at' : ℕ) → HasBadPayloadAt text limit image at → HasBadPayloadAt text limit image at' → at ≡ at'
 one_bad_payload text limit image at at' a b =
-    let same = first_broken a.before b.before a.payload b.payload a.behind b.behind a.whole b.whole a.not_whole b.not_whole
-    (one_journal text limit image (a.before ++ a.payload ∷ a.behind) (b.before ++ b.payload ∷ b.behind) a.heads b.heads) in
-    a.place ∙ ap (λ (l : List (List ℕ)). length (journal_front text l)) same ∙ sym b.place
+    let same = first_broken a.before b.before a.bad b.bad a.behind b.behind a.whole b.whole a.not_whole b.not_whole
+    (one_journal text limit image (a.before ++ a.bad ∷ a.behind) (b.before ++ b.bad ∷ b.behind) a.heads b.heads) in
+    a.place ∙ ap (λ (l : List Record). length (journal_front text l)) same ∙ sym b.place
 
 -- ---- one answer
 
@@ -118,16 +119,16 @@ one_place text limit image at at' (inl a) (inr b) = absurd (no_bad_head text lim
 one_place text limit image at at' (inr a) (inl b) = absurd (no_bad_head text limit _ image at' a.heads b)
 one_place text limit image at at' (inr a) (inr b) = one_bad_payload text limit image at at' a b
 
--- a journal of whole payloads has none
-pub no_bad_place : (text : List ℕ) (limit : ℕ) (payloads : List (List ℕ)) (image : List ℕ) (at : ℕ) → IsJournal text limit payloads image → AreWhole payloads → IsBadPlace text limit image at → ⊥
-no_bad_place text limit payloads image at journal whole (inl bad) = no_bad_head text limit payloads image at journal bad
-no_bad_place text limit payloads image at journal whole (inr bad) = no_bad_payload text limit payloads image at journal whole bad
+-- a journal of whole records has none
+pub no_bad_place : (text : List ℕ) (limit : ℕ) (records : List Record) (image : List ℕ) (at : ℕ) → IsJournal text limit records image → AreWhole records → IsBadPlace text limit image at → ⊥
+no_bad_place text limit records image at journal whole (inl bad) = no_bad_head text limit records image at journal bad
+no_bad_place text limit records image at journal whole (inr bad) = no_bad_payload text limit records image at journal whole bad
 
 module _ (product : ProductLists) (text image : List ℕ) (limit gate gate' : ℕ) (state state' : State) where
   same_recovered : (r r' : Recovered) → IsRecovered product text limit image gate state r → IsRecovered product text limit image gate' state' r' → r ≡ r'
   same_recovered r r' a b =
-      let same = one_journal text limit image a.payloads b.payloads a.journal.journal b.journal.journal in
-      let messages : r.messages ≡ r'.messages = a.messages ∙ ap (λ (l : List (List ℕ)). length (messages_in l)) same ∙ sym b.messages in
+      let same = one_journal text limit image a.records b.records a.journal.journal b.journal.journal in
+      let messages : r.messages ≡ r'.messages = a.messages ∙ ap (λ (l : List Record). length (messages_in l)) same ∙ sym b.messages in
       let entries : r.entries ≡ r'.entries = a.entries ∙ ap length same ∙ sym b.entries in
       let image_at : r.image_at ≡ r'.image_at = a.image_at ∙ sym b.image_at in
       λ i. record { messages = messages i; entries = entries i; image_at = image_at i }
@@ -136,26 +137,26 @@ module _ (product : ProductLists) (text image : List ℕ) (limit gate gate' : �
   one_recovery (Err fault.Store) b x y told told' = absurd (told refl)
   one_recovery (Ok r) (Err fault.Store) x y told told' = absurd (told' refl)
   one_recovery (Ok r) (Ok r') x y told told' = ap Ok (same_recovered r r' x y)
-  one_recovery (Ok r) (Err (fault.Bad at)) x y told told' = absurd (no_bad_place text limit x.payloads image at x.journal.journal x.whole y)
+  one_recovery (Ok r) (Err (fault.Bad at)) x y told told' = absurd (no_bad_place text limit x.records image at x.journal.journal x.whole y)
   one_recovery (Err (fault.Bad at)) (Err fault.Store) x y told told' = absurd (told' refl)
-  one_recovery (Err (fault.Bad at)) (Ok r) x y told told' = absurd (no_bad_place text limit y.payloads image at y.journal.journal y.whole x)
+  one_recovery (Err (fault.Bad at)) (Ok r) x y told told' = absurd (no_bad_place text limit y.records image at y.journal.journal y.whole x)
   one_recovery (Err (fault.Bad at)) (Err (fault.Bad at')) x y told told' = ap (λ k. Err (fault.Bad k)) (one_place text limit image at at' x y)
 
 -- ---- the first bad record, for who reads each whole
 
--- of these payloads the last is whole
-last_whole : (before : List (List ℕ)) (payload : List ℕ) (more : List (List ℕ)) → AreWhole ((before ++ payload ∷ []) ++ more) → IsWhole payload
-last_whole [] payload more whole = whole.0
-last_whole (x ∷ before) payload more whole = last_whole before payload more whole.1
+-- of these records the last is whole
+last_whole : (before : List Record) (r : Record) (more : List Record) → AreWhole ((before ++ r ∷ []) ++ more) → IsWhole r
+last_whole [] r more whole = whole.0
+last_whole (x ∷ before) r more whole = last_whole before r more whole.1
 
--- a journal of whole payloads has no bad record
-pub no_bad_record : (text : List ℕ) (limit : ℕ) (ps : List (List ℕ)) (image : List ℕ) (at : ℕ) → IsJournal text limit ps image → AreWhole ps → HasBadRecordAt text limit image at → ⊥
+-- a journal of whole records has no bad record
+pub no_bad_record : (text : List ℕ) (limit : ℕ) (ps : List Record) (image : List ℕ) (at : ℕ) → IsJournal text limit ps image → AreWhole ps → HasBadRecordAt text limit image at → ⊥
 no_bad_record text limit ps image at journal whole bad =
     ⊎_elim
     (λ head. no_bad_head text limit ps image at journal (record { before = bad.before; begins = bad.first.begins; bad = subst (λ (g : ℕ). IsBadHead image limit g at) bad.place head }))
-    (λ behind. ⊎_elim (λ more. past behind more) (λ more. behind.not_whole (last_whole bad.before behind.payload more.0 (subst AreWhole more.1 whole))) (begins_along text limit ps (bad.before ++ behind.payload ∷ []) image (journal_begins text limit ps image journal) behind.begins))
+    (λ behind. ⊎_elim (λ more. past behind more) (λ more. behind.not_whole (last_whole bad.before behind.bad more.0 (subst AreWhole more.1 whole))) (begins_along text limit ps (bad.before ++ behind.bad ∷ []) image (journal_begins text limit ps image journal) behind.begins))
     bad.bad
   where
-    past : (behind : HasBadPayloadBehind text limit bad.before image) → IsBehind ps (bad.before ++ behind.payload ∷ []) → ⊥
-    past behind ([], is) = behind.not_whole (last_whole bad.before behind.payload [] (subst AreWhole (sym (append-nil ps) ∙ sym is ∙ sym (append-nil (bad.before ++ behind.payload ∷ []))) whole))
-    past behind (p ∷ more, is) = not_both image limit (length (journal_front text ps)) _ (good_head text limit ps p more image (subst (λ (l : List (List ℕ)). BeginsWithRecords text limit l image) is behind.begins)) (gate_closed text limit ps image journal)
+    past : (behind : HasBadPayloadBehind text limit bad.before image) → IsBehind ps (bad.before ++ behind.bad ∷ []) → ⊥
+    past behind ([], is) = behind.not_whole (last_whole bad.before behind.bad [] (subst AreWhole (sym (append-nil ps) ∙ sym is ∙ sym (append-nil (bad.before ++ behind.bad ∷ []))) whole))
+    past behind (p ∷ more, is) = not_both image limit (length (journal_front text ps)) _ (good_head text limit ps p more image (subst (λ (l : List Record). BeginsWithRecords text limit l image) is behind.begins)) (gate_closed text limit ps image journal)

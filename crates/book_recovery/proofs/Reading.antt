@@ -3,9 +3,11 @@ use Rattle.std.proofs.Common.{◌≡◌, ◌≢◌, inl, inr, ℕ, ◌+◌, List
 use Rattle.std.specs.List.{concat}
 use Rattle.fix_frame.specs.Stream.{messages_of, rest_of}
 use Rattle.fix_frame.specs.StreamLaws.{concat-messages_of-whole}
-use Rattle.match_journal.specs.Journal.{IsJournal, journal_front}
+use Rattle.match_journal.specs.Journal.{IsJournal, Record, frames_record, journal_front}
+use Rattle.match_journal.specs.declared.entry.EntryKind.TheVariants.{Frames}
 use Rattle.match_journal.specs.Walking.{IsHead, IsBadHead}
 use Rattle.match_journal.specs.declared.entry.Entry.{Entry}
+use Rattle.book_recovery.specs.Kept.{IsWhole}
 use Rattle.book_recovery.specs.BadPlaces.{BeginsWithRecords, AreFirstRecords}
 use Rattle.book_recovery.specs.Inner.Reading.{IsOneMore, IsBadBehind}
 use Rattle.book_recovery.proofs.Images.{length-push, payload_size, begins_more, begins_closed}
@@ -22,7 +24,7 @@ module _ (payload : List ℕ) (given behind : List (List ℕ)) (none_before : gi
   pub given_are_all : behind ≡ messages_of (concat behind)
   given_are_all = messages_given ∙ ap messages_of (sym payload_given)
 
-module _ (text : List ℕ) (limit : ℕ) (image : List ℕ) (before : List (List ℕ)) (first : AreFirstRecords text limit before image) (gate : ℕ) (place : gate ≡ length (journal_front text before)) where
+module _ (text : List ℕ) (limit : ℕ) (image : List ℕ) (before : List Record) (first : AreFirstRecords text limit before image) (gate : ℕ) (place : gate ≡ length (journal_front text before)) where
   pub closed_behind : get_or image gate 0 ≢ 1 → IsJournal text limit before image
   closed_behind shut = begins_closed text limit before image first.begins (subst (λ k. get_or image k 0 ≢ 1) place shut)
 
@@ -39,20 +41,29 @@ module _ (text : List ℕ) (limit : ℕ) (image : List ℕ) (before : List (List
     same : payload ≡ take entry.length (drop (length (journal_front text before) + 6) image)
     same = is ∙ ap (λ k. take entry.length (drop (k + 6) image)) (head.at_is ∙ place)
 
-    more : BeginsWithRecords text limit (before ++ payload ∷ []) image
-    more = subst (λ (p : List ℕ). BeginsWithRecords text limit (before ++ p ∷ []) image) (sym same) (begins_more text limit before image first.begins entry head_behind)
+    abbrev there : Record
+    there = record { kind = entry.kind; payload = payload }
+
+    more : BeginsWithRecords text limit (before ++ there ∷ []) image
+    more = subst (λ (p : List ℕ). BeginsWithRecords text limit (before ++ (record { kind = entry.kind; payload = p }) ∷ []) image) (sym same) (begins_more text limit before image first.begins entry head_behind)
 
     size : length payload ≡ entry.length
     size = ap length same ∙ payload_size text limit before image first.begins entry head_behind
 
-    pub one_more : (next : ℕ) → rest_of payload ≡ [] → next ≡ gate + 6 + entry.length → IsOneMore text limit image before next payload
-    one_more next none next_is = record {
-      first = record { begins = more; whole = whole-append before (payload ∷ []) first.whole (record { no_rest = none }, tt) };
-      gate_is = omega (arith, next_is, place, size, length-push text before payload);
+    pub one_more : (next : ℕ) → entry.kind ≡ Frames → rest_of payload ≡ [] → next ≡ gate + 6 + entry.length → IsOneMore text limit image before next (frames_record payload)
+    one_more next frames none next_is = subst (λ k. IsOneMore text limit image before next (record { kind = k; payload = payload })) frames (record {
+      first = record { begins = more; whole = whole-append before (there ∷ []) first.whole (record { frames = frames; no_rest = none }, tt) };
+      gate_is = omega (arith, next_is, place, size, length-push text before there);
+    })
+
+    bad_there : (IsWhole there → ⊥) → IsBadBehind text limit image before entry.at
+    bad_there not_whole = record {
+      bad = record { before = before; first = first; place = head.at_is ∙ place; bad = inr (record { bad = there; begins = more; not_whole = not_whole }) };
+      behind = refl;
     }
 
     pub bad_payload_behind : (rest_of payload ≡ [] → ⊥) → IsBadBehind text limit image before entry.at
-    bad_payload_behind broken = record {
-      bad = record { before = before; first = first; place = head.at_is ∙ place; bad = inr (record { payload = payload; begins = more; not_whole = λ whole. broken whole.no_rest }) };
-      behind = refl;
-    }
+    bad_payload_behind broken = bad_there (λ whole. broken whole.no_rest)
+
+    pub bad_kind_behind : (entry.kind ≡ Frames → ⊥) → IsBadBehind text limit image before entry.at
+    bad_kind_behind other = bad_there (λ whole. other whole.frames)

@@ -1,4 +1,5 @@
 pub mod Kept
 pub mod BadPlaces
 pub mod Recovering
+pub mod Images
 pub mod Inner

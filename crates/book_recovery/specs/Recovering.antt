@@ -4,6 +4,7 @@ use Rattle.gx_station.specs.Stations.{StationMeanings}
 use Rattle.product_file.specs.Products.{ProductLists}
 use Rattle.order_kinds.specs.State.{State, empty_state}
 use Rattle.order_kinds.specs.Step.{state_after}
+use Rattle.match_journal.specs.Journal.{Record}
 use Rattle.match_journal.specs.Appending.{IsJournalTo}
 use Rattle.match_journal.specs.Causes.{LooksOnly}
 use Rattle.book_recovery.specs.Kept.{AreWhole, messages_in}
@@ -21,15 +22,15 @@ pub record ReadsOnly {S : Type 0} (m : StationMeanings S) (old new : S) : Type 0
   pub most : ℕ
   pub looks : LooksOnly m old new most
 
--- Every record was replayed: the image is a journal of whole payloads up to this gate, and the state is that of the engine
+-- Every record was replayed: the image is a journal of whole records up to this gate, and the state is that of the engine
 -- after the messages in them.
 pub record IsRecovered (product : ProductLists) (text : List ℕ) (limit : ℕ) (image : List ℕ) (gate : ℕ) (state : State) (recovered : Recovered) : Type 0 where
-  pub payloads : List (List ℕ)
-  pub journal : IsJournalTo text limit payloads gate image
-  pub whole : AreWhole payloads
-  pub is_state : state ≡ state_kept product (messages_in payloads)
-  pub messages : recovered.messages ≡ length (messages_in payloads)
-  pub entries : recovered.entries ≡ length payloads
+  pub records : List Record
+  pub journal : IsJournalTo text limit records gate image
+  pub whole : AreWhole records
+  pub is_state : state ≡ state_kept product (messages_in records)
+  pub messages : recovered.messages ≡ length (messages_in records)
+  pub entries : recovered.entries ≡ length records
   pub image_at : recovered.image_at ≡ None
 
 -- What is answered over an image whose first gate and header are good. Ok and Bad do not hold together, nor does Bad at two

@@ -6,8 +6,10 @@ mod records;
 mod recovery;
 mod replay;
 mod scratch;
+mod true_images;
 
 pub use laws::an_image_is_recovered_one_way;
 pub use records::next_record;
 pub use recovery::{RecoverFault, Recovered, SHORTEST_FRAME, recover};
 pub use scratch::Scratch;
+pub use true_images::{recovery_from_an_image_is_a_full_replay, true_records_are_good};

@@ -3,7 +3,7 @@ ghost use Rattle.std.specs.Prelude.{◌≡◌, ℕ, ◌+◌, ◌<◌, ◌≤◌,
 ghost use Rattle.std.specs.List.{concat};
 ghost use Rattle.gx_station.specs.Counts.{Rose};
 ghost use Rattle.fix_frame.specs.Stream.{messages_of, rest_of};
-ghost use Rattle.match_journal.specs.Journal.{journal_front};
+ghost use Rattle.match_journal.specs.Journal.{Record, frames_record, journal_front};
 ghost use Rattle.match_journal.specs.Standing.{IsStanding, moved};
 ghost use Rattle.book_recovery.specs.BadPlaces.{AreFirstRecords};
 ghost use Rattle.book_recovery.specs.Recovering.{ReadsOnly};
@@ -14,7 +14,7 @@ use crate::replay::read_payload;
 use crate::scratch::Scratch;
 use fix_frame::{Framer, Next};
 use gx_station::Station;
-use match_journal::{Journal, WalkFault};
+use match_journal::{EntryKind, Journal, WalkFault};
 
 /// Whether the bytes that a framer holds are whole frames. The frames are given.
 fn are_whole(framer: &mut Framer) -> bool
@@ -28,7 +28,7 @@ fn are_whole(framer: &mut Framer) -> bool
 
 /// Reads the next record, its head and its payload, and passes it by. `Ok(true)` leaves the whole payload in the scratch's
 /// framer, all its frames given and nothing behind them; `Ok(false)` comes exactly at a closed gate. `Bad` comes exactly where
-/// the record is bad: its head, or its payload, which is not whole frames; it has the record's gate. `Store` comes only where
+/// the record is bad: its head, or it is not whole frames; it has the record's gate. `Store` comes only where
 /// the count of store faults rose. Nothing is written, synced or sent.
 pub fn next_record<S: Station>(
     station: &mut S,
@@ -46,9 +46,9 @@ pub fn next_record<S: Station>(
     ensures frames { IfOk result (λ found. IsTrue found → scratch.new.framer.given ≡ messages_of (concat scratch.new.framer.given)) }
     ensures rest { IfOk result (λ found. IsTrue found → scratch.new.framer.rest ≡ []) }
     ensures in_limit { IfOk result (λ found. IsTrue found → journal.new.gate < journal.new.limit) }
-    ensures records { (text image : List ℕ) (before : List (List ℕ)) → S.meanings.holds station.old ≡ Some image → length image ≡ journal.old.known
+    ensures records { (text image : List ℕ) (before : List Record) → S.meanings.holds station.old ≡ Some image → length image ≡ journal.old.known
         → AreFirstRecords text journal.old.limit before image → journal.old.gate ≡ length (journal_front text before)
-        → ReadsRecord text journal.old.limit image before journal.new.gate (concat scratch.new.framer.given) result }
+        → ReadsRecord text journal.old.limit image before journal.new.gate (frames_record (concat scratch.new.framer.given)) result }
 {
     let entry = match journal.next_entry(station) {
         Ok(Some(entry)) => entry,
@@ -56,6 +56,10 @@ pub fn next_record<S: Station>(
         Err(WalkFault::Store) => return Err(RecoverFault::Store),
         Err(WalkFault::Bad(at)) => return Err(RecoverFault::Bad(at)),
     };
+    match entry.kind {
+        EntryKind::Frames => {}
+        EntryKind::Image => return Err(RecoverFault::Bad(entry.at)),
+    }
     let read = read_payload(
         station,
         journal,

@@ -1,6 +1,7 @@
 //! The state of a journal.
-ghost use Rattle.std.specs.Prelude.{◌≡◌, ℕ, ◌+◌, ◌*◌, ◌<◌, ◌≤◌, List, [], false, true, length, Some, OnOk, IfOk, IsErrOf};
+ghost use Rattle.std.specs.Prelude.{◌≡◌, ℕ, ◌+◌, ◌-◌, ◌*◌, ◌<◌, ◌≤◌, List, [], false, true, length, Some, OnOk, IfOk, IsErrOf};
 ghost use Rattle.gx_station.specs.Counts.{Rose};
+ghost use Rattle.match_journal.specs.Causes.{ReadsAtMost};
 ghost use Rattle.match_journal.specs.Opening.{IsOpened};
 ghost use Rattle.match_journal.specs.Standing.{IsStanding, moved};
 ghost use Rattle.match_journal.specs.declared.limits.TheConstants.{LEAST_LIMIT};
@@ -8,12 +9,13 @@ ghost use Rattle.order_kinds.specs.State.{empty_state, state_numbered};
 ghost use Rattle.order_kinds.specs.Cores.{FitsProduct, AreNumbered};
 ghost use Rattle.book_recovery.specs.BadPlaces.{BeginsWithRecords};
 ghost use Rattle.book_recovery.specs.Recovering.{ReadsOnly, Recovers};
+ghost use Rattle.book_recovery.specs.Inner.Starting.{BeginsAt};
 ghost use Rattle.book_recovery.specs.Inner.Counting.{Counts};
 
 use crate::replay::replay_records;
 use crate::scratch::Scratch;
 use gx_station::Station;
-use match_journal::{Journal, WalkFault};
+use match_journal::{Entry, Journal, WalkFault};
 use order_kinds::Core;
 use plain_book::Book;
 use product_file::Product;
@@ -41,24 +43,43 @@ pub enum RecoverFault {
     Bad(u64),
 }
 
-/// Goes over the heads of all records, from the first on, and answers how many there are.
-fn count_records<S: Station>(station: &mut S, journal: &mut Journal) -> Result<u64, RecoverFault>
+/// What the first pass tells the second.
+#[derive(Clone, Copy)]
+struct Heads {
+    /// How many records there are.
+    entries: u64,
+    /// The entry that the second pass begins with: that of the first record, where there is one.
+    start: Option<Entry>,
+}
+
+/// Goes over the heads of all records, from the first on. `Ok` leaves the journal at its end.
+fn read_heads<S: Station>(station: &mut S, journal: &mut Journal) -> Result<Heads, RecoverFault>
     requires reach { journal.old.known ≤ S.meanings.reach station.old }
+    requires not_lost { journal.old.is_lost ≡ false }
     ensures reads { ReadsOnly S.meanings station.old station.new }
+    ensures bytes { IfOk result (λ heads. ReadsAtMost (6 * (heads.entries + 1)) (S.meanings.bytes_read station.old) (S.meanings.bytes_read station.new)) }
     ensures reach { S.meanings.reach station.new ≡ S.meanings.reach station.old }
     ensures store { IsErrOf result RecoverFault.Store → Rose (S.meanings.store_faults station.old) (S.meanings.store_faults station.new) }
     ensures none { (IsErrOf result RecoverFault.Store → ⊥) → S.meanings.store_faults station.new ≡ S.meanings.store_faults station.old }
     ensures stands { IsStanding journal.new }
     ensures same { journal.new ≡ moved journal.old journal.new.gate journal.new.is_at_end }
+    ensures at_end { OnOk result (journal.new.is_at_end ≡ true) }
+    ensures start { IfOk result (λ heads. BeginsAt journal.new heads.start) }
     ensures counts { (text image : List ℕ) → S.meanings.holds station.old ≡ Some image → length image ≡ journal.old.known → BeginsWithRecords text journal.old.limit [] image → journal.old.first ≡ 13 + length text
         → Counts text journal.old.limit image journal.new.gate result }
 {
     journal.rewind();
-    let mut count = 0;
+    let mut heads = Heads {
+        entries: 0,
+        start: None,
+    };
     'heads: loop {
         match journal.next_entry(station) {
-            Ok(Some(_)) => count += 1,
-            Ok(None) => return Ok(count),
+            Ok(Some(entry)) => {
+                heads.entries += 1;
+                heads.start = heads.start.or(Some(entry));
+            }
+            Ok(None) => return Ok(heads),
             Err(WalkFault::Store) => return Err(RecoverFault::Store),
             Err(WalkFault::Bad(at)) => return Err(RecoverFault::Bad(at)),
         }
@@ -70,7 +91,7 @@ fn count_records<S: Station>(station: &mut S, journal: &mut Journal) -> Result<u
 /// at its end.
 ///
 /// `Store` comes only where the count of store faults rose. `Bad` comes exactly where a record is bad, with the place of the
-/// first one with a bad head, or else of the first one whose payload is not whole frames. After a fault nothing is told of the
+/// first one with a bad head, or else of the first one that is not whole frames. After a fault nothing is told of the
 /// content of the core, and `Core::clear` makes it as new. Nothing is written, synced or sent.
 pub fn recover<S: Station, B: Book>(
     station: &mut S,
@@ -94,16 +115,18 @@ pub fn recover<S: Station, B: Book>(
     ensures fits { FitsProduct product.now core.new }
     ensures numbered { OnOk result (AreNumbered core.new) }
     ensures counts { IfOk result (λ recovered. recovered.messages ≡ core.new.desk.messages) }
+    // At most six bytes for each gate that is met, and once more all from the first gate to the last one met.
+    ensures bytes { IfOk result (λ recovered. ReadsAtMost (6 * (recovered.entries + 1) + (journal.new.gate - journal.old.first)) (S.meanings.bytes_read station.old) (S.meanings.bytes_read station.new)) }
     // Each message has the bytes of a frame, so there is room in the count of messages for those that still fit the journal.
     ensures few { OnOk result (core.new.desk.messages * SHORTEST_FRAME ≤ journal.new.gate) }
     ensures recovers { (text image : List ℕ) → S.meanings.holds station.old ≡ Some image → length image ≡ journal.old.known → LEAST_LIMIT ≤ journal.old.limit → IsOpened text image → journal.old.first ≡ 13 + length text
         → Recovers product.now text journal.old.limit image journal.new.gate (state_numbered core.new) result }
 {
-    let entries = count_records(station, journal)?;
-    replay_records(station, journal, product, scratch, core)?;
+    let heads = read_heads(station, journal)?;
+    replay_records(station, journal, product, scratch, core, heads.start)?;
     Ok(Recovered {
         messages: core.messages(),
-        entries,
+        entries: heads.entries,
         image_at: None,
     })
 }

@@ -1,7 +1,9 @@
-mod Agree
+-- Offered to the crates above: what they may cite.
+pub mod Agree
+pub mod ValidRequests
+-- What the proofs of this crate alone cite.
 mod AgreeOrders
 mod ValidOrders
-mod ValidRequests
 mod Giving
 mod Holding
 mod Noting

@@ -34,7 +34,7 @@ use Rattle.globex_run.specs.Words.{IsPrinting}
 use Rattle.globex_run.specs.ProductTexts.{TakesAtMost, IsProductText}
 use Rattle.globex_run.specs.RunResult.{CommandResult, CommandEnded, RunEnded, DrillEnded, first_messages}
 use Rattle.globex_run.specs.Journals.{AnswersImage}
-use Rattle.globex_run.specs.Headline.{Premises, InputPremises, SendsExactlyTheReports, EndsOtherwise, RunLeavesCrashPrefixes, RunBeforeTheFirstSync, KeepsEveryReported, KeepsARecordPerRead, HasNoRoom, CanBeServed, IsServed}
+use Rattle.globex_run.specs.Headline.{Premises, InputPremises, SendsExactlyTheReports, EndsOtherwise, RunLeavesCrashPrefixes, RunBeforeTheFirstSync, KeepsEveryReported, KeepsARecordPerRead, ReadsFew, HasNoRoom, CanBeServed, IsServed}
 use Rattle.globex_run.specs.Drills.{made_bytes, KeepsAndSumsUp, DrillEndsOtherwise, DrillLeavesCrashPrefixes, DrillBeforeTheFirstSync, CanBeDrilled}
 use Rattle.globex_run.specs.Prints.{PrintPremises, PrintsAs, CanBePrinted, outcome_printed, outcome_sent}
 use Rattle.globex_run.specs.Inner.Drilling.{DrillResult, DrillsMade, DrillAnswers, outcome_summed}
@@ -43,7 +43,8 @@ use Rattle.globex_run.specs.declared.outcome.Outcome.{Outcome}
 use Rattle.globex_run.specs.declared.ending.Ending.{Ending}
 use Rattle.globex_run.specs.declared.ending.Ending.TheVariants.{Done, ReadFault, StoreFault, SendFault, BadFrame, Truncated, NotAJournal, JournalBad, ProductDiffers, Full}
 use Rattle.globex_run.proofs.Told.{outside_of}
-use Rattle.globex_run.proofs.Runs.{short-text, few-of-product, told-product, run-exactly, run-otherwise, run-every-moment, run-first-sync, run-every-message, run-balanced, run-full, run-record-per-read, run-all}
+use Rattle.globex_run.proofs.Runs.{short-text, few-of-product, told-product, run-exactly, run-otherwise, run-every-moment, run-first-sync, run-every-message, run-balanced, run-full, run-record-per-read, run-reads-few, run-all}
+use Rattle.globex_run.proofs.FewReads.{drill-reads}
 use Rattle.globex_run.proofs.Drills.{empty_front, drill-all, drill-otherwise, drill-moments, drill-first-sync, drill-full}
 use Rattle.globex_run.proofs.Complete.{served}
 
@@ -51,23 +52,23 @@ use Rattle.globex_run.proofs.Complete.{served}
 
 module _ (text image : List ℕ) (limit : ℕ) (kept : List (List ℕ)) (short : length text ≤ 65536) (can : KeepsMessages text limit kept image) where
   not-foreign : (at : ℕ) → IsForeignAt image at → ⊥
-  not-foreign at foreign = not_refused text image limit can.payloads (start.NotAJournal at) short can.keeps foreign (λ e. cc e)
+  not-foreign at foreign = not_refused text image limit can.records (start.NotAJournal at) short can.keeps foreign (λ e. cc e)
 
   not-headless : (at : ℕ) → HasBadHeader image at → ⊥
-  not-headless at bad = not_refused text image limit can.payloads (start.Bad at) short can.keeps bad (λ e. cc e)
+  not-headless at bad = not_refused text image limit can.records (start.Bad at) short can.keeps bad (λ e. cc e)
 
   not-other : (at : ℕ) → HasOtherText text image at → ⊥
-  not-other at other = not_refused text image limit can.payloads (start.ProductDiffers at) short can.keeps other (λ e. cc e)
+  not-other at other = not_refused text image limit can.records (start.ProductDiffers at) short can.keeps other (λ e. cc e)
 
   not-bad : (at : ℕ) → IsOpened text image → IsBadPlace text limit image at → ⊥
   not-bad at opened bad = ⊎_elim
-      (λ journal. no_bad_place text limit can.payloads image at journal can.whole bad)
+      (λ journal. no_bad_place text limit can.records image at journal can.whole bad)
       (λ unfinished. unfinished_not_opened text image unfinished.1.unfinished opened)
       can.keeps
 
   not-bad-record : (at : ℕ) → IsOpened text image → HasBadRecordAt text limit image at → ⊥
   not-bad-record at opened bad = ⊎_elim
-      (λ journal. no_bad_record text limit can.payloads image at journal can.whole bad)
+      (λ journal. no_bad_record text limit can.records image at journal can.whole bad)
       (λ unfinished. unfinished_not_opened text image unfinished.1.unfinished opened)
       can.keeps
 
@@ -145,6 +146,9 @@ module _ {P I S : Type 0} (m : StationMeanings S) (p q : SourceAt P) (i j : Sour
       pub each-read : (given : Premises m entry exit outcome.status) → KeepsARecordPerRead m entry exit outcome given
       each-read given = run-record-per-read m p q i j old new Any ran.then outcome text lent same product took gives ran.session given
 
+      pub few-read : (given : Premises m entry exit outcome.status) → ReadsFew m entry exit outcome given
+      few-read given = run-reads-few m p q i j old new Any ran.then outcome text lent same product took gives ran.session given
+
       pub all-served : (can : CanBeServed m entry) → IsQuiet entry exit → IsServed can.bytes outcome.status
       all-served can quiet = run-all m p q i j old new Any ran.then outcome text lent same product took gives ran.session can quiet
 
@@ -170,6 +174,9 @@ module _ {P I S : Type 0} (m : StationMeanings S) (p q : SourceAt P) (i j : Sour
 
         pub drill-before-sync : IsHonestNow m old → DrillBeforeTheFirstSync m entry exit outcome given first count
         drill-before-sync now = drill-first-sync m p q i j old new outcome given first count made.whole made.end made.did now
+
+        pub drill-few-read : ReadsFew m entry exit outcome given
+        drill-few-read other = drill-reads m given.product given.text _ made.end old new outcome made.did given.image given.kept given.honest given.image_known given.startable other
 
         pub drill-has-no-room : outcome.status ≡ 12 → HasNoRoom m entry exit outcome given (made_bytes given.product first count)
         drill-has-no-room twelve = drill-full m p q i j old new outcome given first count made.whole made.end made.did twelve
@@ -314,7 +321,7 @@ module _ {P I S : Type 0} (m : StationMeanings S) (p q : SourceAt P) (i j : Sour
         by-command Ledger printing startable form =
             let at = startable (λ e. cc e) in events-printed at.0 at.1.1.0 at.1.1.1 _ _ form.answer form.outcome_is (form.prints at.0 at.1.0)
         by-command Book printing startable form =
-            let at = startable (λ e. cc e) in book-printed at.0 at.1.1.0 at.1.1.1 form.answer form.outcome_is (form.prints at.0 at.1.0)
+            let at = startable (λ e. cc e) in book-printed at.0 at.1.1.0 at.1.1.1 form.answer form.outcome_is (form.prints at.0 at.1.0).prints
         by-command Steps printing startable form = steps-printed form.result form.outcome_is
 
         pub all-printed : IsPrinting c → outcome.status ≡ 0

@@ -1,20 +1,19 @@
 -- A run that can be served to its end, and where no fault comes, is.
 use Rattle.std.proofs.Common.{◌≡◌, inl, inr, ℕ, ◌≤◌, List, [], ◌∷◌, ◌++◌, Some, sym, ap, subst, ◌∙◌, append_assoc, arith}
 use Rattle.std.proofs.lemmas.List.{append-nil}
-use Rattle.std.specs.List.{concat}
 use Rattle.gx_station.specs.Stations.{StationMeanings}
 use Rattle.fix_frame.specs.Grammar.{IsFrameFront, IsRefused}
 use Rattle.fix_frame.specs.FrontLaws.{refused_more}
 use Rattle.fix_frame.specs.Stream.{messages_of, rest_of, IsBroken, IsCut}
 use Rattle.fix_frame.specs.StreamLaws.{rest_of-append, rest_of-none, rest_of-begins_with_none, messages_of-frame-append}
-use Rattle.match_journal.specs.Journal.{IsPayload}
+use Rattle.match_journal.specs.Journal.{IsRecord}
 use Rattle.book_recovery.specs.Kept.{messages_in}
 use Rattle.gx_base.specs.declared.event.Event.{Event}
 use Rattle.order_kinds.specs.State.{State}
 use Rattle.book_print.specs.Publishers.{LineForm}
 use Rattle.globex_run.specs.Outside.{SourceAt, Outside, IsQuiet}
 use Rattle.globex_run.specs.Outcomes.{outcome_of}
-use Rattle.globex_run.specs.Journals.{records_length}
+use Rattle.globex_run.specs.Journals.{bytes_in, length_of_records, records_length}
 use Rattle.globex_run.specs.RunResult.{EndsAs}
 use Rattle.globex_run.specs.Headline.{CanBeServed, IsServed}
 use Rattle.globex_run.specs.Inner.Serving.{CausedBy}
@@ -22,7 +21,7 @@ use Rattle.globex_run.specs.Inner.Sessions.{SessionFrom}
 use Rattle.globex_run.specs.declared.outcome.Outcome.{Outcome}
 use Rattle.globex_run.specs.declared.ending.Ending.{Ending}
 use Rattle.globex_run.specs.declared.ending.Ending.TheVariants.{Done, ReadFault, StoreFault, SendFault, BadFrame, Truncated, NotAJournal, JournalBad, ProductDiffers, Full}
-use Rattle.globex_run.proofs.Additions.{all_back, payloads_then, each_alone, records_length-append, records_length-cons}
+use Rattle.globex_run.proofs.Additions.{all_back, records_then, each_alone, records_length-append, records_length-cons}
 use Rattle.globex_run.proofs.Told.{outside_of, nil_from_end}
 
 -- bytes that are the front of no frame stay so, however they go on
@@ -42,7 +41,7 @@ module _ {P I S : Type 0} (m : StationMeanings S) (p q : SourceAt P) (i j : Sour
   module _ (can : CanBeServed m entry) (quiet : IsQuiet entry exit) (taken rest : List ℕ) (left : j.left ≡ Some rest) (all : can.bytes ≡ taken ++ rest) where
     -- what the session came to from the image of entry
     abbrev From : Ending → Type 0
-    From ending = SessionFrom m line can.product can.text entry.streams exit.streams Published then can.image can.startable.payloads can.kept taken ending outcome.messages
+    From ending = SessionFrom m line can.product can.text entry.streams exit.streams Published then can.image can.startable.records can.kept taken ending outcome.messages
 
     -- the status of an ending
     status_is : (ending : Ending) → outcome ≡ outcome_of ending outcome.messages → outcome.status ≡ (outcome_of ending outcome.messages).status
@@ -58,16 +57,16 @@ module _ {P I S : Type 0} (m : StationMeanings S) (p q : SourceAt P) (i j : Sour
         let full = from.ends.1 in
         let frame = full.no_room.frame in
         let more = full.no_room.more ++ rest in
-        let bytes : can.bytes ≡ concat from.added ++ (frame ++ more) =
+        let bytes : can.bytes ≡ bytes_in from.added ++ (frame ++ more) =
         all
         ∙ ap (λ (l : List ℕ). l ++ rest) from.are
-        ∙ append_assoc (concat from.added) from.behind rest
-        ∙ ap (λ (l : List ℕ). concat from.added ++ l) (ap (λ (l : List ℕ). l ++ rest) full.no_room.front ∙ append_assoc frame full.no_room.more rest) in
+        ∙ append_assoc (bytes_in from.added) from.behind rest
+        ∙ ap (λ (l : List ℕ). bytes_in from.added ++ l) (ap (λ (l : List ℕ). l ++ rest) full.no_room.front ∙ append_assoc frame full.no_room.more rest) in
         let messages : messages_of can.bytes ≡ messages_in from.added ++ frame ∷ messages_of more =
-        ap messages_of bytes ∙ (payloads_then from.added (frame ++ more) from.whole).0 ∙ ap (λ (l : List (List ℕ)). messages_in from.added ++ l) (messages_of-frame-append frame more full.no_room.is_frame) in
+        ap messages_of bytes ∙ (records_then from.added (frame ++ more) from.whole).0 ∙ ap (λ (l : List (List ℕ)). messages_in from.added ++ l) (messages_of-frame-append frame more full.no_room.is_frame) in
         let total : records_length (messages_of can.bytes) ≡ records_length (messages_in from.added ++ frame ∷ messages_of more) = ap (λ (l : List (List ℕ)). records_length l) messages in
-        let sized = all_back IsPayload can.startable.payloads from.added full.journal.has.journal.sized in
-        let alone : records_length from.added ≤ records_length (messages_in from.added) = each_alone from.added from.whole sized in
+        let sized = all_back IsRecord can.startable.records from.added full.journal.has.journal.sized in
+        let alone : length_of_records from.added ≤ records_length (messages_in from.added) = each_alone from.added from.whole sized in
         absurd (omega (arith, can.room, full.no_room.too_long, full.end_is, total, alone, records_length-append (messages_in from.added) (frame ∷ messages_of more), records_length-cons frame (messages_of more)))
 
     -- so it ends with the input

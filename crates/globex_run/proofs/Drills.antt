@@ -19,6 +19,7 @@ use Rattle.product_file.specs.Products.{ProductLists}
 use Rattle.order_kinds.specs.State.{State}
 use Rattle.order_kinds.specs.Step.{state_after, events_from}
 use Rattle.plain_book.specs.Book.{live_orders}
+use Rattle.match_journal.specs.Journal.{Record}
 use Rattle.book_recovery.specs.Kept.{messages_in, KeepsMessages}
 use Rattle.book_recovery.specs.Recovering.{state_kept}
 use Rattle.order_maker.specs.Stream.{MadeStream, maker_meanings, made_stream}
@@ -183,7 +184,7 @@ module _ {P I S : Type 0} (m : StationMeanings S) (p q : SourceAt P) (i j : Sour
 
     -- what it came to from the image of entry
     abbrev From : Ending → Type 0
-    From ending = SessionFrom m tally_publisher_meanings.text given.product given.text before.streams after.streams Counted did.then given.image given.startable.payloads given.kept taken ending served.messages
+    From ending = SessionFrom m tally_publisher_meanings.text given.product given.text before.streams after.streams Counted did.then given.image given.startable.records given.kept taken ending served.messages
 
     from : From did.session.ending
     from = did.session.from given.image given.kept given.honest given.image_known given.startable
@@ -320,11 +321,11 @@ module _ {P I S : Type 0} (m : StationMeanings S) (p q : SourceAt P) (i j : Sour
       pub kept : KeepsNow m before after served given-then (messages_of taken) sums (first_messages served.messages taken)
       pub silent : m.sent mid ≡ m.sent old
 
-    did-all : (ending : Ending) (here : From ending) → here.added ≡ from.added → IsAllServed m tally_publisher_meanings.text given.product given.text before.streams after.streams given.startable.payloads given.kept here.added served.messages → DidAll
+    did-all : (ending : Ending) (here : From ending) → here.added ≡ from.added → IsAllServed m tally_publisher_meanings.text given.product given.text before.streams after.streams given.startable.records given.kept here.added served.messages → DidAll
     did-all ending here same all =
         let first = headline.first m p q (source_at maker_meanings at_first) (source_at maker_meanings end) old mid tally_publisher_meanings.text Counted did.then served given-then taken sums ending here here.added [] (sym (append-nil here.added)) served.messages all.messages in
         record {
-          counted = all.messages ∙ ap (λ (l : List (List ℕ)). length (messages_in l)) same;
+          counted = all.messages ∙ ap (λ (l : List Record). length (messages_in l)) same;
           kept = headline.keeps_now m p q (source_at maker_meanings at_first) (source_at maker_meanings end) old mid tally_publisher_meanings.text Counted did.then served given-then taken sums ending here here.added [] (sym (append-nil here.added)) (first_messages served.messages taken) first all.keeps;
           silent = still_sent given.product (state_kept given.product given.kept) (messages_in here.added) (m.sent old) (m.sent mid) all.sent;
         }
@@ -577,8 +578,8 @@ module _ {P I S : Type 0} (m : StationMeanings S) (p q : SourceAt P) (i j : Sour
                   ∙ drop-append-le served.at taken end.left (shorter served.at taken full.frame full.more (frame_least full.frame full.is_frame) full.next)
                   ∙ ap (λ (l : List ℕ). l ++ end.left) full.next
                   ∙ append_assoc full.frame full.more end.left;
-              each_alone = subst (λ (l : List (List ℕ)). given.product.journal_limit < end_of_journal given.text given.startable.payloads + records_length (l ++ full.frame ∷ [])) firsts-are full.each_alone;
-              payloads = full.payloads;
+              each_alone = subst (λ (l : List (List ℕ)). given.product.journal_limit < end_of_journal given.text given.startable.records + records_length (l ++ full.frame ∷ [])) firsts-are full.each_alone;
+              records = full.records;
               image = full.image;
               image_known = ap m.holds station ∙ full.image_known;
               journal = full.journal;

@@ -46,6 +46,7 @@ any-published m line product text before after Published then outcome session = 
         behind = from.behind;
         are = from.are;
         reads = from.reads;
+        bytes = from.bytes;
         whole = from.whole;
         part = from.part;
         adds = from.adds;

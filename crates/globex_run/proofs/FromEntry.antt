@@ -1,13 +1,13 @@
 -- A session from the image of entry on: its journal is opened, and the input served.
 use Rattle.std.proofs.Common.{◌≡◌, ◌⊎◌, inl, inr, ⊎_elim, ℕ, ◌+◌, ◌-◌, ◌≤◌, max, List, [], ◌∷◌, ◌++◌, length, take, Option, Some, None, Result, Ok, Err, IfSome, refl, sym, ap, subst, ◌∙◌, arith}
-use Rattle.std.specs.List.{concat}
 use Rattle.std.proofs.lemmas.List.{append-nil}
 use Rattle.gx_base.specs.KnownBytes.{IsKnownPrefix, known_itself}
 use Rattle.gx_station.specs.Counts.{Rose}
 use Rattle.gx_station.specs.Sources.{SourceMeanings}
 use Rattle.gx_station.specs.Stations.{StationMeanings, sent_and}
 use Rattle.gx_station.specs.Moments.{AddsOnly}
-use Rattle.match_journal.specs.Causes.{SendsNothing}
+use Rattle.match_journal.specs.Journal.{Record}
+use Rattle.match_journal.specs.Causes.{SendsNothing, ReadsAtMost}
 use Rattle.match_journal.specs.Classes.{Keeps, IsBlank, IsSealed}
 use Rattle.match_journal.specs.Opening.{IsOpening}
 use Rattle.match_journal.specs.Steps.{HoldsOne}
@@ -24,7 +24,7 @@ use Rattle.gx_base.specs.declared.event.Event.{Event}
 use Rattle.order_kinds.specs.Step.{state_after, events_from}
 use Rattle.globex_run.specs.Outside.{Streams, AreWithinReads, streams_at}
 use Rattle.globex_run.specs.Outcomes.{outcome_of}
-use Rattle.globex_run.specs.Journals.{AnswersImage}
+use Rattle.globex_run.specs.Journals.{AnswersImage, bytes_in, most_read}
 use Rattle.globex_run.specs.RunResult.{EndsAs}
 use Rattle.globex_run.specs.Inner.Recording.{lines_from, IsRecordCrash, Serves, AllKept, Served}
 use Rattle.globex_run.specs.Inner.Serving.{IsDone, CausedBy, EndsServing, ServesInput}
@@ -48,16 +48,16 @@ holds_either m P Q s holds = ⊎_elim
 holds_weaker : {S : Type 0} (m : StationMeanings S) (P Q : List ℕ → Type 0) (s : S) → ((image : List ℕ) → P image → Q image) → HoldsOne m P s → HoldsOne m Q s
 holds_weaker m P Q s weaker holds = record { image = holds.image; read = holds.read; has = weaker holds.image holds.has }
 
-module _ {I S : Type 0} (inputs : SourceMeanings I) (m : StationMeanings S) (line : LineForm) (Published : List Event → Type 0) (product : ProductLists) (text image : List ℕ) (payloads kept : List (List ℕ)) (old : S) (large : LEAST_JOURNAL ≤ product.journal_limit) where
-  abbrev Crash : List (List ℕ) → List ℕ → List ℕ → Type 0
-  Crash added = IsRecordCrash line product (state_kept product kept) text product.journal_limit payloads added (length image) (m.sent old)
+module _ {I S : Type 0} (inputs : SourceMeanings I) (m : StationMeanings S) (line : LineForm) (Published : List Event → Type 0) (product : ProductLists) (text image : List ℕ) (records : List Record) (kept : List (List ℕ)) (old : S) (large : LEAST_JOURNAL ≤ product.journal_limit) where
+  abbrev Crash : List Record → List ℕ → List ℕ → Type 0
+  Crash added = IsRecordCrash line product (state_kept product kept) text product.journal_limit records added (length image) (m.sent old)
 
   -- while the journal is opened
-  opening_crash : (added : List (List ℕ)) (left out : List ℕ) → IsOpening text product.journal_limit payloads image left → m.sent old ≡ Some out → Crash added left out
+  opening_crash : (added : List Record) (left out : List ℕ) → IsOpening text product.journal_limit records image left → m.sent old ≡ Some out → Crash added left out
   opening_crash added left out here sent = record {
     count = 0;
     within = omega arith;
-    keeps = subst (λ (ps : List (List ℕ)). Keeps text product.journal_limit ps left) (sym (append-nil payloads)) here.keeps;
+    keeps = subst (λ (rs : List Record). Keeps text product.journal_limit rs left) (sym (append-nil records)) here.keeps;
     sent_is = record {
       low = subst (λ o. IsKnownPrefix (m.sent old) o) sent (known_itself (m.sent old));
       high = subst (λ o. IsKnownPrefix o (sent_and (m.sent old) [])) sent (known_more (m.sent old) []);
@@ -65,19 +65,20 @@ module _ {I S : Type 0} (inputs : SourceMeanings I) (m : StationMeanings S) (lin
     no_longer = omega (arith, here.no_longer, large);
   }
 
-  opening_adds : (added : List (List ℕ)) (new : S) → AddsOnly m old new (λ left out. IsOpening text product.journal_limit payloads image left × (m.sent old ≡ Some out)) → AddsOnly m old new (Crash added)
+  opening_adds : (added : List Record) (new : S) → AddsOnly m old new (λ left out. IsOpening text product.journal_limit records image left × (m.sent old ≡ Some out)) → AddsOnly m old new (Crash added)
   opening_adds added new adds = adds_weaker m old new _ _ (λ h left out pair. opening_crash added left out pair.0 pair.1) adds
 
   -- the journal was not opened
-  pub from_unopened : (input : I) (new : S) (state after : State) → Opens m product text old new image payloads state (Err unopened.Store) → m.sent new ≡ m.sent old
-      → SessionFrom m line product text (streams_at inputs m input old) (streams_at inputs m input new) Published after image payloads kept [] StoreFault 0
+  pub from_unopened : (input : I) (new : S) (state after : State) → Opens m product text old new image records state (Err unopened.Store) → m.sent new ≡ m.sent old
+      → SessionFrom m line product text (streams_at inputs m input old) (streams_at inputs m input new) Published after image records kept [] StoreFault 0
   from_unopened input new state after opens silent =
-      let same : payloads ≡ payloads ++ [] = sym (append-nil payloads) in
+      let same : records ≡ records ++ [] = sym (append-nil records) in
       record {
         added = [];
         behind = [];
         are = refl;
         reads = inl (omega arith);
+        bytes = λ no. absurd (no refl);
         whole = tt;
         part = subst (λ o. IsKnownPrefix o (sent_and (m.sent old) [])) (sym silent) (known_more (m.sent old) []);
         adds = opening_adds [] new opens.moments;
@@ -86,7 +87,7 @@ module _ {I S : Type 0} (inputs : SourceMeanings I) (m : StationMeanings S) (lin
           others = [];
           are = refl;
           sent = silent ∙ sent_and_itself (m.sent old);
-          keeps = inl (holds_weaker m _ _ new (λ left here. subst (λ (ps : List (List ℕ)). Keeps text product.journal_limit ps left) same here.keeps) opens.keeps);
+          keeps = inl (holds_weaker m _ _ new (λ left here. subst (λ (rs : List Record). Keeps text product.journal_limit rs left) same here.keeps) opens.keeps);
           messages = refl;
         };
         at_rest = λ done. absurd done;
@@ -99,8 +100,8 @@ module _ {I S : Type 0} (inputs : SourceMeanings I) (m : StationMeanings S) (lin
       sent_and_itself (Some out) = ap Some (sym (append-nil out))
 
   -- the journal was opened, and the input served
-  module _ (mid : S) (state : State) (journal : Standing) (opens : Opens m product text old mid image payloads state (Ok journal)) (silent : m.sent mid ≡ m.sent old) (state_is : state ≡ state_kept product kept)
-      (input input' : I) (new : S) (end : ℕ) (then : State) (added : List (List ℕ)) (behind : List ℕ) (serves : Serves m line product product.journal_limit mid new journal.gate state added) (count : ℕ) (counted : then.desk.messages ≡ state.desk.messages + count) where
+  module _ (mid : S) (state : State) (Numbered : Type 0) (numbered : Numbered) (journal : Standing) (opens : Opens m product text old mid image records state (Ok journal)) (silent : m.sent mid ≡ m.sent old) (state_is : state ≡ state_kept product kept)
+      (input input' : I) (new : S) (end : ℕ) (then : State) (added : List Record) (behind : List ℕ) (serves : Serves m Numbered line product product.journal_limit mid new journal.gate state added) (count : ℕ) (counted : then.desk.messages ≡ state.desk.messages + count) where
     abbrev most : ℕ
     most = max (length image) MOST_UNFINISHED
 
@@ -108,9 +109,9 @@ module _ {I S : Type 0} (inputs : SourceMeanings I) (m : StationMeanings S) (lin
     sent_as messages = ap (λ o. sent_and o (lines_from line product state messages)) silent ∙ ap (λ (s : State). sent_and (m.sent old) (lines_from line product s messages)) state_is
 
     part : IsKnownPrefix (m.sent new) (sent_and (m.sent old) (lines_from line product (state_kept product kept) (messages_in added)))
-    part = subst (λ o. IsKnownPrefix (m.sent new) o) (sent_as (messages_in added)) serves.part
+    part = subst (λ o. IsKnownPrefix (m.sent new) o) (sent_as (messages_in added)) (serves.part numbered)
 
-    crash : (left out : List ℕ) → IsRecordCrash line product state text product.journal_limit payloads added most (m.sent mid) left out → Crash added left out
+    crash : (left out : List ℕ) → IsRecordCrash line product state text product.journal_limit records added most (m.sent mid) left out → Crash added left out
     crash left out here = record {
       count = here.count;
       within = here.within;
@@ -123,11 +124,11 @@ module _ {I S : Type 0} (inputs : SourceMeanings I) (m : StationMeanings S) (lin
     }
 
     adds : AddsOnly m old new (Crash added)
-    adds = adds_then m old mid new _ _ (λ h left out here. crash left out here) (opening_adds added mid opens.moments) (serves.adds text payloads most opens.at_end)
+    adds = adds_then m old mid new _ _ (λ h left out here. crash left out here) (opening_adds added mid opens.moments) (serves.adds text records most opens.at_end numbered)
 
-    all_kept : AllKept m product.journal_limit mid new journal.gate end added → HoldsOne m (Keeps text product.journal_limit (payloads ++ added)) new
+    all_kept : AllKept m product.journal_limit mid new journal.gate end added → HoldsOne m (Keeps text product.journal_limit (records ++ added)) new
     all_kept kept_all =
-        let rests = kept_all.at_end text payloads most opens.at_end in
+        let rests = kept_all.at_end text records most opens.at_end in
         record { image = rests.image; read = rests.rests.read; has = inl rests.journal.journal }
 
     abbrev at_entry : Streams I S
@@ -136,18 +137,18 @@ module _ {I S : Type 0} (inputs : SourceMeanings I) (m : StationMeanings S) (lin
     abbrev at_exit : Streams I S
     at_exit = streams_at inputs m input' new
 
-    all_served : Served m line product product.journal_limit mid new journal.gate end state then added → IsAllServed m line product text at_entry at_exit payloads kept added count
-    all_served served = record { sent = served.sent ∙ sent_as (messages_in added); keeps = all_kept served.all_kept; messages = omega (arith, served.count, counted) }
+    all_served : Served m Numbered line product product.journal_limit mid new journal.gate end state then added → IsAllServed m line product text at_entry at_exit records kept added count
+    all_served served = record { sent = served.sent numbered ∙ sent_as (messages_in added); keeps = all_kept served.all_kept; messages = omega (arith, served.count, counted) }
 
-    ends_session : (ending : Ending) → EndsServing m line product product.journal_limit (streams_at inputs m input mid) at_exit journal.gate end state then ending added behind → EndsSession m line product text at_entry at_exit ending count payloads kept added behind
+    ends_session : (ending : Ending) → EndsServing m Numbered line product product.journal_limit (streams_at inputs m input mid) at_exit journal.gate end state then ending added behind → EndsSession m line product text at_entry at_exit ending count records kept added behind
     ends_session Done ends = all_served ends.0
     ends_session (ReadFault place) ends = all_served ends.0
     ends_session StoreFault ends = record {
       served = ends.served;
       others = ends.last ∷ [];
       are = ends.are;
-      sent = ends.sent ∙ sent_as (messages_in ends.served);
-      keeps = holds_either m _ _ new (holds_weaker m _ _ new (λ left. ⊎_elim (λ journal. inl (inl journal)) (λ journal. inr (inl journal))) (ends.keeps text payloads most opens.at_end));
+      sent = ends.sent numbered ∙ sent_as (messages_in ends.served);
+      keeps = holds_either m _ _ new (holds_weaker m _ _ new (λ left. ⊎_elim (λ journal. inl (inl journal)) (λ journal. inr (inl journal))) (ends.keeps text records most opens.at_end));
       messages = omega (arith, ends.count, counted);
     }
     ends_session SendFault ends = record { keeps = all_kept ends.all_kept; messages = omega (arith, ends.count, counted) }
@@ -157,7 +158,7 @@ module _ {I S : Type 0} (inputs : SourceMeanings I) (m : StationMeanings S) (lin
     ends_session (JournalBad place) ends = ends
     ends_session (ProductDiffers place) ends = ends
     ends_session (Full place) ends =
-        let rests = ends.0.all_kept.at_end text payloads most opens.at_end in (
+        let rests = ends.0.all_kept.at_end text records most opens.at_end in (
           all_served ends.0,
           record {
             end = end;
@@ -167,9 +168,9 @@ module _ {I S : Type 0} (inputs : SourceMeanings I) (m : StationMeanings S) (lin
           },
         )
 
-    done_rests : (ending : Ending) → IsDone ending → EndsServing m line product product.journal_limit (streams_at inputs m input mid) at_exit journal.gate end state then ending added behind → IsAtRest m line product text at_entry at_exit (max (length image) product.journal_limit)
+    done_rests : (ending : Ending) → IsDone ending → EndsServing m Numbered line product product.journal_limit (streams_at inputs m input mid) at_exit journal.gate end state then ending added behind → IsAtRest m line product text at_entry at_exit (max (length image) product.journal_limit)
     done_rests Done done ends =
-        let rests = ends.0.all_kept.at_end text payloads most opens.at_end in
+        let rests = ends.0.all_kept.at_end text records most opens.at_end in
         record { image = rests.image; read = rests.rests.read; settled = rests.rests.settled; short = omega (arith, rests.short, large) }
     done_rests (ReadFault place) done ends = absurd done
     done_rests StoreFault done ends = absurd done
@@ -181,8 +182,8 @@ module _ {I S : Type 0} (inputs : SourceMeanings I) (m : StationMeanings S) (lin
     done_rests (ProductDiffers place) done ends = absurd done
     done_rests (Full place) done ends = absurd done
 
-    done_state : (ending : Ending) → IsDone ending → EndsServing m line product product.journal_limit (streams_at inputs m input mid) at_exit journal.gate end state then ending added behind → then ≡ state_after product state (messages_in added)
-    done_state Done done ends = ends.0.is_state
+    done_state : (ending : Ending) → IsDone ending → EndsServing m Numbered line product product.journal_limit (streams_at inputs m input mid) at_exit journal.gate end state then ending added behind → then ≡ state_after product state (messages_in added)
+    done_state Done done ends = ends.0.is_state numbered
     done_state (ReadFault place) done ends = absurd done
     done_state StoreFault done ends = absurd done
     done_state SendFault done ends = absurd done
@@ -193,20 +194,21 @@ module _ {I S : Type 0} (inputs : SourceMeanings I) (m : StationMeanings S) (lin
     done_state (ProductDiffers place) done ends = absurd done
     done_state (Full place) done ends = absurd done
 
-    pub from_opened : (ending : Ending) → AreWithinReads at_entry.input at_exit.input (length added) → (IsDone ending → Published (events_from product state (messages_in added))) → EndsServing m line product product.journal_limit (streams_at inputs m input mid) at_exit journal.gate end state then ending added behind
-        → SessionFrom m line product text at_entry at_exit Published then image payloads kept (concat added ++ behind) ending count
-    from_opened ending reads published ends = record {
+    pub from_opened : (ending : Ending) → AreWithinReads at_entry.input at_exit.input (length added) → m.bytes_read new ≡ m.bytes_read mid → (Numbered → IsDone ending → Published (events_from product state (messages_in added))) → EndsServing m Numbered line product product.journal_limit (streams_at inputs m input mid) at_exit journal.gate end state then ending added behind
+        → SessionFrom m line product text at_entry at_exit Published then image records kept (bytes_in added ++ behind) ending count
+    from_opened ending reads bytes published ends = record {
       at_rest = λ done. done_rests ending done ends;
       is_state = λ done. done_state ending done ends ∙ ap (λ (s : State). state_after product s (messages_in added)) state_is;
       added = added;
       behind = behind;
       are = refl;
       reads = reads;
+      bytes = λ no. subst (λ (count : Option ℕ). ReadsAtMost (most_read records) (m.bytes_read old) count) (sym bytes) opens.bytes;
       whole = serves.whole;
       part = part;
       adds = adds;
       ends = ends_session ending ends;
-      published = λ done. subst (λ (s : State). Published (events_from product s (messages_in added))) state_is (published done);
+      published = λ done. subst (λ (s : State). Published (events_from product s (messages_in added))) state_is (published numbered done);
     }
 
 -- ---- what else a session tells
@@ -231,18 +233,18 @@ module _ {I S : Type 0} (inputs : SourceMeanings I) (m : StationMeanings S) (lin
   caused_by (Full place) mid input after store send cause = (cause.0, cause.1 ∙ store, cause.2 ∙ send)
 
   -- what was opened stays what it was, however serving ends
-  pub answers_by : (limit : ℕ) (mid : Streams I S) (after : Streams I S) (gate end : ℕ) (state then : State) (added : List (List ℕ)) (behind image : List ℕ) (ending : Ending) → EndsServing m line product limit mid after gate end state then ending added behind
+  pub answers_by : (Numbered : Type 0) (limit : ℕ) (mid : Streams I S) (after : Streams I S) (gate end : ℕ) (state then : State) (added : List Record) (behind image : List ℕ) (ending : Ending) → EndsServing m Numbered line product limit mid after gate end state then ending added behind
       → (IsBlank image ⊎ IsSealed text image) ⊎ IsGoodJournal text product.journal_limit image → AnswersImage text product.journal_limit image ending
-  answers_by limit mid after gate end state then added behind image Done ends was = was
-  answers_by limit mid after gate end state then added behind image (ReadFault place) ends was = was
-  answers_by limit mid after gate end state then added behind image StoreFault ends was = tt
-  answers_by limit mid after gate end state then added behind image SendFault ends was = was
-  answers_by limit mid after gate end state then added behind image (BadFrame place) ends was = was
-  answers_by limit mid after gate end state then added behind image (Truncated place) ends was = was
-  answers_by limit mid after gate end state then added behind image (NotAJournal place) ends was = absurd ends
-  answers_by limit mid after gate end state then added behind image (JournalBad place) ends was = absurd ends
-  answers_by limit mid after gate end state then added behind image (ProductDiffers place) ends was = absurd ends
-  answers_by limit mid after gate end state then added behind image (Full place) ends was = was
+  answers_by Numbered limit mid after gate end state then added behind image Done ends was = was
+  answers_by Numbered limit mid after gate end state then added behind image (ReadFault place) ends was = was
+  answers_by Numbered limit mid after gate end state then added behind image StoreFault ends was = tt
+  answers_by Numbered limit mid after gate end state then added behind image SendFault ends was = was
+  answers_by Numbered limit mid after gate end state then added behind image (BadFrame place) ends was = was
+  answers_by Numbered limit mid after gate end state then added behind image (Truncated place) ends was = was
+  answers_by Numbered limit mid after gate end state then added behind image (NotAJournal place) ends was = absurd ends
+  answers_by Numbered limit mid after gate end state then added behind image (JournalBad place) ends was = absurd ends
+  answers_by Numbered limit mid after gate end state then added behind image (ProductDiffers place) ends was = absurd ends
+  answers_by Numbered limit mid after gate end state then added behind image (Full place) ends was = was
 
   -- the journal was not opened, and the store has failed or the image was refused
   module _ (input : I) (new : S) (send : m.send_faults new ≡ m.send_faults old) where
@@ -259,12 +261,12 @@ module _ {I S : Type 0} (inputs : SourceMeanings I) (m : StationMeanings S) (lin
     ends_unopened (unopened.Bad at) = record { none = refl; nothing = refl; input = refl }
     ends_unopened (unopened.ProductDiffers at) = record { none = refl; nothing = refl; input = refl }
 
-    pub from_unopened_by : (image : List ℕ) (payloads kept : List (List ℕ)) (state after : State) (reason : Unopened) → LEAST_JOURNAL ≤ product.journal_limit → m.sent new ≡ m.sent old → Opens m product text old new image payloads state (Err reason)
-        → SessionFrom m line product text (streams_at inputs m input old) (streams_at inputs m input new) Published after image payloads kept [] (ending_without reason) 0
-    from_unopened_by image payloads kept state after unopened.Store large silent opens = from_unopened inputs m line Published product text image payloads kept old large input new state after opens silent
-    from_unopened_by image payloads kept state after (unopened.NotAJournal at) large silent opens = absurd (opens.accepted tt)
-    from_unopened_by image payloads kept state after (unopened.Bad at) large silent opens = absurd (opens.accepted tt)
-    from_unopened_by image payloads kept state after (unopened.ProductDiffers at) large silent opens = absurd (opens.accepted tt)
+    pub from_unopened_by : (image : List ℕ) (records : List Record) (kept : List (List ℕ)) (state after : State) (reason : Unopened) → LEAST_JOURNAL ≤ product.journal_limit → m.sent new ≡ m.sent old → Opens m product text old new image records state (Err reason)
+        → SessionFrom m line product text (streams_at inputs m input old) (streams_at inputs m input new) Published after image records kept [] (ending_without reason) 0
+    from_unopened_by image records kept state after unopened.Store large silent opens = from_unopened inputs m line Published product text image records kept old large input new state after opens silent
+    from_unopened_by image records kept state after (unopened.NotAJournal at) large silent opens = absurd (opens.accepted tt)
+    from_unopened_by image records kept state after (unopened.Bad at) large silent opens = absurd (opens.accepted tt)
+    from_unopened_by image records kept state after (unopened.ProductDiffers at) large silent opens = absurd (opens.accepted tt)
 
 -- ---- the outcome
 
@@ -294,23 +296,23 @@ refused_by (unopened.Bad at) outcome is refused = tt
 refused_by (unopened.ProductDiffers at) outcome is refused = tt
 
 -- serving counts no fewer messages than before
-pub no_fewer : {I S : Type 0} (m : StationMeanings S) (line : LineForm) (product : ProductLists) (limit : ℕ) (mid after : Streams I S) (gate end : ℕ) (state then : State) (added : List (List ℕ)) (behind : List ℕ) (ending : Ending) → EndsServing m line product limit mid after gate end state then ending added behind
+pub no_fewer : {I S : Type 0} (m : StationMeanings S) (Numbered : Type 0) (line : LineForm) (product : ProductLists) (limit : ℕ) (mid after : Streams I S) (gate end : ℕ) (state then : State) (added : List Record) (behind : List ℕ) (ending : Ending) → EndsServing m Numbered line product limit mid after gate end state then ending added behind
     → state.desk.messages ≤ then.desk.messages
-no_fewer m line product limit mid after gate end state then added behind Done ends = omega (arith, ends.0.count)
-no_fewer m line product limit mid after gate end state then added behind (ReadFault place) ends = omega (arith, ends.0.count)
-no_fewer m line product limit mid after gate end state then added behind StoreFault ends = omega (arith, ends.count)
-no_fewer m line product limit mid after gate end state then added behind SendFault ends = omega (arith, ends.count)
-no_fewer m line product limit mid after gate end state then added behind (BadFrame place) ends = omega (arith, ends.0.count)
-no_fewer m line product limit mid after gate end state then added behind (Truncated place) ends = omega (arith, ends.0.count)
-no_fewer m line product limit mid after gate end state then added behind (NotAJournal place) ends = absurd ends
-no_fewer m line product limit mid after gate end state then added behind (JournalBad place) ends = absurd ends
-no_fewer m line product limit mid after gate end state then added behind (ProductDiffers place) ends = absurd ends
-no_fewer m line product limit mid after gate end state then added behind (Full place) ends = omega (arith, ends.0.count)
+no_fewer m Numbered line product limit mid after gate end state then added behind Done ends = omega (arith, ends.0.count)
+no_fewer m Numbered line product limit mid after gate end state then added behind (ReadFault place) ends = omega (arith, ends.0.count)
+no_fewer m Numbered line product limit mid after gate end state then added behind StoreFault ends = omega (arith, ends.count)
+no_fewer m Numbered line product limit mid after gate end state then added behind SendFault ends = omega (arith, ends.count)
+no_fewer m Numbered line product limit mid after gate end state then added behind (BadFrame place) ends = omega (arith, ends.0.count)
+no_fewer m Numbered line product limit mid after gate end state then added behind (Truncated place) ends = omega (arith, ends.0.count)
+no_fewer m Numbered line product limit mid after gate end state then added behind (NotAJournal place) ends = absurd ends
+no_fewer m Numbered line product limit mid after gate end state then added behind (JournalBad place) ends = absurd ends
+no_fewer m Numbered line product limit mid after gate end state then added behind (ProductDiffers place) ends = absurd ends
+no_fewer m Numbered line product limit mid after gate end state then added behind (Full place) ends = omega (arith, ends.0.count)
 
 module _ {I S : Type 0} (inputs : SourceMeanings I) (m : StationMeanings S) (line : LineForm) (Published : List Event → Type 0) (product : ProductLists) (text : List ℕ) (old mid : S) (input : I) (state : State) (right : IsRightProduct product) (silent : SendsNothing m old mid) where
-  -- what opening ensures of an image that keeps whole payloads
+  -- what opening ensures of an image that keeps whole records
   abbrev pub OpensAs : Result Standing Unopened → Type 0
-  OpensAs result = (image : List ℕ) (payloads : List (List ℕ)) → m.is_honest old → m.holds old ≡ Some image → Keeps text product.journal_limit payloads image → AreWhole payloads → Opens m product text old mid image payloads state result
+  OpensAs result = (image : List ℕ) (records : List Record) → m.is_honest old → m.holds old ≡ Some image → Keeps text product.journal_limit records image → AreWhole records → Opens m product text old mid image records state result
 
   pub unopened_session : (after : State) (reason : Unopened) (outcome : Outcome) → outcome ≡ outcome_of (ending_without reason) 0 → (reason ≡ unopened.Store → Rose (m.store_faults old) (m.store_faults mid)) → ((reason ≡ unopened.Store → ⊥) → m.store_faults mid ≡ m.store_faults old)
       → ((image : List ℕ) → m.holds old ≡ Some image → AnswersImage text product.journal_limit image (ending_without reason)) → OpensAs (Err reason) → SessionResult m line product text (streams_at inputs m input old) (streams_at inputs m input mid) Published after outcome
@@ -329,30 +331,30 @@ module _ {I S : Type 0} (inputs : SourceMeanings I) (m : StationMeanings S) (lin
           ends = subst (λ n. EndsAs (streams_at inputs m input old) (streams_at inputs m input mid) (ending_without reason) n []) (sym count) (ends_unopened inputs m line Published product text old input mid silent.send_faults reason);
         };
         from = λ image kept honest read startable.
-            subst (λ n. SessionFrom m line product text (streams_at inputs m input old) (streams_at inputs m input mid) Published after image startable.payloads kept [] (ending_without reason) n) (sym count)
-            (from_unopened_by inputs m line Published product text old input mid silent.send_faults image startable.payloads kept state after reason right.least_limit silent.sent (opens image startable.payloads honest read startable.keeps startable.whole));
+            subst (λ n. SessionFrom m line product text (streams_at inputs m input old) (streams_at inputs m input mid) Published after image startable.records kept [] (ending_without reason) n) (sym count)
+            (from_unopened_by inputs m line Published product text old input mid silent.send_faults image startable.records kept state after reason right.least_limit silent.sent (opens image startable.records honest read startable.keeps startable.whole));
       }
 
-  pub opened_session : (journal : Standing) (limit_is : journal.limit ≡ product.journal_limit) (store : m.store_faults mid ≡ m.store_faults old) (answers : (image : List ℕ) → m.holds old ≡ Some image → AnswersOpening text product.journal_limit image (Ok journal)) (opens : OpensAs (Ok journal)) (input' : I) (new : S) (end : ℕ)
-      (then : State) (ending : Ending) → ServesInput m line product journal.limit (streams_at inputs m input mid) (streams_at inputs m input' new) journal.gate end state then Published ending → CausedBy ending (streams_at inputs m input mid) (streams_at inputs m input' new)
+  pub opened_session : (Numbered : Type 0) (numbered : Numbered) (journal : Standing) (limit_is : journal.limit ≡ product.journal_limit) (store : m.store_faults mid ≡ m.store_faults old) (answers : (image : List ℕ) → m.holds old ≡ Some image → AnswersOpening text product.journal_limit image (Ok journal)) (opens : OpensAs (Ok journal)) (input' : I) (new : S) (end : ℕ)
+      (then : State) (ending : Ending) → ServesInput m Numbered line product journal.limit (streams_at inputs m input mid) (streams_at inputs m input' new) journal.gate end state then Published ending → CausedBy ending (streams_at inputs m input mid) (streams_at inputs m input' new) → m.bytes_read new ≡ m.bytes_read mid
       → (outcome : Outcome) (counts : ℕ) → counts ≡ then.desk.messages - state.desk.messages → outcome ≡ outcome_of ending counts → SessionResult m line product text (streams_at inputs m input old) (streams_at inputs m input' new) Published then outcome
-  opened_session journal limit_is store answers opens input' new end then ending serves cause outcome counts more is =
+  opened_session Numbered numbered journal limit_is store answers opens input' new end then ending serves cause bytes outcome counts more is =
       let before = streams_at inputs m input mid in
       let after = streams_at inputs m input' new in
-      let served = subst (λ k. ServesInput m line product k before after journal.gate end state then Published ending) limit_is serves in
+      let served = subst (λ k. ServesInput m Numbered line product k before after journal.gate end state then Published ending) limit_is serves in
       let count = count_is outcome ending counts is in
       let counted : then.desk.messages ≡ state.desk.messages + outcome.messages =
-      omega (arith, count, more, no_fewer m line product product.journal_limit before after journal.gate end state then served.added served.behind ending served.ends) in
-      let taken = taken_by m line product product.journal_limit (streams_at inputs m input old) before after journal.gate end state then served.added served.behind served.serves.whole outcome.messages counted ending served.ends in
+      omega (arith, count, more, no_fewer m Numbered line product product.journal_limit before after journal.gate end state then served.added served.behind ending served.ends) in
+      let taken = taken_by m Numbered line product product.journal_limit (streams_at inputs m input old) before after journal.gate end state then served.added served.behind served.serves.whole outcome.messages counted ending served.ends in
       record {
         right = right;
         ending = ending;
         is = is ∙ ap (outcome_of ending) (sym count);
         cause = caused_by inputs m line Published product text old ending mid input after store silent.send_faults cause;
-        image = where_told inputs m line Published product text old (m.holds old) _ (λ image read. answers_by inputs m line Published product text old product.journal_limit before after journal.gate end state then served.added served.behind image ending served.ends (answers image read));
-        serving = record { taken = concat served.added ++ served.behind; took = served.took; some = taken.0; ends = taken.1 };
+        image = where_told inputs m line Published product text old (m.holds old) _ (λ image read. answers_by inputs m line Published product text old Numbered product.journal_limit before after journal.gate end state then served.added served.behind image ending served.ends (answers image read));
+        serving = record { taken = bytes_in served.added ++ served.behind; took = served.took; some = taken.0; ends = taken.1 };
         from = λ image kept honest read startable.
-            let from_image = opens image startable.payloads honest read startable.keeps startable.whole in
-            from_opened inputs m line Published product text image startable.payloads kept old right.least_limit mid state journal from_image silent.sent (from_image.is_state ∙ ap (state_kept product) (sym startable.are)) input input' new end then served.added served.behind served.serves outcome.messages counted ending served.reads served.published
+            let from_image = opens image startable.records honest read startable.keeps startable.whole in
+            from_opened inputs m line Published product text image startable.records kept old right.least_limit mid state Numbered numbered journal from_image silent.sent (from_image.is_state ∙ ap (state_kept product) (sym startable.are)) input input' new end then served.added served.behind served.serves outcome.messages counted ending served.reads bytes served.published
             served.ends;
       }

@@ -26,10 +26,10 @@ use Rattle.globex_run.specs.Inner.Sessions.{IsFrontServed, SessionFrom}
 use Rattle.globex_run.specs.declared.outcome.Outcome.{Outcome}
 use Rattle.globex_run.specs.declared.ending.Ending.{Ending}
 use Rattle.globex_run.specs.declared.ending.Ending.TheVariants.{Done, ReadFault, StoreFault, SendFault, BadFrame, Truncated, NotAJournal, JournalBad, ProductDiffers, Full}
-use Rattle.globex_run.specs.Journals.{records_length, end_of_journal}
-use Rattle.match_journal.specs.Journal.{IsPayload}
+use Rattle.globex_run.specs.Journals.{bytes_in, length_of_records, records_length, end_of_journal}
+use Rattle.match_journal.specs.Journal.{Record, IsRecord}
 use Rattle.globex_run.proofs.Folds.{messages_in-append}
-use Rattle.globex_run.proofs.Additions.{all_front, all_back, all_append, first_served, within_served, payloads_joined, each_alone, records_length-append, one_record}
+use Rattle.globex_run.proofs.Additions.{all_front, all_back, all_append, first_served, within_served, records_joined, each_alone, records_length-append, one_record}
 use Rattle.globex_run.proofs.Told.{outside_of}
 
 module _ {P I S : Type 0} (m : StationMeanings S) (p q : SourceAt P) (i j : SourceAt I) (old new : S) (line : LineForm) (Published : List Event → Type 0) (then : State) (outcome : Outcome) where
@@ -46,14 +46,14 @@ module _ {P I S : Type 0} (m : StationMeanings S) (p q : SourceAt P) (i j : Sour
   module _ (given : Premises m entry exit outcome.status) (taken : List ℕ) (sends : List (List ℕ) → List ℕ) where
     -- what the session came to from the image of entry
     abbrev From : Ending → Type 0
-    From ending = SessionFrom m line given.product given.text entry.streams exit.streams Published then given.image given.startable.payloads given.kept taken ending outcome.messages
+    From ending = SessionFrom m line given.product given.text entry.streams exit.streams Published then given.image given.startable.records given.kept taken ending outcome.messages
 
     -- an image that keeps the earlier messages and then these
     abbrev KeepsAt : List (List ℕ) → List ℕ → Type 0
     KeepsAt messages left = KeepsMessages given.text given.product.journal_limit (given.kept ++ messages) left
 
     -- what is sent of the messages in these records
-    abbrev lines_in : List (List ℕ) → List ℕ
+    abbrev lines_in : List Record → List ℕ
     lines_in served = lines_from line given.product (state_kept given.product given.kept) (messages_in served)
 
     -- the messages that the outcome counts
@@ -62,12 +62,12 @@ module _ {P I S : Type 0} (m : StationMeanings S) (p q : SourceAt P) (i j : Sour
 
     -- an output on the way to what the session sends of some messages is on the way to what is sent where these are kept
     abbrev pub IsOnTheWay : Type 0
-    IsOnTheWay = (served : List (List ℕ)) (out : List ℕ) → IsBetween (m.sent old) out (sent_and (m.sent old) (lines_in served)) → (front : List ℕ) × IsPrefix front (sends (messages_in served)) × (Some out ≡ sent_and (m.sent old) front)
+    IsOnTheWay = (served : List Record) (out : List ℕ) → IsBetween (m.sent old) out (sent_and (m.sent old) (lines_in served)) → (front : List ℕ) × IsPrefix front (sends (messages_in served)) × (Some out ≡ sent_and (m.sent old) front)
 
     module _ (ending : Ending) (from : From ending) where
       -- ---- the first of the records added
 
-      module _ (served others : List (List ℕ)) (parts : from.added ≡ served ++ others) where
+      module _ (served others : List Record) (parts : from.added ≡ served ++ others) where
         -- so many messages are those in the first records
         pub first : (count : ℕ) → count ≡ length (messages_in served) → first_messages count taken ≡ messages_in served
         first count is = ap (λ (n : ℕ). first_messages n taken) is ∙ first_served taken from.behind from.added served others from.whole from.are parts
@@ -77,19 +77,19 @@ module _ {P I S : Type 0} (m : StationMeanings S) (p q : SourceAt P) (i j : Sour
         within = within_served taken from.behind from.added served others from.whole from.are parts
 
         -- an image that keeps the first records keeps their messages
-        keeps_served : (messages : List (List ℕ)) → messages ≡ messages_in served → (left : List ℕ) → Keeps given.text given.product.journal_limit (given.startable.payloads ++ served) left → KeepsAt messages left
+        keeps_served : (messages : List (List ℕ)) → messages ≡ messages_in served → (left : List ℕ) → Keeps given.text given.product.journal_limit (given.startable.records ++ served) left → KeepsAt messages left
         keeps_served messages same left keeps = record {
-          payloads = given.startable.payloads ++ served;
+          records = given.startable.records ++ served;
           keeps = keeps;
-          whole = all_append IsWhole given.startable.payloads served given.startable.whole (all_front IsWhole served others (subst (λ (l : List (List ℕ)). AreWhole l) parts from.whole));
+          whole = all_append IsWhole given.startable.records served given.startable.whole (all_front IsWhole served others (subst (λ (l : List Record). AreWhole l) parts from.whole));
           are =
               ap (λ (l : List (List ℕ)). given.kept ++ l) same
               ∙ ap (λ (l : List (List ℕ)). l ++ messages_in served) given.startable.are
-              ∙ sym (messages_in-append given.startable.payloads served);
+              ∙ sym (messages_in-append given.startable.records served);
         }
 
         -- and so does what a read gives
-        pub keeps_now : (messages : List (List ℕ)) → messages ≡ messages_in served → HoldsOne m (Keeps given.text given.product.journal_limit (given.startable.payloads ++ served)) new → KeepsNow m entry exit outcome given (messages_of taken) sends messages
+        pub keeps_now : (messages : List (List ℕ)) → messages ≡ messages_in served → HoldsOne m (Keeps given.text given.product.journal_limit (given.startable.records ++ served)) new → KeepsNow m entry exit outcome given (messages_of taken) sends messages
         keeps_now messages same holds = record { image = holds.image; image_known = holds.read; keeps = keeps_served messages same holds.image holds.has }
 
       -- all of them are the first ones
@@ -100,7 +100,7 @@ module _ {P I S : Type 0} (m : StationMeanings S) (p q : SourceAt P) (i j : Sour
 
       module _ (on_way : IsOnTheWay) where
         -- in messages
-        pub crash : (left out : List ℕ) → IsRecordCrash line given.product (state_kept given.product given.kept) given.text given.product.journal_limit given.startable.payloads from.added (length given.image) (m.sent old) left out → IsCrashPrefix m entry exit outcome given (messages_of taken) sends left out
+        pub crash : (left out : List ℕ) → IsRecordCrash line given.product (state_kept given.product given.kept) given.text given.product.journal_limit given.startable.records from.added (length given.image) (m.sent old) left out → IsCrashPrefix m entry exit outcome given (messages_of taken) sends left out
         crash left out at =
             let served = take at.count from.added in
             let others = drop at.count from.added in
@@ -191,7 +191,7 @@ module _ {P I S : Type 0} (m : StationMeanings S) (p q : SourceAt P) (i j : Sour
     keeps-counted ending from some keeps = record { some = some; keeps = λ other. keeps; keeps_more = λ five. (outcome.messages, omega arith, some, keeps) }
 
     -- at a failed append the last record may be kept
-    pub keeps-front : (ending : Ending) (from : From ending) → outcome.status ≡ 5 → outcome.messages ≤ length (messages_of taken) → IsFrontServed m line given.product given.text entry.streams exit.streams given.startable.payloads given.kept from.added outcome.messages → KeepsCounted m entry exit outcome given (messages_of taken) sends
+    pub keeps-front : (ending : Ending) (from : From ending) → outcome.status ≡ 5 → outcome.messages ≤ length (messages_of taken) → IsFrontServed m line given.product given.text entry.streams exit.streams given.startable.records given.kept from.added outcome.messages → KeepsCounted m entry exit outcome given (messages_of taken) sends
     keeps-front ending from five some front =
         let served = front.served in
         let others = front.others in
@@ -226,11 +226,11 @@ module _ {P I S : Type 0} (m : StationMeanings S) (p q : SourceAt P) (i j : Sour
       full_counted = first (Full place) from from.added [] (all_parts (Full place) from) outcome.messages from.ends.0.messages
 
       -- the place is the end of the records' messages
-      added_end : length (concat from.added) ≡ outcome.at
-      added_end = sym (place_is ∙ ends.0 ∙ ap (λ (l : List (List ℕ)). length (concat l)) full_counted ∙ ap (λ (l : List ℕ). length l) (payloads_joined from.added from.whole))
+      added_end : length (bytes_in from.added) ≡ outcome.at
+      added_end = sym (place_is ∙ ends.0 ∙ ap (λ (l : List (List ℕ)). length (concat l)) full_counted ∙ ap (λ (l : List ℕ). length l) (records_joined from.added from.whole))
 
       -- how far a record for each message would reach
-      in_front : end_of_journal given.text given.startable.payloads + records_length (counted ++ from.ends.1.no_room.frame ∷ []) ≡ (end_of_journal given.text given.startable.payloads + records_length (messages_in from.added)) + (length from.ends.1.no_room.frame + 6)
+      in_front : end_of_journal given.text given.startable.records + records_length (counted ++ from.ends.1.no_room.frame ∷ []) ≡ (end_of_journal given.text given.startable.records + records_length (messages_in from.added)) + (length from.ends.1.no_room.frame + 6)
       in_front =
           let frame = from.ends.1.no_room.frame in
           let same : records_length counted ≡ records_length (messages_in from.added) = ap (λ (l : List (List ℕ)). records_length l) full_counted in
@@ -243,17 +243,17 @@ module _ {P I S : Type 0} (m : StationMeanings S) (p q : SourceAt P) (i j : Sour
           let full = from.ends.1 in
           let frame = full.no_room.frame in
           let long = full.no_room.too_long in
-          let sized = all_back IsPayload given.startable.payloads from.added full.journal.has.journal.sized in
-          let alone : records_length from.added ≤ records_length (messages_in from.added) = each_alone from.added from.whole sized in
+          let sized = all_back IsRecord given.startable.records from.added full.journal.has.journal.sized in
+          let alone : length_of_records from.added ≤ records_length (messages_in from.added) = each_alone from.added from.whole sized in
           let last : records_length (frame ∷ []) ≡ length frame + 6 = one_record frame in
           record {
             place = place_is ∙ ends.0;
             frame = frame;
             more = full.no_room.more;
             is_frame = full.no_room.is_frame;
-            next = ap (λ (l : List ℕ). bytes_at outcome.at l) from.are ∙ drop_at (concat from.added) from.behind outcome.at added_end ∙ full.no_room.front;
+            next = ap (λ (l : List ℕ). bytes_at outcome.at l) from.are ∙ drop_at (bytes_in from.added) from.behind outcome.at added_end ∙ full.no_room.front;
             each_alone = omega (arith, in_front, alone, long, full.end_is);
-            payloads = given.startable.payloads ++ from.added;
+            records = given.startable.records ++ from.added;
             image = full.journal.image;
             image_known = full.journal.read;
             journal = full.journal.has.journal;

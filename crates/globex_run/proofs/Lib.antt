@@ -20,5 +20,6 @@ mod Complete
 mod Drills
 mod Drilled
 mod Executed
+mod FewReads
 mod Runs
 mod Commands

@@ -1,17 +1,18 @@
 -- A journal is opened, and then recovered.
-use Rattle.std.proofs.Common.{◌≡◌, ◌⊎◌, inl, inr, ⊎_elim, ℕ, ◌+◌, ◌≤◌, List, [], length, Some, Result, Ok, Err, sym, ap, subst, ◌∙◌, arith}
+use Rattle.std.proofs.Common.{◌≡◌, ◌⊎◌, inl, inr, ⊎_elim, ℕ, ◌+◌, ◌-◌, ◌*◌, ◌≤◌, List, [], length, Some, Result, Ok, Err, sym, ap, subst, ◌∙◌, arith}
 use Rattle.gx_station.specs.Stations.{StationMeanings}
 use Rattle.gx_station.specs.Moments.{AddsOnly}
 use Rattle.gx_station.specs.Honest.{KeepsImage, IsSettled}
-use Rattle.match_journal.specs.Journal.{IsJournal}
+use Rattle.match_journal.specs.Journal.{IsJournal, Record, journal_front}
 use Rattle.match_journal.specs.Classes.{HasOpenGate, HasBadHeader, IsBlank, IsSealed, Keeps}
 use Rattle.match_journal.specs.Opening.{IsOpened, IsOpening}
 use Rattle.match_journal.specs.Appending.{IsJournalTo}
+use Rattle.match_journal.specs.Causes.{ReadsAtMost}
 use Rattle.match_journal.specs.Standing.{at_first}
 use Rattle.match_journal.specs.Steps.{StepsFrom, HoldsOne}
 use Rattle.match_journal.specs.StepLaws.{adds_then, rests_kept}
-use Rattle.match_journal.specs.LookLaws.{keeps_then}
-use Rattle.match_journal.specs.declared.limits.TheConstants.{MOST_TEXT, LEAST_LIMIT}
+use Rattle.match_journal.specs.LookLaws.{keeps_then, reads_then, reads_more}
+use Rattle.match_journal.specs.declared.limits.TheConstants.{MOST_TEXT, MOST_UNFINISHED, LEAST_LIMIT}
 use Rattle.match_journal.specs.declared.standing.Standing.{Standing}
 use Rattle.match_journal.specs.declared.faults.StartFault.{StartFault}
 use Rattle.product_file.specs.Products.{ProductLists}
@@ -22,10 +23,12 @@ use Rattle.book_recovery.specs.Recovering.{state_kept, Recovers}
 use Rattle.book_recovery.specs.declared.recovery.Recovered.{Recovered}
 use Rattle.book_recovery.specs.declared.recovery.RecoverFault.{RecoverFault}
 use Rattle.book_recovery.specs.declared.recovery.RecoverFault.TheVariants as fault
+use Rattle.globex_run.specs.Journals.{most_read}
 use Rattle.globex_run.specs.Inner.Sessions.{Opens}
 use Rattle.globex_run.specs.declared.open.Unopened.TheVariants as unopened
 use Rattle.match_journal.proofs.Unique.{journal_opened, one_keeping}
 use Rattle.book_recovery.proofs.OneWay.{no_bad_place}
+use Rattle.globex_run.proofs.Additions.{front-length}
 
 -- a look behind other calls adds no image and no output
 pub adds_looked : {S : Type 0} (m : StationMeanings S) (a b c : S) (P : List ℕ → List ℕ → Type 0) → AddsOnly m a b P → KeepsImage m b c → AddsOnly m a c P
@@ -35,12 +38,12 @@ pub holds_looked : {S : Type 0} (m : StationMeanings S) (b c : S) (Has : List �
 holds_looked m b c Has holds keeps = record { image = holds.image; read = keeps.holds ∙ holds.read; has = holds.has }
 
 module _ {S : Type 0} (m : StationMeanings S) (text : List ℕ) (old mid : S) where
-  -- what an opening within a limit ensures of the images that keep some payloads
+  -- what an opening within a limit ensures of the images that keep some records
   abbrev pub StartsWithin : Result Standing StartFault → ℕ → Type 0
-  StartsWithin result limit = (image : List ℕ) (payloads : List (List ℕ)) → Keeps text limit payloads image → StepsFrom m old mid image (IsOpening text limit payloads image) (IsJournal text limit payloads) result
+  StartsWithin result limit = (image : List ℕ) (records : List Record) → Keeps text limit records image → StepsFrom m old mid image (IsOpening text limit records image) (IsJournal text limit records) result
 
   abbrev pub KeepsWithin : ℕ → Type 0
-  KeepsWithin limit = (image : List ℕ) (payloads : List (List ℕ)) → m.is_honest old → m.holds old ≡ Some image → Keeps text limit payloads image → HoldsOne m (IsOpening text limit payloads image) mid
+  KeepsWithin limit = (image : List ℕ) (records : List Record) → m.is_honest old → m.holds old ≡ Some image → Keeps text limit records image → HoldsOne m (IsOpening text limit records image) mid
 
   -- an opening makes a journal of a creation that a crash has cut, or that was not begun
   abbrev pub MakesWithin : ℕ → Type 0
@@ -48,29 +51,31 @@ module _ {S : Type 0} (m : StationMeanings S) (text : List ℕ) (old mid : S) wh
 
 module _ {S : Type 0} (m : StationMeanings S) (product : ProductLists) (text : List ℕ) (old mid : S) (limit : ℕ) (same : limit ≡ product.journal_limit) (image : List ℕ) (read : m.holds old ≡ Some image) where
   -- the store failed before a journal was opened
-  pub opens_stopped : (result : Result Standing StartFault) → StartsWithin m text old mid result limit → KeepsWithin m text old mid limit → (payloads : List (List ℕ)) (state : State) → m.is_honest old → Keeps text product.journal_limit payloads image
-      → Opens m product text old mid image payloads state (Err unopened.Store)
-  opens_stopped result starts holds payloads state honest keeps = record {
+  pub opens_stopped : (result : Result Standing StartFault) → StartsWithin m text old mid result limit → KeepsWithin m text old mid limit → (records : List Record) (state : State) → m.is_honest old → Keeps text product.journal_limit records image
+      → Opens m product text old mid image records state (Err unopened.Store)
+  opens_stopped result starts holds records state honest keeps = record {
     accepted = λ no. no;
-    moments = (subst (StartsWithin m text old mid result) same starts image payloads keeps).moments honest read;
-    keeps = subst (KeepsWithin m text old mid) same holds image payloads honest read keeps;
+    moments = (subst (StartsWithin m text old mid result) same starts image records keeps).moments honest read;
+    keeps = subst (KeepsWithin m text old mid) same holds image records honest read keeps;
     at_end = tt;
     is_state = tt;
+    bytes = tt;
   }
 
   module _ (journal : Standing) (starts : StartsWithin m text old mid (Ok journal) limit) where
-    steps : (payloads : List (List ℕ)) → Keeps text product.journal_limit payloads image → StepsFrom m {F = StartFault} old mid image (IsOpening text product.journal_limit payloads image) (IsJournal text product.journal_limit payloads) (Ok journal)
-    steps payloads keeps = subst (StartsWithin m text old mid (Ok journal)) same starts image payloads keeps
+    steps : (records : List Record) → Keeps text product.journal_limit records image → StepsFrom m {F = StartFault} old mid image (IsOpening text product.journal_limit records image) (IsJournal text product.journal_limit records) (Ok journal)
+    steps records keeps = subst (StartsWithin m text old mid (Ok journal)) same starts image records keeps
 
     -- the store failed while the journal was recovered
-    pub opens_unread : (new : S) (looks : KeepsImage m mid new) → KeepsWithin m text old mid limit → (payloads : List (List ℕ)) (state : State) → m.is_honest old → Keeps text product.journal_limit payloads image
-        → Opens m product text old new image payloads state (Err unopened.Store)
-    opens_unread new looks holds payloads state honest keeps = record {
+    pub opens_unread : (new : S) (looks : KeepsImage m mid new) → KeepsWithin m text old mid limit → (records : List Record) (state : State) → m.is_honest old → Keeps text product.journal_limit records image
+        → Opens m product text old new image records state (Err unopened.Store)
+    opens_unread new looks holds records state honest keeps = record {
       accepted = λ no. no;
-      moments = adds_looked m old mid new _ ((steps payloads keeps).moments honest read) looks;
-      keeps = holds_looked m mid new _ (subst (KeepsWithin m text old mid) same holds image payloads honest read keeps) looks;
+      moments = adds_looked m old mid new _ ((steps records keeps).moments honest read) looks;
+      keeps = holds_looked m mid new _ (subst (KeepsWithin m text old mid) same holds image records honest read keeps) looks;
       at_end = tt;
       is_state = tt;
+      bytes = tt;
     }
 
     -- what a recovery answers over the image of the opened journal
@@ -84,16 +89,16 @@ module _ {S : Type 0} (m : StationMeanings S) (product : ProductLists) (text : L
           subst (λ k. Recovers product text k last gate state result) limit_is
           (recovers text last held (long image last read held) (omega (arith, least, ap (λ (s : Standing). s.limit) place)) opened (ap (λ (s : Standing). s.first) place))
 
-      -- a journal of whole payloads is not bad
-      not_bad : (payloads : List (List ℕ)) (at : ℕ) → result ≡ Err (fault.Bad at) → HoldsOne m (IsJournal text product.journal_limit payloads) mid → AreWhole payloads → ⊥
-      not_bad payloads at is last whole =
-          no_bad_place text product.journal_limit payloads last.image at last.has whole
-          (subst (Recovers product text product.journal_limit last.image gate state) is (answered last.image last.read (journal_opened text product.journal_limit last.image payloads short last.has)))
+      -- a journal of whole records is not bad
+      not_bad : (records : List Record) (at : ℕ) → result ≡ Err (fault.Bad at) → HoldsOne m (IsJournal text product.journal_limit records) mid → AreWhole records → ⊥
+      not_bad records at is last whole =
+          no_bad_place text product.journal_limit records last.image at last.has whole
+          (subst (Recovers product text product.journal_limit last.image gate state) is (answered last.image last.read (journal_opened text product.journal_limit last.image records short last.has)))
 
-      pub kept_not_bad : (payloads : List (List ℕ)) (at : ℕ) → result ≡ Err (fault.Bad at) → Keeps text product.journal_limit payloads image → AreWhole payloads → ⊥
-      kept_not_bad payloads at is keeps whole =
-          let last = (steps payloads keeps).ends read in
-          not_bad payloads at is (record { image = last.image; read = last.read; has = last.has.1 }) whole
+      pub kept_not_bad : (records : List Record) (at : ℕ) → result ≡ Err (fault.Bad at) → Keeps text product.journal_limit records image → AreWhole records → ⊥
+      kept_not_bad records at is keeps whole =
+          let last = (steps records keeps).ends read in
+          not_bad records at is (record { image = last.image; read = last.read; has = last.has.1 }) whole
 
       -- a journal that is bad was one before
       module _ (at : ℕ) (is : result ≡ Err (fault.Bad at)) (was : (IsBlank image ⊎ IsSealed text image) ⊎ IsOpened text image) (makes : MakesWithin m text old mid limit) where
@@ -116,27 +121,35 @@ module _ {S : Type 0} (m : StationMeanings S) (product : ProductLists) (text : L
           (λ unfinished. inl unfinished)
           (λ opened.
           let found = subst (Recovers product text product.journal_limit image gate state) is (answered image ((stayed image read opened.0).holds ∙ read) opened) in
-          inr record { payloads = found.payloads; journal = found.journal.journal; whole = found.whole })
+          inr record { records = found.records; journal = found.journal.journal; whole = found.whole })
           was
 
+      -- what was read of a journal that keeps these records
+      few_read : (records : List Record) (recovered : Recovered) (new : S) → recovered.entries ≡ length records → gate ≡ length (journal_front text records) → ReadsAtMost MOST_UNFINISHED (m.bytes_read old) (m.bytes_read mid)
+          → ReadsAtMost (6 * (recovered.entries + 1) + (gate - journal.first)) (m.bytes_read mid) (m.bytes_read new) → ReadsAtMost (most_read records) (m.bytes_read old) (m.bytes_read new)
+      few_read records recovered new entries gate_is opened replayed =
+          reads_more _ (most_read records) (m.bytes_read old) (m.bytes_read new) (omega (arith, entries, gate_is, front-length text records, ap (λ (s : Standing). s.first) place))
+          (reads_then MOST_UNFINISHED (6 * (recovered.entries + 1) + (gate - journal.first)) (m.bytes_read old) (m.bytes_read mid) (m.bytes_read new) opened replayed)
+
       -- every record was replayed
-      pub opens_recovered : (new : S) (looks : KeepsImage m mid new) → KeepsWithin m text old mid limit → (then : Standing) (recovered : Recovered) → then.gate ≡ gate → result ≡ Ok recovered → (m.is_honest old → IsSettled m mid) → (payloads : List (List ℕ)) → m.is_honest old
-          → Keeps text product.journal_limit payloads image → Opens m product text old new image payloads state (Ok then)
-      opens_recovered new looks holds then recovered stands is settled payloads honest keeps =
-          let last = (steps payloads keeps).ends read in
-          let adds = (steps payloads keeps).moments honest read in
-          let found = subst (Recovers product text product.journal_limit last.image gate state) is (answered last.image last.read (journal_opened text product.journal_limit last.image payloads short last.has.1)) in
-          let one = one_keeping text product.journal_limit last.image found.payloads payloads (inl found.journal.journal) (inl last.has.1) in
+      pub opens_recovered : (new : S) (looks : KeepsImage m mid new) → KeepsWithin m text old mid limit → (then : Standing) (recovered : Recovered) → then.gate ≡ gate → result ≡ Ok recovered → (m.is_honest old → IsSettled m mid) → ReadsAtMost MOST_UNFINISHED (m.bytes_read old) (m.bytes_read mid) → ReadsAtMost (6 * (recovered.entries + 1) + (gate - journal.first)) (m.bytes_read mid) (m.bytes_read new)
+          → (records : List Record) → m.is_honest old → Keeps text product.journal_limit records image → Opens m product text old new image records state (Ok then)
+      opens_recovered new looks holds then recovered stands is settled opened replayed records honest keeps =
+          let last = (steps records keeps).ends read in
+          let adds = (steps records keeps).moments honest read in
+          let found = subst (Recovers product text product.journal_limit last.image gate state) is (answered last.image last.read (journal_opened text product.journal_limit last.image records short last.has.1)) in
+          let one = one_keeping text product.journal_limit last.image found.records records (inl found.journal.journal) (inl last.has.1) in
           record {
             accepted = λ no. no;
             moments = adds_looked m old mid new _ adds looks;
-            keeps = holds_looked m mid new _ (subst (KeepsWithin m text old mid) same holds image payloads honest read keeps) looks;
+            keeps = holds_looked m mid new _ (subst (KeepsWithin m text old mid) same holds image records honest read keeps) looks;
             at_end = record {
               honest = looks.moments.honest (adds.honest honest);
               image = last.image;
               rests = rests_kept m mid new last.image looks (adds.honest honest) record { read = last.read; settled = settled honest };
-              journal = subst (λ k. IsJournalTo text product.journal_limit payloads k last.image) (sym stands) (subst (λ (ps : List (List ℕ)). IsJournalTo text product.journal_limit ps gate last.image) one found.journal);
+              journal = subst (λ k. IsJournalTo text product.journal_limit records k last.image) (sym stands) (subst (λ (rs : List Record). IsJournalTo text product.journal_limit rs gate last.image) one found.journal);
               short = last.has.0.no_longer;
             };
-            is_state = subst (λ (ps : List (List ℕ)). state ≡ state_kept product (messages_in ps)) one found.is_state;
+            is_state = subst (λ (rs : List Record). state ≡ state_kept product (messages_in rs)) one found.is_state;
+            bytes = subst (λ (rs : List Record). ReadsAtMost (most_read rs) (m.bytes_read old) (m.bytes_read new)) one (few_read found.records recovered new found.entries found.journal.gate_is opened replayed);
           }

@@ -1,6 +1,7 @@
 -- One record for each read: how many records the image keeps beyond those of entry.
 use Rattle.std.proofs.Common.{⊎_elim, inl, inr, ℕ, ◌-◌, ◌≤◌, List, ◌++◌, length, ap, arith, length-append}
 use Rattle.gx_station.specs.Stations.{StationMeanings}
+use Rattle.match_journal.specs.Journal.{Record}
 use Rattle.match_journal.specs.Classes.{Keeps}
 use Rattle.match_journal.specs.Steps.{HoldsOne}
 use Rattle.product_file.specs.Products.{ProductLists}
@@ -16,23 +17,23 @@ use Rattle.globex_run.specs.declared.outcome.Outcome.{Outcome}
 use Rattle.globex_run.proofs.Told.{outside_of}
 
 -- the image keeps these records, and then at most as many as were added
-record KeepsNoMore {S : Type 0} (m : StationMeanings S) (text : List ℕ) (limit : ℕ) (now : S) (payloads added : List (List ℕ)) : Type 0 where
-  more : List (List ℕ)
+record KeepsNoMore {S : Type 0} (m : StationMeanings S) (text : List ℕ) (limit : ℕ) (now : S) (records added : List Record) : Type 0 where
+  more : List Record
   few : length more ≤ length added
-  holds : HoldsOne m (Keeps text limit (payloads ++ more)) now
+  holds : HoldsOne m (Keeps text limit (records ++ more)) now
 
-module _ {I S : Type 0} (m : StationMeanings S) (line : LineForm) (product : ProductLists) (text : List ℕ) (before after : Streams I S) (count : ℕ) (payloads kept added : List (List ℕ)) (behind : List ℕ) where
+module _ {I S : Type 0} (m : StationMeanings S) (line : LineForm) (product : ProductLists) (text : List ℕ) (before after : Streams I S) (count : ℕ) (records : List Record) (kept : List (List ℕ)) (added : List Record) (behind : List ℕ) where
   abbrev Keeping : Type 0
-  Keeping = KeepsNoMore m text product.journal_limit after.station.object payloads added
+  Keeping = KeepsNoMore m text product.journal_limit after.station.object records added
 
-  all_added : HoldsOne m (Keeps text product.journal_limit (payloads ++ added)) after.station.object → Keeping
+  all_added : HoldsOne m (Keeps text product.journal_limit (records ++ added)) after.station.object → Keeping
   all_added holds = record { more = added; few = omega arith; holds = holds }
 
-  keeps_no_more : (ending : Ending) → EndsSession m line product text before after ending count payloads kept added behind → Keeping
+  keeps_no_more : (ending : Ending) → EndsSession m line product text before after ending count records kept added behind → Keeping
   keeps_no_more Done ends = all_added ends.keeps
   keeps_no_more (ReadFault place) ends = all_added ends.keeps
   keeps_no_more StoreFault ends = ⊎_elim
-      (λ holds. record { more = ends.served; few = omega (arith, ap (λ (l : List (List ℕ)). length l) ends.are, length-append ends.served ends.others); holds = holds })
+      (λ holds. record { more = ends.served; few = omega (arith, ap (λ (l : List Record). length l) ends.are, length-append ends.served ends.others); holds = holds })
       (λ holds. all_added holds)
       ends.keeps
   keeps_no_more SendFault ends = all_added ends.keeps
@@ -50,16 +51,16 @@ module _ {P I S : Type 0} (m : StationMeanings S) (p q : SourceAt P) (i j : Sour
   abbrev exit : Outside P I S
   exit = outside_of m q j new
 
-  pub record-per-read : (given : Premises m entry exit outcome.status) (taken : List ℕ) (ending : Ending) → SessionFrom m line given.product given.text entry.streams exit.streams Published then given.image given.startable.payloads given.kept taken ending outcome.messages → KeepsARecordPerRead m entry exit outcome given
+  pub record-per-read : (given : Premises m entry exit outcome.status) (taken : List ℕ) (ending : Ending) → SessionFrom m line given.product given.text entry.streams exit.streams Published then given.image given.startable.records given.kept taken ending outcome.messages → KeepsARecordPerRead m entry exit outcome given
   record-per-read given taken ending from =
-      let first = given.startable.payloads in
+      let first = given.startable.records in
       let keeping = keeps_no_more m line given.product given.text entry.streams exit.streams outcome.messages first given.kept from.added from.behind ending from.ends in
       let count = length (first ++ keeping.more) - length first in
       let few : count ≤ length from.added = omega (arith, keeping.few, length-append first keeping.more) in
       record {
         image = keeping.holds.image;
         image_known = keeping.holds.read;
-        payloads = first ++ keeping.more;
+        records = first ++ keeping.more;
         keeps = keeping.holds.has;
         few = ⊎_elim (λ within. inl (omega (arith, within, few))) (λ last. inr last) from.reads;
       }

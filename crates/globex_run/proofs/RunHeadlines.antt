@@ -7,6 +7,7 @@ use Rattle.gx_base.specs.declared.event.Event.{Event}
 use Rattle.gx_station.specs.Stations.{StationMeanings, sent_and}
 use Rattle.fix_frame.specs.Stream.{messages_of}
 use Rattle.order_kinds.specs.State.{State}
+use Rattle.match_journal.specs.Journal.{Record}
 use Rattle.book_recovery.specs.Kept.{messages_in}
 use Rattle.book_recovery.specs.Recovering.{state_kept}
 use Rattle.globex_run.specs.Outside.{SourceAt, Outside}
@@ -48,7 +49,7 @@ module _ {P I S : Type 0} (m : StationMeanings S) (p q : SourceAt P) (i j : Sour
   module _ (given : Premises m entry exit outcome.status) (read : InputPremises i j) where
     -- what the session came to from the image of entry
     abbrev From : Ending → Type 0
-    From ending = SessionFrom m line_of given.product given.text entry.streams exit.streams Published then given.image given.startable.payloads given.kept read.taken ending outcome.messages
+    From ending = SessionFrom m line_of given.product given.text entry.streams exit.streams Published then given.image given.startable.records given.kept read.taken ending outcome.messages
 
     abbrev sends : List (List ℕ) → List ℕ
     sends messages = new_reports given.product given.kept messages
@@ -58,13 +59,13 @@ module _ {P I S : Type 0} (m : StationMeanings S) (p q : SourceAt P) (i j : Sour
     counted = first_messages outcome.messages read.taken
 
     -- the reports of the messages in these records are the new ones
-    reports_are : (messages : List (List ℕ)) (served : List (List ℕ)) → messages ≡ messages_in served → reports_from given.product (state_kept given.product given.kept) (messages_in served) ≡ sends messages
+    reports_are : (messages : List (List ℕ)) (served : List Record) → messages ≡ messages_in served → reports_from given.product (state_kept given.product given.kept) (messages_in served) ≡ sends messages
     reports_are messages served same =
         ap (λ (l : List (List ℕ)). reports_from given.product (state_kept given.product given.kept) l) (sym same)
         ∙ sym (new-reports given.product given.kept messages)
 
     -- and so is what was sent
-    sent_are : (messages : List (List ℕ)) (served : List (List ℕ)) → messages ≡ messages_in served → sent_and (m.sent old) (reports_from given.product (state_kept given.product given.kept) (messages_in served)) ≡ with_sent m entry exit outcome given (messages_of read.taken) sends messages
+    sent_are : (messages : List (List ℕ)) (served : List Record) → messages ≡ messages_in served → sent_and (m.sent old) (reports_from given.product (state_kept given.product given.kept) (messages_in served)) ≡ with_sent m entry exit outcome given (messages_of read.taken) sends messages
     sent_are messages served same = ap (λ (l : List ℕ). sent_and (m.sent old) l) (reports_are messages served same)
 
     -- an output on the way to some reports is one with a front of them
@@ -75,7 +76,7 @@ module _ {P I S : Type 0} (m : StationMeanings S) (p q : SourceAt P) (i j : Sour
 
     module _ (ending : Ending) (from : From ending) where
       -- the first of the records added
-      firsts : (served others : List (List ℕ)) → from.added ≡ served ++ others → (count : ℕ) → count ≡ length (messages_in served) → first_messages count read.taken ≡ messages_in served
+      firsts : (served others : List Record) → from.added ≡ served ++ others → (count : ℕ) → count ≡ length (messages_in served) → first_messages count read.taken ≡ messages_in served
       firsts served others parts count is = first m p q i j old new line_of Published then outcome given read.taken sends ending from served others parts count is
 
       parts_all : from.added ≡ from.added ++ []
@@ -83,7 +84,7 @@ module _ {P I S : Type 0} (m : StationMeanings S) (p q : SourceAt P) (i j : Sour
 
       -- ---- where all of them are served
 
-      module _ (all : IsAllServed m line_of given.product given.text entry.streams exit.streams given.startable.payloads given.kept from.added outcome.messages) where
+      module _ (all : IsAllServed m line_of given.product given.text entry.streams exit.streams given.startable.records given.kept from.added outcome.messages) where
         -- the messages counted are those in all records
         all_first : counted ≡ messages_in from.added
         all_first = firsts from.added [] parts_all outcome.messages all.messages

@@ -17,7 +17,7 @@ use Rattle.order_kinds.specs.State.{State}
 use Rattle.globex_run.specs.Outside.{SourceAt, Outside, NoFault, IsQuiet}
 use Rattle.globex_run.specs.ProductTexts.{TakesAtMost, IsProductText, IsRefusedAt}
 use Rattle.globex_run.specs.RunResult.{EndsAs, first_messages}
-use Rattle.globex_run.specs.Headline.{new_reports, Premises, InputPremises, SendsExactlyTheReports, EndsOtherwise, RunLeavesCrashPrefixes, RunBeforeTheFirstSync, KeepsEveryReported, KeepsARecordPerRead, HasNoRoom, CanBeServed, IsServed}
+use Rattle.globex_run.specs.Headline.{new_reports, Premises, InputPremises, SendsExactlyTheReports, EndsOtherwise, RunLeavesCrashPrefixes, RunBeforeTheFirstSync, KeepsEveryReported, KeepsARecordPerRead, ReadsFew, HasNoRoom, CanBeServed, IsServed}
 use Rattle.globex_run.specs.Inner.ProductReading.{TakesNone}
 use Rattle.globex_run.specs.Inner.Sessions.{SessionFrom, SessionResult}
 use Rattle.globex_run.specs.Inner.Statuses.{outcome_without}
@@ -28,6 +28,7 @@ use Rattle.globex_run.proofs.Told.{outside_of, left_parts, nil_from_end, same-ta
 use Rattle.globex_run.proofs.Headlines as headline
 use Rattle.globex_run.proofs.RunHeadlines as run
 use Rattle.globex_run.proofs.ReadRecords.{record-per-read}
+use Rattle.globex_run.proofs.FewReads.{session-reads}
 use Rattle.globex_run.proofs.Reported.{fewer-reports}
 use Rattle.globex_run.proofs.Complete.{served}
 
@@ -107,9 +108,9 @@ module _ {P I S : Type 0} (m : StationMeanings S) (p q : SourceAt P) (i j : Sour
     taken_is = same-taken i.left j.left read.taken told.serving.taken read.rest read.known read.left told.serving.took
 
     -- what it came to from the image of entry
-    from : SessionFrom m line_of given.product given.text entry.streams exit.streams Published then given.image given.startable.payloads given.kept read.taken told.ending outcome.messages
+    from : SessionFrom m line_of given.product given.text entry.streams exit.streams Published then given.image given.startable.records given.kept read.taken told.ending outcome.messages
     from =
-        subst (λ (l : List ℕ). SessionFrom m line_of given.product given.text entry.streams exit.streams Published then given.image given.startable.payloads given.kept l told.ending outcome.messages) taken_is
+        subst (λ (l : List ℕ). SessionFrom m line_of given.product given.text entry.streams exit.streams Published then given.image given.startable.records given.kept l told.ending outcome.messages) taken_is
         (told.from given.image given.kept given.honest given.image_known given.startable)
 
     -- why it ended
@@ -160,6 +161,12 @@ module _ {P I S : Type 0} (m : StationMeanings S) (p q : SourceAt P) (i j : Sour
   run-record-per-read session given =
       let good = told-session given.text given.product given.text_known given.gives session in
       record-per-read m p q i j old new line_of Published then outcome given good.serving.taken good.ending (good.from given.image given.kept given.honest given.image_known given.startable)
+
+  -- how much of the journal is read
+  pub run-reads-few : Session product lent → (given : Premises m entry exit outcome.status) → ReadsFew m entry exit outcome given
+  run-reads-few session given other =
+      let good = told-session given.text given.product given.text_known given.gives session in
+      session-reads m line_of given.product given.text entry.streams exit.streams Published then outcome good given.image given.kept given.honest given.image_known given.startable other
 
   -- a good run is served to its end
   pub run-all : Session product lent → (can : CanBeServed m entry) → IsQuiet entry exit → IsServed can.bytes outcome.status

@@ -8,41 +8,43 @@ use Rattle.fix_frame.specs.Stream.{messages_of, rest_of}
 use Rattle.fix_frame.specs.Grammar.{IsFrameFront}
 use Rattle.fix_frame.specs.FrontLaws.{unfinished_front, unfinished_none}
 use Rattle.fix_frame.specs.StreamLaws.{messages_of-unfinished, messages_of-refused, rest_of-none}
-use Rattle.book_recovery.specs.Kept.{AreWhole, messages_in}
+use Rattle.match_journal.specs.Journal.{Record}
+use Rattle.book_recovery.specs.Kept.{AreWhole, record_messages, messages_in}
 use Rattle.product_file.specs.Products.{ProductLists}
 use Rattle.order_kinds.specs.State.{State}
 use Rattle.book_print.specs.Publishers.{LineForm}
 use Rattle.globex_run.specs.Outside.{Streams}
+use Rattle.globex_run.specs.Journals.{bytes_in}
 use Rattle.globex_run.specs.RunResult.{AreAll, end_of_messages, EndsAs}
 use Rattle.globex_run.specs.Inner.Serving.{EndsServing}
 use Rattle.globex_run.specs.declared.ending.Ending.{Ending}
 use Rattle.globex_run.specs.declared.ending.Ending.TheVariants.{Done, ReadFault, StoreFault, SendFault, BadFrame, Truncated, NotAJournal, JournalBad, ProductDiffers, Full}
-use Rattle.globex_run.proofs.Additions.{payloads_then, payloads_joined}
+use Rattle.globex_run.proofs.Additions.{records_then, records_joined}
 
-module _ (added : List (List ℕ)) (behind : List ℕ) (whole : AreWhole added) (count : ℕ) (is : count ≡ length (messages_in added)) where
+module _ (added : List Record) (behind : List ℕ) (whole : AreWhole added) (count : ℕ) (is : count ≡ length (messages_in added)) where
   abbrev taken : List ℕ
-  taken = concat added ++ behind
+  taken = bytes_in added ++ behind
 
   some : count ≤ length (messages_of taken)
-  some = omega (arith, is, ap length (payloads_then added behind whole).0, length-append (messages_in added) (messages_of behind))
+  some = omega (arith, is, ap length (records_then added behind whole).0, length-append (messages_in added) (messages_of behind))
 
   all : messages_of behind ≡ [] → AreAll count taken
-  all none = omega (arith, is, ap length (payloads_then added behind whole).0, length-append (messages_in added) (messages_of behind), ap length none)
+  all none = omega (arith, is, ap length (records_then added behind whole).0, length-append (messages_in added) (messages_of behind), ap length none)
 
-  end_is : end_of_messages count taken ≡ length (concat added)
+  end_is : end_of_messages count taken ≡ length (bytes_in added)
   end_is =
-      ap (λ (l : List (List ℕ)). length (concat l)) (ap (take count) (payloads_then added behind whole).0 ∙ take_at (messages_in added) (messages_of behind) count (sym is))
-      ∙ ap length (payloads_joined added whole)
+      ap (λ (l : List (List ℕ)). length (concat l)) (ap (take count) (records_then added behind whole).0 ∙ take_at (messages_in added) (messages_of behind) count (sym is))
+      ∙ ap length (records_joined added whole)
 
   rest_is : rest_of taken ≡ rest_of behind
-  rest_is = (payloads_then added behind whole).1
+  rest_is = (records_then added behind whole).1
 
-module _ {I S : Type 0} (m : StationMeanings S) (line : LineForm) (product : ProductLists) (limit : ℕ) (before mid after : Streams I S) (gate end : ℕ) (state then : State) (added : List (List ℕ)) (behind : List ℕ) (whole : AreWhole added) (count : ℕ) (counted : then.desk.messages ≡ state.desk.messages + count) where
+module _ {I S : Type 0} (m : StationMeanings S) (Numbered : Type 0) (line : LineForm) (product : ProductLists) (limit : ℕ) (before mid after : Streams I S) (gate end : ℕ) (state then : State) (added : List Record) (behind : List ℕ) (whole : AreWhole added) (count : ℕ) (counted : then.desk.messages ≡ state.desk.messages + count) where
   -- how many of the messages taken were counted, and what the bytes taken are at an ending
   abbrev Taken : Ending → Type 0
-  Taken ending = (count ≤ length (messages_of (concat added ++ behind))) × EndsAs before after ending count (concat added ++ behind)
+  Taken ending = (count ≤ length (messages_of (bytes_in added ++ behind))) × EndsAs before after ending count (bytes_in added ++ behind)
 
-  pub taken_by : (ending : Ending) → EndsServing m line product limit mid after gate end state then ending added behind → Taken ending
+  pub taken_by : (ending : Ending) → EndsServing m Numbered line product limit mid after gate end state then ending added behind → Taken ending
   taken_by Done ends =
       let is : count ≡ length (messages_in added) = omega (arith, ends.0.count, counted) in
       (some added behind whole count is, (ends.1, all added behind whole count is (ap messages_of ends.2), rest_is added behind whole count is ∙ ap rest_of ends.2))
@@ -52,8 +54,8 @@ module _ {I S : Type 0} (m : StationMeanings S) (line : LineForm) (product : Pro
       (some added behind whole count is, (ends.1, all added behind whole count is (messages_of-unfinished behind ends.2), subst IsFrameFront (sym rest) (unfinished_front behind ends.2)))
   taken_by StoreFault ends =
       let is : count ≡ length (messages_in ends.served) = omega (arith, ends.count, counted) in
-      let parts = ap (λ (l : List (List ℕ)). length (messages_in l)) ends.are in
-      (omega (arith, is, parts, ap length (flat_map-append messages_of ends.served (ends.last ∷ [])), length-append (messages_in ends.served) (messages_in (ends.last ∷ [])), some added behind whole (length (messages_in added)) refl), tt)
+      let parts = ap (λ (l : List Record). length (messages_in l)) ends.are in
+      (omega (arith, is, parts, ap length (flat_map-append record_messages ends.served (ends.last ∷ [])), length-append (messages_in ends.served) (messages_in (ends.last ∷ [])), some added behind whole (length (messages_in added)) refl), tt)
   taken_by SendFault ends =
       let is : count ≡ length (messages_in added) = omega (arith, ends.count, counted) in
       (some added behind whole count is, tt)
@@ -77,7 +79,7 @@ module _ {I S : Type 0} (m : StationMeanings S) (line : LineForm) (product : Pro
             frame = ends.2.frame;
             more = ends.2.more;
             is_frame = ends.2.is_frame;
-            front = ap (λ k. drop k (concat added ++ behind)) ends.1 ∙ drop_at (concat added) behind (length (concat added)) refl ∙ ends.2.front;
+            front = ap (λ k. drop k (bytes_in added ++ behind)) ends.1 ∙ drop_at (bytes_in added) behind (length (bytes_in added)) refl ∙ ends.2.front;
           },
         ),
       )

@@ -71,4 +71,4 @@ pub record CanBeDrilled {P I S : Type 0} (m : StationMeanings S) (before : Outsi
   pub image_known : before.streams.station.image ≡ Some image
   pub kept : List (List ℕ)
   pub startable : KeepsMessages text product.journal_limit kept image
-  pub room : end_of_journal text startable.payloads + records_length (made_messages product first count) ≤ product.journal_limit
+  pub room : end_of_journal text startable.records + records_length (made_messages product first count) ≤ product.journal_limit

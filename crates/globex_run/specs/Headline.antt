@@ -8,12 +8,13 @@ use Rattle.fix_frame.specs.Grammar.{IsFrame}
 use Rattle.fix_frame.specs.Stream.{messages_of, rest_of, IsBroken, IsCut}
 use Rattle.product_file.specs.Products.{ProductLists}
 use Rattle.product_file.specs.ProductTexts.{product_of}
-use Rattle.match_journal.specs.Journal.{IsJournal}
+use Rattle.match_journal.specs.Journal.{IsJournal, Record}
 use Rattle.match_journal.specs.Classes.{Keeps}
+use Rattle.match_journal.specs.Causes.{ReadsAtMost}
 use Rattle.book_recovery.specs.Kept.{KeepsMessages}
 use Rattle.order_kinds.specs.Step.{reports_of}
 use Rattle.globex_run.specs.Outside.{SourceAt, Outside, NoFault, AreWithinReads}
-use Rattle.globex_run.specs.Journals.{records_length, end_of_journal}
+use Rattle.globex_run.specs.Journals.{records_length, end_of_journal, most_read}
 use Rattle.globex_run.specs.RunResult.{first_messages, AreAll, end_of_messages, bytes_at}
 use Rattle.globex_run.specs.declared.outcome.Outcome.{Outcome}
 
@@ -161,9 +162,16 @@ module _ {P I S : Type 0} (m : StationMeanings S) (before after : Outside P I S)
 pub record KeepsARecordPerRead {P I S : Type 0} (m : StationMeanings S) (before after : Outside P I S) (outcome : Outcome) (given : Premises m before after outcome.status) : Type 0 where
   pub image : List ℕ
   pub image_known : after.streams.station.image ≡ Some image
-  pub payloads : List (List ℕ)
-  pub keeps : Keeps given.text given.product.journal_limit payloads image
-  pub few : AreWithinReads before.streams.input after.streams.input (length payloads - length given.startable.payloads)
+  pub records : List Record
+  pub keeps : Keeps given.text given.product.journal_limit records image
+  pub few : AreWithinReads before.streams.input after.streams.input (length records - length given.startable.records)
+
+-- ---- how much of the journal is read
+
+-- Where no call on the store failed, and where the station tells how many bytes were read: no more than those of the opening, six for
+-- each gate behind the header of the image of entry, and its records once.
+abbrev pub ReadsFew : {P I S : Type 0} (m : StationMeanings S) (before after : Outside P I S) (outcome : Outcome) → Premises m before after outcome.status → Type 0
+ReadsFew m before after outcome given = outcome.status ≢ 5 → ReadsAtMost (most_read given.startable.records) (m.bytes_read before.streams.station.object) (m.bytes_read after.streams.station.object)
 
 -- ---- the next message has no room
 
@@ -175,12 +183,12 @@ pub record HasNoRoom {P I S : Type 0} (m : StationMeanings S) (before after : Ou
   pub more : List ℕ
   pub is_frame : IsFrame frame
   pub next : bytes_at outcome.at bytes ≡ frame ++ more
-  pub each_alone : given.product.journal_limit < end_of_journal given.text given.startable.payloads + records_length (first_messages outcome.messages bytes ++ frame ∷ [])
-  pub payloads : List (List ℕ)
+  pub each_alone : given.product.journal_limit < end_of_journal given.text given.startable.records + records_length (first_messages outcome.messages bytes ++ frame ∷ [])
+  pub records : List Record
   pub image : List ℕ
   pub image_known : after.streams.station.image ≡ Some image
-  pub journal : IsJournal given.text given.product.journal_limit payloads image
-  pub now : given.product.journal_limit < end_of_journal given.text payloads + records_length (frame ∷ [])
+  pub journal : IsJournal given.text given.product.journal_limit records image
+  pub now : given.product.journal_limit < end_of_journal given.text records + records_length (frame ∷ [])
 
 -- ---- a run that can be served to its end
 
@@ -198,7 +206,7 @@ pub record CanBeServed {P I S : Type 0} (m : StationMeanings S) (before : Outsid
   pub startable : KeepsMessages text product.journal_limit kept image
   pub bytes : List ℕ
   pub input_known : before.streams.input.left ≡ Some bytes
-  pub room : end_of_journal text startable.payloads + records_length (messages_of bytes) ≤ product.journal_limit
+  pub room : end_of_journal text startable.records + records_length (messages_of bytes) ≤ product.journal_limit
 
 -- by what stands behind the messages of the input: nothing, a part of a frame, or what is the front of none
 abbrev pub IsServed : List ℕ → ℕ → Type 0

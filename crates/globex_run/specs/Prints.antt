@@ -12,6 +12,7 @@ use Rattle.book_print.specs.FillText.{fill_line, fill_text}
 use Rattle.book_print.specs.LedgerText.{ledger_line, ledger_text}
 use Rattle.book_print.specs.StepText.{steps_text}
 use Rattle.journal_print.specs.Printed.{PrintsEvents, PrintsBook}
+use Rattle.journal_print.specs.Reading.{ReadsOnce}
 use Rattle.journal_print.specs.declared.unprinted.Unprinted.{Unprinted}
 use Rattle.journal_print.specs.declared.unprinted.Unprinted.TheVariants as unprinted
 use Rattle.command_words.specs.declared.command.Command.{Command}
@@ -57,12 +58,18 @@ pub record PrintsSteps {S : Type 0} (m : StationMeanings S) (product : ProductLi
   pub sends : Sends m old new (steps_text product) result
 
 module _ {S : Type 0} (m : StationMeanings S) (product : ProductLists) (text : List ℕ) (before after : StationAt S) (outcome : Outcome) where
+  -- The book was printed, or not to its end; and of a journal with no bad record, where no call on the store failed, its opening was
+  -- read, six bytes for each gate behind its header, and its records once.
+  pub record PrintsBookOnce (image : List ℕ) (answer : Result ℕ Unprinted) : Type 0 where
+    pub prints : PrintsBook m product text image before.object after.object answer
+    pub bytes : ReadsOnce m text product.journal_limit image before.object after.object answer
+
   -- What each command prints: the reports again, the fills, the ledger with its totals, the book, and the steps.
   abbrev pub PrintsAs : Command → Type 0
   PrintsAs Replay = PrintsJournal before outcome (λ image. PrintsEvents m product text image before.object after.object line_of (reports_of product))
   PrintsAs Fills = PrintsJournal before outcome (λ image. PrintsEvents m product text image before.object after.object fill_line (λ messages. fill_text product (events_of product messages)))
   PrintsAs Ledger = PrintsJournal before outcome (λ image. PrintsEvents m product text image before.object after.object (λ names. ledger_line) (ledger_text product))
-  PrintsAs Book = PrintsJournal before outcome (λ image. PrintsBook m product text image before.object after.object)
+  PrintsAs Book = PrintsJournal before outcome PrintsBookOnce
   PrintsAs Steps = PrintsSteps m product before.object after.object outcome
   PrintsAs Run = Unit {0}
   PrintsAs (Drill first count) = Unit {0}

@@ -4,6 +4,7 @@ ghost use Rattle.gx_station.specs.Counts.{Rose};
 ghost use Rattle.gx_station.specs.Honest.{KeepsImage};
 ghost use Rattle.product_file.specs.declared.limits.TheConstants.{LONGEST_TEXT};
 ghost use Rattle.match_journal.specs.Causes.{SendsNothing};
+ghost use Rattle.match_journal.specs.Journal.{Record};
 ghost use Rattle.match_journal.specs.Classes.{Keeps};
 ghost use Rattle.order_kinds.specs.State.{empty_state, state_numbered};
 ghost use Rattle.order_kinds.specs.Cores.{FitsProduct, AreNumbered};
@@ -68,8 +69,8 @@ pub fn open_journal<B: Book, S: Station>(
     ensures numbered { OnOk result (AreNumbered core.new) }
     ensures answers { (image : List ℕ) → S.meanings.holds station.old ≡ Some image → AnswersOpening text.now product.now.journal_limit image result }
     ensures stays { (image : List ℕ) → S.meanings.holds station.old ≡ Some image → IsRefused result → KeepsImage S.meanings station.old station.new }
-    ensures opens { (image : List ℕ) (payloads : List (List ℕ)) → S.meanings.is_honest station.old → S.meanings.holds station.old ≡ Some image → Keeps text.now product.now.journal_limit payloads image → AreWhole payloads
-        → Opens S.meanings product.now text.now station.old station.new image payloads (state_numbered core.new) result }
+    ensures opens { (image : List ℕ) (records : List Record) → S.meanings.is_honest station.old → S.meanings.holds station.old ≡ Some image → Keeps text.now product.now.journal_limit records image → AreWhole records
+        → Opens S.meanings product.now text.now station.old station.new image records (state_numbered core.new) result }
 {
     let mut journal = match Journal::start(station, text, product.journal_limit()) {
         Ok(journal) => journal,

@@ -12,7 +12,7 @@ ghost use Rattle.globex_run.specs.Outside.{source_at, outside_at, IsQuiet};
 ghost use Rattle.globex_run.specs.Outcomes.{is_outcome};
 ghost use Rattle.globex_run.specs.ProductTexts.{TakesAtMost};
 ghost use Rattle.globex_run.specs.RunResult.{CommandResult, first_messages};
-ghost use Rattle.globex_run.specs.Headline.{Premises, InputPremises, SendsExactlyTheReports, EndsOtherwise, RunLeavesCrashPrefixes, RunBeforeTheFirstSync, KeepsEveryReported, KeepsARecordPerRead, HasNoRoom, CanBeServed, IsServed};
+ghost use Rattle.globex_run.specs.Headline.{Premises, InputPremises, SendsExactlyTheReports, EndsOtherwise, RunLeavesCrashPrefixes, RunBeforeTheFirstSync, KeepsEveryReported, KeepsARecordPerRead, ReadsFew, HasNoRoom, CanBeServed, IsServed};
 ghost use Rattle.globex_run.specs.Drills.{made_bytes, KeepsAndSumsUp, DrillEndsOtherwise, DrillLeavesCrashPrefixes, DrillBeforeTheFirstSync, CanBeDrilled};
 ghost use Rattle.globex_run.specs.Prints.{PrintPremises, PrintsAs, CanBePrinted};
 ghost use Rattle.globex_run.specs.Inner.Statuses.{outcome_without, outcome_of_words};
@@ -85,6 +85,10 @@ pub fn globex<P: Source, I: Source, S: Station>(
     // All whole frames at hand share one record.
     ensures record_per_read { let before = outside_at P.meanings I.meanings S.meanings product.old input.old station.old in let after = outside_at P.meanings I.meanings S.meanings product.new input.new station.new in AsksFor words.now command.Run → (given : Premises S.meanings before after result.status) → KeepsARecordPerRead S.meanings before after result given }
 
+    // How much of the journal is read: its opening, six bytes for each gate behind the header of the image of entry, and its records
+    // once.
+    ensures few_bytes { let before = outside_at P.meanings I.meanings S.meanings product.old input.old station.old in let after = outside_at P.meanings I.meanings S.meanings product.new input.new station.new in AsksFor words.now command.Run → (given : Premises S.meanings before after result.status) → ReadsFew S.meanings before after result given }
+
     // The quantities in the reports of all messages that are kept, the earlier ones and those of this call, add up.
     ensures balanced { let before = outside_at P.meanings I.meanings S.meanings product.old input.old station.old in let after = outside_at P.meanings I.meanings S.meanings product.new input.new station.new in AsksFor words.now command.Run → (given : Premises S.meanings before after result.status) → (read : InputPremises before.streams.input after.streams.input) → IsBalanced given.product (given.kept ++ first_messages result.messages read.taken) }
 
@@ -99,6 +103,7 @@ pub fn globex<P: Source, I: Source, S: Station>(
     ensures drill_ends_otherwise { let before = outside_at P.meanings I.meanings S.meanings product.old input.old station.old in let after = outside_at P.meanings I.meanings S.meanings product.new input.new station.new in (first count : ℕ) → AsksFor words.now (command.Drill first count) → (given : Premises S.meanings before after result.status) → result.status ≢ 0 → DrillEndsOtherwise S.meanings before after result given first count }
     ensures drill_at_every_moment { let before = outside_at P.meanings I.meanings S.meanings product.old input.old station.old in let after = outside_at P.meanings I.meanings S.meanings product.new input.new station.new in (first count : ℕ) → AsksFor words.now (command.Drill first count) → (given : Premises S.meanings before after result.status) → DrillLeavesCrashPrefixes S.meanings before after result given first count }
     ensures drill_before_the_first_sync { let before = outside_at P.meanings I.meanings S.meanings product.old input.old station.old in let after = outside_at P.meanings I.meanings S.meanings product.new input.new station.new in (first count : ℕ) → AsksFor words.now (command.Drill first count) → (given : Premises S.meanings before after result.status) → DrillBeforeTheFirstSync S.meanings before after result given first count }
+    ensures drill_few_bytes { let before = outside_at P.meanings I.meanings S.meanings product.old input.old station.old in let after = outside_at P.meanings I.meanings S.meanings product.new input.new station.new in (first count : ℕ) → AsksFor words.now (command.Drill first count) → (given : Premises S.meanings before after result.status) → ReadsFew S.meanings before after result given }
     ensures drill_full { let before = outside_at P.meanings I.meanings S.meanings product.old input.old station.old in let after = outside_at P.meanings I.meanings S.meanings product.new input.new station.new in (first count : ℕ) → AsksFor words.now (command.Drill first count) → (given : Premises S.meanings before after result.status) → result.status ≡ 12 → HasNoRoom S.meanings before after result given (made_bytes given.product first count) }
     ensures all_drilled { let before = outside_at P.meanings I.meanings S.meanings product.old input.old station.old in let after = outside_at P.meanings I.meanings S.meanings product.new input.new station.new in (first count : ℕ) → AsksFor words.now (command.Drill first count) → CanBeDrilled S.meanings before first count → IsQuiet before after → (result.status ≡ 1) ⊎ (result.status ≡ 0) }
 

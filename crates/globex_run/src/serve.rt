@@ -46,6 +46,9 @@ fn take_more<I: Source>(
 /// one record, cut where the journal's limit cuts it; their messages are applied, and then their events are published. It ends
 /// since each record lengthens the journal towards its limit, and each read that does not end the input takes at least one
 /// byte into a bounded buffer.
+///
+/// Where the order numbers of the core differ, the state, what is sent and the publisher are those of the engine's events. Over
+/// any other core that fits, the records are kept as well, and their messages are counted.
 pub fn serve<P: Publisher, B: Book, I: Source, S: Station>(
     publisher: &mut P,
     product: &Product,
@@ -63,14 +66,14 @@ pub fn serve<P: Publisher, B: Book, I: Source, S: Station>(
     requires in_limit { journal.old.gate < journal.old.limit }
     requires few { core.old.desk.messages * SHORTEST_FRAME ≤ journal.old.gate }
     requires fits { FitsProduct product.now core.old }
-    requires numbered { AreNumbered core.old }
     requires framer { IsEmptyFramer framer.old }
     requires chunk { vec_len chunk.old ≡ ROOM }
     requires buffer { buffer.old ≡ [] }
     ensures silent { IsTrue P.meanings.is_silent → result ≢ Ending.SendFault }
     ensures empty { IsDone result → buffer.new ≡ [] }
+    ensures bytes_read { S.meanings.bytes_read station.new ≡ S.meanings.bytes_read station.old }
     ensures cause { CausedBy result (streams_at I.meanings S.meanings input.old station.old) (streams_at I.meanings S.meanings input.new station.new) }
-    ensures serves { ServesInput S.meanings P.meanings.text product.now journal.old.limit (streams_at I.meanings S.meanings input.old station.old) (streams_at I.meanings S.meanings input.new station.new) journal.old.gate journal.new.gate (state_numbered core.old) (state_numbered core.new) (λ events. publisher.new ≡ P.meanings.after publisher.old events) result }
+    ensures serves { ServesInput S.meanings (AreNumbered core.old) P.meanings.text product.now journal.old.limit (streams_at I.meanings S.meanings input.old station.old) (streams_at I.meanings S.meanings input.new station.new) journal.old.gate journal.new.gate (state_numbered core.old) (state_numbered core.new) (λ events. publisher.new ≡ P.meanings.after publisher.old events) result }
 {
     product.limits();
     'turns: loop {

@@ -43,6 +43,9 @@ impl Unserved {
 
 /// Keeps the frames that a framer has given in one record, then applies their messages, and then publishes their events; or says
 /// why not. Where it has given none, nothing is done.
+///
+/// Where the order numbers of the core differ, the state, what is sent and the publisher are those of the engine's events. Over
+/// any other core that fits, the record is kept as well, and its messages are counted.
 pub fn serve_record<P: Publisher, B: Book, S: Station>(
     publisher: &mut P,
     product: &Product,
@@ -58,18 +61,18 @@ pub fn serve_record<P: Publisher, B: Book, S: Station>(
     requires room { length (concat framer.now.given) ≤ journal.old.limit - (journal.old.gate + 7) }
     requires few { core.old.desk.messages * SHORTEST_FRAME ≤ journal.old.gate }
     requires fits { FitsProduct product.now core.old }
-    requires numbered { AreNumbered core.old }
     requires empty { buffer.old ≡ [] }
     ensures limit { journal.new.limit ≡ journal.old.limit }
-    ensures answers { AnswersFrames S.meanings P.meanings.text product.now journal.old.limit station.old station.new journal.old.gate journal.new.gate (state_numbered core.old) (state_numbered core.new) framer.now.given result }
-    ensures published { OnOk result (publisher.new ≡ P.meanings.after publisher.old (events_from product.now (state_numbered core.old) (messages_in (record_of framer.now.given)))) }
+    ensures bytes_read { S.meanings.bytes_read station.new ≡ S.meanings.bytes_read station.old }
+    ensures answers { AnswersFrames S.meanings (AreNumbered core.old) P.meanings.text product.now journal.old.limit station.old station.new journal.old.gate journal.new.gate (state_numbered core.old) (state_numbered core.new) framer.now.given result }
+    ensures published { AreNumbered core.old → OnOk result (publisher.new ≡ P.meanings.after publisher.old (events_from product.now (state_numbered core.old) (messages_in (record_of framer.now.given)))) }
     ensures silent { IsTrue P.meanings.is_silent → result ≢ Err Unserved.SendFault }
     ensures at_end { OnOk result (journal.new.is_at_end ≡ true) }
     ensures reach { OnOk result (journal.new.known ≤ S.meanings.reach station.new) }
     ensures in_limit { OnOk result (journal.new.gate < journal.new.limit) }
     ensures few { OnOk result (core.new.desk.messages * SHORTEST_FRAME ≤ journal.new.gate) }
     ensures fits { OnOk result (FitsProduct product.now core.new) }
-    ensures numbered { OnOk result (AreNumbered core.new) }
+    ensures numbered { AreNumbered core.old → OnOk result (AreNumbered core.new) }
     ensures empty { OnOk result (buffer.new ≡ []) }
 {
     if framer.given_count() == 0 {

@@ -29,8 +29,8 @@ module _ (product : ProductLists) (text image : List ℕ) where
 
   pub recovered_kept : (gate : ℕ) (state : State) (recovered : Recovered) → IsRecovered product text product.journal_limit image gate state recovered → IsKeptState product text image state recovered.messages
   recovered_kept gate state recovered found = record {
-    messages = messages_in found.payloads;
-    kept = inr (record { payloads = found.payloads; journal = found.journal.journal; whole = found.whole }, refl);
+    messages = messages_in found.records;
+    kept = inr (record { records = found.records; journal = found.journal.journal; whole = found.whole }, refl);
     state_is = found.is_state;
     count_is = found.messages;
   }

@@ -46,7 +46,7 @@ module _ {S P : Type 0} (m : StationMeanings S) (p : PublisherMeanings P) (produ
 
   module _ (old mid new : S) (looked : m.sent mid ≡ m.sent old) (publisher then : P) (state : State) where
     from_start : (line : LineForm) → SentPart m product text image mid new line → SentPart m product text image old new line
-    from_start line part = record { payloads = part.payloads; first = part.first; sent = subst (λ s. IsKnownPrefix (m.sent new) (sent_and s (lines_in line product (messages_in part.payloads)))) looked part.sent }
+    from_start line part = record { records = part.records; first = part.first; sent = subst (λ s. IsKnownPrefix (m.sent new) (sent_and s (lines_in line product (messages_in part.records)))) looked part.sent }
 
     pub stopped : (why : Unprinted) → IsOpened text image → Publishes m p product text image mid new publisher then state (Err why) → PublishesKept m p product text image old new publisher then state (Err why)
     stopped unprinted.Store opened told = inr (from_start p.text told)
@@ -57,10 +57,10 @@ module _ {S P : Type 0} (m : StationMeanings S) (p : PublisherMeanings P) (produ
 
     pub all_kept : (count : ℕ) → AllPublished m p product text product.journal_limit image mid new publisher then state → count ≡ state.desk.messages → KeptPublished m p product text image old new publisher then state count
     all_kept count all is = record {
-      messages = messages_in all.payloads;
-      kept = inr (record { payloads = all.payloads; journal = all.journal; whole = all.whole }, refl);
+      messages = messages_in all.records;
+      kept = inr (record { records = all.records; journal = all.journal; whole = all.whole }, refl);
       published = record {
-        sent = all.published.sent ∙ ap (λ s. sent_and s (lines_in p.text product (messages_in all.payloads))) looked;
+        sent = all.published.sent ∙ ap (λ s. sent_and s (lines_in p.text product (messages_in all.records))) looked;
         publisher_is = all.published.publisher_is;
         state_is = all.published.state_is;
         count_is = all.published.count_is;

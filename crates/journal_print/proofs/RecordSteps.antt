@@ -12,11 +12,11 @@ use Rattle.fix_frame.specs.Stream.{messages_of}
 use Rattle.fix_frame.specs.StreamLaws.{messages_of-are_frames}
 use Rattle.fix_frame.specs.FramingLaws.{frames_least}
 use Rattle.product_file.specs.Products.{ProductLists}
-use Rattle.match_journal.specs.Journal.{IsJournal, journal_front}
+use Rattle.match_journal.specs.Journal.{IsJournal, Record, journal_front}
 use Rattle.match_journal.specs.declared.standing.Standing.{Standing}
 use Rattle.order_kinds.specs.State.{State, state_numbered, empty_state}
 use Rattle.order_kinds.specs.Step.{step_of, state_after, events_from, events_of}
-use Rattle.book_recovery.specs.Kept.{messages_in}
+use Rattle.book_recovery.specs.Kept.{record_messages, messages_in}
 use Rattle.book_recovery.specs.BadPlaces.{BeginsWithRecords, AreFirstRecords}
 use Rattle.book_recovery.specs.Recovering.{state_kept}
 use Rattle.book_recovery.specs.Inner.Reading.{IsOneMore, IsBadBehind, ReadsRecord}
@@ -37,7 +37,7 @@ events-append product state (x ∷ xs) ys =
 module _ {S P : Type 0} (m : StationMeanings S) (p : PublisherMeanings P) (product : ProductLists) (text image : List ℕ) where
   -- the messages of some records were published, and this is the next gate
   pub record IsPublishing (old now : S) (publisher then : P) (state : State) (gate : ℕ) : Type 0 where
-    pub before : List (List ℕ)
+    pub before : List Record
     pub first : AreFirstRecords text product.journal_limit before image
     pub place : gate ≡ length (journal_front text before)
     pub published : ArePublished m p product text old now publisher then state (messages_in before)
@@ -57,40 +57,40 @@ module _ {S P : Type 0} (m : StationMeanings S) (p : PublisherMeanings P) (produ
 
   module _ (old now mid : S) (publisher then : P) (state : State) (gate : ℕ) (at : IsPublishing old now publisher then state gate) (looked : m.sent mid ≡ m.sent now) where
     -- what is read at the gate
-    pub record_read : (journal : Standing) (next : ℕ) (payload : List ℕ) (r : Result Bool RecoverFault) → journal.limit ≡ product.journal_limit → journal.gate ≡ gate
-        → (AreFirstRecords text journal.limit at.before image → journal.gate ≡ length (journal_front text at.before) → ReadsRecord text journal.limit image at.before next payload r)
-        → ReadsRecord text product.journal_limit image at.before next payload r
-    record_read journal next payload r limit_is gate_is reads =
-        subst (λ k. ReadsRecord text k image at.before next payload r) limit_is
+    pub record_read : (journal : Standing) (next : ℕ) (one : Record) (r : Result Bool RecoverFault) → journal.limit ≡ product.journal_limit → journal.gate ≡ gate
+        → (AreFirstRecords text journal.limit at.before image → journal.gate ≡ length (journal_front text at.before) → ReadsRecord text journal.limit image at.before next one r)
+        → ReadsRecord text product.journal_limit image at.before next one r
+    record_read journal next one r limit_is gate_is reads =
+        subst (λ k. ReadsRecord text k image at.before next one r) limit_is
         (reads (subst (λ k. AreFirstRecords text k at.before image) (sym limit_is) at.first) (gate_is ∙ at.place))
 
-    -- the events of all messages, with those of one payload more
-    all_events : (payload : List ℕ) → events_of product (messages_in (at.before ++ payload ∷ [])) ≡ events_of product (messages_in at.before) ++ events_from product (state_numbered state) (messages_of payload)
-    all_events payload =
-        ap (events_of product) (messages-push at.before payload)
-        ∙ events-append product (empty_state product) (messages_in at.before) (messages_of payload)
-        ∙ ap (λ (s : State). events_of product (messages_in at.before) ++ events_from product s (messages_of payload)) (sym at.published.state_is)
+    -- the events of all messages, with those of one record more
+    all_events : (one : Record) → events_of product (messages_in (at.before ++ one ∷ [])) ≡ events_of product (messages_in at.before) ++ events_from product (state_numbered state) (record_messages one)
+    all_events one =
+        ap (events_of product) (messages-push at.before one)
+        ∙ events-append product (empty_state product) (messages_in at.before) (record_messages one)
+        ∙ ap (λ (s : State). events_of product (messages_in at.before) ++ events_from product s (record_messages one)) (sym at.published.state_is)
 
-    all_sent : (payload : List ℕ) → sent_and (m.sent mid) (flat_map (p.text product.names) (events_from product (state_numbered state) (messages_of payload))) ≡ sent_and (m.sent old) (lines_in p.text product (messages_in (at.before ++ payload ∷ [])))
-    all_sent payload =
-        let new = events_from product (state_numbered state) (messages_of payload) in
+    all_sent : (one : Record) → sent_and (m.sent mid) (flat_map (p.text product.names) (events_from product (state_numbered state) (record_messages one))) ≡ sent_and (m.sent old) (lines_in p.text product (messages_in (at.before ++ one ∷ [])))
+    all_sent one =
+        let new = events_from product (state_numbered state) (record_messages one) in
         let line = flat_map (p.text product.names) new in
         ap (λ s. sent_and s line) (looked ∙ at.published.sent)
         ∙ sym (sent_and-append (m.sent old) (lines_in p.text product (messages_in at.before)) line)
-        ∙ ap (sent_and (m.sent old)) (sym (flat_map-append (p.text product.names) (events_of product (messages_in at.before)) new) ∙ ap (flat_map (p.text product.names)) (sym (all_events payload)))
+        ∙ ap (sent_and (m.sent old)) (sym (flat_map-append (p.text product.names) (events_of product (messages_in at.before)) new) ∙ ap (flat_map (p.text product.names)) (sym (all_events one)))
 
     -- the messages of one record more were published
-    module _ (next : ℕ) (payload : List ℕ) (more : IsOneMore text product.journal_limit image at.before next payload) (new : S) (messages : List (List ℕ)) (are : messages ≡ messages_of payload) where
+    module _ (next : ℕ) (one : Record) (more : IsOneMore text product.journal_limit image at.before next one) (new : S) (messages : List (List ℕ)) (are : messages ≡ record_messages one) where
       abbrev events : List (List ℕ) → List Event
       events frames = events_from product (state_numbered state) frames
 
-      all_sent_of : sent_and (m.sent mid) (flat_map (p.text product.names) (events messages)) ≡ sent_and (m.sent old) (lines_in p.text product (messages_in (at.before ++ payload ∷ [])))
-      all_sent_of = ap (λ (frames : List (List ℕ)). sent_and (m.sent mid) (flat_map (p.text product.names) (events frames))) are ∙ all_sent payload
+      all_sent_of : sent_and (m.sent mid) (flat_map (p.text product.names) (events messages)) ≡ sent_and (m.sent old) (lines_in p.text product (messages_in (at.before ++ one ∷ [])))
+      all_sent_of = ap (λ (frames : List (List ℕ)). sent_and (m.sent mid) (flat_map (p.text product.names) (events frames))) are ∙ all_sent one
 
       pub publishing_more : (behind : P) (after : State) → m.sent new ≡ sent_and (m.sent mid) (flat_map (p.text product.names) (events messages)) → behind ≡ p.after then (events messages)
           → state_numbered after ≡ state_after product (state_numbered state) messages → after.desk.messages ≡ state.desk.messages + length messages → IsPublishing old new publisher behind after next
       publishing_more behind after sent published is_state count = record {
-        before = at.before ++ payload ∷ [];
+        before = at.before ++ one ∷ [];
         first = more.first;
         place = more.gate_is;
         published = record {
@@ -98,40 +98,40 @@ module _ {S P : Type 0} (m : StationMeanings S) (p : PublisherMeanings P) (produ
           publisher_is =
               published
               ∙ ap (λ (frames : List (List ℕ)). p.after then (events frames)) are
-              ∙ ap (λ x. p.after x (events (messages_of payload))) at.published.publisher_is
-              ∙ sym (p.after_then publisher (events_of product (messages_in at.before)) (events (messages_of payload)))
-              ∙ ap (p.after publisher) (sym (all_events payload));
+              ∙ ap (λ x. p.after x (events (record_messages one))) at.published.publisher_is
+              ∙ sym (p.after_then publisher (events_of product (messages_in at.before)) (events (record_messages one)))
+              ∙ ap (p.after publisher) (sym (all_events one));
           state_is =
               is_state
               ∙ ap (state_after product (state_numbered state)) are
-              ∙ ap (λ (e : State). state_after product e (messages_of payload)) at.published.state_is
-              ∙ sym (state-append product (empty_state product) (messages_in at.before) (messages_of payload))
-              ∙ ap (state_kept product) (sym (messages-push at.before payload));
-          count_is = omega (arith, count, ap length are, at.published.count_is, ap length (messages-push at.before payload), length-append (messages_in at.before) (messages_of payload));
+              ∙ ap (λ (e : State). state_after product e (record_messages one)) at.published.state_is
+              ∙ sym (state-append product (empty_state product) (messages_in at.before) (record_messages one))
+              ∙ ap (state_kept product) (sym (messages-push at.before one));
+          count_is = omega (arith, count, ap length are, at.published.count_is, ap length (messages-push at.before one), length-append (messages_in at.before) (record_messages one));
         };
       }
 
       -- a send has failed
       pub publishing_part : IsKnownPrefix (m.sent new) (sent_and (m.sent mid) (flat_map (p.text product.names) (events messages))) → SentPart m product text image old new p.text
-      publishing_part sent = record { payloads = at.before ++ payload ∷ []; first = more.first; sent = subst (λ o. IsKnownPrefix (m.sent new) o) all_sent_of sent }
+      publishing_part sent = record { records = at.before ++ one ∷ []; first = more.first; sent = subst (λ o. IsKnownPrefix (m.sent new) o) all_sent_of sent }
 
     -- nothing more was sent
     now_sent : m.sent mid ≡ sent_and (m.sent old) (lines_in p.text product (messages_in at.before))
     now_sent = looked ∙ at.published.sent
 
     pub publishing_unread : SentPart m product text image old mid p.text
-    publishing_unread = record { payloads = at.before; first = at.first; sent = subst (λ o. IsKnownPrefix (m.sent mid) o) now_sent (known_itself (m.sent mid)) }
+    publishing_unread = record { records = at.before; first = at.first; sent = subst (λ o. IsKnownPrefix (m.sent mid) o) now_sent (known_itself (m.sent mid)) }
 
     pub publishing_done : IsJournal text product.journal_limit at.before image → AllPublished m p product text product.journal_limit image old mid publisher then state
     publishing_done journal = record {
-      payloads = at.before;
+      records = at.before;
       journal = journal;
       whole = at.first.whole;
       published = record { sent = now_sent; publisher_is = at.published.publisher_is; state_is = at.published.state_is; count_is = at.published.count_is };
     }
 
     pub publishing_bad : (place : ℕ) → IsBadBehind text product.journal_limit image at.before place → StoppedAtBad m p product text product.journal_limit image old mid place
-    publishing_bad place bad = record { bad = bad.bad; sent = now_sent ∙ ap (λ (l : List (List ℕ)). sent_and (m.sent old) (lines_in p.text product (messages_in l))) (sym bad.behind) }
+    publishing_bad place bad = record { bad = bad.bad; sent = now_sent ∙ ap (λ (l : List Record). sent_and (m.sent old) (lines_in p.text product (messages_in l))) (sym bad.behind) }
 
 -- ---- what was read
 
@@ -139,11 +139,11 @@ module _ {S P : Type 0} (m : StationMeanings S) (p : PublisherMeanings P) (produ
 pub messages_fit : (messages : List (List ℕ)) → messages ≡ messages_of (concat messages) → length messages * 22 ≤ length (concat messages)
 messages_fit messages are = frames_least messages (All-same IsFrame messages (messages_of (concat messages)) are (messages_of-are_frames (concat messages)))
 
-pub read_more : (text : List ℕ) (limit : ℕ) (image : List ℕ) (before : List (List ℕ)) (next : ℕ) (payload : List ℕ) (found : Bool) → found ≡ true → ReadsRecord text limit image before next payload (Ok found) → IsOneMore text limit image before next payload
-read_more text limit image before next payload found is told = subst (λ (b : Bool). ReadsRecord text limit image before next payload (Ok b)) is told
+pub read_more : (text : List ℕ) (limit : ℕ) (image : List ℕ) (before : List Record) (next : ℕ) (one : Record) (found : Bool) → found ≡ true → ReadsRecord text limit image before next one (Ok found) → IsOneMore text limit image before next one
+read_more text limit image before next one found is told = subst (λ (b : Bool). ReadsRecord text limit image before next one (Ok b)) is told
 
-pub read_end : (text : List ℕ) (limit : ℕ) (image : List ℕ) (before : List (List ℕ)) (next : ℕ) (payload : List ℕ) (found : Bool) → found ≡ false → ReadsRecord text limit image before next payload (Ok found) → IsJournal text limit before image
-read_end text limit image before next payload found is told = subst (λ (b : Bool). ReadsRecord text limit image before next payload (Ok b)) is told
+pub read_end : (text : List ℕ) (limit : ℕ) (image : List ℕ) (before : List Record) (next : ℕ) (one : Record) (found : Bool) → found ≡ false → ReadsRecord text limit image before next one (Ok found) → IsJournal text limit before image
+read_end text limit image before next one found is told = subst (λ (b : Bool). ReadsRecord text limit image before next one (Ok b)) is told
 
-pub read_bad : (text : List ℕ) (limit : ℕ) (image : List ℕ) (before : List (List ℕ)) (next : ℕ) (payload : List ℕ) (why : RecoverFault) (place : ℕ) → why ≡ fault.Bad place → ReadsRecord text limit image before next payload (Err why) → IsBadBehind text limit image before place
-read_bad text limit image before next payload why place is told = subst (λ (e : RecoverFault). ReadsRecord text limit image before next payload (Err e)) is told
+pub read_bad : (text : List ℕ) (limit : ℕ) (image : List ℕ) (before : List Record) (next : ℕ) (one : Record) (why : RecoverFault) (place : ℕ) → why ≡ fault.Bad place → ReadsRecord text limit image before next one (Err why) → IsBadBehind text limit image before place
+read_bad text limit image before next one why place is told = subst (λ (e : RecoverFault). ReadsRecord text limit image before next one (Err e)) is told

@@ -3,6 +3,7 @@ use Rattle.std.specs.Prelude.{◌≡◌, ◌⊎◌, ℕ, List, length, flat_map,
 use Rattle.gx_base.specs.KnownBytes.{IsKnownPrefix}
 use Rattle.gx_station.specs.Stations.{StationMeanings, sent_and}
 use Rattle.product_file.specs.Products.{ProductLists}
+use Rattle.match_journal.specs.Journal.{Record}
 use Rattle.match_journal.specs.Classes.{IsForeignAt, HasBadHeader, HasOtherText}
 use Rattle.match_journal.specs.Opening.{IsOpened}
 use Rattle.order_kinds.specs.Step.{events_of}
@@ -25,9 +26,9 @@ module _ {S : Type 0} (m : StationMeanings S) (product : ProductLists) (text ima
 
   -- a part was sent of the lines of the messages in the first records, none of them bad
   pub record SentPart (line : LineForm) : Type 0 where
-    pub payloads : List (List ℕ)
-    pub first : AreFirstRecords text product.journal_limit payloads image
-    pub sent : IsKnownPrefix (m.sent new) (sent_and (m.sent old) (lines_in line product (messages_in payloads)))
+    pub records : List Record
+    pub first : AreFirstRecords text product.journal_limit records image
+    pub sent : IsKnownPrefix (m.sent new) (sent_and (m.sent old) (lines_in line product (messages_in records)))
 
   -- a part was sent of what is printed of the messages kept
   pub record SentPartOfAll (whole : List (List ℕ) → List ℕ) : Type 0 where

@@ -5,7 +5,7 @@ ghost use Rattle.product_file.specs.declared.limits.TheConstants.{LONGEST_TEXT};
 ghost use Rattle.order_kinds.specs.Cores.{FitsProduct};
 ghost use Rattle.order_kinds.specs.State.{empty_state, state_numbered};
 ghost use Rattle.book_recovery.specs.Recovering.{ReadsOnly};
-ghost use Rattle.journal_print.specs.Reading.{ReadsAndSends};
+ghost use Rattle.journal_print.specs.Reading.{ReadsAndSends, ReadsOnce};
 ghost use Rattle.journal_print.specs.Printed.{PrintsBook};
 ghost use Rattle.journal_print.specs.Inner.Recovering.{RecoversKept};
 
@@ -35,6 +35,7 @@ fn recover_kept<B: Book, S: Station>(
     ensures no_send { IsErrOf result Unprinted.Send → ⊥ }
     ensures fits { OnOk result (FitsProduct product.now core.new) }
     ensures recovers { (image : List ℕ) → S.meanings.holds station.old ≡ Some image → RecoversKept product.now text.now image (state_numbered core.new) result }
+    ensures bytes { (image : List ℕ) → S.meanings.holds station.old ≡ Some image → ReadsOnce S.meanings text.now product.now.journal_limit image station.old station.new result }
 {
     let mut journal = match open_journal(product, text, station) {
         Ok(Some(journal)) => journal,
@@ -68,6 +69,8 @@ pub fn print_kept_book<B: Book, S: Station>(
     ensures send { IsErrOf result Unprinted.Send → Rose (S.meanings.send_faults station.old) (S.meanings.send_faults station.new) }
     ensures no_send { (IsErrOf result Unprinted.Send → ⊥) → S.meanings.send_faults station.new ≡ S.meanings.send_faults station.old }
     ensures prints { (image : List ℕ) → S.meanings.holds station.old ≡ Some image → PrintsBook S.meanings product.now text.now image station.old station.new result }
+    // How much is read of a journal with no bad record.
+    ensures bytes { (image : List ℕ) → S.meanings.holds station.old ≡ Some image → ReadsOnce S.meanings text.now product.now.journal_limit image station.old station.new result }
 {
     let count = match recover_kept(product, text, scratch, core, station) {
         Ok(count) => count,

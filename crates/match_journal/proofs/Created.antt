@@ -4,7 +4,7 @@ use Rattle.std.specs.Int.{w32, to_be_bytes}
 use Rattle.std.proofs.lemmas.List.{append-nil, drop_all, drop_more, drop-drop, take-append-drop, take_at, get_or-append_right}
 use Rattle.std.proofs.lemmas.Bool.{cases_eq}
 use Rattle.gx_station.specs.Disk.{Torn, written}
-use Rattle.match_journal.specs.Journal.{IsJournal, header, magic}
+use Rattle.match_journal.specs.Journal.{Record, IsJournal, header, magic}
 use Rattle.match_journal.specs.Classes.{HasHeader, IsBlank, IsSealed, IsUnfinished, Keeps}
 use Rattle.match_journal.specs.Opening.{IsOpened}
 use Rattle.match_journal.specs.Inner.Fronts.{IsClosed, IsMade}
@@ -143,23 +143,23 @@ written_first text limit known image fits ready =
 
 -- ---- the classes
 
-journal_first : (text : List ℕ) (limit : ℕ) (image : List ℕ) (payloads : List (List ℕ)) → IsJournal text limit payloads image → get_or image 0 0 ≡ 1
-journal_first text limit image payloads journal = ap (λ (l : List ℕ). get_or l 0 0) journal.is
+journal_first : (text : List ℕ) (limit : ℕ) (image : List ℕ) (records : List Record) → IsJournal text limit records image → get_or image 0 0 ≡ 1
+journal_first text limit image records journal = ap (λ (l : List ℕ). get_or l 0 0) journal.is
 
-journal_length : (text : List ℕ) (limit : ℕ) (image : List ℕ) (payloads : List (List ℕ)) → IsJournal text limit payloads image → 13 ≤ length image
-journal_length text limit image payloads journal = omega (arith, ap length journal.is)
+journal_length : (text : List ℕ) (limit : ℕ) (image : List ℕ) (records : List Record) → IsJournal text limit records image → 13 ≤ length image
+journal_length text limit image records journal = omega (arith, ap length journal.is)
 
 -- what is no journal keeps nothing
-pub none_kept : (text : List ℕ) (limit : ℕ) (image : List ℕ) (payloads : List (List ℕ)) → Keeps text limit payloads image → get_or image 0 0 ≢ 1 → (payloads ≡ []) × IsUnfinished text image
-none_kept text limit image payloads (inl journal) not_one = absurd (not_one (journal_first text limit image payloads journal))
-none_kept text limit image payloads (inr unfinished) not_one = unfinished
+pub none_kept : (text : List ℕ) (limit : ℕ) (image : List ℕ) (records : List Record) → Keeps text limit records image → get_or image 0 0 ≢ 1 → (records ≡ []) × IsUnfinished text image
+none_kept text limit image records (inl journal) not_one = absurd (not_one (journal_first text limit image records journal))
+none_kept text limit image records (inr unfinished) not_one = unfinished
 
-pub empty_keeps : (text : List ℕ) (limit : ℕ) (image : List ℕ) (payloads : List (List ℕ)) → Keeps text limit payloads image → length image ≤ 1 → payloads ≡ []
-empty_keeps text limit image payloads (inl journal) short = absurd (omega (arith, journal_length text limit image payloads journal, short))
-empty_keeps text limit image payloads (inr unfinished) short = unfinished.0
+pub empty_keeps : (text : List ℕ) (limit : ℕ) (image : List ℕ) (records : List Record) → Keeps text limit records image → length image ≤ 1 → records ≡ []
+empty_keeps text limit image records (inl journal) short = absurd (omega (arith, journal_length text limit image records journal, short))
+empty_keeps text limit image records (inr unfinished) short = unfinished.0
 
-pub closed_keeps : (text : List ℕ) (limit : ℕ) (image : List ℕ) (payloads : List (List ℕ)) → Keeps text limit payloads image → get_or image 0 0 ≡ 0 → payloads ≡ []
-closed_keeps text limit image payloads keeps closed = (none_kept text limit image payloads keeps (λ one. absurd (cc (closed, one)))).0
+pub closed_keeps : (text : List ℕ) (limit : ℕ) (image : List ℕ) (records : List Record) → Keeps text limit records image → get_or image 0 0 ≡ 0 → records ≡ []
+closed_keeps text limit image records keeps closed = (none_kept text limit image records keeps (λ one. absurd (cc (closed, one)))).0
 
 -- an image whose first gate is closed, and which is not empty
 pub closed_of : (image : List ℕ) → 1 ≤ length image → get_or image 0 0 ≡ 0 → length image ≤ MOST_UNFINISHED → IsClosed image
@@ -195,9 +195,9 @@ blank_keeps text limit image blank = inr (
   },
 )
 
-pub opened_keeps : (text : List ℕ) (limit : ℕ) (image : List ℕ) (payloads : List (List ℕ)) → Keeps text limit payloads image → IsOpened text image → IsJournal text limit payloads image
-opened_keeps text limit image payloads (inl journal) opened = journal
-opened_keeps text limit image payloads (inr (none, unfinished)) opened = elim unfinished.unfinished [
+pub opened_keeps : (text : List ℕ) (limit : ℕ) (image : List ℕ) (records : List Record) → Keeps text limit records image → IsOpened text image → IsJournal text limit records image
+opened_keeps text limit image records (inl journal) opened = journal
+opened_keeps text limit image records (inr (none, unfinished)) opened = elim unfinished.unfinished [
   | inl blank ↦ elim blank [
     | inl short ↦ absurd (omega (arith, opened.1.inside, short))
     | inr closed ↦ absurd (cc (closed.0, opened.0.opened))

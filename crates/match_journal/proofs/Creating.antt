@@ -3,7 +3,7 @@ use Rattle.std.proofs.Common.{◌≡◌, ℕ, ◌+◌, ◌<◌, ◌≤◌, max, 
 use Rattle.gx_station.specs.Disk.{Torn, written}
 use Rattle.gx_station.specs.Stations.{StationMeanings}
 use Rattle.match_journal.specs.Steps.{Steps, HoldsOne}
-use Rattle.match_journal.specs.Journal.{IsJournal}
+use Rattle.match_journal.specs.Journal.{Record, IsJournal}
 use Rattle.match_journal.specs.Classes.{IsSealed, Keeps}
 use Rattle.match_journal.specs.Opening.{IsOpening, IsOpened}
 use Rattle.match_journal.specs.Inner.Stores.{Stored}
@@ -39,21 +39,21 @@ module _ {S : Type 0} (m : StationMeanings S) (text : List ℕ) (limit : ℕ) (s
 
   -- ---- by the class
 
-  abbrev Finishes : {T F : Type 0} → S → S → List ℕ → List (List ℕ) → Result T F → Type 0
-  Finishes old new image payloads r = Steps m old new image (IsOpening text limit payloads image) (IsJournal text limit payloads) r
+  abbrev Finishes : {T F : Type 0} → S → S → List ℕ → List Record → Result T F → Type 0
+  Finishes old new image records r = Steps m old new image (IsOpening text limit records image) (IsJournal text limit records) r
 
   -- where nothing was kept
-  none_kept_steps : {T F : Type 0} (old new : S) (image : List ℕ) (payloads : List (List ℕ)) (known : ℕ) (r : Result T F) → payloads ≡ [] → Steps m old new image (IsOpening text limit [] image) (IsMade text limit known) r → Finishes old new image payloads r
-  none_kept_steps old new image payloads known r none steps =
-      subst (λ (ps : List (List ℕ)). Finishes old new image ps r) (sym none) (steps_weaker m old new image _ _ _ _ r (λ left opening. opening) (λ last made. made.journal) steps)
+  none_kept_steps : {T F : Type 0} (old new : S) (image : List ℕ) (records : List Record) (known : ℕ) (r : Result T F) → records ≡ [] → Steps m old new image (IsOpening text limit [] image) (IsMade text limit known) r → Finishes old new image records r
+  none_kept_steps old new image records known r none steps =
+      subst (λ (ps : List Record). Finishes old new image ps r) (sym none) (steps_weaker m old new image _ _ _ _ r (λ left opening. opening) (λ last made. made.journal) steps)
 
   empty_steps : {T F : Type 0} (old new : S) (image : List ℕ) (r : Result T F) → length image ≤ 1 → Stored m old new 0 (0 ∷ []) r → Steps m old new image (IsOpening text limit [] image) (λ last. last ≡ 0 ∷ []) r
   empty_steps old new image r small stored =
       steps_weaker m old new image _ _ _ _ r (λ left torn. opening_new text limit image left (torn_empty text limit image left small torn)) (λ last is. is ∙ written_empty image small) (stored.steps image)
 
-  pub empty_stopped : {T U F G : Type 0} (old new : S) (image : List ℕ) (payloads : List (List ℕ)) (e : G) (r : Result T F) → length image ≤ 1 → Keeps text limit payloads image → IsErr r → Stored m {T = U} {F = G} old new 0 (0 ∷ []) (Err e) → Finishes old new image payloads r
-  empty_stopped old new image payloads e r small keeps bad stored =
-      none_kept_steps old new image payloads 0 r (empty_keeps text limit image payloads keeps small) (steps_err m old new image _ _ _ e r bad (empty_steps old new image (Err e) small stored))
+  pub empty_stopped : {T U F G : Type 0} (old new : S) (image : List ℕ) (records : List Record) (e : G) (r : Result T F) → length image ≤ 1 → Keeps text limit records image → IsErr r → Stored m {T = U} {F = G} old new 0 (0 ∷ []) (Err e) → Finishes old new image records r
+  empty_stopped old new image records e r small keeps bad stored =
+      none_kept_steps old new image records 0 r (empty_keeps text limit image records keeps small) (steps_err m old new image _ _ _ e r bad (empty_steps old new image (Err e) small stored))
 
   abbrev Creates : {T F : Type 0} → S → S → Result T F → Type 0
   Creates mid new r = (image : List ℕ) (limit : ℕ) → LEAST_LIMIT ≤ limit → IsClosed image → Steps m mid new image (IsOpening text limit [] image) (IsMade text limit (max (length image) (14 + length text))) r
@@ -69,18 +69,18 @@ module _ {S : Type 0} (m : StationMeanings S) (text : List ℕ) (limit : ℕ) (s
       (λ last made. record { journal = made.journal; length_is = omega (arith, made.length_is, ap length is) })
       (then middle limit fits (one_closed middle is)))
 
-  pub empty_done : {T U F G : Type 0} (old mid new : S) (image : List ℕ) (payloads : List (List ℕ)) (x : U) (r : Result T F) → length image ≤ 1 → Keeps text limit payloads image → Stored m {T = U} {F = G} old mid 0 (0 ∷ []) (Ok x) → Creates mid new r → Finishes old new image payloads r
-  empty_done old mid new image payloads x r small keeps stored then =
-      none_kept_steps old new image payloads (14 + length text) r (empty_keeps text limit image payloads keeps small) (empty_made old mid new image x r small stored then)
+  pub empty_done : {T U F G : Type 0} (old mid new : S) (image : List ℕ) (records : List Record) (x : U) (r : Result T F) → length image ≤ 1 → Keeps text limit records image → Stored m {T = U} {F = G} old mid 0 (0 ∷ []) (Ok x) → Creates mid new r → Finishes old new image records r
+  empty_done old mid new image records x r small keeps stored then =
+      none_kept_steps old new image records (14 + length text) r (empty_keeps text limit image records keeps small) (empty_made old mid new image x r small stored then)
 
-  pub blank_done : {T F : Type 0} (old new : S) (image : List ℕ) (payloads : List (List ℕ)) (r : Result T F) → 1 ≤ length image → get_or image 0 0 ≡ 0 → length image ≤ MOST_UNFINISHED → Keeps text limit payloads image → Creates old new r → Finishes old new image payloads r
-  blank_done old new image payloads r some zero few keeps then =
-      none_kept_steps old new image payloads _ r (closed_keeps text limit image payloads keeps zero) (then image limit fits (closed_of image some zero few))
+  pub blank_done : {T F : Type 0} (old new : S) (image : List ℕ) (records : List Record) (r : Result T F) → 1 ≤ length image → get_or image 0 0 ≡ 0 → length image ≤ MOST_UNFINISHED → Keeps text limit records image → Creates old new r → Finishes old new image records r
+  blank_done old new image records r some zero few keeps then =
+      none_kept_steps old new image records _ r (closed_keeps text limit image records keeps zero) (then image limit fits (closed_of image some zero few))
 
-  pub sealed_done : {T F : Type 0} (old new : S) (image : List ℕ) (payloads : List (List ℕ)) (r : Result T F) → IsSealed text image → Keeps text limit payloads image → Stored m old new 0 (1 ∷ []) r → Finishes old new image payloads r
-  sealed_done old new image payloads r sealed keeps stored =
-      let none = none_kept text limit image payloads keeps sealed.not_open in
-      none_kept_steps old new image payloads _ r none.0 (ready_steps old new image _ r (sealed_ready text image sealed none.1.few) stored)
+  pub sealed_done : {T F : Type 0} (old new : S) (image : List ℕ) (records : List Record) (r : Result T F) → IsSealed text image → Keeps text limit records image → Stored m old new 0 (1 ∷ []) r → Finishes old new image records r
+  sealed_done old new image records r sealed keeps stored =
+      let none = none_kept text limit image records keeps sealed.not_open in
+      none_kept_steps old new image records _ r none.0 (ready_steps old new image _ r (sealed_ready text image sealed none.1.few) stored)
 
   -- it is made a journal, however long it is
   pub sealed_made : {T F : Type 0} (old new : S) (image : List ℕ) (r : Result T F) → IsSealed text image → m.holds old ≡ Some image → Stored m old new 0 (1 ∷ []) r → OnOk r (HoldsOne m (IsJournal text limit []) new)
@@ -90,9 +90,9 @@ module _ {S : Type 0} (m : StationMeanings S) (text : List ℕ) (limit : ℕ) (s
       ended (Ok x) held = record { image = held.image; read = held.read; has = subst (IsJournal text limit []) (sym held.has.1) (written_sealed text limit image in_limit sealed) }
       ended (Err e) held = tt
 
-  pub open_done : {T F : Type 0} (old : S) (image : List ℕ) (payloads : List (List ℕ)) (r : Result T F) → IsOpened text image → Keeps text limit payloads image → Finishes old old image payloads r
-  open_done old image payloads r opened keeps =
-      steps_none m old image _ _ r record { keeps = keeps; no_longer = omega arith } (opened_keeps text limit image payloads keeps opened)
+  pub open_done : {T F : Type 0} (old : S) (image : List ℕ) (records : List Record) (r : Result T F) → IsOpened text image → Keeps text limit records image → Finishes old old image records r
+  open_done old image records r opened keeps =
+      steps_none m old image _ _ r record { keeps = keeps; no_longer = omega arith } (opened_keeps text limit image records keeps opened)
 
   -- ---- how long the image is then
 

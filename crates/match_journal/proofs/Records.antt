@@ -6,7 +6,7 @@ use Rattle.std.proofs.lemmas.List.{take-append-drop, take_at, drop_at, drop_more
 use Rattle.std.proofs.lemmas.Grind.{flat_map-append}
 use Rattle.std.proofs.lemmas.Bool.{cases_eq}
 use Rattle.gx_station.specs.Disk.{Torn, written}
-use Rattle.match_journal.specs.Journal.{IsJournal, IsPayload, journal_front, header, open_record}
+use Rattle.match_journal.specs.Journal.{IsJournal, IsRecord, Record, kind_byte, journal_front, header, open_record}
 use Rattle.match_journal.specs.Inner.Stores.{staged}
 use Rattle.match_journal.proofs.Torn.{torn_front, torn_back}
 
@@ -56,47 +56,47 @@ written_gate front gate tail byte =
 pub length-size : (n : ℕ) → length (to_be_bytes w32 n) ≡ 4
 length-size n = refl
 
-pub journal_front-push : (text : List ℕ) (payloads : List (List ℕ)) (payload : List ℕ) → journal_front text (payloads ++ payload ∷ []) ≡ journal_front text payloads ++ open_record payload
-journal_front-push text payloads payload =
-    ap (λ (l : List ℕ). 1 ∷ (header text ++ l)) (flat_map-append open_record payloads (payload ∷ []) ∙ ap (λ (l : List ℕ). flat_map open_record payloads ++ l) (append-nil (open_record payload)))
-    ∙ sym (append_assoc (1 ∷ header text) (flat_map open_record payloads) (open_record payload))
+pub journal_front-push : (text : List ℕ) (records : List Record) (r : Record) → journal_front text (records ++ r ∷ []) ≡ journal_front text records ++ open_record r
+journal_front-push text records r =
+    ap (λ (l : List ℕ). 1 ∷ (header text ++ l)) (flat_map-append open_record records (r ∷ []) ∙ ap (λ (l : List ℕ). flat_map open_record records ++ l) (append-nil (open_record r)))
+    ∙ sym (append_assoc (1 ∷ header text) (flat_map open_record records) (open_record r))
 
-pub length-record : (payload : List ℕ) → length (open_record payload) ≡ length payload + 6
-length-record payload = omega (arith, length-append (to_be_bytes w32 (length payload)) payload, length-size (length payload))
+pub length-record : (r : Record) → length (open_record r) ≡ length r.payload + 6
+length-record r = omega (arith, length-append (to_be_bytes w32 (length r.payload)) r.payload, length-size (length r.payload))
 
-pub length-staged : (payload : List ℕ) → length (staged payload) ≡ length payload + 6
-length-staged payload = omega (arith, length-append (to_be_bytes w32 (length payload)) (payload ++ 0 ∷ []), length-size (length payload), length-append payload (0 ∷ []))
+pub length-staged : (r : Record) → length (staged r) ≡ length r.payload + 6
+length-staged r = omega (arith, length-append (to_be_bytes w32 (length r.payload)) (r.payload ++ 0 ∷ []), length-size (length r.payload), length-append r.payload (0 ∷ []))
 
-pub all-push : (P : List ℕ → Type 0) (xs : List (List ℕ)) (x : List ℕ) → AllByRecursion P xs → P x → AllByRecursion P (xs ++ x ∷ [])
+pub all-push : (P : Record → Type 0) (xs : List Record) (x : Record) → AllByRecursion P xs → P x → AllByRecursion P (xs ++ x ∷ [])
 all-push P [] x all px = (px, tt)
 all-push P (y ∷ ys) x all px = (all.0, all-push P ys x all.1 px)
 
-module _ (text : List ℕ) (limit : ℕ) (payloads : List (List ℕ)) (payload : List ℕ) where
+module _ (text : List ℕ) (limit : ℕ) (records : List Record) (r : Record) where
   abbrev front : List ℕ
-  front = journal_front text payloads
+  front = journal_front text records
 
-  pub opened : (rest : List ℕ) → front ++ 1 ∷ (staged payload ++ rest) ≡ journal_front text (payloads ++ payload ∷ []) ++ 0 ∷ rest
+  pub opened : (rest : List ℕ) → front ++ 1 ∷ (staged r ++ rest) ≡ journal_front text (records ++ r ∷ []) ++ 0 ∷ rest
   opened rest =
-      let size = to_be_bytes w32 (length payload) in
-      ap (λ (l : List ℕ). front ++ 1 ∷ 77 ∷ l) (append_assoc size (payload ++ 0 ∷ []) rest ∙ ap (λ (l : List ℕ). size ++ l) (append_assoc payload (0 ∷ []) rest) ∙ sym (append_assoc size payload (0 ∷ rest)))
-      ∙ sym (append_assoc front (open_record payload) (0 ∷ rest))
-      ∙ ap (λ (l : List ℕ). l ++ 0 ∷ rest) (sym (journal_front-push text payloads payload))
+      let size = to_be_bytes w32 (length r.payload) in
+      ap (λ (l : List ℕ). front ++ 1 ∷ kind_byte r.kind ∷ l) (append_assoc size (r.payload ++ 0 ∷ []) rest ∙ ap (λ (l : List ℕ). size ++ l) (append_assoc r.payload (0 ∷ []) rest) ∙ sym (append_assoc size r.payload (0 ∷ rest)))
+      ∙ sym (append_assoc front (open_record r) (0 ∷ rest))
+      ∙ ap (λ (l : List ℕ). l ++ 0 ∷ rest) (sym (journal_front-push text records r))
 
   -- the record stands whole behind a gate
-  pub whole_record : AllByRecursion IsPayload payloads → IsPayload payload → length front + 7 + length payload ≤ limit → (gate : ℕ) (rest : List ℕ)
-      → IsJournal text limit payloads (front ++ gate ∷ (staged payload ++ rest)) ⊎ IsJournal text limit (payloads ++ payload ∷ []) (front ++ gate ∷ (staged payload ++ rest))
+  pub whole_record : AllByRecursion IsRecord records → IsRecord r → length front + 7 + length r.payload ≤ limit → (gate : ℕ) (rest : List ℕ)
+      → IsJournal text limit records (front ++ gate ∷ (staged r ++ rest)) ⊎ IsJournal text limit (records ++ r ∷ []) (front ++ gate ∷ (staged r ++ rest))
   whole_record sized right fits gate rest = elim (cases_eq gate 1) [
     | inl is_open ↦ inr record {
       gate = 0;
       behind = rest;
-      is = ap (λ g. front ++ g ∷ (staged payload ++ rest)) is_open ∙ opened rest;
+      is = ap (λ g. front ++ g ∷ (staged r ++ rest)) is_open ∙ opened rest;
       closed = omega arith;
-      sized = all-push IsPayload payloads payload sized right;
-      in_limit = omega (arith, fits, ap length (journal_front-push text payloads payload), length-append front (open_record payload), length-record payload);
+      sized = all-push IsRecord records r sized right;
+      in_limit = omega (arith, fits, ap length (journal_front-push text records r), length-append front (open_record r), length-record r);
     }
     | inr shut ↦ inl record {
       gate = gate;
-      behind = staged payload ++ rest;
+      behind = staged r ++ rest;
       is = refl;
       closed = shut;
       sized = sized;

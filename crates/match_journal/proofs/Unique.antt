@@ -1,27 +1,25 @@
--- An image keeps one list of payloads, and one answer fits it.
+-- An image keeps one list of records, and one answer fits it.
 use Rattle.std.proofs.Common.{◌≡◌, ◌≢◌, ◌⊎◌, inl, inr, ⊎_elim, ℕ, ◌+◌, ◌<◌, ◌≤◌, List, [], ◌∷◌, ◌++◌, length, get_or, take, drop, Option, Some, None, Result, Ok, Err, refl, sym, subst, ◌∙◌, ap, arith, append_assoc, length-drop}
 use Rattle.std.specs.Int.{w32, to_be_bytes}
 use Rattle.std.specs.List.{flat_map, AllByRecursion}
 use Rattle.std.proofs.lemmas.List.{take_at, drop_at, append_cancel_left, append-nil, length-take, get_or-take, get_or-drop}
-use Rattle.match_journal.specs.Journal.{IsJournal, IsPayload, header, open_record}
+use Rattle.match_journal.specs.Journal.{IsJournal, IsRecord, Record, kind_byte, header, open_record}
 use Rattle.match_journal.specs.Classes.{HasHeader, HasOpenGate, IsBlank, IsSealed, IsUnfinished, IsForeignAt, HasOtherText, Keeps, first_difference}
 use Rattle.match_journal.specs.Opening.{IsOpened, IsStartFault, Looks}
 use Rattle.match_journal.specs.Walking.{IsHead, Walks}
 use Rattle.gx_station.specs.Disk.{Torn}
 use Rattle.match_journal.specs.declared.entry.Entry.{Entry}
-use Rattle.match_journal.specs.declared.entry.EntryKind.{EntryKind}
-use Rattle.match_journal.specs.declared.entry.EntryKind.TheVariants as kind
 use Rattle.match_journal.specs.declared.standing.Standing.{Standing}
 use Rattle.match_journal.specs.declared.faults.WalkFault.{WalkFault}
 use Rattle.match_journal.specs.declared.faults.WalkFault.TheVariants as walk
 use Rattle.match_journal.specs.declared.faults.StartFault.{StartFault}
 use Rattle.match_journal.specs.declared.faults.StartFault.TheVariants as fault
-use Rattle.match_journal.proofs.Walked.{one_size}
+use Rattle.match_journal.proofs.Walked.{one_size, one_kind, below}
 use Rattle.match_journal.specs.declared.limits.TheConstants.{MOST_TEXT}
 use Rattle.match_journal.proofs.Fronts.{header_front, header_magic}
 use Rattle.match_journal.proofs.Created.{empty_keeps, closed_keeps, none_kept, has_header}
 
--- ---- one list of payloads
+-- ---- one list of records
 
 -- two lists whose fronts are as long
 pub same_front : (p q x y : List ℕ) → length p ≡ length q → p ++ x ≡ q ++ y → (p ≡ q) × (x ≡ y)
@@ -30,23 +28,28 @@ same_front p q x y size e = (
   sym (drop_at p x (length q) size) ∙ ap (drop (length q)) e ∙ drop_at q y (length q) refl,
 )
 
-one_list : (ps qs : List (List ℕ)) (g h : ℕ) (x y : List ℕ) → AllByRecursion IsPayload ps → AllByRecursion IsPayload qs → g ≢ 1 → h ≢ 1 → flat_map open_record ps ++ g ∷ x ≡ flat_map open_record qs ++ h ∷ y → ps ≡ qs
+-- two records with one kind and one payload
+pub one_record : (p q : Record) → p.kind ≡ q.kind → p.payload ≡ q.payload → p ≡ q
+one_record p q kind payload = λ i. record { kind = kind i; payload = payload i }
+
+one_list : (ps qs : List Record) (g h : ℕ) (x y : List ℕ) → AllByRecursion IsRecord ps → AllByRecursion IsRecord qs → g ≢ 1 → h ≢ 1 → flat_map open_record ps ++ g ∷ x ≡ flat_map open_record qs ++ h ∷ y → ps ≡ qs
 one_list [] [] g h x y sized sized' shut shut' e = refl
 one_list [] (q ∷ qs) g h x y sized sized' shut shut' e = absurd (shut (ap (λ (l : List ℕ). get_or l 0 0) e))
 one_list (p ∷ ps) [] g h x y sized sized' shut shut' e = absurd (shut' (sym (ap (λ (l : List ℕ). get_or l 0 0) e)))
 one_list (p ∷ ps) (q ∷ qs) g h x y sized sized' shut shut' e =
-    let size : length p ≡ length q = one_size (length p) (length q) (omega (arith, sized.0.few)) (omega (arith, sized'.0.few)) (ap (λ (l : List ℕ). take 4 (drop 2 l)) e) in
-    let rest : p ++ (flat_map open_record ps ++ g ∷ x) ≡ q ++ (flat_map open_record qs ++ h ∷ y) =
-    sym (append_assoc p (flat_map open_record ps) (g ∷ x)) ∙ ap (drop 6) e ∙ append_assoc q (flat_map open_record qs) (h ∷ y) in
-    let both = same_front p q _ _ size rest in
-    cc (both.0, one_list ps qs g h x y sized.1 sized'.1 shut shut' both.1)
+    let size : length p.payload ≡ length q.payload = one_size (length p.payload) (length q.payload) (below p.kind (length p.payload) sized.0.few) (below q.kind (length q.payload) sized'.0.few) (ap (λ (l : List ℕ). take 4 (drop 2 l)) e) in
+    let rest : p.payload ++ (flat_map open_record ps ++ g ∷ x) ≡ q.payload ++ (flat_map open_record qs ++ h ∷ y) =
+    sym (append_assoc p.payload (flat_map open_record ps) (g ∷ x)) ∙ ap (drop 6) e ∙ append_assoc q.payload (flat_map open_record qs) (h ∷ y) in
+    let both = same_front p.payload q.payload _ _ size rest in
+    let same : p ≡ q = one_record p q (one_kind p.kind q.kind (ap (λ (l : List ℕ). get_or l 1 0) e)) both.0 in
+    cc (same, one_list ps qs g h x y sized.1 sized'.1 shut shut' both.1)
 
-one_journal : (text : List ℕ) (limit : ℕ) (image : List ℕ) (ps qs : List (List ℕ)) → IsJournal text limit ps image → IsJournal text limit qs image → ps ≡ qs
+one_journal : (text : List ℕ) (limit : ℕ) (image : List ℕ) (ps qs : List Record) → IsJournal text limit ps image → IsJournal text limit qs image → ps ≡ qs
 one_journal text limit image ps qs a b =
     one_list ps qs a.gate b.gate a.behind b.behind a.sized b.sized a.closed b.closed (append_cancel_left (1 ∷ header text) _ _
     (sym (append_assoc (1 ∷ header text) (flat_map open_record ps) (a.gate ∷ a.behind)) ∙ sym a.is ∙ b.is ∙ append_assoc (1 ∷ header text) (flat_map open_record qs) (b.gate ∷ b.behind)))
 
-unfinished_keeps : (text : List ℕ) (limit : ℕ) (image : List ℕ) (ps : List (List ℕ)) → Keeps text limit ps image → IsUnfinished text image → ps ≡ []
+unfinished_keeps : (text : List ℕ) (limit : ℕ) (image : List ℕ) (ps : List Record) → Keeps text limit ps image → IsUnfinished text image → ps ≡ []
 unfinished_keeps text limit image ps keeps u = elim u.unfinished [
   | inl blank ↦ elim blank [
     | inl short ↦ empty_keeps text limit image ps keeps short
@@ -55,7 +58,7 @@ unfinished_keeps text limit image ps keeps u = elim u.unfinished [
   | inr sealed ↦ (none_kept text limit image ps keeps sealed.not_open).0
 ]
 
-pub one_keeping : (text : List ℕ) (limit : ℕ) (image : List ℕ) (ps qs : List (List ℕ)) → Keeps text limit ps image → Keeps text limit qs image → ps ≡ qs
+pub one_keeping : (text : List ℕ) (limit : ℕ) (image : List ℕ) (ps qs : List Record) → Keeps text limit ps image → Keeps text limit qs image → ps ≡ qs
 one_keeping text limit image ps qs (inl a) (inl b) = one_journal text limit image ps qs a b
 one_keeping text limit image ps qs (inl a) (inr b) = unfinished_keeps text limit image ps (inl a) b.1 ∙ sym b.0
 one_keeping text limit image ps qs (inr a) (inl b) = a.0 ∙ sym (unfinished_keeps text limit image qs (inl b) a.1)
@@ -142,22 +145,22 @@ module _ (product image : List ℕ) where
   one_answer limit (Err e) (Ok (Some s)) x y told told' = absurd (some_err e y.0 x (not_store e told))
   one_answer limit (Err e) (Err f) x y told told' = ap Err (err_err e f x y (not_store e told) (not_store f told'))
 
--- ---- what keeps payloads is opened
+-- ---- what keeps records is opened
 
 headed_opened : (text image behind : List ℕ) (last : ℕ) → length text ≤ MOST_TEXT → image ≡ 1 ∷ (header text ++ last ∷ behind) → IsOpened text image
 headed_opened text image behind last few is =
     let h : HasHeader text image = subst (HasHeader text) (sym is) (has_header text behind 1 last few) in
     (record { opened = ap (λ (l : List ℕ). get_or l 0 0) is; magic = header_magic text image h }, h)
 
-pub journal_opened : (text : List ℕ) (limit : ℕ) (image : List ℕ) (payloads : List (List ℕ)) → length text ≤ MOST_TEXT → IsJournal text limit payloads image → IsOpened text image
+pub journal_opened : (text : List ℕ) (limit : ℕ) (image : List ℕ) (records : List Record) → length text ≤ MOST_TEXT → IsJournal text limit records image → IsOpened text image
 journal_opened text limit image [] few j = headed_opened text image j.behind j.gate few (j.is ∙ ap (λ (l : List ℕ). 1 ∷ (l ++ j.gate ∷ j.behind)) (append-nil (header text)))
 journal_opened text limit image (p ∷ ps) few j =
-    headed_opened text image (77 ∷ (((to_be_bytes w32 (length p) ++ p) ++ flat_map open_record ps) ++ j.gate ∷ j.behind)) 1 few
+    headed_opened text image (kind_byte p.kind ∷ (((to_be_bytes w32 (length p.payload) ++ p.payload) ++ flat_map open_record ps) ++ j.gate ∷ j.behind)) 1 few
     (j.is ∙ ap (λ (l : List ℕ). 1 ∷ l) (append_assoc (header text) (open_record p ++ flat_map open_record ps) (j.gate ∷ j.behind)))
 
-pub not_refused : (product image : List ℕ) (limit : ℕ) (payloads : List (List ℕ)) (e : StartFault) → length product ≤ MOST_TEXT → Keeps product limit payloads image → IsStartFault product image e → (e ≡ fault.Store → ⊥) → ⊥
-not_refused product image limit payloads e few (inl journal) is told = some_err product image e (journal_opened product limit image payloads few journal) is told
-not_refused product image limit payloads e few (inr unfinished) is told = none_err product image e unfinished.1.unfinished is told
+pub not_refused : (product image : List ℕ) (limit : ℕ) (records : List Record) (e : StartFault) → length product ≤ MOST_TEXT → Keeps product limit records image → IsStartFault product image e → (e ≡ fault.Store → ⊥) → ⊥
+not_refused product image limit records e few (inl journal) is told = some_err product image e (journal_opened product limit image records few journal) is told
+not_refused product image limit records e few (inr unfinished) is told = none_err product image e unfinished.1.unfinished is told
 
 -- ---- one answer at a gate
 
@@ -168,14 +171,11 @@ head_opened image limit gate entry head =
     zero_more : gate ≡ gate + 0
     zero_more = omega arith
 
-one_kind : (a b : EntryKind) → a ≡ b
-one_kind kind.Frames kind.Frames = refl
-
 one_entry : (image : List ℕ) (limit gate : ℕ) (a b : Entry) → IsHead image limit gate a → IsHead image limit gate b → a ≡ b
 one_entry image limit gate a b x y =
-    let size : a.length ≡ b.length = one_size a.length b.length (omega (arith, x.fits.few)) (omega (arith, y.fits.few)) (ap (drop 2) (sym x.stands ∙ y.stands)) in
+    let size : a.length ≡ b.length = one_size a.length b.length (below a.kind a.length x.fits.few) (below b.kind b.length y.fits.few) (ap (drop 2) (sym x.stands ∙ y.stands)) in
     let at : a.at ≡ b.at = x.at_is ∙ sym y.at_is in
-    let same : a.kind ≡ b.kind = one_kind a.kind b.kind in
+    let same : a.kind ≡ b.kind = one_kind a.kind b.kind (ap (λ (l : List ℕ). get_or l 1 0) (sym x.stands ∙ y.stands)) in
     λ i. record { at = at i; kind = same i; length = size i }
 
 pub one_walk : (image : List ℕ) (limit gate : ℕ) (a b : Result (Option Entry) WalkFault) → Walks image limit gate a → Walks image limit gate b → (a ≡ Err walk.Store → ⊥) → (b ≡ Err walk.Store → ⊥) → a ≡ b
@@ -196,7 +196,7 @@ one_walk image limit gate (Err (walk.Bad at)) (Err (walk.Bad at')) x y told told
 -- ---- gate and header in one write
 
 -- this image keeps nothing
-none_200 : (text : List ℕ) (limit : ℕ) (ps : List (List ℕ)) → Keeps text limit ps (200 ∷ 200 ∷ []) → ⊥
+none_200 : (text : List ℕ) (limit : ℕ) (ps : List Record) → Keeps text limit ps (200 ∷ 200 ∷ []) → ⊥
 none_200 text limit ps (inl journal) = omega (arith, ap (λ (l : List ℕ). get_or l 0 0) journal.is)
 none_200 text limit ps (inr (none, u)) = elim u.unfinished [
   | inl blank ↦ elim blank [

@@ -5,24 +5,25 @@ use Rattle.std.specs.List.{flat_map, AllByRecursion}
 use Rattle.std.proofs.lemmas.List.{take_at, drop_at, drop-drop, get_or-drop}
 use Rattle.std.proofs.lemmas.Nat.{from_be_bytes-to_be_bytes_4}
 use Rattle.std.proofs.lemmas.Grind.{flat_map-append}
-use Rattle.match_journal.specs.Journal.{IsJournal, IsPayload, journal_front, header, open_record}
+use Rattle.match_journal.specs.Journal.{IsJournal, IsRecord, Record, kind_byte, journal_front, header, open_record, most_payload}
 use Rattle.match_journal.specs.Walking.{IsHead, IsBadHead, IsNext, Walks, InOrder}
 use Rattle.match_journal.specs.declared.entry.Entry.{Entry}
 use Rattle.match_journal.specs.declared.standing.Standing.{Standing}
 use Rattle.match_journal.specs.declared.faults.WalkFault.{WalkFault}
 use Rattle.match_journal.specs.declared.faults.WalkFault.TheVariants as fault
+use Rattle.match_journal.specs.declared.entry.EntryKind.{EntryKind}
 use Rattle.match_journal.specs.declared.entry.EntryKind.TheVariants as kind
 use Rattle.match_journal.proofs.Records.{journal_front-push, length-record}
 
 -- the journal from a gate on
-abbrev from_gate : (after : List (List ℕ)) (gate : ℕ) (behind : List ℕ) → List ℕ
+abbrev from_gate : (after : List Record) (gate : ℕ) (behind : List ℕ) → List ℕ
 from_gate after gate behind = flat_map open_record after ++ gate ∷ behind
 
-pub front-split : (text : List ℕ) (before after : List (List ℕ)) → journal_front text (before ++ after) ≡ journal_front text before ++ flat_map open_record after
+pub front-split : (text : List ℕ) (before after : List Record) → journal_front text (before ++ after) ≡ journal_front text before ++ flat_map open_record after
 front-split text before after =
     ap (λ (l : List ℕ). 1 ∷ (header text ++ l)) (flat_map-append open_record before after) ∙ sym (append_assoc (1 ∷ header text) (flat_map open_record before) (flat_map open_record after))
 
-pub all-behind : (P : List ℕ → Type 0) (xs ys : List (List ℕ)) → AllByRecursion P (xs ++ ys) → AllByRecursion P ys
+pub all-behind : (P : Record → Type 0) (xs ys : List Record) → AllByRecursion P (xs ++ ys) → AllByRecursion P ys
 all-behind P [] ys all = all
 all-behind P (x ∷ xs) ys all = all-behind P xs ys all.1
 
@@ -30,7 +31,7 @@ all-behind P (x ∷ xs) ys all = all-behind P xs ys all.1
 pub one_size : (a b : ℕ) → a < 2 ^ 32 → b < 2 ^ 32 → to_be_bytes w32 a ≡ to_be_bytes w32 b → a ≡ b
 one_size a b small_a small_b same = sym (from_be_bytes-to_be_bytes_4 a small_a) ∙ ap (from_be_bytes w32) same ∙ from_be_bytes-to_be_bytes_4 b small_b
 
-module _ (text image : List ℕ) (limit : ℕ) (before after : List (List ℕ)) (journal : IsJournal text limit (before ++ after) image) (gate : ℕ) (place : gate ≡ length (journal_front text before)) where
+module _ (text image : List ℕ) (limit : ℕ) (before after : List Record) (journal : IsJournal text limit (before ++ after) image) (gate : ℕ) (place : gate ≡ length (journal_front text before)) where
   split : image ≡ journal_front text before ++ from_gate after journal.gate journal.behind
   split =
       journal.is
@@ -47,65 +48,79 @@ module _ (text image : List ℕ) (limit : ℕ) (before after : List (List ℕ)) 
   long = omega (arith, ap length split, length-append (journal_front text before) (from_gate after journal.gate journal.behind), place)
 
 -- the gate is closed: nothing is left
-pub none_left : (text image : List ℕ) (limit : ℕ) (before after : List (List ℕ)) (journal : IsJournal text limit (before ++ after) image) (gate : ℕ) → gate ≡ length (journal_front text before) → get_or image gate 0 ≢ 1 → after ≡ []
+pub none_left : (text image : List ℕ) (limit : ℕ) (before after : List Record) (journal : IsJournal text limit (before ++ after) image) (gate : ℕ) → gate ≡ length (journal_front text before) → get_or image gate 0 ≢ 1 → after ≡ []
 none_left text image limit before [] journal gate place shut = refl
-none_left text image limit before (payload ∷ more) journal gate place shut = absurd (shut (gate_byte text image limit before (payload ∷ more) journal gate place))
+none_left text image limit before (r ∷ more) journal gate place shut = absurd (shut (gate_byte text image limit before (r ∷ more) journal gate place))
 
-module _ (text image : List ℕ) (limit : ℕ) (before : List (List ℕ)) (payload : List ℕ) (more : List (List ℕ)) (journal : IsJournal text limit (before ++ payload ∷ more) image) (gate : ℕ) (place : gate ≡ length (journal_front text before)) where
-  right : IsPayload payload
-  right = (all-behind IsPayload before (payload ∷ more) journal.sized).0
+-- no payload has 2^32 bytes
+pub below : (k : EntryKind) (n : ℕ) → n ≤ most_payload k → n < 2 ^ 32
+below kind.Frames n few = omega (arith, few)
+below kind.Image n few = omega (arith, few)
 
-  head_bytes : take 6 (drop gate image) ≡ 1 ∷ 77 ∷ to_be_bytes w32 (length payload)
-  head_bytes = ap (take 6) (at_gate text image limit before (payload ∷ more) journal gate place)
+-- two kinds with the same byte
+pub one_kind : (a b : EntryKind) → kind_byte a ≡ kind_byte b → a ≡ b
+one_kind kind.Frames kind.Frames same = refl
+one_kind kind.Image kind.Image same = refl
+one_kind kind.Frames kind.Image same = absurd (omega (arith, same))
+one_kind kind.Image kind.Frames same = absurd (omega (arith, same))
 
-  inside : gate + 7 + length payload ≤ length image
-  inside = omega (arith, long text image limit before (payload ∷ more) journal gate place, length-append (open_record payload ++ flat_map open_record more) (journal.gate ∷ journal.behind), length-append (open_record payload) (flat_map open_record more), length-record payload)
+module _ (text image : List ℕ) (limit : ℕ) (before : List Record) (r : Record) (more : List Record) (journal : IsJournal text limit (before ++ r ∷ more) image) (gate : ℕ) (place : gate ≡ length (journal_front text before)) where
+  right : IsRecord r
+  right = (all-behind IsRecord before (r ∷ more) journal.sized).0
 
-  in_limit : gate + 7 + length payload ≤ limit
-  in_limit = omega (arith, journal.in_limit, ap length (front-split text before (payload ∷ more)), length-append (journal_front text before) (flat_map open_record (payload ∷ more)), length-append (open_record payload) (flat_map open_record more), length-record payload, place)
+  head_bytes : take 6 (drop gate image) ≡ 1 ∷ kind_byte r.kind ∷ to_be_bytes w32 (length r.payload)
+  head_bytes = ap (take 6) (at_gate text image limit before (r ∷ more) journal gate place)
+
+  inside : gate + 7 + length r.payload ≤ length image
+  inside = omega (arith, long text image limit before (r ∷ more) journal gate place, length-append (open_record r ++ flat_map open_record more) (journal.gate ∷ journal.behind), length-append (open_record r) (flat_map open_record more), length-record r)
+
+  in_limit : gate + 7 + length r.payload ≤ limit
+  in_limit = omega (arith, journal.in_limit, ap length (front-split text before (r ∷ more)), length-append (journal_front text before) (flat_map open_record (r ∷ more)), length-append (open_record r) (flat_map open_record more), length-record r, place)
 
   abbrev pub entry : Entry
-  entry = record { at = gate; kind = kind.Frames; length = length payload }
+  entry = record { at = gate; kind = r.kind; length = length r.payload }
 
   -- the record has a good head
   pub good_head : IsHead image limit gate entry
   good_head = record { at_is = refl; stands = head_bytes; fits = record { some = right.some; few = right.few; inside = inside; in_limit = in_limit } }
 
-  stands_behind : take (length payload) (drop (gate + 6) image) ≡ payload
+  stands_behind : take (length r.payload) (drop (gate + 6) image) ≡ r.payload
   stands_behind =
-      ap (take (length payload))
-      (sym (drop-drop 6 gate image) ∙ ap (drop 6) (at_gate text image limit before (payload ∷ more) journal gate place) ∙ append_assoc payload (flat_map open_record more) (journal.gate ∷ journal.behind))
-      ∙ take_at payload (flat_map open_record more ++ journal.gate ∷ journal.behind) (length payload) refl
+      ap (take (length r.payload))
+      (sym (drop-drop 6 gate image) ∙ ap (drop 6) (at_gate text image limit before (r ∷ more) journal gate place) ∙ append_assoc r.payload (flat_map open_record more) (journal.gate ∷ journal.behind))
+      ∙ take_at r.payload (flat_map open_record more ++ journal.gate ∷ journal.behind) (length r.payload) refl
 
-  pub next_of : (found : Entry) (next : ℕ) → IsHead image limit gate found → next ≡ gate + 6 + found.length → IsNext text image before (payload ∷ more) next found
+  pub next_of : (found : Entry) (next : ℕ) → IsHead image limit gate found → next ≡ gate + 6 + found.length → IsNext text image before (r ∷ more) next found
   next_of found next head is =
-      let count : found.length ≡ length payload = one_size found.length (length payload) (omega (arith, head.fits.few)) (omega (arith, right.few)) (ap (drop 2) (sym head.stands ∙ head_bytes)) in
+      let same = sym head.stands ∙ head_bytes in
+      let count : found.length ≡ length r.payload = one_size found.length (length r.payload) (below found.kind found.length head.fits.few) (below r.kind (length r.payload) right.few) (ap (drop 2) same) in
       record {
-        payload = payload;
+        found = r;
         more = more;
         is = refl;
+        kind = one_kind found.kind r.kind (ap (λ (l : List ℕ). get_or l 1 0) same);
         count = count;
-        stands = ap (λ k. take (length payload) (drop (k + 6) image)) head.at_is ∙ stands_behind;
+        stands = ap (λ k. take (length r.payload) (drop (k + 6) image)) head.at_is ∙ stands_behind;
         at_is = head.at_is ∙ place;
-        gate_is = omega (arith, is, count, place, ap length (journal_front-push text before payload), length-append (journal_front text before) (open_record payload), length-record payload);
+        gate_is = omega (arith, is, count, place, ap length (journal_front-push text before r), length-append (journal_front text before) (open_record r), length-record r);
       }
 
--- at an open gate stands the next of the payloads that are left
-pub record_left : (text image : List ℕ) (limit : ℕ) (before after : List (List ℕ)) (journal : IsJournal text limit (before ++ after) image) (gate next : ℕ) (found : Entry) → gate ≡ length (journal_front text before) → IsHead image limit gate found → next ≡ gate + 6 + found.length
+-- at an open gate stands the next of the records that are left
+pub record_left : (text image : List ℕ) (limit : ℕ) (before after : List Record) (journal : IsJournal text limit (before ++ after) image) (gate next : ℕ) (found : Entry) → gate ≡ length (journal_front text before) → IsHead image limit gate found → next ≡ gate + 6 + found.length
     → IsNext text image before after next found
 record_left text image limit before [] journal gate next found place head is =
     let same : take 6 (journal.gate ∷ journal.behind) ≡ 1 ∷ drop 1 (take 6 (drop gate image)) = ap (take 6) (sym (at_gate text image limit before [] journal gate place)) ∙ head.stands ∙ ap (λ (l : List ℕ). 1 ∷ drop 1 l) (sym head.stands) in
     absurd (journal.closed (ap (λ (l : List ℕ). get_or l 0 0) same))
-record_left text image limit before (payload ∷ more) journal gate next found place head is = next_of text image limit before payload more journal gate place found next head is
+record_left text image limit before (r ∷ more) journal gate next found place head is = next_of text image limit before r more journal gate place found next head is
 
 -- no record of the journal is bad
-pub none_bad : (text image : List ℕ) (limit : ℕ) (before after : List (List ℕ)) (journal : IsJournal text limit (before ++ after) image) (gate at : ℕ) → gate ≡ length (journal_front text before) → IsBadHead image limit gate at → ⊥
+pub none_bad : (text image : List ℕ) (limit : ℕ) (before after : List Record) (journal : IsJournal text limit (before ++ after) image) (gate at : ℕ) → gate ≡ length (journal_front text before) → IsBadHead image limit gate at → ⊥
 none_bad text image limit before [] journal gate at place bad = journal.closed (sym (gate_byte text image limit before [] journal gate place) ∙ bad.opened)
-none_bad text image limit before (payload ∷ more) journal gate at place bad = bad.no_head _ (good_head text image limit before payload more journal gate place)
+none_bad text image limit before (r ∷ more) journal gate at place bad = bad.no_head _ (good_head text image limit before r more journal gate place)
 
 -- ---- what a walk answers, by the fields of the journal and by what contracts see of it
 
-module _ (text image : List ℕ) (before after : List (List ℕ)) (inner seen : Standing) (same : inner ≡ seen) (known : length image ≡ seen.known) (journal : IsJournal text seen.limit (before ++ after) image) (place : seen.gate ≡ length (journal_front text before)) where
+module _ (text image : List ℕ) (before after : List Record) (inner seen : Standing) (same : inner ≡ seen) (known : length image ≡ seen.known) (journal : IsJournal text seen.limit (before ++ after) image) (place : seen.gate ≡ length (journal_front text before)) where
   abbrev Answered : Result (Option Entry) WalkFault → Type 0
   Answered r = length image ≡ inner.known → Walks image inner.limit inner.gate r
 

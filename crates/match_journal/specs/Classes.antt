@@ -2,7 +2,7 @@
 use Rattle.std.specs.Prelude.{◌≡◌, ◌≢◌, ◌⊎◌, ℕ, ◌+◌, ◌<◌, ◌≤◌, List, [], length, take, drop, get_or}
 use Rattle.std.specs.Bool.{nat_eq}
 use Rattle.std.specs.List.{common_prefix_len}
-use Rattle.match_journal.specs.Journal.{IsJournal, header, magic}
+use Rattle.match_journal.specs.Journal.{Record, IsJournal, header, magic}
 use Rattle.match_journal.specs.declared.limits.TheConstants.{MOST_TEXT, MOST_UNFINISHED}
 
 -- the first place at which two texts differ, or the shorter one ends
@@ -64,6 +64,6 @@ pub record IsUnfinished (product image : List ℕ) : Type 0 where
   pub unfinished : IsBlank image ⊎ IsSealed product image
   pub few : length image ≤ MOST_UNFINISHED
 
--- the image is a journal of this product that keeps these payloads, or the unfinished creation of one, which keeps none
-abbrev pub Keeps : List ℕ → ℕ → List (List ℕ) → List ℕ → Type 0
-Keeps product limit payloads image = IsJournal product limit payloads image ⊎ ((payloads ≡ []) × IsUnfinished product image)
+-- the image is a journal of this product that keeps these records, or the unfinished creation of one, which keeps none
+abbrev pub Keeps : List ℕ → ℕ → List Record → List ℕ → Type 0
+Keeps product limit records image = IsJournal product limit records image ⊎ ((records ≡ []) × IsUnfinished product image)

@@ -1,5 +1,6 @@
 -- What an opening answers, and what a crash on the way leaves.
 use Rattle.std.specs.Prelude.{◌≡◌, ◌⊎◌, ℕ, ◌+◌, ◌≤◌, max, List, length, Option, Some, None, Result, Ok, Err}
+use Rattle.match_journal.specs.Journal.{Record}
 use Rattle.match_journal.specs.Classes.{HasHeader, HasOpenGate, IsBlank, IsSealed, IsForeignAt, HasBadHeader, HasOtherText, Keeps}
 use Rattle.match_journal.specs.Standing.{at_first}
 use Rattle.match_journal.specs.declared.standing.Standing.{Standing}
@@ -30,10 +31,10 @@ abbrev pub Starts : List ℕ → List ℕ → Result Standing StartFault → Typ
 Starts product image (Ok s) = (IsBlank image ⊎ IsSealed product image) ⊎ IsOpened product image
 Starts product image (Err e) = IsStartFault product image e
 
--- A crash while a journal is opened leaves an image that keeps the same payloads, and is no longer than it was, or than an
+-- A crash while a journal is opened leaves an image that keeps the same records, and is no longer than it was, or than an
 -- unfinished creation may be.
-pub record IsOpening (product : List ℕ) (limit : ℕ) (payloads : List (List ℕ)) (image left : List ℕ) : Type 0 where
-  pub keeps : Keeps product limit payloads left
+pub record IsOpening (product : List ℕ) (limit : ℕ) (records : List Record) (image left : List ℕ) : Type 0 where
+  pub keeps : Keeps product limit records left
   pub no_longer : length left ≤ max (length image) MOST_UNFINISHED
 
 -- the fault is not one of the store

@@ -1,6 +1,7 @@
 -- Where a journal stands in the image of a station.
 use Rattle.std.specs.Prelude.{ℕ, ◌+◌, ◌<◌, ◌≤◌, max, Bool, true, false}
-use Rattle.match_journal.specs.declared.limits.TheConstants.{MOST_LIMIT, MOST_PAYLOAD}
+use Rattle.match_journal.specs.declared.limits.TheConstants.{MOST_LIMIT}
+use Rattle.match_journal.specs.Journal.{least_payload, most_payload}
 use Rattle.match_journal.specs.declared.entry.Entry.{Entry}
 use Rattle.match_journal.specs.declared.standing.Standing.{Standing}
 
@@ -29,7 +30,7 @@ lost s = record { first = s.first; gate = s.gate; known = s.known; limit = s.lim
 -- the record of the entry has a payload of a right length, and ends, with its next gate, inside an image of this length and
 -- within the limit
 pub record Fits (known limit : ℕ) (entry : Entry) : Type 0 where
-  pub some : 1 ≤ entry.length
-  pub few : entry.length ≤ MOST_PAYLOAD
+  pub some : least_payload entry.kind ≤ entry.length
+  pub few : entry.length ≤ most_payload entry.kind
   pub inside : entry.at + 7 + entry.length ≤ known
   pub in_limit : entry.at + 7 + entry.length ≤ limit

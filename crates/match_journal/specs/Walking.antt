@@ -1,18 +1,12 @@
 -- Going over the records of a journal.
 use Rattle.std.specs.Prelude.{◌≡◌, ◌≢◌, ℕ, ◌+◌, List, [], ◌∷◌, ◌++◌, length, take, drop, get_or, not, false, Option, Some, None, Result, Ok, Err}
 use Rattle.std.specs.Int.{w32, to_be_bytes}
-use Rattle.match_journal.specs.Journal.{journal_front}
+use Rattle.match_journal.specs.Journal.{Record, kind_byte, journal_front}
 use Rattle.match_journal.specs.Standing.{Fits, moved}
 use Rattle.match_journal.specs.declared.standing.Standing.{Standing}
 use Rattle.match_journal.specs.declared.entry.Entry.{Entry}
-use Rattle.match_journal.specs.declared.entry.EntryKind.{EntryKind}
-use Rattle.match_journal.specs.declared.entry.EntryKind.TheVariants as kind
 use Rattle.match_journal.specs.declared.faults.WalkFault.{WalkFault}
 use Rattle.match_journal.specs.declared.faults.WalkFault.TheVariants as fault
-
--- the byte of a kind: M
-abbrev pub kind_byte : EntryKind → ℕ
-kind_byte kind.Frames = 77
 
 -- the six bytes of an open gate, a kind and the length of a payload
 abbrev pub head_of : Entry → List ℕ
@@ -46,18 +40,19 @@ stands_then s (Err e) = s
 
 -- ---- the records in their order
 
--- the first of the payloads left is that of the entry, and the next gate is the one behind it
-pub record IsNext (text image : List ℕ) (before after : List (List ℕ)) (gate : ℕ) (entry : Entry) : Type 0 where
-  pub payload : List ℕ
-  pub more : List (List ℕ)
-  pub is : after ≡ payload ∷ more
-  pub count : entry.length ≡ length payload
-  pub stands : take (length payload) (drop (entry.at + 6) image) ≡ payload
+-- the first of the records left is that of the entry, and the next gate is the one behind it
+pub record IsNext (text image : List ℕ) (before after : List Record) (gate : ℕ) (entry : Entry) : Type 0 where
+  pub found : Record
+  pub more : List Record
+  pub is : after ≡ found ∷ more
+  pub kind : entry.kind ≡ found.kind
+  pub count : entry.length ≡ length found.payload
+  pub stands : take (length found.payload) (drop (entry.at + 6) image) ≡ found.payload
   pub at_is : entry.at ≡ length (journal_front text before)
-  pub gate_is : gate ≡ length (journal_front text (before ++ payload ∷ []))
+  pub gate_is : gate ≡ length (journal_front text (before ++ found ∷ []))
 
--- what is answered at the gate behind some payloads, where others are left
-abbrev pub InOrder : List ℕ → List ℕ → List (List ℕ) → List (List ℕ) → ℕ → Result (Option Entry) WalkFault → Type 0
+-- what is answered at the gate behind some records, where others are left
+abbrev pub InOrder : List ℕ → List ℕ → List Record → List Record → ℕ → Result (Option Entry) WalkFault → Type 0
 InOrder text image before after gate (Ok None) = after ≡ []
 InOrder text image before after gate (Ok (Some entry)) = IsNext text image before after gate entry
 InOrder text image before after gate (Err fault.Store) = Unit {0}

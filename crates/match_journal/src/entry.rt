@@ -1,10 +1,12 @@
 //! The head of a record.
 
-/// The kind of a record. There is one kind so far.
+/// The kind of a record.
 #[derive(Clone, Copy, Debug, PartialEq, Eq)]
 pub enum EntryKind {
     /// One or more messages.
     Frames,
+    /// A book image.
+    Image,
 }
 
 /// A record in a journal: the place of its gate, its kind, and how many bytes its payload has.
@@ -21,5 +23,7 @@ pub const HEAD: usize = 6;
 /// How many bytes a record has besides its payload: its head, and the next gate.
 pub(crate) const AROUND: u64 = 7;
 
-/// The byte of a kind.
+/// The bytes of the kinds.
 pub(crate) const FRAMES: u8 = b'M';
+
+pub(crate) const IMAGE: u8 = b'C';

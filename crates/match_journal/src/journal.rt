@@ -70,9 +70,19 @@ impl Journal {
         self.standing.is_at_end = false;
     }
 
+    /// The next entry is the one behind this.
+    pub fn go_behind(&mut self, entry: &Entry)
+        requires { entry.now.at + 7 + entry.now.length ≤ self.old.known }
+        ensures { self.new ≡ moved self.old (entry.now.at + 6 + entry.now.length) false }
+    {
+        prove!(entry.at < self.standing.known);
+        self.standing.gate = entry.at + HEAD as u64 + entry.length as u64;
+        self.standing.is_at_end = false;
+    }
+
     /// Whether the journal stands at the closed gate behind all records: from a `next_entry` that answers `None`, or an
-    /// `append` that is Ok, until the next `rewind`, `go_to`, or `next_entry` that answers an entry. Never again once an
-    /// `append` has failed.
+    /// `append` that is Ok, until the next `rewind`, `go_to`, `go_behind`, or `next_entry` that answers an entry. Never again
+    /// once an `append` has failed.
     pub fn at_end(&self) -> bool
         ensures value { result ≡ self.now.is_at_end }
         ensures stands { IsStanding self.now }

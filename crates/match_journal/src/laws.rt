@@ -1,6 +1,7 @@
 //! Laws of the definitions. The functions do nothing; what their contracts say is proved.
 ghost use Rattle.std.specs.Prelude.{◌≡◌, ℕ, ◌≤◌, List, [], ◌∷◌, length, Option, Result, Err};
 ghost use Rattle.gx_station.specs.Disk.{Torn};
+ghost use Rattle.match_journal.specs.Journal.{Record};
 ghost use Rattle.match_journal.specs.Classes.{Keeps};
 ghost use Rattle.match_journal.specs.Opening.{Looks, IsStartFault};
 ghost use Rattle.match_journal.specs.Walking.{Walks};
@@ -12,9 +13,9 @@ ghost use Rattle.match_journal.specs.declared.faults.StartFault.TheVariants as s
 ghost use Rattle.match_journal.specs.declared.faults.WalkFault.{WalkFault};
 ghost use Rattle.match_journal.specs.declared.faults.WalkFault.TheVariants as walk;
 
-/// An image keeps one list of payloads of a product, and no other.
+/// An image keeps one list of records of a product, and no other.
 pub fn an_image_keeps_one_list()
-    ensures { (product image : List ℕ) (limit : ℕ) (first second : List (List ℕ)) → Keeps product limit first image → Keeps product limit second image → first ≡ second }
+    ensures { (product image : List ℕ) (limit : ℕ) (first second : List Record) → Keeps product limit first image → Keeps product limit second image → first ≡ second }
 {}
 
 /// One answer of an opening fits an image, besides a fault of the store. So each comes exactly where it fits.
@@ -23,9 +24,9 @@ pub fn an_image_has_one_answer()
         → (first ≡ Err start.Store → ⊥) → (second ≡ Err start.Store → ⊥) → first ≡ second }
 {}
 
-/// An image that keeps some payloads of a product, or none, is never refused.
+/// An image that keeps some records of a product, or none, is never refused.
 pub fn a_kept_image_is_not_refused()
-    ensures { (product image : List ℕ) (limit : ℕ) (payloads : List (List ℕ)) (fault : StartFault) → length product ≤ MOST_TEXT → Keeps product limit payloads image → IsStartFault product image fault
+    ensures { (product image : List ℕ) (limit : ℕ) (records : List Record) (fault : StartFault) → length product ≤ MOST_TEXT → Keeps product limit records image → IsStartFault product image fault
         → (fault ≡ start.Store → ⊥) → ⊥ }
 {}
 

@@ -23,4 +23,4 @@ pub use laws::{
     a_gate_has_one_answer, a_kept_image_is_not_refused, an_image_has_one_answer,
     an_image_keeps_one_list, the_first_gate_is_written_alone,
 };
-pub use limits::{LEAST_LIMIT, MOST_LIMIT, MOST_PAYLOAD, MOST_TEXT, MOST_UNFINISHED};
+pub use limits::{LEAST_LIMIT, MOST_IMAGE, MOST_LIMIT, MOST_PAYLOAD, MOST_TEXT, MOST_UNFINISHED};

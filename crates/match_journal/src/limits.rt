@@ -3,8 +3,11 @@
 /// How many bytes a product text has at most.
 pub const MOST_TEXT: usize = 65_536;
 
-/// How many bytes a payload has at most.
+/// How many bytes the frames of a record have at most.
 pub const MOST_PAYLOAD: usize = 8_192;
+
+/// How many bytes a book image has at most, as the head of a record counts them.
+pub const MOST_IMAGE: usize = 4_294_967_295;
 
 /// How many bytes the unfinished creation of a journal may have: the first gate, the header of the longest product text, and
 /// a gate.

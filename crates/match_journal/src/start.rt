@@ -7,7 +7,7 @@ ghost use Rattle.match_journal.specs.Causes.{SendsNothing, ReadsAtMost};
 ghost use Rattle.match_journal.specs.Steps.{Steps, StepsFrom, HoldsOne};
 ghost use Rattle.match_journal.specs.Standing.{IsStanding, at_first};
 ghost use Rattle.std.specs.Int.{w32, to_be_bytes};
-ghost use Rattle.match_journal.specs.Journal.{IsJournal, magic};
+ghost use Rattle.match_journal.specs.Journal.{Record, IsJournal, magic};
 ghost use Rattle.match_journal.specs.Classes.{HasOpenGate, IsBlank, IsSealed, Keeps};
 ghost use Rattle.match_journal.specs.Opening.{Starts, IsOpening, IsRefusal};
 ghost use Rattle.match_journal.specs.Inner.Stores.{Puts};
@@ -56,8 +56,8 @@ fn finish<S: Station>(station: &mut S, found: &Found, product: &[u8]) -> Result<
     ensures known { (image : List ℕ) → IsFound product.now image found.now → S.meanings.holds station.old ≡ Some image → OnOk result (HoldsOne S.meanings (λ last. length last ≡ max found.now.len (14 + length product.now)) station.new) }
     ensures makes { (image : List ℕ) (limit : ℕ) → LEAST_LIMIT ≤ limit → is_sealed found.now.class ≡ true → IsSealed product.now image → S.meanings.holds station.old ≡ Some image
         → OnOk result (HoldsOne S.meanings (IsJournal product.now limit []) station.new) }
-    ensures steps { (image : List ℕ) (limit : ℕ) (payloads : List (List ℕ)) → LEAST_LIMIT ≤ limit → IsFound product.now image found.now → Keeps product.now limit payloads image
-        → Steps S.meanings station.old station.new image (IsOpening product.now limit payloads image) (IsJournal product.now limit payloads) result }
+    ensures steps { (image : List ℕ) (limit : ℕ) (records : List Record) → LEAST_LIMIT ≤ limit → IsFound product.now image found.now → Keeps product.now limit records image
+        → Steps S.meanings station.old station.new image (IsOpening product.now limit records image) (IsJournal product.now limit records) result }
 {
     match found.class {
         Class::Empty => {
@@ -98,14 +98,14 @@ impl Journal {
         ensures known { IfOk result (λ journal. (before after : List ℕ) → S.meanings.holds station.old ≡ Some before → S.meanings.holds station.new ≡ Some after → length after ≡ journal.known) }
         // Which images are opened, and which fault comes with the others, at which place.
         ensures answers { (image : List ℕ) → S.meanings.holds station.old ≡ Some image → Starts product.now image result }
-        // An image that keeps some payloads is opened by images that keep the same.
-        ensures starts { (image : List ℕ) (payloads : List (List ℕ)) → Keeps product.now limit payloads image
-            → StepsFrom S.meanings station.old station.new image (IsOpening product.now limit payloads image) (IsJournal product.now limit payloads) result }
+        // An image that keeps some records is opened by images that keep the same.
+        ensures starts { (image : List ℕ) (records : List Record) → Keeps product.now limit records image
+            → StepsFrom S.meanings station.old station.new image (IsOpening product.now limit records image) (IsJournal product.now limit records) result }
         // A blank image, and a sealed one of this product, are made a journal that keeps nothing.
         ensures makes { (image : List ℕ) → S.meanings.holds station.old ≡ Some image → IsBlank image ⊎ IsSealed product.now image → OnOk result (HoldsOne S.meanings (IsJournal product.now limit []) station.new) }
         // Whatever the answer, a read gives an image that keeps the same then.
-        ensures keeps { (image : List ℕ) (payloads : List (List ℕ)) → S.meanings.is_honest station.old → S.meanings.holds station.old ≡ Some image → Keeps product.now limit payloads image
-            → HoldsOne S.meanings (IsOpening product.now limit payloads image) station.new }
+        ensures keeps { (image : List ℕ) (records : List Record) → S.meanings.is_honest station.old → S.meanings.holds station.old ≡ Some image → Keeps product.now limit records image
+            → HoldsOne S.meanings (IsOpening product.now limit records image) station.new }
         // Whatever the image was, nothing is pending at the end.
         ensures settles { OnOk result (S.meanings.is_honest station.old → IsSettled S.meanings station.new) }
         // A journal stays as it is, also one with a bad record; and so does what is refused.

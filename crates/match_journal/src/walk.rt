@@ -1,40 +1,60 @@
 //! Going over the records.
-ghost use Rattle.std.specs.Prelude.{◌≡◌, ℕ, ◌+◌, ◌<◌, ◌≤◌, List, ◌++◌, length, take, drop, min, Some, OnOk, IfOk, IfSome, IsErrOf};
+ghost use Rattle.std.specs.Prelude.{◌≡◌, ℕ, ◌+◌, ◌<◌, ◌≤◌, ◌↔◌, List, ◌++◌, length, take, drop, min, Some, None, OnOk, IfOk, IfSome, IsErrOf, IsTrue};
 ghost use Rattle.gx_station.specs.Counts.{Rose};
 ghost use Rattle.gx_station.specs.StoreCalls.{OnStore};
 ghost use Rattle.match_journal.specs.Causes.{LooksOnly};
-ghost use Rattle.match_journal.specs.Journal.{IsJournal, journal_front};
+ghost use Rattle.match_journal.specs.Journal.{IsJournal, Record, kind_byte, least_payload, most_payload, journal_front};
 ghost use Rattle.match_journal.specs.Standing.{IsStanding, Fits};
 ghost use Rattle.match_journal.specs.Walking.{Walks, InOrder, IsNext, stands_then};
 ghost use Rattle.match_journal.specs.Inner.Heads.{HeadAnswers};
+ghost use Rattle.match_journal.specs.declared.entry.EntryKind.{EntryKind};
 
-use crate::entry::{AROUND, Entry, EntryKind, FRAMES, HEAD};
+use crate::entry::{AROUND, Entry, EntryKind, FRAMES, HEAD, IMAGE};
 use crate::faults::{StoreFault, WalkFault};
 use crate::journal::Journal;
 use crate::limits::MOST_PAYLOAD;
 use crate::standing::Standing;
 use gx_station::Station;
 
+/// The kind of a byte. `None` exactly where it is that of none.
+fn kind_of(byte: u8) -> Option<EntryKind>
+    ensures some { IfSome result (λ kind. byte ≡ kind_byte kind) }
+    ensures none { result ≡ None → (kind : EntryKind) → byte ≡ kind_byte kind → ⊥ }
+{
+    match byte {
+        FRAMES => Some(EntryKind::Frames),
+        IMAGE => Some(EntryKind::Image),
+        _ => None,
+    }
+}
+
+/// Whether a payload of a kind may have so many bytes.
+fn is_length_of(kind: EntryKind, length: u32) -> bool
+    ensures { IsTrue result ↔ ((least_payload kind ≤ length) × (length ≤ most_payload kind)) }
+{
+    match kind {
+        EntryKind::Frames => (1..=MOST_PAYLOAD as u32).contains(&length),
+        EntryKind::Image => true,
+    }
+}
+
 /// The entry whose head these bytes are, behind an open gate at a place. `most` is where the image ends or, where that is
 /// less, the limit.
 fn entry_of(head: &[u8], at: u64, most: u64) -> Option<Entry>
     ensures { HeadAnswers head.now at most result }
 {
-    if head.len() < HEAD || head[1] != FRAMES {
+    if head.len() < HEAD {
         return None;
     }
+    let kind = kind_of(head[1])?;
     let length = u32::from_be_bytes([head[2], head[3], head[4], head[5]]);
-    if length == 0 || length as usize > MOST_PAYLOAD {
+    if !is_length_of(kind, length) {
         return None;
     }
     if most.saturating_sub(at) < AROUND + length as u64 {
         return None;
     }
-    Some(Entry {
-        at,
-        kind: EntryKind::Frames,
-        length,
-    })
+    Some(Entry { at, kind, length })
 }
 
 /// Reads the head at the last gate met, at most six bytes.
@@ -77,7 +97,7 @@ impl Journal {
         ensures moves { self.new ≡ stands_then self.old result }
         ensures entry { IfOk result (λ found. IfSome found (λ entry. (entry.at ≡ self.old.gate) × Fits self.old.known self.old.limit entry)) }
         ensures walks { (image : List ℕ) → S.meanings.holds station.old ≡ Some image → length image ≡ self.old.known → Walks image self.old.limit self.old.gate result }
-        ensures in_order { (text image : List ℕ) (before after : List (List ℕ)) → S.meanings.holds station.old ≡ Some image → length image ≡ self.old.known
+        ensures in_order { (text image : List ℕ) (before after : List Record) → S.meanings.holds station.old ≡ Some image → length image ≡ self.old.known
             → IsJournal text self.old.limit (before ++ after) image → self.old.gate ≡ length (journal_front text before) → InOrder text image before after self.new.gate result }
     {
         match read_head(station, &self.standing) {
@@ -110,8 +130,8 @@ impl Journal {
         ensures on_store { OnStore S.meanings station.old station.new result }
         ensures size { length into.new ≡ length into.old }
         ensures bytes { OnOk result ((image : List ℕ) → S.meanings.holds station.old ≡ Some image → into.new ≡ take entry.now.length (drop (entry.now.at + 6) image)) }
-        ensures payload { OnOk result ((text image : List ℕ) (before after : List (List ℕ)) (gate : ℕ) → S.meanings.holds station.old ≡ Some image
-            → (found : IsNext text image before after gate entry.now) → into.new ≡ found.payload) }
+        ensures payload { OnOk result ((text image : List ℕ) (before after : List Record) (gate : ℕ) → S.meanings.holds station.old ≡ Some image
+            → (next : IsNext text image before after gate entry.now) → into.new ≡ next.found.payload) }
     {
         prove!(entry.at < self.standing.known);
         match station.read(entry.at + HEAD as u64, into) {

@@ -1,4 +1,6 @@
+-- Offered to the crates above: what they may cite.
+pub mod Done
+pub mod Uncrossed
+-- What the proofs of this crate alone cite.
 mod Lots
-mod Done
 mod Tops
-mod Uncrossed

@@ -23,7 +23,7 @@ use Rattle.level_sweep.proofs.Standing.{Levels, sweep-levels, sweep-in-order, ri
 use Rattle.level_sweep.proofs.Swept.{sweep-order}
 
 -- where no level is added, none is crossed
-uncrossed-moved : (es fs : List Entry) → ((P : Level → Type 0) → Levels P es → Levels P fs) → IsUncrossed es → IsUncrossed fs
+pub uncrossed-moved : (es fs : List Entry) → ((P : Level → Type 0) → Levels P es → Levels P fs) → IsUncrossed es → IsUncrossed fs
 uncrossed-moved es fs keep h =
     let half : Levels (λ k. Levels (AreApart k) es) fs = keep (λ k. Levels (AreApart k) es) h in
     all-with (λ (e : Entry). Levels (AreApart (level_of e.order)) es) (λ (e : Entry). Levels (AreApart (level_of e.order)) fs) (λ e a. keep (AreApart (level_of e.order)) a) fs half
@@ -106,7 +106,7 @@ resting-uncrossed slot o top_min es clear h =
     ] in go (is_new_best o es)
 
 -- where a sweep to its limit is done, an order crosses nothing
-done-uncrossed : (slot : ℕ) (limit : Price) (t : Taker) (top_min : Option ℕ) (b : Book) → t.order.price ≡ limit → EachPair AreInBookOrder b.resting → IsUncrossed b.resting → IsSweepDone limit b t → 1 ≤ t.order.leaves
+pub done-uncrossed : (slot : ℕ) (limit : Price) (t : Taker) (top_min : Option ℕ) (b : Book) → t.order.price ≡ limit → EachPair AreInBookOrder b.resting → IsUncrossed b.resting → IsSweepDone limit b t → 1 ≤ t.order.leaves
     → IsUncrossed (book_placed slot t.order top_min b).resting
 done-uncrossed slot limit t top_min b is r h done some =
     let d = opposite t.order.side in

@@ -7,7 +7,7 @@ use Rattle.gx_station.specs.Stations.{StationMeanings, sent_and}
 use Rattle.fix_frame.specs.Framing.{Framing}
 use Rattle.fix_frame.specs.Grammar.{IsFrame, IsUnfinished, IsRefused}
 use Rattle.fix_frame.specs.declared.place.TheConstants.{FRONT_LIMIT}
-use Rattle.match_journal.specs.Journal.{IsJournal}
+use Rattle.match_journal.specs.Journal.{IsJournal, Record, frames_record}
 use Rattle.match_journal.specs.Steps.{HoldsOne}
 use Rattle.book_recovery.specs.Kept.{messages_in}
 use Rattle.product_file.specs.Products.{ProductLists}
@@ -16,7 +16,7 @@ use Rattle.order_kinds.specs.State.{State}
 use Rattle.order_kinds.specs.Step.{events_from}
 use Rattle.book_print.specs.Publishers.{LineForm}
 use Rattle.globex_run.specs.Outside.{SourceAt, Streams, AreWithinReads}
-use Rattle.globex_run.specs.Journals.{records_length}
+use Rattle.globex_run.specs.Journals.{bytes_in, length_of_records}
 use Rattle.globex_run.specs.Inner.Recording.{lines_from, RestsAtEnd, Serves, AllKept, Served}
 use Rattle.globex_run.specs.declared.give_frames.Behind.{Behind}
 use Rattle.globex_run.specs.declared.give_frames.Behind.TheVariants as behind
@@ -40,10 +40,10 @@ pub record TakesMore {I F : Type 0} (before after : SourceAt I) (held holds : Fr
 
 -- ---- one record
 
--- frames as the payloads of records: one record of them all, and none where there are none
-abbrev pub record_of : List (List ℕ) → List (List ℕ)
+-- frames as records: one record of them all, and none where there are none
+abbrev pub record_of : List (List ℕ) → List Record
 record_of [] = []
-record_of (frame ∷ frames) = concat (frame ∷ frames) ∷ []
+record_of (frame ∷ frames) = frames_record (concat (frame ∷ frames)) ∷ []
 
 -- a frame stands here, and in a record of its own behind that of the frames given it ends past this room
 pub record HasNoRoomBehind (room : ℕ) (given : List (List ℕ)) (rest : List ℕ) : Type 0 where
@@ -51,7 +51,7 @@ pub record HasNoRoomBehind (room : ℕ) (given : List (List ℕ)) (rest : List �
   pub more : List ℕ
   pub is_frame : IsFrame frame
   pub front : rest ≡ frame ++ more
-  pub too_long : room < records_length (record_of given) + length frame
+  pub too_long : room < length_of_records (record_of given) + length frame
 
 -- what stands behind the frames that were given
 abbrev pub StandsBehind : ℕ → Framing → Behind → Type 0
@@ -66,30 +66,30 @@ pub record GivesFrames (room : ℕ) (old new : Framing) (behind : Behind) : Type
   pub fits : length (concat new.given) ≤ room
   pub stands : StandsBehind room new behind
 
-module _ {S : Type 0} (m : StationMeanings S) (line : LineForm) (product : ProductLists) (limit : ℕ) where
+module _ {S : Type 0} (m : StationMeanings S) (Numbered : Type 0) (line : LineForm) (product : ProductLists) (limit : ℕ) where
   -- an append has failed: nothing was sent, and the image keeps the records before, or those and this one
-  pub record FailsToKeep (old new : S) (gate : ℕ) (payload : List ℕ) : Type 0 where
+  pub record FailsToKeep (old new : S) (gate : ℕ) (added : Record) : Type 0 where
     pub rose : Rose (m.store_faults old) (m.store_faults new)
     pub sent : m.sent new ≡ m.sent old
     pub send_faults : m.send_faults new ≡ m.send_faults old
-    pub keeps : (text : List ℕ) (kept : List (List ℕ)) (most : ℕ) → RestsAtEnd m text limit kept gate most old → HoldsOne m (λ image. IsJournal text limit kept image ⊎ IsJournal text limit (kept ++ payload ∷ []) image) new
+    pub keeps : (text : List ℕ) (kept : List Record) (most : ℕ) → RestsAtEnd m text limit kept gate most old → HoldsOne m (λ image. IsJournal text limit kept image ⊎ IsJournal text limit (kept ++ added ∷ []) image) new
 
   -- a send has failed behind the append: the record is kept, and a part of its reports was sent
-  pub record FailsToSend (old new : S) (gate end : ℕ) (state then : State) (payload : List ℕ) : Type 0 where
+  pub record FailsToSend (old new : S) (gate end : ℕ) (state then : State) (added : Record) : Type 0 where
     pub rose : Rose (m.send_faults old) (m.send_faults new)
     pub store_faults : m.store_faults new ≡ m.store_faults old
-    pub all_kept : AllKept m limit old new gate end (payload ∷ [])
-    pub count : then.desk.messages ≡ state.desk.messages + length (messages_in (payload ∷ []))
+    pub all_kept : AllKept m limit old new gate end (added ∷ [])
+    pub count : then.desk.messages ≡ state.desk.messages + length (messages_in (added ∷ []))
 
   -- Whatever happened to some frames, and how far they came: they were kept in one record and served; or an append or a send
   -- has failed.
   abbrev pub AnswersFrames : S → S → ℕ → ℕ → State → State → List (List ℕ) → Result (Unit {0}) Unserved → Type 0
   AnswersFrames old new gate end state then frames (Ok t) =
-      Serves m line product limit old new gate state (record_of frames) × Served m line product limit old new gate end state then (record_of frames)
+      Serves m Numbered line product limit old new gate state (record_of frames) × Served m Numbered line product limit old new gate end state then (record_of frames)
   AnswersFrames old new gate end state then frames (Err unserved.StoreFault) =
-      Serves m line product limit old new gate state (concat frames ∷ []) × (then ≡ state) × FailsToKeep old new gate (concat frames)
+      Serves m Numbered line product limit old new gate state (frames_record (concat frames) ∷ []) × (then ≡ state) × FailsToKeep old new gate (frames_record (concat frames))
   AnswersFrames old new gate end state then frames (Err unserved.SendFault) =
-      Serves m line product limit old new gate state (concat frames ∷ []) × FailsToSend old new gate end state then (concat frames)
+      Serves m Numbered line product limit old new gate state (frames_record (concat frames) ∷ []) × FailsToSend old new gate end state then (frames_record (concat frames))
 
 -- how serving ends that a record has stopped
 abbrev pub ending_by : Unserved → Ending
@@ -118,16 +118,16 @@ pub record IsEmptyFramer (f : Framing) : Type 0 where
   pub offset : f.offset ≡ 0
 
 -- The last of the records added was not kept, or nobody knows: all before it are kept and served.
-pub record LastUnkept {S : Type 0} (m : StationMeanings S) (line : LineForm) (product : ProductLists) (limit : ℕ) (old new : S) (gate : ℕ) (state then : State) (added : List (List ℕ)) : Type 0 where
-  pub served : List (List ℕ)
-  pub last : List ℕ
+pub record LastUnkept {S : Type 0} (m : StationMeanings S) (Numbered : Type 0) (line : LineForm) (product : ProductLists) (limit : ℕ) (old new : S) (gate : ℕ) (state then : State) (added : List Record) : Type 0 where
+  pub served : List Record
+  pub last : Record
   pub are : added ≡ served ++ last ∷ []
-  pub sent : m.sent new ≡ sent_and (m.sent old) (lines_from line product state (messages_in served))
+  pub sent : Numbered → m.sent new ≡ sent_and (m.sent old) (lines_from line product state (messages_in served))
   pub count : then.desk.messages ≡ state.desk.messages + length (messages_in served)
-  pub keeps : (text : List ℕ) (kept : List (List ℕ)) (most : ℕ) → RestsAtEnd m text limit kept gate most old → HoldsOne m (λ image. IsJournal text limit (kept ++ served) image ⊎ IsJournal text limit (kept ++ added) image) new
+  pub keeps : (text : List ℕ) (kept : List Record) (most : ℕ) → RestsAtEnd m text limit kept gate most old → HoldsOne m (λ image. IsJournal text limit (kept ++ served) image ⊎ IsJournal text limit (kept ++ added) image) new
 
 -- all records are kept, and of the reports of the last a part was sent
-pub record LastUnsent {S : Type 0} (m : StationMeanings S) (limit : ℕ) (old new : S) (gate end : ℕ) (state then : State) (added : List (List ℕ)) : Type 0 where
+pub record LastUnsent {S : Type 0} (m : StationMeanings S) (limit : ℕ) (old new : S) (gate end : ℕ) (state then : State) (added : List Record) : Type 0 where
   pub all_kept : AllKept m limit old new gate end added
   pub count : then.desk.messages ≡ state.desk.messages + length (messages_in added)
 
@@ -139,32 +139,32 @@ pub record HasNoRoomAt (limit end : ℕ) (behind : List ℕ) : Type 0 where
   pub front : behind ≡ frame ++ more
   pub too_long : limit < end + 7 + length frame
 
-module _ {I S : Type 0} (m : StationMeanings S) (line : LineForm) (product : ProductLists) (limit : ℕ) (before after : Streams I S) (gate end : ℕ) (state then : State) where
+module _ {I S : Type 0} (m : StationMeanings S) (Numbered : Type 0) (line : LineForm) (product : ProductLists) (limit : ℕ) (before after : Streams I S) (gate end : ℕ) (state then : State) where
   -- Why serving ended that added these records, where these bytes were read behind them.
-  abbrev pub EndsServing : Ending → List (List ℕ) → List ℕ → Type 0
+  abbrev pub EndsServing : Ending → List Record → List ℕ → Type 0
   EndsServing Done added behind =
-      Served m line product limit before.station.object after.station.object gate end state then added × IsAtEnd after.input.left × (behind ≡ [])
+      Served m Numbered line product limit before.station.object after.station.object gate end state then added × IsAtEnd after.input.left × (behind ≡ [])
   EndsServing (ReadFault place) added behind =
-      Served m line product limit before.station.object after.station.object gate end state then added × (place ≡ length (concat added ++ behind)) × IsUnfinished behind
-  EndsServing StoreFault added behind = LastUnkept m line product limit before.station.object after.station.object gate state then added
+      Served m Numbered line product limit before.station.object after.station.object gate end state then added × (place ≡ length (bytes_in added ++ behind)) × IsUnfinished behind
+  EndsServing StoreFault added behind = LastUnkept m Numbered line product limit before.station.object after.station.object gate state then added
   EndsServing SendFault added behind = LastUnsent m limit before.station.object after.station.object gate end state then added
   EndsServing (BadFrame place) added behind =
-      Served m line product limit before.station.object after.station.object gate end state then added × (place ≡ length (concat added)) × IsRefused behind
+      Served m Numbered line product limit before.station.object after.station.object gate end state then added × (place ≡ length (bytes_in added)) × IsRefused behind
   EndsServing (Truncated place) added behind =
-      Served m line product limit before.station.object after.station.object gate end state then added × IsAtEnd after.input.left × (place ≡ length (concat added)) × IsUnfinished behind × (behind ≢ [])
+      Served m Numbered line product limit before.station.object after.station.object gate end state then added × IsAtEnd after.input.left × (place ≡ length (bytes_in added)) × IsUnfinished behind × (behind ≢ [])
   EndsServing (NotAJournal place) added behind = ⊥
   EndsServing (JournalBad place) added behind = ⊥
   EndsServing (ProductDiffers place) added behind = ⊥
   EndsServing (Full place) added behind =
-      Served m line product limit before.station.object after.station.object gate end state then added × (place ≡ length (concat added)) × HasNoRoomAt limit end behind
+      Served m Numbered line product limit before.station.object after.station.object gate end state then added × (place ≡ length (bytes_in added)) × HasNoRoomAt limit end behind
 
   -- The bytes read are those of the records added, and then some; there is at most one record for each read. Where all of the
-  -- input was served, the events of their messages were published.
+  -- input was served, and the order numbers differed at the start, the events of their messages were published.
   pub record ServesInput (Published : List Event → Type 0) (ending : Ending) : Type 0 where
-    pub added : List (List ℕ)
+    pub added : List Record
     pub behind : List ℕ
-    pub took : before.input.left ≡ and_left (concat added ++ behind) after.input.left
+    pub took : before.input.left ≡ and_left (bytes_in added ++ behind) after.input.left
     pub reads : AreWithinReads before.input after.input (length added)
-    pub serves : Serves m line product limit before.station.object after.station.object gate state added
+    pub serves : Serves m Numbered line product limit before.station.object after.station.object gate state added
     pub ends : EndsServing ending added behind
-    pub published : IsDone ending → Published (events_from product state (messages_in added))
+    pub published : Numbered → IsDone ending → Published (events_from product state (messages_in added))

@@ -1,13 +1,13 @@
 -- A run of a product that was taken: what opening its journal does, and what it comes to from the image of entry on.
 use Rattle.std.specs.Prelude.{◌≡◌, ◌⊎◌, ℕ, ◌+◌, ◌≤◌, max, List, ◌++◌, length, Some, Result, Ok, Err, IfOk, IfSome}
-use Rattle.std.specs.List.{concat}
 use Rattle.gx_base.specs.KnownBytes.{IsKnownPrefix}
 use Rattle.gx_station.specs.Stations.{StationMeanings, sent_and}
 use Rattle.gx_station.specs.Honest.{IsSettled}
 use Rattle.gx_station.specs.Moments.{AddsOnly}
-use Rattle.match_journal.specs.Journal.{journal_front}
+use Rattle.match_journal.specs.Journal.{Record, journal_front}
 use Rattle.match_journal.specs.Classes.{Keeps, IsBlank, IsSealed}
 use Rattle.match_journal.specs.Appending.{IsJournalTo}
+use Rattle.match_journal.specs.Causes.{ReadsAtMost}
 use Rattle.match_journal.specs.Opening.{IsOpening}
 use Rattle.match_journal.specs.Steps.{HoldsOne}
 use Rattle.match_journal.specs.declared.limits.TheConstants.{MOST_UNFINISHED}
@@ -21,7 +21,7 @@ use Rattle.order_kinds.specs.Step.{state_after, events_from}
 use Rattle.book_print.specs.Publishers.{LineForm}
 use Rattle.globex_run.specs.Outside.{Streams, AreWithinReads}
 use Rattle.globex_run.specs.Outcomes.{outcome_of}
-use Rattle.globex_run.specs.Journals.{AnswersImage, records_length}
+use Rattle.globex_run.specs.Journals.{AnswersImage, bytes_in, length_of_records, most_read}
 use Rattle.globex_run.specs.RunResult.{ServingResult}
 use Rattle.globex_run.specs.Inner.Recording.{lines_from, IsRecordCrash, RestsAtEnd}
 use Rattle.globex_run.specs.Inner.Serving.{CausedBy, IsDone, HasNoRoomAt}
@@ -54,57 +54,58 @@ IsRefused (Err (unopened.Bad at)) = Unit {0}
 IsRefused (Err (unopened.ProductDiffers at)) = Unit {0}
 
 module _ {S : Type 0} (m : StationMeanings S) (product : ProductLists) (text : List ℕ) where
-  -- The journal of an honest station, whose image keeps these payloads, was opened, and the core is in the state of their
-  -- messages; or a call on the store has failed. In either case the image keeps the same payloads.
-  pub record Opens (old new : S) (image : List ℕ) (payloads : List (List ℕ)) (state : State) (result : Result Standing Unopened) : Type 0 where
+  -- The journal of an honest station, whose image keeps these records, was opened, and the core is in the state of their
+  -- messages; or a call on the store has failed. In either case the image keeps the same records.
+  pub record Opens (old new : S) (image : List ℕ) (records : List Record) (state : State) (result : Result Standing Unopened) : Type 0 where
     pub accepted : IsRefused result → ⊥
-    pub moments : AddsOnly m old new (λ left out. IsOpening text product.journal_limit payloads image left × (m.sent old ≡ Some out))
-    pub keeps : HoldsOne m (IsOpening text product.journal_limit payloads image) new
-    pub at_end : IfOk result (λ journal. RestsAtEnd m text product.journal_limit payloads journal.gate (max (length image) MOST_UNFINISHED) new)
-    pub is_state : IfOk result (λ journal. state ≡ state_kept product (messages_in payloads))
+    pub moments : AddsOnly m old new (λ left out. IsOpening text product.journal_limit records image left × (m.sent old ≡ Some out))
+    pub keeps : HoldsOne m (IsOpening text product.journal_limit records image) new
+    pub at_end : IfOk result (λ journal. RestsAtEnd m text product.journal_limit records journal.gate (max (length image) MOST_UNFINISHED) new)
+    pub is_state : IfOk result (λ journal. state ≡ state_kept product (messages_in records))
+    pub bytes : IfOk result (λ journal. ReadsAtMost (most_read records) (m.bytes_read old) (m.bytes_read new))
 
 -- ---- a session, from its opening on
 
 module _ {I S : Type 0} (m : StationMeanings S) (line : LineForm) (product : ProductLists) (text : List ℕ) (before after : Streams I S) where
-  -- a read gives an image that keeps these payloads
-  abbrev pub KeepsRecords : List (List ℕ) → Type 0
-  KeepsRecords payloads = HoldsOne m (Keeps text product.journal_limit payloads) after.station.object
+  -- a read gives an image that keeps these records
+  abbrev pub KeepsRecords : List Record → Type 0
+  KeepsRecords records = HoldsOne m (Keeps text product.journal_limit records) after.station.object
 
   -- of the records added all are kept, and the reports of their messages were sent
-  pub record IsAllServed (payloads kept added : List (List ℕ)) (count : ℕ) : Type 0 where
+  pub record IsAllServed (records : List Record) (kept : List (List ℕ)) (added : List Record) (count : ℕ) : Type 0 where
     pub sent : after.station.sent ≡ sent_and before.station.sent (lines_from line product (state_kept product kept) (messages_in added))
-    pub keeps : KeepsRecords (payloads ++ added)
+    pub keeps : KeepsRecords (records ++ added)
     pub messages : count ≡ length (messages_in added)
 
   -- of the records added the first ones are kept and their messages reported; the others may be kept
-  pub record IsFrontServed (payloads kept added : List (List ℕ)) (count : ℕ) : Type 0 where
-    pub served : List (List ℕ)
-    pub others : List (List ℕ)
+  pub record IsFrontServed (records : List Record) (kept : List (List ℕ)) (added : List Record) (count : ℕ) : Type 0 where
+    pub served : List Record
+    pub others : List Record
     pub are : added ≡ served ++ others
     pub sent : after.station.sent ≡ sent_and before.station.sent (lines_from line product (state_kept product kept) (messages_in served))
-    pub keeps : KeepsRecords (payloads ++ served) ⊎ KeepsRecords (payloads ++ added)
+    pub keeps : KeepsRecords (records ++ served) ⊎ KeepsRecords (records ++ added)
     pub messages : count ≡ length (messages_in served)
 
   -- of the records added all are kept
-  pub record IsAllKept (payloads added : List (List ℕ)) (count : ℕ) : Type 0 where
-    pub keeps : KeepsRecords (payloads ++ added)
+  pub record IsAllKept (records added : List Record) (count : ℕ) : Type 0 where
+    pub keeps : KeepsRecords (records ++ added)
     pub messages : count ≡ length (messages_in added)
 
   -- the journal ends at this gate, and the next message has no room
-  pub record IsFull (payloads added : List (List ℕ)) (behind : List ℕ) : Type 0 where
+  pub record IsFull (records added : List Record) (behind : List ℕ) : Type 0 where
     pub end : ℕ
-    pub end_is : end ≡ length (journal_front text payloads) + records_length added
-    pub journal : HoldsOne m (IsJournalTo text product.journal_limit (payloads ++ added) end) after.station.object
+    pub end_is : end ≡ length (journal_front text records) + length_of_records added
+    pub journal : HoldsOne m (IsJournalTo text product.journal_limit (records ++ added) end) after.station.object
     pub no_room : HasNoRoomAt product.journal_limit end behind
 
-  abbrev pub EndsSession : Ending → ℕ → List (List ℕ) → List (List ℕ) → List (List ℕ) → List ℕ → Type 0
-  EndsSession ending.StoreFault count payloads kept added behind = IsFrontServed payloads kept added count
-  EndsSession ending.SendFault count payloads kept added behind = IsAllKept payloads added count
-  EndsSession (ending.NotAJournal at) count payloads kept added behind = ⊥
-  EndsSession (ending.JournalBad at) count payloads kept added behind = ⊥
-  EndsSession (ending.ProductDiffers at) count payloads kept added behind = ⊥
-  EndsSession (ending.Full at) count payloads kept added behind = IsAllServed payloads kept added count × IsFull payloads added behind
-  EndsSession _ count payloads kept added behind = IsAllServed payloads kept added count
+  abbrev pub EndsSession : Ending → ℕ → List Record → List (List ℕ) → List Record → List ℕ → Type 0
+  EndsSession ending.StoreFault count records kept added behind = IsFrontServed records kept added count
+  EndsSession ending.SendFault count records kept added behind = IsAllKept records added count
+  EndsSession (ending.NotAJournal at) count records kept added behind = ⊥
+  EndsSession (ending.JournalBad at) count records kept added behind = ⊥
+  EndsSession (ending.ProductDiffers at) count records kept added behind = ⊥
+  EndsSession (ending.Full at) count records kept added behind = IsAllServed records kept added count × IsFull records added behind
+  EndsSession _ count records kept added behind = IsAllServed records kept added count
 
   -- nothing is pending, and the image that a read gives is no longer than this
   pub record IsAtRest (most : ℕ) : Type 0 where
@@ -113,16 +114,21 @@ module _ {I S : Type 0} (m : StationMeanings S) (line : LineForm) (product : Pro
     pub settled : IsSettled m after.station.object
     pub short : length image ≤ most
 
-  -- From an image that keeps these payloads: which records were added, what was sent and is kept, and what a crash leaves.
-  pub record SessionFrom (Published : List Event → Type 0) (then : State) (image : List ℕ) (payloads kept : List (List ℕ)) (taken : List ℕ) (ending : Ending) (count : ℕ) : Type 0 where
-    pub added : List (List ℕ)
+  -- unless a call on the store failed, no more was read than such a journal is read
+  abbrev pub ReadsFewBytes : Ending → List Record → Type 0
+  ReadsFewBytes last records = (last ≡ ending.StoreFault → ⊥) → ReadsAtMost (most_read records) (m.bytes_read before.station.object) (m.bytes_read after.station.object)
+
+  -- From an image that keeps these records: which records were added, what was sent and is kept, and what a crash leaves.
+  pub record SessionFrom (Published : List Event → Type 0) (then : State) (image : List ℕ) (records : List Record) (kept : List (List ℕ)) (taken : List ℕ) (ending : Ending) (count : ℕ) : Type 0 where
+    pub added : List Record
     pub behind : List ℕ
-    pub are : taken ≡ concat added ++ behind
+    pub are : taken ≡ bytes_in added ++ behind
     pub reads : AreWithinReads before.input after.input (length added)
+    pub bytes : ReadsFewBytes ending records
     pub whole : AreWhole added
     pub part : IsKnownPrefix after.station.sent (sent_and before.station.sent (lines_from line product (state_kept product kept) (messages_in added)))
-    pub adds : AddsOnly m before.station.object after.station.object (IsRecordCrash line product (state_kept product kept) text product.journal_limit payloads added (length image) before.station.sent)
-    pub ends : EndsSession ending count payloads kept added behind
+    pub adds : AddsOnly m before.station.object after.station.object (IsRecordCrash line product (state_kept product kept) text product.journal_limit records added (length image) before.station.sent)
+    pub ends : EndsSession ending count records kept added behind
     pub at_rest : IsDone ending → IsAtRest (max (length image) product.journal_limit)
     pub is_state : IsDone ending → then ≡ state_after product (state_kept product kept) (messages_in added)
     pub published : IsDone ending → Published (events_from product (state_kept product kept) (messages_in added))
@@ -136,4 +142,4 @@ module _ {I S : Type 0} (m : StationMeanings S) (line : LineForm) (product : Pro
     pub image : IfSome before.station.image (λ image. AnswersImage text product.journal_limit image ending)
     pub serving : ServingResult before after ending outcome.messages
     pub from : (image : List ℕ) (kept : List (List ℕ)) → m.is_honest before.station.object → before.station.image ≡ Some image → (startable : KeepsMessages text product.journal_limit kept image)
-        → SessionFrom Published then image startable.payloads kept serving.taken ending outcome.messages
+        → SessionFrom Published then image startable.records kept serving.taken ending outcome.messages

@@ -117,22 +117,22 @@ fn expect_kept(rt: &(impl Abort + AllocGlobal), image: &[u8], kept: u64) -> Resu
     Ok(())
 }
 
-/// With a record for each order their gates are written by the calls 15 and 20, and synced by the next ones; with one record for
-/// both its gate is written by the call 15.
+/// With a record for each order their gates are written by the calls 14 and 19, and synced by the next ones; with one record for
+/// both its gate is written by the call 14.
 #[test]
 fn crash_at_each_call(rt: HostRuntime) -> Result<(), Fail> {
     let alloc = rt.alloc();
     let orders = join(alloc, &[ORDER, SECOND_ORDER])?;
     let second_order = join(alloc, &[SECOND_ORDER])?;
     let others = join(alloc, &[SECOND_ACCEPTED, FILLED, SECOND_FILLED])?;
-    for (size, calls, second_gate) in [(ONE, 22, 20), (BOTH, 17, 15)] {
+    for (size, calls, second_gate) in [(ONE, 21, 19), (BOTH, 16, 14)] {
         let (got, station) = run_from(&rt, b"", orders.as_slice(), size)?;
         assert_eq!(rt; got, ended(0, 0, 2));
         assert_eq!(rt; station.calls(), calls);
         for call in 0..=station.calls() {
             for fill in [0, 1, 200] {
                 let image = station.crash_image(alloc, call, fill)?;
-                let first = call > 15 || call == 15 && fill == 1;
+                let first = call > 14 || call == 14 && fill == 1;
                 let second = call > second_gate || call == second_gate && fill == 1;
                 expect_kept(&rt, image.as_slice(), first as u64 + second as u64)?;
                 if first && !second {

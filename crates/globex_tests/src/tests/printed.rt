@@ -128,7 +128,7 @@ fn drills(rt: HostRuntime) -> Result<(), Fail> {
 #[test]
 fn replay_after_a_failed_send(rt: HostRuntime) -> Result<(), Fail> {
     let alloc = rt.alloc();
-    let fail = vec![in alloc; 17]?;
+    let fail = vec![in alloc; 16]?;
     let mut station = station_over(alloc, b"", fail)?;
     let got = execute(alloc, "run", &[ORDER, SECOND_ORDER], &mut station)?;
     assert_eq!(rt; got, ended(6, 0, 2));

@@ -61,6 +61,39 @@ fn records_are_read_in_their_order(rt: HostRuntime) -> Result<(), Fail> {
     Ok(())
 }
 
+/// Records of book images: an empty one, and one longer than the frames of a record may be.
+#[test]
+fn records_of_images(rt: HostRuntime) -> Result<(), Fail> {
+    let alloc = rt.alloc();
+    let mut station = station_over(alloc, b"", Vec::new(alloc))?;
+    let started = Journal::start(&mut station, PRODUCT.as_bytes(), LIMIT);
+    let mut journal = started.expect(&rt, "a journal");
+    let kind = EntryKind::Image;
+    let long = [b'x'; 9_000];
+    assert_eq!(rt; journal.next_entry(&mut station), Ok(None));
+    assert!(rt; journal.at_end());
+    assert_eq!(rt; journal.append(&mut station, kind, b""), Ok(()));
+    assert!(rt; journal.at_end());
+    assert_eq!(rt; journal.append(&mut station, kind, &long), Ok(()));
+    assert_eq!(rt; journal.end(), 9_161);
+    journal.rewind();
+    let empty = Entry {
+        at: 149,
+        kind,
+        length: 0,
+    };
+    let whole = Entry {
+        at: 155,
+        kind,
+        length: 9_000,
+    };
+    assert_eq!(rt; journal.next_entry(&mut station), Ok(Some(empty)));
+    assert_eq!(rt; journal.next_entry(&mut station), Ok(Some(whole)));
+    assert_eq!(rt; journal.next_entry(&mut station), Ok(None));
+    assert!(rt; station.image().ends_with(b"xxx\x00"));
+    Ok(())
+}
+
 /// Each image with what is answered to one who looks, whether there is a journal, or why not; the product is `text`.
 const IMAGES: [(&[u8], Result<bool, StartFault>); 21] = [
     (b"", Ok(false)),

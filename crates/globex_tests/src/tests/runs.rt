@@ -164,7 +164,7 @@ fn expect_failing(rt: &(impl Abort + AllocGlobal), row: &Failing) -> Result<(), 
 
 const BOTH: &[&str] = &[ORDER, SECOND_ORDER];
 
-/// An empty image is opened by ten calls, of which the first is a sync, and a journal with no record is recovered by two reads.
+/// An empty image is opened by ten calls, of which the first is a sync, and a journal with no record is recovered by one read.
 /// Each record takes a write, a sync, a write and a sync, and then, where it has reports, a send. What one read gives shares a
 /// record; so with two reads the first message is reported before the second is kept.
 const FAILING: [Failing; 15] = [
@@ -172,10 +172,10 @@ const FAILING: [Failing; 15] = [
         "heartbeat is not answered",
         &[HEARTBEAT],
         111,
-        (NEVER, NEVER, 17),
+        (NEVER, NEVER, 16),
         (0, 0, 1),
         &[],
-        (16, 227),
+        (15, 227),
     ),
     (
         "failed read of the product",
@@ -193,7 +193,7 @@ const FAILING: [Failing; 15] = [
         (NEVER, 1, NEVER),
         (4, 0, 0),
         &[],
-        (12, 150),
+        (11, 150),
     ),
     (
         "failed read after an order",
@@ -202,7 +202,7 @@ const FAILING: [Failing; 15] = [
         (NEVER, 2, NEVER),
         (4, 111, 1),
         &[ACCEPTED],
-        (17, 267),
+        (16, 267),
     ),
     (
         "failed first sync",
@@ -235,55 +235,55 @@ const FAILING: [Failing; 15] = [
         "failed write of the first record",
         BOTH,
         221,
-        (NEVER, NEVER, 13),
+        (NEVER, NEVER, 12),
         (5, 0, 0),
         &[],
-        (13, 150),
+        (12, 150),
     ),
     (
         "failed sync of the gate of both",
         BOTH,
         221,
-        (NEVER, NEVER, 16),
+        (NEVER, NEVER, 15),
         (5, 0, 0),
         &[],
-        (16, 377),
+        (15, 377),
     ),
     (
         "failed sync of the second gate",
         BOTH,
         111,
-        (NEVER, NEVER, 21),
+        (NEVER, NEVER, 20),
         (5, 0, 1),
         &[ACCEPTED],
-        (21, 383),
+        (20, 383),
     ),
     (
         "failed send for both",
         BOTH,
         221,
-        (NEVER, NEVER, 17),
+        (NEVER, NEVER, 16),
         (6, 0, 2),
         &[],
-        (17, 377),
+        (16, 377),
     ),
     (
         "failed send of the first order",
         BOTH,
         111,
-        (NEVER, NEVER, 17),
+        (NEVER, NEVER, 16),
         (6, 0, 1),
         &[],
-        (17, 267),
+        (16, 267),
     ),
     (
         "failed send of the second order",
         BOTH,
         111,
-        (NEVER, NEVER, 22),
+        (NEVER, NEVER, 21),
         (6, 0, 2),
         &[ACCEPTED],
-        (22, 383),
+        (21, 383),
     ),
     (
         "one record",
@@ -292,7 +292,7 @@ const FAILING: [Failing; 15] = [
         (NEVER, NEVER, NEVER),
         (0, 0, 2),
         &[ACCEPTED, SECOND_ACCEPTED, FILLED, SECOND_FILLED],
-        (17, 377),
+        (16, 377),
     ),
     (
         "two records",
@@ -301,7 +301,7 @@ const FAILING: [Failing; 15] = [
         (NEVER, NEVER, NEVER),
         (0, 0, 2),
         &[ACCEPTED, SECOND_ACCEPTED, FILLED, SECOND_FILLED],
-        (22, 383),
+        (21, 383),
     ),
 ];
 

@@ -2,7 +2,7 @@
 use Rattle.std.specs.Prelude.{◌≡◌, ◌⊎◌, ℕ, List, length, Result, Ok, Err}
 use Rattle.gx_station.specs.Stations.{StationMeanings, sent_and}
 use Rattle.product_file.specs.Products.{ProductLists}
-use Rattle.match_journal.specs.Journal.{IsJournal}
+use Rattle.match_journal.specs.Journal.{IsJournal, Record}
 use Rattle.match_journal.specs.Classes.{IsForeignAt, HasBadHeader, HasOtherText}
 use Rattle.order_kinds.specs.State.{State, state_numbered}
 use Rattle.order_kinds.specs.Step.{events_of}
@@ -24,10 +24,10 @@ module _ {S P : Type 0} (m : StationMeanings S) (p : PublisherMeanings P) (produ
 
   -- all records were gone through
   pub record AllPublished (limit : ℕ) (image : List ℕ) (old new : S) (publisher then : P) (state : State) : Type 0 where
-    pub payloads : List (List ℕ)
-    pub journal : IsJournal text limit payloads image
-    pub whole : AreWhole payloads
-    pub published : ArePublished old new publisher then state (messages_in payloads)
+    pub records : List Record
+    pub journal : IsJournal text limit records image
+    pub whole : AreWhole records
+    pub published : ArePublished old new publisher then state (messages_in records)
 
   -- a record is bad, and those before it were gone through
   pub record StoppedAtBad (limit : ℕ) (image : List ℕ) (old new : S) (at : ℕ) : Type 0 where

@@ -7,10 +7,11 @@ use Rattle.gx_station.specs.Moments.{AddsOnly}
 use Rattle.gx_station.specs.Honest.{IsSettled}
 use Rattle.gx_station.specs.StoreCalls.{OnStore}
 use Rattle.match_journal.specs.Steps.{Steps}
+use Rattle.match_journal.specs.Journal.{Record, kind_byte}
 
 -- what is written of a record behind its closed gate: its kind, its length, its payload, and the next gate, closed
-abbrev pub staged : List ℕ → List ℕ
-staged payload = 77 ∷ (to_be_bytes w32 (length payload) ++ (payload ++ 0 ∷ []))
+abbrev pub staged : Record → List ℕ
+staged r = kind_byte r.kind ∷ (to_be_bytes w32 (length r.payload) ++ (r.payload ++ 0 ∷ []))
 
 module _ {S : Type 0} (m : StationMeanings S) where
   -- a call, or several, on the store that read nothing

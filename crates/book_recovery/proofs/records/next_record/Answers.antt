@@ -1,10 +1,10 @@
-use Rattle.std.proofs.Common.{ℕ, ◌+◌, length, true≢false, sym, ◌∙◌, ap}
+use Rattle.std.proofs.Common.{ℕ, ◌+◌, length, true≢false, refl, sym, ◌∙◌, ap}
 use Rattle.std.specs.List.{concat}
 use Rattle.fix_frame.specs.Stream.{rest_of}
 use Rattle.match_journal.specs.declared.standing.Standing.{Standing}
 use Rattle.book_recovery.proofs.Counting.{head_found, gate_found, bad_found}
 use Rattle.book_recovery.proofs.Looks.{reads_itself, reads_then, on_ok}
-use Rattle.book_recovery.proofs.Reading.{payload_given, given_are_all, closed_behind, bad_head_behind, one_more, bad_payload_behind}
+use Rattle.book_recovery.proofs.Reading.{payload_given, given_are_all, closed_behind, bad_head_behind, one_more, bad_payload_behind, bad_kind_behind}
 use Rattle.book_recovery.proofs.Standings.{some_moved}
 use Rattle.book_recovery.proofs.records.next_record.Goals as goal
 
@@ -15,6 +15,12 @@ returns-in-Ok-None-clause-records g c = λ text image before read known first pl
 pub returns-in-Err-Bad-clause-records : goal.returns-in-Err-Bad-clause-records
 returns-in-Err-Bad-clause-records g c = λ text image before read known first place.
     bad_head_behind text _ image before first _ place c.in-Err-Bad.at (bad_found image _ _ c.in-Err-Bad.field-0 c.in-Err-Bad.at c.in-Err-Bad.field-0-is (c.in-Err-Bad.ensures.walks image read known))
+
+-- an image is no whole frames
+pub returns-in-Image-clause-records : goal.returns-in-Image-clause-records
+returns-in-Image-clause-records g c = λ text image before read known first place.
+    let head = head_found image _ _ c.in-Ok-Some.field-0 c.in-Ok-Some.entry c.in-Ok-Some.field-0-is (c.in-Ok-Some.ensures.walks image read known) in
+    bad_kind_behind text _ image before first _ place c.in-Ok-Some.entry head _ refl (λ frames. cc (frames, c.in-Image.is))
 
 pub returns-then-is_err-clause-reads : goal.returns-then-is_err-clause-reads
 returns-then-is_err-clause-reads g c =
@@ -58,7 +64,7 @@ returns-then-are_whole-clause-records g c = λ text image before read known firs
     let given = payload_given c.read_payload-read.new.framer.rest c.read_payload-read.new.framer.given c.are_whole.new.framer.given none c.are_whole.ensures.given whole in
     let is = given ∙ on_ok c.read_payload-read.result good c.read_payload-read.ensures.bytes image (c.next_entry.ensures.looks.keeps.holds ∙ read) in
     let step = c.read_payload-read.ensures.stays ∙ some_moved c.args.journal.now c.next_entry.new.self c.in-Ok-Some.field-0 c.in-Ok-Some.entry c.in-Ok-Some.field-0-is c.in-Ok-Some.ensures.moves in
-    one_more text _ image before first _ place c.in-Ok-Some.entry head (concat c.are_whole.new.framer.given) is c.read_payload-read.new.journal.gate (ap rest_of given ∙ whole) (ap (λ (s : Standing). s.gate) step)
+    one_more text _ image before first _ place c.in-Ok-Some.entry head (concat c.are_whole.new.framer.given) is c.read_payload-read.new.journal.gate c.in-Frames.is (ap rest_of given ∙ whole) (ap (λ (s : Standing). s.gate) step)
 
 pub returns-clause-records : goal.returns-clause-records
 returns-clause-records g c = λ text image before read known first place.

@@ -3,16 +3,17 @@ use Rattle.std.specs.List.{concat}
 use Rattle.std.proofs.lemmas.List.{same_from_push}
 use Rattle.fix_frame.specs.Framing.{Framing, GivesFrame, TakesBack}
 use Rattle.fix_frame.specs.FramingLaws.{all_given}
-use Rattle.globex_run.specs.Journals.{records_length}
+use Rattle.match_journal.specs.Journal.{frames_record}
+use Rattle.globex_run.specs.Journals.{length_of_records}
 use Rattle.globex_run.specs.Inner.Serving.{record_of, GivesFrames}
-use Rattle.globex_run.proofs.Additions.{one_record}
+use Rattle.globex_run.proofs.Additions.{one_length}
 use Rattle.globex_run.specs.declared.give_frames.Behind.TheVariants as behind
 use Rattle.globex_run.proofs.give_frames.give_frames.Goals as goal
 
 -- how long the record of some frames is, with the head that is counted for the next one
-head_behind : (frames : List (List ℕ)) (head : ℕ) → (length frames ≤ 0 → head ≡ 0) → (0 < length frames → head ≡ 6) → records_length (record_of frames) ≡ length (concat frames) + head
+head_behind : (frames : List (List ℕ)) (head : ℕ) → (length frames ≤ 0 → head ≡ 0) → (0 < length frames → head ≡ 6) → length_of_records (record_of frames) ≡ length (concat frames) + head
 head_behind [] head none some = omega (arith, none (omega arith))
-head_behind (f ∷ frames) head none some = omega (arith, some (omega arith), one_record (concat (f ∷ frames)))
+head_behind (f ∷ frames) head none some = omega (arith, some (omega arith), one_length (frames_record (concat (f ∷ frames))))
 
 -- one more frame was given
 module _ (first now next : Framing) (start stop : ℕ) (gives : GivesFrame now next start stop) (front : first.rest ≡ concat now.given ++ now.rest) (offset : now.offset ≡ first.offset + length (concat now.given)) where
@@ -36,8 +37,8 @@ module _ (first now next : Framing) (start stop : ℕ) (gives : GivesFrame now n
       let one : length gives.frame ≡ length taken.frame = ap (λ (l : List ℕ). length l) same.1 in
       let given : length (concat now.given) ≡ length (concat new.given) = ap (λ (l : List (List ℕ)). length (concat l)) same.0 in
       let count : length next.given ≡ length now.given + 1 = ap (λ (l : List (List ℕ)). length l) gives.given ∙ length-append now.given (gives.frame ∷ []) in
-      let before : records_length (record_of now.given) ≡ length (concat now.given) + head = head_behind now.given head (λ few. none (omega (arith, few, count))) (λ more. some (omega (arith, more, count))) in
-      let behind : records_length (record_of now.given) ≡ records_length (record_of new.given) = ap (λ (l : List (List ℕ)). records_length (record_of l)) same.0 in
+      let before : length_of_records (record_of now.given) ≡ length (concat now.given) + head = head_behind now.given head (λ few. none (omega (arith, few, count))) (λ more. some (omega (arith, more, count))) in
+      let behind : length_of_records (record_of now.given) ≡ length_of_records (record_of new.given) = ap (λ (l : List (List ℕ)). length_of_records (record_of l)) same.0 in
       record {
         front =
             front

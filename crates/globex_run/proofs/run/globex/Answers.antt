@@ -1,7 +1,7 @@
 use Rattle.std.proofs.Common.{◌≤◌, inl, inr, ℕ, List, length, refl, sym, subst}
 use Rattle.globex_run.specs.Outside.{source_at}
 use Rattle.globex_run.proofs.Runs.{short-text, few-of-product, memory-without}
-use Rattle.globex_run.proofs.Commands.{no-memory, balances, exactly, otherwise, every-moment, first-sync, every-message, balanced, full, each-read, all-served, sums-up, drill-ends, drill-every-moment, drill-before-sync, drill-has-no-room, all-drilled, prints, all-printed, told-ended}
+use Rattle.globex_run.proofs.Commands.{no-memory, balances, exactly, otherwise, every-moment, first-sync, every-message, balanced, full, each-read, few-read, all-served, sums-up, drill-ends, drill-every-moment, drill-before-sync, drill-few-read, drill-has-no-room, all-drilled, prints, all-printed, told-ended}
 use Rattle.globex_run.proofs.run.globex.Goals as goal
 
 pub returns-in-Err-take_product-clause-all_served : goal.returns-in-Err-take_product-clause-all_served
@@ -62,6 +62,11 @@ returns-clause-record_per_read g c asks given =
     each-read g.S.Station.meanings (source_at g.P.Source.meanings c.args.product.now) (source_at g.P.Source.meanings c.take_product.new.source) (source_at g.I.Source.meanings c.args.input.now) (source_at g.I.Source.meanings c.execute.new.input)
     c.args.station.now c.execute.new.station c.execute.result _ _ c.deref.ensures.value c.in-Ok-take_product.taken.product c.in-Ok-take_product.ensures.0 c.in-Ok-take_product.ensures.1 _ _ c.in-Ok.ensures.given c.execute.ensures.executes c.execute.ensures.causes asks given
 
+pub returns-clause-few_bytes : goal.returns-clause-few_bytes
+returns-clause-few_bytes g c asks given =
+    few-read g.S.Station.meanings (source_at g.P.Source.meanings c.args.product.now) (source_at g.P.Source.meanings c.take_product.new.source) (source_at g.I.Source.meanings c.args.input.now) (source_at g.I.Source.meanings c.execute.new.input)
+    c.args.station.now c.execute.new.station c.execute.result _ _ c.deref.ensures.value c.in-Ok-take_product.taken.product c.in-Ok-take_product.ensures.0 c.in-Ok-take_product.ensures.1 _ _ c.in-Ok.ensures.given c.execute.ensures.executes c.execute.ensures.causes asks given
+
 pub returns-clause-full : goal.returns-clause-full
 returns-clause-full g c asks given read twelve =
     full g.S.Station.meanings (source_at g.P.Source.meanings c.args.product.now) (source_at g.P.Source.meanings c.take_product.new.source) (source_at g.I.Source.meanings c.args.input.now) (source_at g.I.Source.meanings c.execute.new.input)
@@ -91,6 +96,11 @@ pub returns-clause-drill_before_the_first_sync : goal.returns-clause-drill_befor
 returns-clause-drill_before_the_first_sync g c first count asks given =
     drill-before-sync g.S.Station.meanings (source_at g.P.Source.meanings c.args.product.now) (source_at g.P.Source.meanings c.take_product.new.source) (source_at g.I.Source.meanings c.args.input.now) (source_at g.I.Source.meanings c.execute.new.input)
     c.args.station.now c.execute.new.station c.execute.result _ _ c.deref.ensures.value c.in-Ok-take_product.taken.product c.in-Ok-take_product.ensures.0 c.in-Ok-take_product.ensures.1 _ _ c.in-Ok.ensures.given c.execute.ensures.executes c.execute.ensures.causes first count asks given (g.met.S.Station.honest c.args.station.now given.honest)
+
+pub returns-clause-drill_few_bytes : goal.returns-clause-drill_few_bytes
+returns-clause-drill_few_bytes g c first count asks given =
+    drill-few-read g.S.Station.meanings (source_at g.P.Source.meanings c.args.product.now) (source_at g.P.Source.meanings c.take_product.new.source) (source_at g.I.Source.meanings c.args.input.now) (source_at g.I.Source.meanings c.execute.new.input)
+    c.args.station.now c.execute.new.station c.execute.result _ _ c.deref.ensures.value c.in-Ok-take_product.taken.product c.in-Ok-take_product.ensures.0 c.in-Ok-take_product.ensures.1 _ _ c.in-Ok.ensures.given c.execute.ensures.executes c.execute.ensures.causes first count asks given
 
 pub returns-clause-drill_full : goal.returns-clause-drill_full
 returns-clause-drill_full g c first count asks given twelve =

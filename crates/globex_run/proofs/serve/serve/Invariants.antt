@@ -12,16 +12,17 @@ invariant-turns g l =
     let m = g.S.Station.meanings in
     let inputs = g.I.Source.meanings in
     record {
-      turn : IsServing m g.P.Publisher.meanings.text l.product l.fn.journal.limit (streams_at inputs m l.fn.input l.fn.station) 0 (source_at inputs l.input) l.station l.fn.journal.gate l.journal.gate (state_numbered l.fn.core) (state_numbered l.core) l.framer (λ (events : List Event). l.publisher ≡ g.P.Publisher.meanings.after l.fn.publisher events);
+      turn : IsServing m (AreNumbered l.fn.core) g.P.Publisher.meanings.text l.product l.fn.journal.limit (streams_at inputs m l.fn.input l.fn.station) 0 (source_at inputs l.input) l.station l.fn.journal.gate l.journal.gate (state_numbered l.fn.core) (state_numbered l.core) l.framer (λ (events : List Event). l.publisher ≡ g.P.Publisher.meanings.after l.fn.publisher events);
       front : IsUnfinished l.framer.rest;
       short : length l.framer.rest < 4096;
       limit : l.journal.limit ≡ l.fn.journal.limit;
+      bytes_read : m.bytes_read l.station ≡ m.bytes_read l.fn.station;
       at_end : l.journal.is_at_end ≡ true;
       reach : l.journal.known ≤ m.reach l.station;
       in_limit : l.journal.gate < l.journal.limit;
       few : l.core.desk.messages * 22 ≤ l.journal.gate;
       fits : FitsProduct l.product l.core;
-      numbered : AreNumbered l.core;
+      numbered : AreNumbered l.fn.core → AreNumbered l.core;
       chunk : vec_len l.chunk ≡ 8192;
       buffer : l.buffer ≡ [];
       offset : l.framer.offset ≤ l.journal.gate;

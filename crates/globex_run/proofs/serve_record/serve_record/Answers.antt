@@ -2,15 +2,17 @@ use Rattle.std.proofs.Common.{◌≡◌, ◌+◌, ◌-◌, ◌*◌, ◌≤◌, L
 use Rattle.std.specs.List.{concat}
 use Rattle.std.specs.Result.{is_err}
 use Rattle.fix_frame.specs.Stream.{messages_of, rest_of}
+use Rattle.match_journal.specs.Journal.{Record, frames_record}
 use Rattle.match_journal.specs.declared.standing.Standing.{Standing}
 use Rattle.order_kinds.specs.State.{state_numbered}
+use Rattle.order_kinds.specs.Cores.{AreNumbered}
 use Rattle.globex_run.specs.Inner.Recording.{Serves, Served}
 use Rattle.globex_run.specs.Inner.Serving.{record_of, FailsToKeep, FailsToSend}
 use Rattle.globex_run.proofs.Appended.{answers_unkept, answers_served, answers_unsent}
 use Rattle.globex_run.proofs.Joining.{serves_none, served_none}
 use Rattle.book_recovery.specs.Kept.{messages_in}
 use Rattle.order_kinds.specs.Step.{events_from}
-use Rattle.globex_run.proofs.Records.{no_record, payload_is, record_is, record_messages, payload_least}
+use Rattle.globex_run.proofs.Records.{no_record, payload_is, record_is, messages_are, payload_least}
 use Rattle.globex_run.proofs.serve_record.serve_record.Goals as goal
 
 -- the record fits behind the gate
@@ -26,18 +28,19 @@ pub returns-then-given_count-eq0-clause-answers : goal.returns-then-given_count-
 returns-then-given_count-eq0-clause-answers g c =
     let m = g.S.Station.meanings in
     let line = g.P.Publisher.meanings.text in
+    let Numbered = AreNumbered c.args.core.now in
     let none = no_record c.args.framer.now.given (sym c.given_count.ensures ∙ c.if-given_count-eq0.true) in
     let state = state_numbered c.args.core.now in (
-      subst (λ (records : List (List ℕ)). Serves m line c.args.product.now c.args.journal.now.limit c.args.station.now c.args.station.now c.args.journal.now.gate state records) (sym none)
-          (serves_none m line c.args.product.now c.args.journal.now.limit c.args.station.now c.args.journal.now.gate state),
-      subst (λ (records : List (List ℕ)). Served m line c.args.product.now c.args.journal.now.limit c.args.station.now c.args.station.now c.args.journal.now.gate c.args.journal.now.gate state state records) (sym none)
-          (served_none m line c.args.product.now c.args.journal.now.limit c.args.station.now c.args.journal.now.gate state),
+      subst (λ (records : List Record). Serves m Numbered line c.args.product.now c.args.journal.now.limit c.args.station.now c.args.station.now c.args.journal.now.gate state records) (sym none)
+          (serves_none m Numbered line c.args.product.now c.args.journal.now.limit c.args.station.now c.args.journal.now.gate state),
+      subst (λ (records : List Record). Served m Numbered line c.args.product.now c.args.journal.now.limit c.args.station.now c.args.station.now c.args.journal.now.gate c.args.journal.now.gate state state records) (sym none)
+          (served_none m Numbered line c.args.product.now c.args.journal.now.limit c.args.station.now c.args.journal.now.gate state),
     )
 
 -- what is known of the record once there are frames
 record HasRecord (payload : List ℕ) (frames : List (List ℕ)) (limit gate : ℕ) : Type 0 where
   is : payload ≡ concat frames
-  one : payload ∷ [] ≡ record_of frames
+  one : frames_record payload ∷ [] ≡ record_of frames
   least : length frames * 22 ≤ length payload
   fits : gate + 7 + length payload ≤ limit
 
@@ -62,13 +65,14 @@ pub returns-in-Err-Store-clause-answers : goal.returns-in-Err-Store-clause-answe
 returns-in-Err-Store-clause-answers g c =
     let m = g.S.Station.meanings in
     let line = g.P.Publisher.meanings.text in
+    let Numbered = AreNumbered c.args.core.now in
     let product = c.args.product.now in
     let limit = c.args.journal.now.limit in
     let gate = c.args.journal.now.gate in
     let state = state_numbered c.args.core.now in
     let here = has_record c.all_given.result.now c.args.framer.now.given c.args.journal.now.limit c.args.journal.now.gate c.all_given.ensures.frames c.all_given.ensures.whole (λ none. c.if-given_count-eq0.false (c.given_count.ensures ∙ none)) c.requires.room in
-    subst (λ (payload : List ℕ). Serves m line product limit c.args.station.now c.append.new.station gate state (payload ∷ []) × (state ≡ state) × FailsToKeep m line product limit c.args.station.now c.append.new.station gate payload) here.is
-    (answers_unkept m line product limit c.args.station.now gate state c.all_given.result.now (record { no_rest = c.all_given.ensures.whole }) here.fits c.append.new.station c.append.result c.append.ensures.appends c.append.ensures.silent g.met.S.Station.honest (c.append.ensures.store cc))
+    subst (λ (payload : List ℕ). Serves m Numbered line product limit c.args.station.now c.append.new.station gate state (frames_record payload ∷ []) × (state ≡ state) × FailsToKeep m Numbered line product limit c.args.station.now c.append.new.station gate (frames_record payload)) here.is
+    (answers_unkept m Numbered line product limit c.args.station.now gate state (frames_record c.all_given.result.now) (record { frames = refl; no_rest = c.all_given.ensures.whole }) here.fits c.append.new.station c.append.result c.append.ensures.appends c.append.ensures.silent g.met.S.Station.honest (c.append.ensures.store cc))
 
 pub publish-requires-clause-few : goal.publish-requires-clause-few
 publish-requires-clause-few g c =
@@ -79,16 +83,17 @@ pub returns-in-Ok-publish-clause-answers : goal.returns-in-Ok-publish-clause-ans
 returns-in-Ok-publish-clause-answers g c =
     let m = g.S.Station.meanings in
     let line = g.P.Publisher.meanings.text in
+    let Numbered = AreNumbered c.args.core.now in
     let product = c.args.product.now in
     let limit = c.args.journal.now.limit in
     let gate = c.args.journal.now.gate in
     let state = state_numbered c.args.core.now in
     let then = state_numbered c.publish.new.core in
     let here = has_record c.all_given.result.now c.args.framer.now.given c.args.journal.now.limit c.args.journal.now.gate c.all_given.ensures.frames c.all_given.ensures.whole (λ none. c.if-given_count-eq0.false (c.given_count.ensures ∙ none)) c.requires.room in
-    subst (λ (records : List (List ℕ)). Serves m line product limit c.args.station.now c.publish.new.station gate state records × Served m line product limit c.args.station.now c.publish.new.station gate c.append.new.self.gate state then records) here.one
-    (answers_served m line product limit c.args.station.now gate state c.all_given.result.now (record { no_rest = c.all_given.ensures.whole }) here.fits
+    subst (λ (records : List Record). Serves m Numbered line product limit c.args.station.now c.publish.new.station gate state records × Served m Numbered line product limit c.args.station.now c.publish.new.station gate c.append.new.self.gate state then records) here.one
+    (answers_served m Numbered line product limit c.args.station.now gate state (frames_record c.all_given.result.now) (record { frames = refl; no_rest = c.all_given.ensures.whole }) here.fits
     c.append.new.station c.in-Ok.field-0 c.in-Ok.ensures.appends c.in-Ok.ensures.settles c.in-Ok.ensures.silent (c.in-Ok.ensures.none (λ fault. cc)) c.publish.new.station c.publish.result
-    c.args.framer.now.given c.all_given.ensures.frames c.publish.ensures.sends
+    c.args.framer.now.given c.all_given.ensures.frames c.publish.ensures.quiet c.publish.ensures.cause c.publish.ensures.sends
     c.append.new.self.gate then (ap (λ (s : Standing). s.gate) c.in-Ok.ensures.grows) c.publish.ensures.count (ap is_err c.in-Ok-publish.is) c.publish.ensures.state)
 
 pub returns-in-Ok-publish-clause-few : goal.returns-in-Ok-publish-clause-few
@@ -100,24 +105,25 @@ pub returns-in-Err-clause-answers : goal.returns-in-Err-clause-answers
 returns-in-Err-clause-answers g c =
     let m = g.S.Station.meanings in
     let line = g.P.Publisher.meanings.text in
+    let Numbered = AreNumbered c.args.core.now in
     let product = c.args.product.now in
     let limit = c.args.journal.now.limit in
     let gate = c.args.journal.now.gate in
     let state = state_numbered c.args.core.now in
     let then = state_numbered c.publish.new.core in
     let here = has_record c.all_given.result.now c.args.framer.now.given c.args.journal.now.limit c.args.journal.now.gate c.all_given.ensures.frames c.all_given.ensures.whole (λ none. c.if-given_count-eq0.false (c.given_count.ensures ∙ none)) c.requires.room in
-    subst (λ (payload : List ℕ). Serves m line product limit c.args.station.now c.publish.new.station gate state (payload ∷ []) × FailsToSend m line product limit c.args.station.now c.publish.new.station gate c.append.new.self.gate state then payload) here.is
-    (answers_unsent m line product limit c.args.station.now gate state c.all_given.result.now (record { no_rest = c.all_given.ensures.whole }) here.fits
+    subst (λ (payload : List ℕ). Serves m Numbered line product limit c.args.station.now c.publish.new.station gate state (frames_record payload ∷ []) × FailsToSend m Numbered line product limit c.args.station.now c.publish.new.station gate c.append.new.self.gate state then (frames_record payload)) here.is
+    (answers_unsent m Numbered line product limit c.args.station.now gate state (frames_record c.all_given.result.now) (record { frames = refl; no_rest = c.all_given.ensures.whole }) here.fits
     c.append.new.station c.in-Ok.field-0 c.in-Ok.ensures.appends c.in-Ok.ensures.settles c.in-Ok.ensures.silent (c.in-Ok.ensures.none (λ fault. cc)) c.publish.new.station c.publish.result
-    c.args.framer.now.given c.all_given.ensures.frames c.publish.ensures.sends
+    c.args.framer.now.given c.all_given.ensures.frames c.publish.ensures.quiet c.publish.ensures.cause c.publish.ensures.sends
     c.append.new.self.gate then (ap (λ (s : Standing). s.gate) c.in-Ok.ensures.grows) c.publish.ensures.count (ap is_err c.in-Err.is))
 
 pub returns-then-given_count-eq0-clause-published : goal.returns-then-given_count-eq0-clause-published
 returns-then-given_count-eq0-clause-published g c =
     let none = no_record c.args.framer.now.given (sym c.given_count.ensures ∙ c.if-given_count-eq0.true) in
-    sym (g.P.Publisher.meanings.after_none c.args.publisher.now) ∙ ap (λ (records : List (List ℕ)). g.P.Publisher.meanings.after c.args.publisher.now (events_from c.args.product.now (state_numbered c.args.core.now) (messages_in records))) (sym none)
+    λ numbered. sym (g.P.Publisher.meanings.after_none c.args.publisher.now) ∙ ap (λ (records : List Record). g.P.Publisher.meanings.after c.args.publisher.now (events_from c.args.product.now (state_numbered c.args.core.now) (messages_in records))) (sym none)
 
 pub returns-in-Ok-publish-clause-published : goal.returns-in-Ok-publish-clause-published
 returns-in-Ok-publish-clause-published g c =
     let here = has_record c.all_given.result.now c.args.framer.now.given c.args.journal.now.limit c.args.journal.now.gate c.all_given.ensures.frames c.all_given.ensures.whole (λ none. c.if-given_count-eq0.false (c.given_count.ensures ∙ none)) c.requires.room in
-    c.in-Ok-publish.ensures.after ∙ ap (λ (messages : List (List ℕ)). g.P.Publisher.meanings.after c.args.publisher.now (events_from c.args.product.now (state_numbered c.args.core.now) messages)) (sym (record_messages c.all_given.result.now c.args.framer.now.given c.all_given.ensures.frames here.one))
+    λ numbered. c.in-Ok-publish.ensures.after numbered ∙ ap (λ (messages : List (List ℕ)). g.P.Publisher.meanings.after c.args.publisher.now (events_from c.args.product.now (state_numbered c.args.core.now) messages)) (sym (messages_are c.all_given.result.now c.args.framer.now.given c.all_given.ensures.frames here.one))

@@ -3,6 +3,7 @@ use Rattle.std.specs.List.{concat}
 use Rattle.match_journal.specs.declared.standing.Standing.{Standing}
 use Rattle.book_recovery.proofs.Standings.{moved_then}
 use Rattle.journal_print.proofs.Stations.{on_ok, on_err, reading_only, sending_only, reading_then}
+use Rattle.match_journal.specs.Journal.{frames_record}
 use Rattle.journal_print.proofs.RecordSteps.{record_read, read_more, read_end, read_bad, messages_fit, publishing_more, publishing_part, publishing_unread, publishing_done, publishing_bad}
 use Rattle.journal_print.proofs.records.publish_records.Goals as goal
 
@@ -15,17 +16,17 @@ returns-then-is_err-clause-publishes g c = λ text image read known begins first
     let looked = c.next_record.ensures.reads.looks.silent.sent in
     let limit = ap (λ (s : Standing). s.limit) before.same ∙ c.requires.limit in
     let told =
-    record_read m p c.args.product.now text image c.args.station.now c.records.station c.next_record.new.station c.args.publisher.now c.records.publisher c.records.core c.records.journal.gate at looked c.records.journal c.next_record.new.journal.gate (concat c.next_record.new.scratch.framer.given) (Ok c.in-Ok-true.field-0) limit refl
+    record_read m p c.args.product.now text image c.args.station.now c.records.station c.next_record.new.station c.args.publisher.now c.records.publisher c.records.core c.records.journal.gate at looked c.records.journal c.next_record.new.journal.gate (frames_record (concat c.next_record.new.scratch.framer.given)) (Ok c.in-Ok-true.field-0) limit refl
     (λ whole place. c.in-Ok-true.ensures.records text image at.before (before.reads.holds ∙ read) (known ∙ sym (ap (λ (s : Standing). s.known) before.same)) whole place) in
     let more = read_more text _ image at.before _ _ c.in-Ok-true.field-0 c.in-Ok-true.field-0-test told in
     let messages = c.in-Ok-true.ensures.frames c.in-Ok-true.field-0-test in
-    publishing_part m p c.args.product.now text image c.args.station.now c.records.station c.next_record.new.station c.args.publisher.now c.records.publisher c.records.core c.records.journal.gate at looked c.next_record.new.journal.gate (concat c.next_record.new.scratch.framer.given) more c.publish.new.station c.next_record.new.scratch.framer.given messages
-    (on_err c.publish.result (sym c.is_err.ensures.value ∙ c.if-is_err.true) c.publish.ensures.sends.part)
+    publishing_part m p c.args.product.now text image c.args.station.now c.records.station c.next_record.new.station c.args.publisher.now c.records.publisher c.records.core c.records.journal.gate at looked c.next_record.new.journal.gate (frames_record (concat c.next_record.new.scratch.framer.given)) more c.publish.new.station c.next_record.new.scratch.framer.given messages
+    (on_err c.publish.result (sym c.is_err.ensures.value ∙ c.if-is_err.true) (c.publish.ensures.sends c.records.invariant.numbered).part)
 
 pub returns-then-is_err-clause-reads : goal.returns-then-is_err-clause-reads
 returns-then-is_err-clause-reads g c =
     let m = g.S.Station.meanings in
-    reading_then m _ _ _ (reading_then m _ _ _ c.records.invariant.reads (reading_only m _ _ c.next_record.ensures.reads)) (sending_only m _ _ c.publish.ensures.sends.quiet)
+    reading_then m _ _ _ (reading_then m _ _ _ c.records.invariant.reads (reading_only m _ _ c.next_record.ensures.reads)) (sending_only m _ _ c.publish.ensures.quiet)
 
 pub publish-requires-clause-few : goal.publish-requires-clause-few
 publish-requires-clause-few g c =
@@ -39,7 +40,7 @@ records-preserved g c =
     let p = g.P.Publisher.meanings in
     let before = c.records.invariant in
     let looks = c.next_record.ensures.reads.looks in
-    let quiet = c.publish.ensures.sends.quiet in
+    let quiet = c.publish.ensures.quiet in
     let good = sym c.is_err.ensures.value ∙ c.if-is_err.false in
     let step = moved_then c.args.journal.now c.records.journal c.next_record.new.journal _ _ before.same c.next_record.ensures.same in
     let risen = c.in-Ok-true.ensures.rises c.in-Ok-true.field-0-test in
@@ -48,11 +49,11 @@ records-preserved g c =
       reads = reading_then m _ _ _ (reading_then m _ _ _ before.reads (reading_only m _ _ c.next_record.ensures.reads)) (sending_only m _ _ quiet);
       reach = quiet.reach ∙ c.next_record.ensures.reach ∙ before.reach;
       store = quiet.store_faults ∙ c.in-Ok-true.ensures.none (λ e. cc e) ∙ before.store;
-      send = on_ok c.publish.result good c.publish.ensures.sends.cause.ok ∙ looks.silent.send_faults ∙ before.send;
+      send = on_ok c.publish.result good c.publish.ensures.cause.ok ∙ looks.silent.send_faults ∙ before.send;
       same = step;
       in_limit = omega (arith, inside, ap (λ (s : Standing). s.limit) step);
       fits = c.publish.ensures.fits;
-      numbered = c.publish.ensures.numbered;
+      numbered = c.publish.ensures.numbered before.numbered;
       empty = on_ok c.publish.result good c.publish.ensures.empty;
       few = omega (arith, before.few, risen, c.publish.ensures.count, messages_fit c.next_record.new.scratch.framer.given (c.in-Ok-true.ensures.frames c.in-Ok-true.field-0-test));
       publishing = λ text image read known begins first.
@@ -60,14 +61,14 @@ records-preserved g c =
           let looked = looks.silent.sent in
           let limit = ap (λ (s : Standing). s.limit) before.same ∙ c.requires.limit in
           let told =
-          record_read m p c.args.product.now text image c.args.station.now c.records.station c.next_record.new.station c.args.publisher.now c.records.publisher c.records.core c.records.journal.gate at looked c.records.journal c.next_record.new.journal.gate (concat c.next_record.new.scratch.framer.given) (Ok c.in-Ok-true.field-0) limit refl
+          record_read m p c.args.product.now text image c.args.station.now c.records.station c.next_record.new.station c.args.publisher.now c.records.publisher c.records.core c.records.journal.gate at looked c.records.journal c.next_record.new.journal.gate (frames_record (concat c.next_record.new.scratch.framer.given)) (Ok c.in-Ok-true.field-0) limit refl
           (λ whole place. c.in-Ok-true.ensures.records text image at.before (before.reads.holds ∙ read) (known ∙ sym (ap (λ (s : Standing). s.known) before.same)) whole place) in
           let more = read_more text _ image at.before _ _ c.in-Ok-true.field-0 c.in-Ok-true.field-0-test told in
           let messages = c.in-Ok-true.ensures.frames c.in-Ok-true.field-0-test in
-          publishing_more m p c.args.product.now text image c.args.station.now c.records.station c.next_record.new.station c.args.publisher.now c.records.publisher c.records.core c.records.journal.gate at looked c.next_record.new.journal.gate (concat c.next_record.new.scratch.framer.given) more c.publish.new.station c.next_record.new.scratch.framer.given messages c.publish.new.self c.publish.new.core
-          (on_ok c.publish.result good c.publish.ensures.sends.all)
-          (on_ok c.publish.result good c.publish.ensures.after)
-          c.publish.ensures.state
+          publishing_more m p c.args.product.now text image c.args.station.now c.records.station c.next_record.new.station c.args.publisher.now c.records.publisher c.records.core c.records.journal.gate at looked c.next_record.new.journal.gate (frames_record (concat c.next_record.new.scratch.framer.given)) more c.publish.new.station c.next_record.new.scratch.framer.given messages c.publish.new.self c.publish.new.core
+          (on_ok c.publish.result good (c.publish.ensures.sends before.numbered).all)
+          (on_ok c.publish.result good (c.publish.ensures.after before.numbered))
+          (c.publish.ensures.state before.numbered)
           c.publish.ensures.count;
     }
 
@@ -80,7 +81,7 @@ returns-in-Ok-false-clause-publishes g c = λ text image read known begins first
     let looked = c.next_record.ensures.reads.looks.silent.sent in
     let limit = ap (λ (s : Standing). s.limit) before.same ∙ c.requires.limit in
     let told =
-    record_read m p c.args.product.now text image c.args.station.now c.records.station c.next_record.new.station c.args.publisher.now c.records.publisher c.records.core c.records.journal.gate at looked c.records.journal c.next_record.new.journal.gate (concat c.next_record.new.scratch.framer.given) (Ok c.in-Ok-false.field-0) limit refl
+    record_read m p c.args.product.now text image c.args.station.now c.records.station c.next_record.new.station c.args.publisher.now c.records.publisher c.records.core c.records.journal.gate at looked c.records.journal c.next_record.new.journal.gate (frames_record (concat c.next_record.new.scratch.framer.given)) (Ok c.in-Ok-false.field-0) limit refl
     (λ whole place. c.in-Ok-false.ensures.records text image at.before (before.reads.holds ∙ read) (known ∙ sym (ap (λ (s : Standing). s.known) before.same)) whole place) in
     publishing_done m p c.args.product.now text image c.args.station.now c.records.station c.next_record.new.station c.args.publisher.now c.records.publisher c.records.core c.records.journal.gate at looked
     (read_end text _ image at.before _ _ c.in-Ok-false.field-0 c.in-Ok-false.field-0-test told)
@@ -99,7 +100,7 @@ returns-in-Err-Bad-clause-publishes g c = λ text image read known begins first.
     let looked = c.next_record.ensures.reads.looks.silent.sent in
     let limit = ap (λ (s : Standing). s.limit) before.same ∙ c.requires.limit in
     let told =
-    record_read m p c.args.product.now text image c.args.station.now c.records.station c.next_record.new.station c.args.publisher.now c.records.publisher c.records.core c.records.journal.gate at looked c.records.journal c.next_record.new.journal.gate (concat c.next_record.new.scratch.framer.given) (Err c.in-Err-Bad.field-0) limit refl
+    record_read m p c.args.product.now text image c.args.station.now c.records.station c.next_record.new.station c.args.publisher.now c.records.publisher c.records.core c.records.journal.gate at looked c.records.journal c.next_record.new.journal.gate (frames_record (concat c.next_record.new.scratch.framer.given)) (Err c.in-Err-Bad.field-0) limit refl
     (λ whole place. c.in-Err-Bad.ensures.records text image at.before (before.reads.holds ∙ read) (known ∙ sym (ap (λ (s : Standing). s.known) before.same)) whole place) in
     publishing_bad m p c.args.product.now text image c.args.station.now c.records.station c.next_record.new.station c.args.publisher.now c.records.publisher c.records.core c.records.journal.gate at looked c.in-Err-Bad.at
-    (read_bad text _ image at.before c.next_record.new.journal.gate (concat c.next_record.new.scratch.framer.given) c.in-Err-Bad.field-0 c.in-Err-Bad.at c.in-Err-Bad.field-0-is told)
+    (read_bad text _ image at.before c.next_record.new.journal.gate (frames_record (concat c.next_record.new.scratch.framer.given)) c.in-Err-Bad.field-0 c.in-Err-Bad.at c.in-Err-Bad.field-0-is told)

@@ -6,8 +6,8 @@ use Rattle.match_journal.proofs.Creating.{empty_stopped, empty_done, empty_long,
 use Rattle.match_journal.proofs.start.finish.Goals as goal
 
 pub returns-in_err-store-in-Empty-clause-steps : goal.returns-in_err-store-in-Empty-clause-steps
-returns-in_err-store-in-Empty-clause-steps g c = λ image limit payloads fits found keeps.
-    empty_stopped g.S.Station.meanings c.args.product.now limit c.requires.short fits c.args.station.now c.store.new.station image payloads _ _ (subst (IsOfClass c.args.product.now image) c.in-Empty.is found.class) keeps c.from_residual.ensures.0 c.in_err-store-in-Empty.ensures
+returns-in_err-store-in-Empty-clause-steps g c = λ image limit records fits found keeps.
+    empty_stopped g.S.Station.meanings c.args.product.now limit c.requires.short fits c.args.station.now c.store.new.station image records _ _ (subst (IsOfClass c.args.product.now image) c.in-Empty.is found.class) keeps c.from_residual.ensures.0 c.in_err-store-in-Empty.ensures
 
 pub returns-in_ok-store-in-Empty-clause-settled : goal.returns-in_ok-store-in-Empty-clause-settled
 returns-in_ok-store-in-Empty-clause-settled g c =
@@ -19,8 +19,8 @@ returns-in_ok-store-in-Empty-clause-known g c = λ image found read.
     empty_long g.S.Station.meanings c.args.product.now LEAST_LIMIT c.requires.short (omega arith) c.args.station.now c.store.new.station c.create.new.station image _ _ _ small read (omega (arith, small, found.len)) c.in_ok-store-in-Empty.ensures c.create.ensures.steps
 
 pub returns-in_ok-store-in-Empty-clause-steps : goal.returns-in_ok-store-in-Empty-clause-steps
-returns-in_ok-store-in-Empty-clause-steps g c = λ image limit payloads fits found keeps.
-    empty_done g.S.Station.meanings c.args.product.now limit c.requires.short fits c.args.station.now c.store.new.station c.create.new.station image payloads _ _ (subst (IsOfClass c.args.product.now image) c.in-Empty.is found.class) keeps c.in_ok-store-in-Empty.ensures c.create.ensures.steps
+returns-in_ok-store-in-Empty-clause-steps g c = λ image limit records fits found keeps.
+    empty_done g.S.Station.meanings c.args.product.now limit c.requires.short fits c.args.station.now c.store.new.station c.create.new.station image records _ _ (subst (IsOfClass c.args.product.now image) c.in-Empty.is found.class) keeps c.in_ok-store-in-Empty.ensures c.create.ensures.steps
 
 pub returns-in-Blank-clause-known : goal.returns-in-Blank-clause-known
 returns-in-Blank-clause-known g c = λ image found read.
@@ -29,10 +29,10 @@ returns-in-Blank-clause-known g c = λ image found read.
     blank_long g.S.Station.meanings c.args.product.now LEAST_LIMIT c.requires.short (omega arith) c.args.station.now c.create-in-Blank.new.station image _ _ (omega (arith, some, found.len)) blank.0 blank.1 read (omega (arith, found.len)) c.create-in-Blank.ensures.steps
 
 pub returns-in-Blank-clause-steps : goal.returns-in-Blank-clause-steps
-returns-in-Blank-clause-steps g c = λ image limit payloads fits found keeps.
+returns-in-Blank-clause-steps g c = λ image limit records fits found keeps.
     let blank = subst (IsOfClass c.args.product.now image) c.in-Blank.is found.class in
     let some : 1 ≤ c.args.found.now.len = subst (λ k. least_of_class (length c.args.product.now) k ≤ c.args.found.now.len) c.in-Blank.is c.requires.least in
-    blank_done g.S.Station.meanings c.args.product.now limit c.requires.short fits c.args.station.now c.create-in-Blank.new.station image payloads _ (omega (arith, some, found.len)) blank.0 blank.1 keeps c.create-in-Blank.ensures.steps
+    blank_done g.S.Station.meanings c.args.product.now limit c.requires.short fits c.args.station.now c.create-in-Blank.new.station image records _ (omega (arith, some, found.len)) blank.0 blank.1 keeps c.create-in-Blank.ensures.steps
 
 pub returns-in-Sealed-clause-known : goal.returns-in-Sealed-clause-known
 returns-in-Sealed-clause-known g c = λ image found read.
@@ -43,9 +43,9 @@ pub returns-in-Sealed-clause-makes : goal.returns-in-Sealed-clause-makes
 returns-in-Sealed-clause-makes g c = λ image limit fits is sealed read. sealed_made g.S.Station.meanings c.args.product.now limit c.requires.short fits c.args.station.now c.store-in-Sealed.new.station image _ sealed read c.store-in-Sealed.ensures
 
 pub returns-in-Sealed-clause-steps : goal.returns-in-Sealed-clause-steps
-returns-in-Sealed-clause-steps g c = λ image limit payloads fits found keeps.
-    sealed_done g.S.Station.meanings c.args.product.now limit c.requires.short fits c.args.station.now c.store-in-Sealed.new.station image payloads _ (subst (IsOfClass c.args.product.now image) c.in-Sealed.is found.class) keeps c.store-in-Sealed.ensures
+returns-in-Sealed-clause-steps g c = λ image limit records fits found keeps.
+    sealed_done g.S.Station.meanings c.args.product.now limit c.requires.short fits c.args.station.now c.store-in-Sealed.new.station image records _ (subst (IsOfClass c.args.product.now image) c.in-Sealed.is found.class) keeps c.store-in-Sealed.ensures
 
 pub returns-in-Open-clause-steps : goal.returns-in-Open-clause-steps
-returns-in-Open-clause-steps g c = λ image limit payloads fits found keeps.
-    open_done g.S.Station.meanings c.args.product.now limit c.requires.short fits c.args.station.now image payloads _ (subst (IsOfClass c.args.product.now image) c.in-Open.is found.class) keeps
+returns-in-Open-clause-steps g c = λ image limit records fits found keeps.
+    open_done g.S.Station.meanings c.args.product.now limit c.requires.short fits c.args.station.now image records _ (subst (IsOfClass c.args.product.now image) c.in-Open.is found.class) keeps

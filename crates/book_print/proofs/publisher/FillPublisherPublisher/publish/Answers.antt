@@ -8,14 +8,28 @@ use Rattle.book_print.specs.FillText.{fill_line}
 use Rattle.book_print.proofs.Delivered.{fills_delivered, fills_silent}
 use Rattle.book_print.proofs.publisher.FillPublisherPublisher.publish.Goals as goal
 
-pub returns-clause-sends : goal.returns-clause-sends
-returns-clause-sends g c =
+pub returns-clause-quiet : goal.returns-clause-quiet
+returns-clause-quiet g c =
     let m = g.S.Station.meanings in
-    let events = events_from c.args.product.now (state_numbered c.args.core.now) c.args.framer.now.given in
-    sends_to m c.args.station.now c.flush.new.self.station.now _ (flat_map (fill_line c.args.product.now.names) events) c.flush.result (search rules)
-    (sends_as m c.args.station.now c.flush.new.self.station.now (flat_map (fill_line c.names.result.now) events) (flat_map (fill_line c.args.product.now.names) events) c.flush.result (ap (λ (n : NameLists). flat_map (fill_line n) events) c.names.ensures)
-    (fills_delivered m c.new-out.result c.apply_given.new.out c.flush.new.self _ _ c.names.result.now events c.flush.result c.new-out.ensures c.apply_given.ensures.emits c.flush.ensures.flushes))
+    let puts = c.apply_given.ensures.puts in
+    (sends_to m c.args.station.now c.flush.new.self.station.now _ (flat_map (fill_line c.names.result.now) puts.events) c.flush.result (search rules)
+    (fills_delivered m c.new-out.result c.apply_given.new.out c.flush.new.self _ _ c.names.result.now puts.events c.flush.result c.new-out.ensures puts.emits c.flush.ensures.flushes)).quiet
+
+pub returns-clause-cause : goal.returns-clause-cause
+returns-clause-cause g c =
+    let m = g.S.Station.meanings in
+    let puts = c.apply_given.ensures.puts in
+    (sends_to m c.args.station.now c.flush.new.self.station.now _ (flat_map (fill_line c.names.result.now) puts.events) c.flush.result (search rules)
+    (fills_delivered m c.new-out.result c.apply_given.new.out c.flush.new.self _ _ c.names.result.now puts.events c.flush.result c.new-out.ensures puts.emits c.flush.ensures.flushes)).cause
 
 pub returns-clause-silent : goal.returns-clause-silent
 returns-clause-silent g c = λ passed.
     fills_silent g.S.Station.meanings c.new-out.result c.apply_given.new.out c.flush.new.self _ _ _ c.flush.result _ c.new-out.ensures (c.apply_given.ensures.silent passed) c.flush.ensures.idle (search rules)
+
+pub returns-clause-sends : goal.returns-clause-sends
+returns-clause-sends g c = λ numbered.
+    let m = g.S.Station.meanings in
+    let events = events_from c.args.product.now (state_numbered c.args.core.now) c.args.framer.now.given in
+    sends_to m c.args.station.now c.flush.new.self.station.now _ (flat_map (fill_line c.args.product.now.names) events) c.flush.result (search rules)
+    (sends_as m c.args.station.now c.flush.new.self.station.now (flat_map (fill_line c.names.result.now) events) (flat_map (fill_line c.args.product.now.names) events) c.flush.result (ap (λ (n : NameLists). flat_map (fill_line n) events) c.names.ensures)
+    (fills_delivered m c.new-out.result c.apply_given.new.out c.flush.new.self _ _ c.names.result.now events c.flush.result c.new-out.ensures (c.apply_given.ensures.emits numbered) c.flush.ensures.flushes))

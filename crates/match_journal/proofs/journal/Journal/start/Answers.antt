@@ -7,18 +7,18 @@ use Rattle.match_journal.proofs.Stepping.{on_ok, steps_ok, from_synced}
 use Rattle.match_journal.proofs.journal.Journal.start.Goals as goal
 
 pub returns-clause-starts : goal.returns-clause-starts
-returns-clause-starts g c = λ image payloads keeps.
+returns-clause-starts g c = λ image records keeps.
     let m = g.S.Station.meanings in
     from_synced m c.args.station.now c.sync.new.self c.look_at.new.station c.finish.new.station image _ _ _ _ (sym c.is_err.ensures.value ∙ c.if-is_err.false) c.sync.ensures.syncs c.look_at.ensures.looks.keeps c.look_at.ensures.looks.silent.sent (λ read.
-    steps_ok m _ _ image _ _ _ _ (sym c.is_err-2.ensures.value ∙ c.if-is_err-2.false) (c.finish.ensures.steps image _ payloads c.requires.least (c.in-Ok.ensures.found image (c.sync.ensures.syncs.keeps.holds ∙ read)) keeps))
+    steps_ok m _ _ image _ _ _ _ (sym c.is_err-2.ensures.value ∙ c.if-is_err-2.false) (c.finish.ensures.steps image _ records c.requires.least (c.in-Ok.ensures.found image (c.sync.ensures.syncs.keeps.holds ∙ read)) keeps))
 
 pub returns-then-is_err-2-clause-keeps : goal.returns-then-is_err-2-clause-keeps
-returns-then-is_err-2-clause-keeps g c = λ image payloads h read keeps.
+returns-then-is_err-2-clause-keeps g c = λ image records h read keeps.
     let m = g.S.Station.meanings in
     let at = c.look_at.new.station in
     let held = c.look_at.ensures.looks.keeps.holds ∙ c.sync.ensures.syncs.keeps.holds ∙ read in
     let honest = c.look_at.ensures.looks.keeps.moments.honest (c.sync.ensures.syncs.keeps.moments.honest h) in
-    let steps = c.finish.ensures.steps image _ payloads c.requires.least (c.in-Ok.ensures.found image (c.sync.ensures.syncs.keeps.holds ∙ read)) keeps in
+    let steps = c.finish.ensures.steps image _ records c.requires.least (c.in-Ok.ensures.found image (c.sync.ensures.syncs.keeps.holds ∙ read)) keeps in
     let rests : Rests m image at = rests_kept m c.sync.new.self at image c.look_at.ensures.looks.keeps (c.sync.ensures.syncs.keeps.moments.honest h) record { read = c.sync.ensures.syncs.keeps.holds ∙ read; settled = on_ok m c.sync.result (sym c.is_err.ensures.value ∙ c.if-is_err.false) c.sync.ensures.syncs.settled h } in
     steps_hold m g.met.S.Station.honest at c.finish.new.station image _ (record { keeps = keeps; no_longer = omega arith }) honest rests (steps.moments honest rests)
 

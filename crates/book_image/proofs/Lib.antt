@@ -1,0 +1,20 @@
+-- What the proofs of this crate alone cite.
+mod WriteWalks
+mod WriteParts
+mod WriteNames
+mod WriteGaps
+mod CheckWrong
+mod CheckNames
+mod CheckFronts
+mod CheckRows
+mod CheckTops
+mod CheckFaults
+mod LoadLists
+mod LoadPlacing
+mod LoadLevels
+mod LoadTops
+mod LoadParts
+mod LoadWaiting
+mod LoadFaults
+mod LoadBook
+mod LoadImage

@@ -1,0 +1,13 @@
+use Rattle.std.proofs.Common.{option_map}
+use Rattle.plain_book.specs.Orders.{level, orders_at}
+use Rattle.plain_book.specs.Book.{slot_number}
+use Rattle.book_image.proofs.WriteWalks.{IsWalked}
+use Rattle.book_walks.proofs.OrderWalks.{ToComeAt, left_from}
+use Rattle.book_image.proofs.write.write_level.Given as goal
+
+abbrev pub invariant-loop-next : goal.invariant-loop-next
+invariant-loop-next g l =
+    IsWalked (orders_at (level l.instrument l.fn.side l.fn.price) (g.B.Book.book l.book).resting) (ToComeAt (option_map slot_number l.next)) l.initial.into l.into l.fn.at l.end
+
+abbrev pub decreases-loop-next : goal.decreases-loop-next
+decreases-loop-next g l = left_from (option_map slot_number l.next) (orders_at (level l.instrument l.fn.side l.fn.price) (g.B.Book.book l.book).resting)

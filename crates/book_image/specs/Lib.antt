@@ -1,0 +1,6 @@
+pub mod Rows
+pub mod Image
+pub mod Rules
+pub mod Faults
+pub mod Reading
+pub mod Inner

@@ -1,0 +1,59 @@
+use Rattle.std.proofs.Common.{◌≡◌, ◌*◌, arith, ℕ, sym, ◌∙◌, ap, subst}
+use Rattle.match_journal.specs.Standing.{Fits}
+use Rattle.match_journal.specs.Walking.{IsHead, IsBadHead}
+use Rattle.match_journal.specs.declared.entry.Entry.{Entry}
+use Rattle.match_journal.specs.declared.standing.Standing.{Standing}
+use Rattle.book_recovery.specs.BadPlaces.{HasBadHeadAt}
+use Rattle.book_recovery.specs.Inner.Counting.{AreRecords}
+use Rattle.book_recovery.proofs.Looks.{looks_by, reads_of}
+use Rattle.book_recovery.proofs.Starting.{begins_then}
+use Rattle.book_recovery.proofs.Standings.{moved_then, some_moved, none_moved, entry_found}
+use Rattle.book_recovery.proofs.Counting.{counting_more, counting_done, counting_bad, head_found, gate_found, bad_found}
+use Rattle.book_recovery.proofs.recovery.read_heads.Goals as goal
+
+pub heads-preserved : goal.heads-preserved
+heads-preserved g c =
+    let m = g.S.Station.meanings in
+    let before = c.heads.invariant in
+    let step = some_moved c.heads.journal c.next_entry.new.self c.in-Ok-Some.field-0 c.in-Ok-Some.entry c.in-Ok-Some.field-0-is c.in-Ok-Some.ensures.moves in
+    let gate = ap (λ (s : Standing). s.gate) step in
+    let entry = entry_found (λ (e : Entry). (e.at ≡ c.heads.journal.gate) × Fits c.heads.journal.known c.heads.journal.limit e) c.in-Ok-Some.field-0 c.in-Ok-Some.entry c.in-Ok-Some.field-0-is c.in-Ok-Some.ensures.entry in
+    record {
+      looks = looks_by m _ _ _ (6 * c.heads.heads.entries) 6 _ before.looks c.next_entry.ensures.looks (omega arith);
+      reach = c.next_entry.ensures.reach ∙ before.reach;
+      faults = c.in-Ok-Some.ensures.none (λ e. cc e) ∙ before.faults;
+      same = moved_then c.args.journal.now c.heads.journal c.next_entry.new.self _ _ before.same step;
+      few = omega (arith, before.few, gate);
+      start = begins_then c.heads.journal c.next_entry.new.self c.heads.heads.start _ c.in-Ok-Some.entry _ _ step before.start entry c.or-heads.ensures;
+      counting = λ text image read known begins first.
+          let at = before.counting text image read known begins first in
+          let walks = c.in-Ok-Some.ensures.walks image (before.looks.keeps.holds ∙ read) (known ∙ sym (ap (λ (s : Standing). s.known) before.same)) in
+          let head = head_found image _ _ c.in-Ok-Some.field-0 c.in-Ok-Some.entry c.in-Ok-Some.field-0-is walks in
+          counting_more text _ image _ _ at c.in-Ok-Some.entry _ _ (subst (λ k. IsHead image k c.heads.journal.gate c.in-Ok-Some.entry) (ap (λ (s : Standing). s.limit) before.same) head) gate c.or-heads.ensures;
+    }
+
+pub returns-in-Ok-None-clause-reads : goal.returns-in-Ok-None-clause-reads
+returns-in-Ok-None-clause-reads g c = reads_of g.S.Station.meanings _ _ _ _ _ c.heads.invariant.looks c.next_entry.ensures.looks
+
+pub returns-in-Ok-None-clause-counts : goal.returns-in-Ok-None-clause-counts
+returns-in-Ok-None-clause-counts g c = λ text image read known begins first.
+    let before = c.heads.invariant in
+    let at = before.counting text image read known begins first in
+    let walks = c.in-Ok-None.ensures.walks image (before.looks.keeps.holds ∙ read) (known ∙ sym (ap (λ (s : Standing). s.known) before.same)) in
+    let step = none_moved c.heads.journal c.next_entry.new.self c.in-Ok-None.field-0 c.in-Ok-None.field-0-is c.in-Ok-None.ensures.moves in
+    let done = counting_done text _ image _ _ at (gate_found image _ _ c.in-Ok-None.field-0 c.in-Ok-None.field-0-is walks) in
+    subst (λ (k : ℕ). AreRecords text c.args.journal.now.limit image k c.heads.heads) (sym (ap (λ (s : Standing). s.gate) step)) done
+
+pub returns-in-Err-Store-clause-reads : goal.returns-in-Err-Store-clause-reads
+returns-in-Err-Store-clause-reads g c = reads_of g.S.Station.meanings _ _ _ _ _ c.heads.invariant.looks c.next_entry.ensures.looks
+
+pub returns-in-Err-Bad-clause-reads : goal.returns-in-Err-Bad-clause-reads
+returns-in-Err-Bad-clause-reads g c = reads_of g.S.Station.meanings _ _ _ _ _ c.heads.invariant.looks c.next_entry.ensures.looks
+
+pub returns-in-Err-Bad-clause-counts : goal.returns-in-Err-Bad-clause-counts
+returns-in-Err-Bad-clause-counts g c = λ text image read known begins first.
+    let before = c.heads.invariant in
+    let at = before.counting text image read known begins first in
+    let walks = c.in-Err-Bad.ensures.walks image (before.looks.keeps.holds ∙ read) (known ∙ sym (ap (λ (s : Standing). s.known) before.same)) in
+    let bad = bad_found image _ _ c.in-Err-Bad.field-0 c.in-Err-Bad.at c.in-Err-Bad.field-0-is walks in
+    subst (HasBadHeadAt text _ image) (sym c.in-Err-Bad.at-is) (counting_bad text _ image _ _ at _ (subst (λ k. IsBadHead image k c.heads.journal.gate c.in-Err-Bad.at) (ap (λ (s : Standing). s.limit) before.same) bad))

@@ -1,0 +1,121 @@
+-- Journals whose records are messages and book images: what stands behind each record, when records are good, and when their
+-- images are true. Our own rule.
+use Rattle.std.specs.Prelude.{◌≡◌, ℕ, ◌+◌, ◌<◌, Bool, true, false, if◌then◌else◌, List, [], ◌∷◌, ◌++◌, flat_map, length, None}
+use Rattle.std.specs.List.{list_any, AllByRecursion}
+use Rattle.fix_frame.specs.Stream.{messages_of, rest_of}
+use Rattle.product_file.specs.Products.{ProductLists}
+use Rattle.order_kinds.specs.declared.core_state.TheConstants.{MOST_MESSAGES}
+use Rattle.order_kinds.specs.State.{State}
+use Rattle.order_kinds.specs.Step.{state_after}
+use Rattle.book_image.specs.Rows.{number_at}
+use Rattle.book_image.specs.Image.{image_of}
+use Rattle.book_image.specs.Faults.{image_fault}
+use Rattle.book_image.specs.Reading.{state_of_image}
+use Rattle.match_journal.specs.Journal.{Record}
+use Rattle.match_journal.specs.declared.entry.EntryKind.{EntryKind}
+use Rattle.match_journal.specs.declared.entry.EntryKind.TheVariants.{Frames, Image}
+use Rattle.book_recovery.specs.Recovering.{state_kept}
+
+-- ---- kinds
+
+abbrev pub is_image_kind : EntryKind → Bool
+is_image_kind Frames = false
+is_image_kind Image = true
+
+-- the record is a book image, and no messages
+abbrev pub is_image : Record → Bool
+is_image r = is_image_kind r.kind
+
+abbrev pub has_image : List Record → Bool
+has_image records = list_any is_image records
+
+-- the records from the last image on, and all where there is none
+abbrev pub from_last_image : List Record → List Record
+from_last_image [] = []
+from_last_image (r ∷ records) = if has_image records then from_last_image records else r ∷ records
+
+-- ---- messages
+
+-- the messages in a payload of a kind: an image has none
+abbrev pub kept_as : EntryKind → List ℕ → List (List ℕ)
+kept_as Frames payload = messages_of payload
+kept_as Image payload = []
+
+abbrev pub kept_by : Record → List (List ℕ)
+kept_by r = kept_as r.kind r.payload
+
+-- the messages in these records, one behind the other
+abbrev pub kept_in : List Record → List (List ℕ)
+kept_in records = flat_map kept_by records
+
+-- ---- the count of messages
+
+-- The count of messages behind a payload of a kind, by that before it: frames add theirs, and an image says its own.
+abbrev pub count_as : ℕ → EntryKind → List ℕ → ℕ
+count_as count Frames payload = count + length (messages_of payload)
+count_as count Image payload = number_at payload 0
+
+abbrev pub count_behind : ℕ → Record → ℕ
+count_behind count r = count_as count r.kind r.payload
+
+-- the count behind several records, by that before them
+abbrev pub count_behind_all : ℕ → List Record → ℕ
+count_behind_all count [] = count
+count_behind_all count (r ∷ records) = count_behind_all (count_behind count r) records
+
+-- ---- good records
+
+-- whole frames, and with them fewer messages than a core takes
+pub record AreGoodFrames (count : ℕ) (payload : List ℕ) : Type 0 where
+  pub no_rest : rest_of payload ≡ []
+  pub few : count + length (messages_of payload) < MOST_MESSAGES
+
+-- A payload of a kind is good behind so many messages. Nothing is wrong with an image, wherever it stands.
+abbrev pub IsGoodAs : ProductLists → ℕ → EntryKind → List ℕ → Type 0
+IsGoodAs product count Frames payload = AreGoodFrames count payload
+IsGoodAs product count Image payload = image_fault product payload ≡ None
+
+abbrev pub IsGoodRecord : ProductLists → ℕ → Record → Type 0
+IsGoodRecord product count r = IsGoodAs product count r.kind r.payload
+
+-- each is good by the count behind those before it
+abbrev pub AreGoodRecords : ProductLists → ℕ → List Record → Type 0
+AreGoodRecords product count [] = Unit {0}
+AreGoodRecords product count (r ∷ records) = IsGoodRecord product count r × AreGoodRecords product (count_behind count r) records
+
+-- ---- true records
+
+-- A payload of a kind is true behind these messages: an image is that of the state after them, and frames may be any.
+abbrev pub IsTrueAs : ProductLists → List (List ℕ) → EntryKind → List ℕ → Type 0
+IsTrueAs product before Frames payload = Unit {0}
+IsTrueAs product before Image payload = payload ≡ image_of (state_kept product before)
+
+abbrev pub IsTrueRecord : ProductLists → List (List ℕ) → Record → Type 0
+IsTrueRecord product before r = IsTrueAs product before r.kind r.payload
+
+-- each is true by all messages before it
+abbrev pub AreTrueRecords : ProductLists → List (List ℕ) → List Record → Type 0
+AreTrueRecords product before [] = Unit {0}
+AreTrueRecords product before (r ∷ records) = IsTrueRecord product before r × AreTrueRecords product (before ++ kept_by r) records
+
+-- where the record is frames, nothing stands behind them
+abbrev pub HasWholeFrames : Record → Type 0
+HasWholeFrames r = r.kind ≡ Frames → rest_of r.payload ≡ []
+
+abbrev pub HaveWholeFrames : List Record → Type 0
+HaveWholeFrames records = AllByRecursion HasWholeFrames records
+
+-- ---- the state
+
+-- The state behind a payload of a kind, by that before it: frames are applied to it, and an image is read in its place.
+abbrev pub state_as : ProductLists → State → EntryKind → List ℕ → State
+state_as product state Frames payload = state_after product state (messages_of payload)
+state_as product state Image payload = state_of_image product payload
+
+abbrev pub state_behind : ProductLists → State → Record → State
+state_behind product state r = state_as product state r.kind r.payload
+
+-- the state behind several records, by that before them
+abbrev pub state_behind_all : ProductLists → State → List Record → State
+state_behind_all product state [] = state
+state_behind_all product state (r ∷ records) = state_behind_all product (state_behind product state r) records

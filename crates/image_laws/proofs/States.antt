@@ -1,0 +1,166 @@
+-- Messages, whatever they are, lead to right states.
+use Rattle.std.proofs.Common.{◌≡◌, ℕ, ◌+◌, ◌*◌, ◌<◌, ◌≤◌, true, false, List, [], ◌∷◌, ◌++◌, length, replicate, Option, Some, None, refl, sym, ap, subst, arith, length-append}
+use Prim.Native.Nat.{zero, suc}
+use Rattle.std.specs.Prelude.{◌^◌, IfSome, slice_index_or}
+use Rattle.std.proofs.lemmas.List.{length-replicate}
+use Rattle.gx_base.specs.declared.limits.TheConstants.{ADDRESSEES, MOST_LOTS}
+use Rattle.gx_base.specs.declared.price.Price.{Price}
+use Rattle.gx_base.specs.declared.event.ChangeFault.TheVariants as change
+use Rattle.product_file.specs.Products.{ProductLists, IsRightProduct}
+use Rattle.fix_request.specs.Requests.{request_of}
+use Rattle.fix_request.specs.ValidRequests.{IsValidRequest}
+use Rattle.fix_request.specs.declared.request.CancelOrder.{CancelOrder}
+use Rattle.fix_request.specs.declared.request.Refusal.{Refusal}
+use Rattle.fix_request.specs.declared.request.Request.{Request}
+use Rattle.fix_request.specs.declared.request.Request.TheVariants.{New, Cancel, Replace, Passed, Refused}
+use Rattle.plain_book.specs.Orders.{HasSlot, slot_named}
+use Rattle.plain_book.specs.Book.{live_orders}
+use Rattle.plain_book.proofs.Found.{all-zero}
+use Rattle.order_kinds.specs.declared.core_state.TheConstants.{MOST_MESSAGES}
+use Rattle.order_kinds.specs.State.{State, empty_state}
+use Rattle.order_kinds.specs.Cancels.{cancelled, cancel_by, cancel_step, session_step}
+use Rattle.order_kinds.specs.Step.{with_message, request_step, step_of, state_after, events_from, events_of}
+use Rattle.balance_laws.proofs.Bounds.{whole-within}
+use Rattle.balance_laws.proofs.Requests.{named-has}
+use Rattle.book_image.specs.Rules.{is_price_of}
+use Rattle.image_laws.specs.Right.{IsRightState}
+use Rattle.image_laws.proofs.Held.{held-without}
+use Rattle.image_laws.proofs.Counted.{counted-report, counted-line, counted-within}
+use Rattle.image_laws.proofs.Names.{HasName, request-named, request-valid}
+use Rattle.image_laws.proofs.Arriving.{uncrossed-without}
+use Rattle.image_laws.proofs.Reached.{IsReached, StepReaches}
+use Rattle.image_laws.proofs.NewOrders.{new-reached}
+use Rattle.image_laws.proofs.Replaces.{unchanged-reached, replace-reached}
+
+module _ (product : ProductLists) (right : IsRightProduct product) where
+  -- ---- cancels and refused messages
+
+  cancelled-reached : (sent bound : ℕ) (request : CancelOrder) (slot : ℕ) (state : State) → HasSlot slot (live_orders state.book) → IsReached product sent bound state → StepReaches product sent bound (cancelled request slot state)
+  cancelled-reached sent bound request slot state has h = record {
+    held = held-without product state.desk.orders state.book slot has h.held;
+    uncrossed = uncrossed-without slot state.book.resting h.uncrossed;
+    prices = h.prices;
+    lasts = h.lasts;
+    counted = counted-report sent state.desk.orders bound state.desk h.counted request.sender.firm;
+    few = h.few;
+  }
+
+  cancel-reached : (sent bound : ℕ) (request : CancelOrder) (state : State) → IsReached product sent bound state → StepReaches product sent bound (cancel_step request state)
+  cancel-reached sent bound request state h =
+      let es = live_orders state.book in
+      let go : (slot : Option ℕ) → slot_named request.sender.firm request.old es ≡ slot → StepReaches product sent bound (cancel_by slot request state) = elim [
+        | None ↦ λ is. unchanged-reached product sent bound request.sender request.id request.old 0 0 false change.Unknown state h
+        | Some slot ↦ λ is. cancelled-reached sent bound request slot state (named-has request.sender.firm request.old es slot is) h
+      ] in go (slot_named request.sender.firm request.old es) refl
+
+  session-reached : (sent bound : ℕ) (refusal : Refusal) (state : State) → IsReached product sent bound state → StepReaches product sent bound (session_step refusal state)
+  session-reached sent bound refusal state h = record {
+    held = h.held;
+    uncrossed = h.uncrossed;
+    prices = h.prices;
+    lasts = h.lasts;
+    counted = counted-line sent state.desk.orders bound state.desk h.counted refusal.firm;
+    few = h.few;
+  }
+
+  -- ---- one message
+
+  request-reached : (sent bound : ℕ) (request : Request) (state : State) → IsValidRequest product request → HasName request → IsReached product sent bound state → state.desk.orders < sent → StepReaches product sent bound (request_step product request state)
+  request-reached sent bound (New order) state valid name h room = new-reached product right sent bound order state valid name h room
+  request-reached sent bound (Cancel order) state valid name h room = cancel-reached sent bound order state h
+  request-reached sent bound (Replace order) state valid name h room = replace-reached product right sent bound order state valid name h
+  request-reached sent bound (Passed sender) state valid name h room = record {
+    held = h.held;
+    uncrossed = h.uncrossed;
+    prices = h.prices;
+    lasts = h.lasts;
+    counted = counted-within sent state.desk.orders bound state.desk h.counted (bound + 0) (omega arith);
+    few = h.few;
+  }
+  request-reached sent bound (Refused refusal) state valid name h room = session-reached sent bound refusal state h
+
+  step-reached : (sent bound : ℕ) (state : State) (frame : List ℕ) → IsReached product sent bound state → StepReaches product (sent + 1) bound (step_of product state frame)
+  step-reached sent bound state frame h =
+      let counted : IsReached product (sent + 1) bound (with_message state) = record {
+        held = h.held;
+        uncrossed = h.uncrossed;
+        prices = h.prices;
+        lasts = h.lasts;
+        counted = record {
+          messages = ap (λ (n : ℕ). n + 1) h.counted.messages;
+          orders = refl;
+          counts = record { trades = h.counted.counts.trades; reports = h.counted.counts.reports; lines = h.counted.counts.lines };
+          lines = h.counted.lines;
+        };
+        few = omega (arith, h.few);
+      } in request-reached (sent + 1) bound (request_of product frame) (with_message state) (request-valid product frame) (request-named product frame) counted (omega (arith, h.few))
+
+  -- ---- all messages
+
+  reached-as : (sent bound sent' bound' : ℕ) (state : State) → sent ≡ sent' → bound ≡ bound' → IsReached product sent bound state → IsReached product sent' bound' state
+  reached-as sent bound sent' bound' state s b h = subst (λ (n : ℕ). IsReached product n bound' state) s (subst (λ (n : ℕ). IsReached product sent n state) b h)
+
+  frames-reached : (sent bound : ℕ) (state : State) (frames : List (List ℕ)) → IsReached product sent bound state → IsReached product (sent + length frames) (bound + length (events_from product state frames)) (state_after product state frames)
+  frames-reached sent bound state [] h = reached-as sent bound (sent + 0) (bound + 0) state (omega arith) (omega arith) h
+  frames-reached sent bound state (frame ∷ frames) h =
+      let step = step_of product state frame in
+      let rest = events_from product step.0 frames in
+      reached-as (sent + 1 + length frames) (bound + length step.1 + length rest) (sent + suc (length frames)) (bound + length (step.1 ++ rest)) (state_after product step.0 frames) (omega arith) (omega (arith, length-append step.1 rest))
+      (frames-reached (sent + 1) (bound + length step.1) step.0 frames (step-reached sent bound state frame h))
+
+  abbrev no_price : Option Price
+  no_price = None
+
+  none-traded : (n j : ℕ) → slice_index_or (replicate n no_price) j None ≡ no_price
+  none-traded zero j = refl
+  none-traded (suc n) zero = refl
+  none-traded (suc n) (suc j) = none-traded n j
+
+  starts : IsReached product 0 0 (empty_state product)
+  starts = record {
+    held = record {
+      capacity = refl;
+      instruments = refl;
+      book = record { rest = tt; wait = tt; differ = tt; named = tt; ordered = tt; lined = tt; tops = tt; few = omega arith; small = omega (arith, right.few_orders) };
+      entries = tt;
+      tops = tt;
+      stops = tt;
+    };
+    uncrossed = tt;
+    prices = length-replicate (length product.names.instruments) None;
+    lasts = λ j. subst (λ (x : Option Price). IfSome x (λ price. is_price_of product j price ≡ true)) (sym (none-traded (length product.names.instruments) j)) tt;
+    counted = record { messages = refl; orders = refl; counts = record { trades = omega arith; reports = omega arith; lines = λ place. omega (arith, all-zero ADDRESSEES place) }; lines = refl };
+    few = omega arith;
+  }
+
+  -- ---- the law
+
+  pub states-right : (messages : List (List ℕ)) → length messages < MOST_MESSAGES → IsRightState product (state_after product (empty_state product) messages)
+  states-right messages few =
+      let state = state_after product (empty_state product) messages in
+      let events = events_of product messages in
+      let h : IsReached product (length messages) (length events) state =
+      reached-as (0 + length messages) (0 + length events) (length messages) (length events) state (omega arith) (omega arith) (frames-reached 0 0 (empty_state product) messages starts) in
+      let most : length events ≤ length messages * (MOST_LOTS + 3) = (whole-within product messages right).many in
+      let sent = h.counted.messages in
+      let within : length events ≤ state.desk.messages * 2 ^ 38 = omega (arith, most, sent) in
+      record {
+        capacity = h.held.capacity;
+        instruments = h.held.instruments;
+        book = h.held.book;
+        entries = h.held.entries;
+        tops = h.held.tops;
+        stops = h.held.stops;
+        uncrossed = h.uncrossed;
+        prices = h.prices;
+        lasts = h.lasts;
+        counters = record { orders = omega (arith, h.few, sent); messages = omega (arith, few, sent); counts = (counted-within (length messages) state.desk.orders (length events) state.desk h.counted (state.desk.messages * 2 ^ 38) within).counts };
+        few = omega (arith, few, sent);
+        lines = h.counted.lines;
+      }
+
+  -- each message counts
+  pub states-counted : (messages : List (List ℕ)) → (state_after product (empty_state product) messages).desk.messages ≡ length messages
+  states-counted messages =
+      let sent = (frames-reached 0 0 (empty_state product) messages starts).counted.messages in
+      omega (arith, sent)
