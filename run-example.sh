@@ -1,7 +1,7 @@
 #!/bin/sh
-# Builds the program. Runs the stored example in a folder of its own, and shows its reports, its book and its ledger; then runs
-# the example of each algorithm, and shows the reports. `|` stands for SOH, and each report has a line. Ends with a status
-# other than 0 where anything differs from what is stored.
+# Builds the program. Runs the stored example in a folder of its own, and shows its reports, its book and, behind a checkpoint,
+# its ledger; then runs the example of each algorithm, and shows the reports. `|` stands for SOH, and each report has a line.
+# Ends with a status other than 0 where anything differs from what is stored.
 set -u
 
 fail() {
@@ -58,6 +58,14 @@ print_kept() {
     cmp -- "$folder/text" "$2" || fail "this is not the stored $1"
 }
 
+# Adds a book image to the journal in the folder: nothing is sent, and the book stays the stored one.
+take_checkpoint() {
+    (cd "$folder" && "$program" checkpoint </dev/null >text && [ ! -s text ] && "$program" book </dev/null >text)
+    status=$?
+    [ "$status" -eq 0 ] || fail "the program ended with status $status at a checkpoint, or sent something"
+    cmp -- "$folder/text" "$1" || fail 'this is not the stored book, behind a checkpoint'
+}
+
 cp -- "$crate/data/product.toml" "$folder/product.toml" || exit 1
 cp -- "$crate/stdin" "$folder/orders" || exit 1
 serve
@@ -65,6 +73,7 @@ shown <"$folder/reports"
 echo
 cmp -- "$folder/reports" "$crate/stdout" || fail 'these are not the stored reports'
 print_kept book "$top/examples/first-run/book.txt"
+take_checkpoint "$top/examples/first-run/book.txt"
 print_kept ledger "$top/examples/first-run/ledger.txt"
 
 for example in "$top"/examples/*/; do

@@ -34,7 +34,7 @@ PARTS = {
     "requests": "fix_request",
     "matching": "order_kinds level_sweep top_order lmm_pass split_pass prorata_pass leveling_pass plain_book book_side order_pool id_table price_level book_order step_config",
     "reports": "exec_report book_print gx_base itoa",
-    "journal": "match_journal gx_station book_recovery",
+    "journal": "match_journal gx_station book_recovery book_image",
     "copies": "libc",
 }
 PART_OF = {crate: part for part, crates in PARTS.items() for crate in crates.split()}

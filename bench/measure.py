@@ -1,5 +1,5 @@
 #!/usr/bin/env python3
-"""Measures how many messages a second `globex run` serves, and how many it recovers.
+"""Measures how many messages a second `globex run` serves, how many it recovers, and how long it takes after a checkpoint.
 
 Makes 100,000 limit orders and cancels of four firms, always the same ones, in ten streams of 10,000. In a folder in memory
 it runs the program over each stream with a new journal, one after the other, five times, and then over the journals that
@@ -7,12 +7,19 @@ these runs leave with an empty input, which is recovery alone. In a folder on a 
 100,000 from a file, where each record waits for two syncs, and measures beside it, in turn, what the syncs of records of
 8,192 bytes cost without the engine. The spread between the rounds is the machine's noise.
 
+At the end it measures what a checkpoint spares a start, in a folder in memory, over two journals of 400,000 messages: those of a
+drill, which fill a book of 100,000 orders, so that the image is as long as may be; and orders of which each trades, with one
+live order. In each round the program recovers with an empty input from a journal without an image, makes a checkpoint of it, and
+recovers from the image. The bytes are those that the process read beside its words and what `steps` reads: the journal's.
+
     ./run-example.sh                           builds the program
     bench/measure.py [PROGRAM [DISK_FOLDER]]   the folder is a new one in that one, or in the current one
+    bench/measure.py --checkpoint [PROGRAM]    the last part alone
 """
 
 import os
 import pathlib
+import shutil
 import statistics
 import subprocess
 import sys
@@ -27,6 +34,8 @@ ROUNDS = 5
 JOURNAL_START = 4_096
 RECORD = 8_192
 DISK_ROUNDS = 5
+RESTART_MESSAGES = 400_000
+RESTART_ROUNDS = 5
 KEYS = "max_orders = 100000\njournal_limit = 67108864\n"
 
 
@@ -115,13 +124,71 @@ def measure_on_disk(program, parent):
     print(f"of what these syncs allow the run reaches {statistics.median(b / s for b, s in zip(bare, served)):.2f} in the middle of {DISK_ROUNDS} rounds")
 
 
+def timed(program, folder, command):
+    """Seconds of a call with an empty input, and how many bytes its process read, libraries and product too, but for its word."""
+    started = time.perf_counter()
+    call = subprocess.Popen([program, command], cwd=folder, stdin=subprocess.DEVNULL, stdout=subprocess.DEVNULL)
+    # The process is left to be waited for until its counts are read.
+    os.waitid(os.P_PID, call.pid, os.WEXITED | os.WNOWAIT)
+    seconds = time.perf_counter() - started
+    counts = dict(line.split(": ") for line in pathlib.Path(f"/proc/{call.pid}/io").read_text().splitlines())
+    if call.wait() != 0:
+        sys.exit(f"{command} ended with status {call.returncode}")
+    return seconds, int(counts["rchar"]) - len(command)
+
+
+def restart(program, folder):
+    """Seconds and bytes of a start without an image, of a checkpoint, and of a start from its image, over the journal there."""
+    journal = os.path.join(folder, streams.JOURNAL)
+    kept = os.path.join(folder, "kept")
+    shutil.copyfile(journal, kept)
+    _, others = timed(program, folder, "steps")
+    rounds = []
+    for _ in range(RESTART_ROUNDS):
+        shutil.copyfile(kept, journal)
+        calls = [timed(program, folder, command) for command in ("run", "checkpoint", "run")]
+        rounds.append([(seconds, read - others) for seconds, read in calls])
+    added = os.path.getsize(journal) - os.path.getsize(kept)
+    return rounds, os.path.getsize(kept), added
+
+
+def measure_restart(program, name, fill):
+    """Prints what a checkpoint of a journal that `fill` makes spares a start."""
+    with new_folder(streams.MEMORY_FOLDER, KEYS) as folder:
+        live = fill(folder)
+        rounds, length, added = restart(program, folder)
+    middles = [statistics.median(seconds for seconds, _ in calls) for calls in zip(*rounds)]
+    read = [calls[0][1] for calls in zip(*rounds)]
+    print(f"{RESTART_MESSAGES} messages, {name}, {live} live orders: a journal of {length} bytes, and {added} of the checkpoint")
+    for what, seconds, count in zip(("a start without an image", "the checkpoint", "a start from its image"), middles, read):
+        print(f"{what}: {seconds * 1_000:,.0f} ms in the middle of {RESTART_ROUNDS} rounds, {count} bytes read")
+    print(f"of the first the last is {middles[2] / middles[0]:.3f} in time, and {read[2] / read[0]:.3f} in bytes")
+
+
+def measure_checkpoints(program):
+    def drilled(folder):
+        words = [program, "drill", "--first", "1", "--count", str(RESTART_MESSAGES)]
+        done = subprocess.run(words, cwd=folder, stdout=subprocess.PIPE, check=True)
+        return int(done.stdout.split()[-1])
+
+    def traded(folder):
+        run(program, folder, b"".join(streams.trading(RESTART_MESSAGES)))
+        return 1
+
+    measure_restart(program, "made by a drill", drilled)
+    measure_restart(program, "each of which trades", traded)
+
+
 def main():
-    program = os.path.abspath(sys.argv[1] if len(sys.argv) > 1 else streams.PROGRAM)
-    disk = os.path.abspath(sys.argv[2] if len(sys.argv) > 2 else os.curdir)
+    words = [word for word in sys.argv[1:] if word != "--checkpoint"]
+    program = os.path.abspath(words[0] if words else streams.PROGRAM)
+    disk = os.path.abspath(words[1] if len(words) > 1 else os.curdir)
     if not os.access(program, os.X_OK):
         sys.exit(f"there is no program at {program}: ./run-example.sh builds it")
-    measure_in_memory(program, [b"".join(streams.mixed(seed, MESSAGES)) for seed in range(1, STREAMS + 1)])
-    measure_on_disk(program, disk)
+    if "--checkpoint" not in sys.argv[1:]:
+        measure_in_memory(program, [b"".join(streams.mixed(seed, MESSAGES)) for seed in range(1, STREAMS + 1)])
+        measure_on_disk(program, disk)
+    measure_checkpoints(program)
 
 
 if __name__ == "__main__":

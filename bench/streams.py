@@ -21,13 +21,14 @@ def write_product(folder, keys=""):
 
 
 def payloads(journal):
-    """The payloads of a journal's records, in their order."""
+    """The payloads of a journal's records of messages, in their order."""
     with open(journal, "rb") as file:
         image = file.read()
     at, found = 13 + int.from_bytes(image[9:13], "big"), []
     while image[at] == 1:
         length = int.from_bytes(image[at + 2 : at + 6], "big")
-        found.append(image[at + 6 : at + 6 + length])
+        if image[at + 1 : at + 2] == b"M":
+            found.append(image[at + 6 : at + 6 + length])
         at += 6 + length
     return found
 

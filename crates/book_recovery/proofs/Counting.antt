@@ -1,28 +1,24 @@
 -- Going over the heads of all records.
-use Rattle.std.proofs.Common.{◌≡◌, ◌≢◌, ℕ, ◌+◌, List, [], ◌∷◌, ◌++◌, length, get_or, Option, Some, None, Ok, Err, refl, sym, subst, ◌∙◌, arith, length-append}
+use Rattle.std.proofs.Common.{◌≡◌, ◌≢◌, ℕ, ◌+◌, List, [], ◌∷◌, ◌++◌, length, get_or, true, false, Option, Some, None, Ok, Err, refl, sym, subst, ◌∙◌, ap, arith, length-append}
 use Rattle.std.specs.Option.{option_or}
 use Rattle.match_journal.specs.Journal.{Record, journal_front}
 use Rattle.match_journal.specs.Walking.{IsHead, IsBadHead, Walks}
 use Rattle.match_journal.specs.declared.entry.Entry.{Entry}
+use Rattle.match_journal.specs.declared.entry.EntryKind.{EntryKind}
+use Rattle.match_journal.specs.declared.entry.EntryKind.TheVariants.{Frames, Image}
 use Rattle.match_journal.specs.declared.faults.WalkFault.{WalkFault}
 use Rattle.match_journal.specs.declared.faults.WalkFault.TheVariants as walk
+use Rattle.book_recovery.specs.Records.{is_image_kind, is_image, before_last_image, image_gate}
 use Rattle.book_recovery.specs.BadPlaces.{BeginsWithRecords, HasBadHeadAt}
-use Rattle.book_recovery.specs.Inner.Counting.{AreRecords}
+use Rattle.book_recovery.specs.Inner.Counting.{with_head_of, with_head, AreRecords}
 use Rattle.book_recovery.specs.declared.recovery.Heads.{Heads}
+use Rattle.book_recovery.proofs.LastImages.{before-image-more, gate-image-more, before-frames-more, gate-frames-more}
 use Rattle.book_recovery.proofs.Images.{length-first, length-push, record_there, payload_size, begins_more, begins_closed}
 
--- what was met at the first gate: nothing yet, where the next gate is still the first, or its head
-abbrev pub IsFirstHead : List ℕ → ℕ → ℕ → ℕ → Option Entry → Type 0
-IsFirstHead image limit first gate None = gate ≡ first
-IsFirstHead image limit first gate (Some entry) = IsHead image limit first entry
-
-first_head_more : (image : List ℕ) (limit first gate next : ℕ) (start : Option Entry) (entry : Entry) → IsFirstHead image limit first gate start → IsHead image limit gate entry → IsFirstHead image limit first next (option_or start (Some entry))
-first_head_more image limit first gate next None entry is head = subst (λ k. IsHead image limit k entry) is head
-first_head_more image limit first gate next (Some e) entry is head = is
-
-first_head_done : (image : List ℕ) (limit first gate : ℕ) (start : Option Entry) → IsFirstHead image limit first gate start → get_or image gate 0 ≢ 1 → Walks image limit first (Ok start)
-first_head_done image limit first gate None is shut = subst (λ k. get_or image k 0 ≢ 1) is shut
-first_head_done image limit first gate (Some e) is shut = is
+-- The second pass begins with the head of the last image, or else with the first head; where there is none yet, no record was met.
+abbrev pub IsStart : List ℕ → List ℕ → ℕ → List Record → Option Entry → Type 0
+IsStart text image limit before None = before ≡ []
+IsStart text image limit before (Some entry) = IsHead image limit (length (journal_front text (before_last_image before))) entry
 
 -- so many good heads were met, and this is the next gate
 pub record IsCounting (text : List ℕ) (limit : ℕ) (image : List ℕ) (gate : ℕ) (heads : Heads) : Type 0 where
@@ -30,33 +26,90 @@ pub record IsCounting (text : List ℕ) (limit : ℕ) (image : List ℕ) (gate :
   pub begins : BeginsWithRecords text limit before image
   pub gate_is : gate ≡ length (journal_front text before)
   pub count_is : heads.entries ≡ length before
-  pub start : IsFirstHead image limit (13 + length text) gate heads.start
+  pub image_is : heads.image_at ≡ image_gate text before
+  pub start : IsStart text image limit before heads.start
 
-pub counting_first : (text : List ℕ) (limit : ℕ) (image : List ℕ) (gate : ℕ) → BeginsWithRecords text limit [] image → gate ≡ 13 + length text → IsCounting text limit image gate (record { entries = 0; start = None })
-counting_first text limit image gate begins place = record { before = []; begins = begins; gate_is = place ∙ sym (length-first text); count_is = refl; start = place }
+pub counting_first : (text : List ℕ) (limit : ℕ) (image : List ℕ) (gate : ℕ) → BeginsWithRecords text limit [] image → gate ≡ 13 + length text
+    → IsCounting text limit image gate (record { entries = 0; image_at = None; start = None })
+counting_first text limit image gate begins place = record { before = []; begins = begins; gate_is = place ∙ sym (length-first text); count_is = refl; image_is = refl; start = refl }
+
+module _ (text : List ℕ) (limit : ℕ) (image : List ℕ) (gate : ℕ) (before : List Record) (r : Record) where
+  -- the place of the start, where frames come behind
+  start-frames : is_image r ≡ false → (start : Option Entry) (entry : Entry) → gate ≡ length (journal_front text before) → IsHead image limit gate entry
+      → IsStart text image limit before start → IsStart text image limit (before ++ r ∷ []) (option_or start (Some entry))
+  start-frames frames None entry place head is =
+      let same : before ≡ before_last_image (before ++ r ∷ []) = is ∙ ap before_last_image (sym is) ∙ sym (before-frames-more r frames before) in
+      subst (λ k. IsHead image limit k entry) (place ∙ ap (λ (l : List Record). length (journal_front text l)) same) head
+  start-frames frames (Some e) entry place head is =
+      subst (λ (l : List Record). IsHead image limit (length (journal_front text l)) e) (sym (before-frames-more r frames before)) is
+
+  -- and where an image does
+  start-image : is_image r ≡ true → (entry : Entry) → gate ≡ length (journal_front text before) → IsHead image limit gate entry → IsStart text image limit (before ++ r ∷ []) (Some entry)
+  start-image is entry place head =
+      subst (λ k. IsHead image limit k entry) (place ∙ ap (λ (l : List Record). length (journal_front text l)) (sym (before-image-more r is before))) head
+
+-- one head more is counted
+kind_entries : (heads : Heads) (kind : EntryKind) (entry : Entry) → (with_head_of heads kind entry).entries ≡ heads.entries + 1
+kind_entries heads Frames entry = refl
+kind_entries heads Image entry = refl
+
+pub entries_more : (heads then : Heads) (entry : Entry) → then ≡ with_head heads entry → then.entries ≡ heads.entries + 1
+entries_more heads then entry is = ap (λ (h : Heads). h.entries) is ∙ kind_entries heads entry.kind entry
+
+-- what the heads then tell, by the kind of the one that was met
+record TellsMore (text : List ℕ) (limit : ℕ) (image : List ℕ) (before : List Record) (heads : Heads) : Type 0 where
+  pub count_is : heads.entries ≡ length before
+  pub image_is : heads.image_at ≡ image_gate text before
+  pub start : IsStart text image limit before heads.start
 
 module _ (text : List ℕ) (limit : ℕ) (image : List ℕ) (gate : ℕ) (heads : Heads) (at : IsCounting text limit image gate heads) where
   head_behind : (entry : Entry) → IsHead image limit gate entry → IsHead image limit (length (journal_front text at.before)) entry
   head_behind entry head = subst (λ k. IsHead image limit k entry) at.gate_is head
 
-  pub counting_more : (entry : Entry) (next : ℕ) (start : Option Entry) → IsHead image limit gate entry → next ≡ gate + 6 + entry.length → start ≡ option_or heads.start (Some entry) → IsCounting text limit image next (record { entries = heads.entries + 1; start = start })
-  counting_more entry next start head is start_is =
+  tells-more : (entry : Entry) (r : Record) (kind : EntryKind) → r.kind ≡ kind → IsHead image limit gate entry → TellsMore text limit image (at.before ++ r ∷ []) (with_head_of heads kind entry)
+  tells-more entry r Frames is head =
+      let frames : is_image r ≡ false = ap is_image_kind is in
+      record {
+        count_is = omega (arith, at.count_is, length-append at.before (r ∷ []));
+        image_is = at.image_is ∙ sym (gate-frames-more r frames text at.before);
+        start = start-frames text limit image gate at.before r frames heads.start entry at.gate_is head at.start;
+      }
+  tells-more entry r Image is head =
+      let image_is : is_image r ≡ true = ap is_image_kind is in
+      record {
+        count_is = omega (arith, at.count_is, length-append at.before (r ∷ []));
+        image_is = ap Some (head.at_is ∙ at.gate_is) ∙ sym (gate-image-more r image_is text at.before);
+        start = start-image text limit image gate at.before r image_is entry at.gate_is head;
+      }
+
+  pub counting_more : (entry : Entry) (next : ℕ) (then : Heads) → IsHead image limit gate entry → next ≡ gate + 6 + entry.length → then ≡ with_head heads entry → IsCounting text limit image next then
+  counting_more entry next then head is then_is =
       let more = begins_more text limit at.before image at.begins entry (head_behind entry head) in
       let there = record_there text limit at.before image at.begins entry (head_behind entry head) in
-      record {
+      let tells = tells-more entry there entry.kind refl head in
+      subst (IsCounting text limit image next) (sym then_is) (record {
         before = at.before ++ there ∷ [];
         begins = more;
         gate_is = omega (arith, is, at.gate_is, length-push text at.before there, payload_size text limit at.before image at.begins entry (head_behind entry head));
-        count_is = omega (arith, at.count_is, length-append at.before (there ∷ []));
-        start = subst (IsFirstHead image limit (13 + length text) next) (sym start_is) (first_head_more image limit (13 + length text) gate next heads.start entry at.start head);
-      }
+        count_is = tells.count_is;
+        image_is = tells.image_is;
+        start = tells.start;
+      })
+
+  -- what a walk answers where the second pass begins
+  start_done : (start : Option Entry) → IsStart text image limit at.before start → get_or image gate 0 ≢ 1 → Walks image limit (length (journal_front text (before_last_image at.before))) (Ok start)
+  start_done None is shut =
+      let same : at.before ≡ before_last_image at.before = is ∙ ap before_last_image (sym is) in
+      subst (λ k. get_or image k 0 ≢ 1) (at.gate_is ∙ ap (λ (l : List Record). length (journal_front text l)) same) shut
+  start_done (Some entry) is shut = is
 
   pub counting_done : get_or image gate 0 ≢ 1 → AreRecords text limit image gate heads
   counting_done shut = record {
     records = at.before;
     journal = record { journal = begins_closed text limit at.before image at.begins (subst (λ k. get_or image k 0 ≢ 1) at.gate_is shut); gate_is = at.gate_is };
     count_is = at.count_is;
-    start = first_head_done image limit (13 + length text) gate heads.start at.start shut;
+    image_is = at.image_is;
+    start = start_done heads.start at.start shut;
   }
 
   pub counting_bad : (place : ℕ) → IsBadHead image limit gate place → HasBadHeadAt text limit image place

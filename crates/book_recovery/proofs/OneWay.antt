@@ -1,5 +1,5 @@
 -- One answer of a recovery fits an image.
-use Rattle.std.proofs.Common.{◌≡◌, ◌≢◌, ◌⊎◌, inl, inr, ⊎_elim, ℕ, List, [], ◌∷◌, ◌++◌, length, get_or, take, drop, Option, Some, None, Result, Ok, Err, refl, sym, subst, ◌∙◌, ap, append_assoc, append-nil}
+use Rattle.std.proofs.Common.{◌≡◌, ◌≢◌, ◌⊎◌, inl, inr, ⊎_elim, ℕ, List, [], ◌∷◌, ◌++◌, length, get_or, take, drop, Option, Some, None, Result, Ok, Err, refl, sym, subst, ◌∙◌, ap, ap₂, append_assoc, append-nil}
 use Rattle.std.specs.List.{flat_map, AllByRecursion}
 use Rattle.std.proofs.lemmas.List.{append_cancel_left}
 use Rattle.match_journal.specs.Journal.{IsJournal, IsRecord, Record, journal_front, header, open_record}
@@ -10,7 +10,7 @@ use Rattle.match_journal.proofs.Walked.{one_size, one_kind, below}
 use Rattle.match_journal.proofs.Unique.{same_front, one_record, one_walk, one_keeping}
 use Rattle.product_file.specs.Products.{ProductLists}
 use Rattle.order_kinds.specs.State.{State}
-use Rattle.book_recovery.specs.Kept.{IsWhole, AreWhole, messages_in}
+use Rattle.book_recovery.specs.Records.{from_last_image, before_last_image, image_gate, count_behind, count_behind_all, IsGoodRecord, AreGoodRecords}
 use Rattle.book_recovery.specs.BadPlaces.{BeginsWithRecords, HasBadHeadAt, HasBadPayloadAt, IsBadPlace, HasBadPayloadBehind, HasBadRecordAt}
 use Rattle.book_recovery.specs.Recovering.{IsRecovered, Recovers}
 use Rattle.book_recovery.specs.declared.recovery.Recovered.{Recovered}
@@ -81,82 +81,91 @@ no_bad_head : (text : List ℕ) (limit : ℕ) (ps : List Record) (image : List �
 no_bad_head text limit ps image at journal bad =
     ⊎_elim (λ t. bad_behind text limit ps image at journal bad t) (λ t. bad_before text limit ps image at journal bad t) (begins_along text limit ps bad.before image (journal_begins text limit ps image journal) bad.begins)
 
--- ---- the place of a bad payload
+-- ---- the place of a record that is not good
 
-one_journal : (text : List ℕ) (limit : ℕ) (image : List ℕ) (ps qs : List Record) → IsJournal text limit ps image → IsJournal text limit qs image → ps ≡ qs
+pub one_journal : (text : List ℕ) (limit : ℕ) (image : List ℕ) (ps qs : List Record) → IsJournal text limit ps image → IsJournal text limit qs image → ps ≡ qs
 one_journal text limit image ps qs a b = one_keeping text limit image ps qs (inl a) (inl b)
 
-not_all_whole : (before : List Record) (p : Record) (more : List Record) → AreWhole (before ++ p ∷ more) → IsWhole p
-not_all_whole [] p more all = all.0
-not_all_whole (x ∷ before) p more all = not_all_whole before p more all.1
+-- of good records each is good behind those before it
+good_within : (product : ProductLists) (count : ℕ) (before : List Record) (r : Record) (more : List Record) → AreGoodRecords product count (before ++ r ∷ more) → IsGoodRecord product (count_behind_all count before) r
+good_within product count [] r more good = good.0
+good_within product count (x ∷ before) r more good = good_within product (count_behind count x) before r more good.1
 
-no_bad_payload : (text : List ℕ) (limit : ℕ) (ps : List Record) (image : List ℕ) (at : ℕ) → IsJournal text limit ps image → AreWhole ps → HasBadPayloadAt text limit image at → ⊥
-no_bad_payload text limit ps image at journal whole bad =
-    bad.not_whole (not_all_whole bad.before bad.bad bad.behind (subst AreWhole (one_journal text limit image ps (bad.before ++ bad.bad ∷ bad.behind) journal bad.heads) whole))
+no_bad_payload : (product : ProductLists) (text : List ℕ) (limit : ℕ) (ps : List Record) (image : List ℕ) (at : ℕ) → IsJournal text limit ps image → AreGoodRecords product 0 (from_last_image ps) → HasBadPayloadAt product text limit image at → ⊥
+no_bad_payload product text limit ps image at journal good bad =
+    let same = ap from_last_image (one_journal text limit image ps bad.records journal bad.heads) ∙ bad.first.are in
+    bad.first.not_good (good_within product 0 bad.before bad.first.bad bad.first.behind (subst (AreGoodRecords product 0) same good))
 
--- the first list up to one that is not whole
-first_broken : (xs ys : List Record) (p q : Record) (more more' : List Record) → AreWhole xs → AreWhole ys → (IsWhole p → ⊥) → (IsWhole q → ⊥) → xs ++ p ∷ more ≡ ys ++ q ∷ more' → xs ≡ ys
-first_broken [] [] p q more more' all all' broken broken' e = refl
-first_broken [] (y ∷ ys) p q more more' all all' broken broken' e = let same : p ≡ y = cc e in absurd (broken (subst IsWhole (sym same) all'.0))
-first_broken (x ∷ xs) [] p q more more' all all' broken broken' e = let same : x ≡ q = cc e in absurd (broken' (subst IsWhole same all.0))
-first_broken (x ∷ xs) (y ∷ ys) p q more more' all all' broken broken' e =
+-- the first list up to one that is not good
+first_bad : (product : ProductLists) (count : ℕ) (xs ys : List Record) (p q : Record) (more more' : List Record) → AreGoodRecords product count xs → AreGoodRecords product count ys
+    → (IsGoodRecord product (count_behind_all count xs) p → ⊥) → (IsGoodRecord product (count_behind_all count ys) q → ⊥) → xs ++ p ∷ more ≡ ys ++ q ∷ more' → xs ≡ ys
+first_bad product count [] [] p q more more' good good' bad bad' e = refl
+first_bad product count [] (y ∷ ys) p q more more' good good' bad bad' e = let same : y ≡ p = cc e in absurd (bad (subst (IsGoodRecord product count) same good'.0))
+first_bad product count (x ∷ xs) [] p q more more' good good' bad bad' e = let same : x ≡ q = cc e in absurd (bad' (subst (IsGoodRecord product count) same good.0))
+first_bad product count (x ∷ xs) (y ∷ ys) p q more more' good good' bad bad' e =
     let same : x ≡ y = cc e in
     let rest : xs ++ p ∷ more ≡ ys ++ q ∷ more' = cc e in
-    let behind = first_broken xs ys p q more more' all.1 all'.1 broken broken' rest in
+    let behind = first_bad product (count_behind count x) xs ys p q more more' good.1
+    (subst (λ (r : Record). AreGoodRecords product (count_behind count r) ys) (sym same) good'.1) bad
+    (subst (λ (r : Record). IsGoodRecord product (count_behind_all (count_behind count r) ys) q → ⊥) (sym same) bad') rest in
     cc (same, behind)
 
-one_bad_payload : (text : List ℕ) (limit : ℕ) (image : List ℕ) (at at' : ℕ) → HasBadPayloadAt text limit image at → HasBadPayloadAt text limit image at' → at ≡ at'
-one_bad_payload text limit image at at' a b =
-    let same = first_broken a.before b.before a.bad b.bad a.behind b.behind a.whole b.whole a.not_whole b.not_whole
-    (one_journal text limit image (a.before ++ a.bad ∷ a.behind) (b.before ++ b.bad ∷ b.behind) a.heads b.heads) in
-    a.place ∙ ap (λ (l : List Record). length (journal_front text l)) same ∙ sym b.place
+one_bad_payload : (product : ProductLists) (text : List ℕ) (limit : ℕ) (image : List ℕ) (at at' : ℕ) → HasBadPayloadAt product text limit image at → HasBadPayloadAt product text limit image at' → at ≡ at'
+one_bad_payload product text limit image at at' a b =
+    let all = one_journal text limit image a.records b.records a.heads b.heads in
+    let same = first_bad product 0 a.before b.before a.first.bad b.first.bad a.first.behind b.first.behind a.first.good b.first.good a.first.not_good b.first.not_good
+    (sym a.first.are ∙ ap from_last_image all ∙ b.first.are) in
+    a.place ∙ ap₂ (λ (records before : List Record). length (journal_front text (before_last_image records ++ before))) all same ∙ sym b.place
 
 -- ---- one answer
 
-one_place : (text : List ℕ) (limit : ℕ) (image : List ℕ) (at at' : ℕ) → IsBadPlace text limit image at → IsBadPlace text limit image at' → at ≡ at'
-one_place text limit image at at' (inl a) (inl b) = one_bad_head text limit image at at' a b
-one_place text limit image at at' (inl a) (inr b) = absurd (no_bad_head text limit _ image at b.heads a)
-one_place text limit image at at' (inr a) (inl b) = absurd (no_bad_head text limit _ image at' a.heads b)
-one_place text limit image at at' (inr a) (inr b) = one_bad_payload text limit image at at' a b
+one_place : (product : ProductLists) (text : List ℕ) (limit : ℕ) (image : List ℕ) (at at' : ℕ) → IsBadPlace product text limit image at → IsBadPlace product text limit image at' → at ≡ at'
+one_place product text limit image at at' (inl a) (inl b) = one_bad_head text limit image at at' a b
+one_place product text limit image at at' (inl a) (inr b) = absurd (no_bad_head text limit _ image at b.heads a)
+one_place product text limit image at at' (inr a) (inl b) = absurd (no_bad_head text limit _ image at' a.heads b)
+one_place product text limit image at at' (inr a) (inr b) = one_bad_payload product text limit image at at' a b
 
--- a journal of whole records has none
-pub no_bad_place : (text : List ℕ) (limit : ℕ) (records : List Record) (image : List ℕ) (at : ℕ) → IsJournal text limit records image → AreWhole records → IsBadPlace text limit image at → ⊥
-no_bad_place text limit records image at journal whole (inl bad) = no_bad_head text limit records image at journal bad
-no_bad_place text limit records image at journal whole (inr bad) = no_bad_payload text limit records image at journal whole bad
+-- a journal of records that are good from the last image on has none
+pub no_bad_place : (product : ProductLists) (text : List ℕ) (limit : ℕ) (records : List Record) (image : List ℕ) (at : ℕ) → IsJournal text limit records image → AreGoodRecords product 0 (from_last_image records) → IsBadPlace product text limit image at → ⊥
+no_bad_place product text limit records image at journal good (inl bad) = no_bad_head text limit records image at journal bad
+no_bad_place product text limit records image at journal good (inr bad) = no_bad_payload product text limit records image at journal good bad
 
 module _ (product : ProductLists) (text image : List ℕ) (limit gate gate' : ℕ) (state state' : State) where
   same_recovered : (r r' : Recovered) → IsRecovered product text limit image gate state r → IsRecovered product text limit image gate' state' r' → r ≡ r'
   same_recovered r r' a b =
       let same = one_journal text limit image a.records b.records a.journal.journal b.journal.journal in
-      let messages : r.messages ≡ r'.messages = a.messages ∙ ap (λ (l : List Record). length (messages_in l)) same ∙ sym b.messages in
+      let messages : r.messages ≡ r'.messages = a.messages ∙ ap (λ (l : List Record). count_behind_all 0 (from_last_image l)) same ∙ sym b.messages in
       let entries : r.entries ≡ r'.entries = a.entries ∙ ap length same ∙ sym b.entries in
-      let image_at : r.image_at ≡ r'.image_at = a.image_at ∙ sym b.image_at in
+      let image_at : r.image_at ≡ r'.image_at = a.image_at ∙ ap (image_gate text) same ∙ sym b.image_at in
       λ i. record { messages = messages i; entries = entries i; image_at = image_at i }
 
   pub one_recovery : (a b : Result Recovered RecoverFault) → Recovers product text limit image gate state a → Recovers product text limit image gate' state' b → (a ≡ Err fault.Store → ⊥) → (b ≡ Err fault.Store → ⊥) → a ≡ b
   one_recovery (Err fault.Store) b x y told told' = absurd (told refl)
   one_recovery (Ok r) (Err fault.Store) x y told told' = absurd (told' refl)
   one_recovery (Ok r) (Ok r') x y told told' = ap Ok (same_recovered r r' x y)
-  one_recovery (Ok r) (Err (fault.Bad at)) x y told told' = absurd (no_bad_place text limit x.records image at x.journal.journal x.whole y)
+  one_recovery (Ok r) (Err (fault.Bad at)) x y told told' = absurd (no_bad_place product text limit x.records image at x.journal.journal x.good y)
   one_recovery (Err (fault.Bad at)) (Err fault.Store) x y told told' = absurd (told' refl)
-  one_recovery (Err (fault.Bad at)) (Ok r) x y told told' = absurd (no_bad_place text limit y.records image at y.journal.journal y.whole x)
-  one_recovery (Err (fault.Bad at)) (Err (fault.Bad at')) x y told told' = ap (λ k. Err (fault.Bad k)) (one_place text limit image at at' x y)
+  one_recovery (Err (fault.Bad at)) (Ok r) x y told told' = absurd (no_bad_place product text limit y.records image at y.journal.journal y.good x)
+  one_recovery (Err (fault.Bad at)) (Err (fault.Bad at')) x y told told' = ap (λ k. Err (fault.Bad k)) (one_place product text limit image at at' x y)
 
 -- ---- the first bad record, for who reads each whole
 
--- of these records the last is whole
-last_whole : (before : List Record) (r : Record) (more : List Record) → AreWhole ((before ++ r ∷ []) ++ more) → IsWhole r
-last_whole [] r more whole = whole.0
-last_whole (x ∷ before) r more whole = last_whole before r more whole.1
+-- of these records the last is good
+last_good : (product : ProductLists) (count : ℕ) (before : List Record) (r : Record) (more : List Record) → AreGoodRecords product count ((before ++ r ∷ []) ++ more) → IsGoodRecord product (count_behind_all count before) r
+last_good product count [] r more good = good.0
+last_good product count (x ∷ before) r more good = last_good product (count_behind count x) before r more good.1
 
--- a journal of whole records has no bad record
-pub no_bad_record : (text : List ℕ) (limit : ℕ) (ps : List Record) (image : List ℕ) (at : ℕ) → IsJournal text limit ps image → AreWhole ps → HasBadRecordAt text limit image at → ⊥
-no_bad_record text limit ps image at journal whole bad =
+-- a journal of good records has no bad record
+pub no_bad_record : (product : ProductLists) (text : List ℕ) (limit : ℕ) (ps : List Record) (image : List ℕ) (at : ℕ) → IsJournal text limit ps image → AreGoodRecords product 0 ps → HasBadRecordAt product text limit image at → ⊥
+no_bad_record product text limit ps image at journal good bad =
     ⊎_elim
     (λ head. no_bad_head text limit ps image at journal (record { before = bad.before; begins = bad.first.begins; bad = subst (λ (g : ℕ). IsBadHead image limit g at) bad.place head }))
-    (λ behind. ⊎_elim (λ more. past behind more) (λ more. behind.not_whole (last_whole bad.before behind.bad more.0 (subst AreWhole more.1 whole))) (begins_along text limit ps (bad.before ++ behind.bad ∷ []) image (journal_begins text limit ps image journal) behind.begins))
+    (λ behind. ⊎_elim (λ more. past behind more) (λ more. not_last behind more.0 (sym more.1)) (begins_along text limit ps (bad.before ++ behind.bad ∷ []) image (journal_begins text limit ps image journal) behind.begins))
     bad.bad
   where
-    past : (behind : HasBadPayloadBehind text limit bad.before image) → IsBehind ps (bad.before ++ behind.bad ∷ []) → ⊥
-    past behind ([], is) = behind.not_whole (last_whole bad.before behind.bad [] (subst AreWhole (sym (append-nil ps) ∙ sym is ∙ sym (append-nil (bad.before ++ behind.bad ∷ []))) whole))
+    not_last : (behind : HasBadPayloadBehind product text limit bad.before image) (more : List Record) → (bad.before ++ behind.bad ∷ []) ++ more ≡ ps → ⊥
+    not_last behind more is = behind.not_good (last_good product 0 bad.before behind.bad more (subst (AreGoodRecords product 0) (sym is) good))
+
+    past : (behind : HasBadPayloadBehind product text limit bad.before image) → IsBehind ps (bad.before ++ behind.bad ∷ []) → ⊥
+    past behind ([], is) = not_last behind [] (append-nil (bad.before ++ behind.bad ∷ []) ∙ is ∙ append-nil ps)
     past behind (p ∷ more, is) = not_both image limit (length (journal_front text ps)) _ (good_head text limit ps p more image (subst (λ (l : List Record). BeginsWithRecords text limit l image) is behind.begins)) (gate_closed text limit ps image journal)

@@ -1,39 +1,90 @@
 -- Where the second pass begins.
-use Rattle.std.proofs.Common.{◌≡◌, ℕ, ◌+◌, List, [], length, Bool, Option, Some, None, Ok, refl, sym, subst, ◌∙◌}
+use Rattle.std.proofs.Common.{◌≡◌, ℕ, ◌+◌, List, [], ◌++◌, length, Bool, Option, Some, None, Ok, refl, sym, subst, ◌∙◌, ap, arith, append-nil}
 use Rattle.std.specs.Option.{option_or}
-use Rattle.match_journal.specs.Journal.{IsJournal, Record}
+use Rattle.product_file.specs.Products.{ProductLists}
+use Rattle.order_kinds.specs.State.{State, empty_state}
+use Rattle.match_journal.specs.Journal.{IsJournal, Record, journal_front}
 use Rattle.match_journal.specs.Standing.{Fits, moved}
-use Rattle.match_journal.specs.Walking.{Walks, IsNext}
+use Rattle.match_journal.specs.Walking.{IsHead, Walks, IsNext}
 use Rattle.match_journal.specs.declared.entry.Entry.{Entry}
+use Rattle.match_journal.specs.declared.entry.EntryKind.{EntryKind}
+use Rattle.match_journal.specs.declared.entry.EntryKind.TheVariants.{Frames, Image}
 use Rattle.match_journal.specs.declared.standing.Standing.{Standing}
 use Rattle.match_journal.proofs.Walked.{record_left, none_left}
-use Rattle.book_recovery.specs.Inner.Starting.{BeginsAt}
+use Rattle.book_recovery.specs.Records.{before_last_image, from_last_image}
+use Rattle.book_recovery.specs.Recovering.{first_read}
+use Rattle.book_recovery.specs.Inner.Starting.{CanBegin, begins_from, IsAtImage, BeginsAt}
+use Rattle.book_recovery.specs.Inner.Counting.{with_head_of, with_head}
 use Rattle.book_recovery.specs.Inner.Replays.{AreReplayed}
-use Rattle.order_kinds.specs.State.{State, empty_state}
-use Rattle.product_file.specs.Products.{ProductLists}
+use Rattle.book_recovery.specs.declared.recovery.Heads.{Heads}
 use Rattle.book_recovery.proofs.Images.{length-first}
+use Rattle.book_recovery.proofs.LastImages.{last_split, none-kept}
 use Rattle.book_recovery.proofs.Replaying.{replaying_first, replaying_done}
 
--- one head more was passed
-pub begins_then : (s t : Standing) (start then : Option Entry) (entry : Entry) (gate : ℕ) (ends : Bool) → t ≡ moved s gate ends → BeginsAt s start → (entry.at ≡ s.gate) × Fits s.known s.limit entry → then ≡ option_or start (Some entry) → BeginsAt t then
-begins_then s t None then entry gate ends moves begins met is = subst (BeginsAt t) (sym is) (subst (λ (x : Standing). BeginsAt x (Some entry)) (sym moves) (met.0 ∙ begins, met.1))
-begins_then s t (Some e) then entry gate ends moves begins met is = subst (BeginsAt t) (sym is) (subst (λ (x : Standing). BeginsAt x (Some e)) (sym moves) begins)
+-- ---- one head more was passed
+
+frames_then : (s : Standing) (image_at : Option ℕ) (start : Option Entry) (entry : Entry) (gate : ℕ) (ends : Bool) → CanBegin s start → IsAtImage s image_at start
+    → (entry.at ≡ s.gate) × Fits s.known s.limit entry
+    → CanBegin (moved s gate ends) (option_or start (Some entry)) × IsAtImage (moved s gate ends) image_at (option_or start (Some entry))
+frames_then s image_at None entry gate ends can at met = (met.1, met.0 ∙ can ∙ ap (λ (o : Option ℕ). first_read o s.first) (sym at))
+frames_then s image_at (Some e) entry gate ends can at met = (can, at)
+
+kind_then : (s : Standing) (heads : Heads) (kind : EntryKind) (entry : Entry) (gate : ℕ) (ends : Bool) → BeginsAt s heads → (entry.at ≡ s.gate) × Fits s.known s.limit entry
+    → BeginsAt (moved s gate ends) (with_head_of heads kind entry)
+kind_then s heads Frames entry gate ends begins met =
+    let both = frames_then s heads.image_at heads.start entry gate ends begins.can begins.at_image met in
+    record { can = both.0; at_image = both.1 }
+kind_then s heads Image entry gate ends begins met = record { can = met.1; at_image = refl }
+
+pub begins_then : (s t : Standing) (heads then : Heads) (entry : Entry) (gate : ℕ) (ends : Bool) → t ≡ moved s gate ends → BeginsAt s heads → (entry.at ≡ s.gate) × Fits s.known s.limit entry
+    → then ≡ with_head heads entry → BeginsAt t then
+begins_then s t heads then entry gate ends moves begins met is =
+    subst (BeginsAt t) (sym is) (subst (λ (x : Standing). BeginsAt x (with_head heads entry)) (sym moves) (kind_then s heads entry.kind entry gate ends begins met))
+
+-- ---- the start
 
 pub none_begun : (start : Option Entry) → ((entry : Entry) → start ≡ Some entry → ⊥) → start ≡ None
 none_begun None none = refl
 none_begun (Some entry) none = absurd (none entry refl)
 
--- where the entry of the first gate is
-pub begins_met : (s : Standing) (start : Option Entry) (entry : Entry) → start ≡ Some entry → BeginsAt s start → (entry.at ≡ s.first) × Fits s.known s.limit entry
-begins_met s start entry is begins = subst (BeginsAt s) is begins
+pub can_begin : (s : Standing) (start : Option Entry) (entry : Entry) → start ≡ Some entry → CanBegin s start → Fits s.known s.limit entry
+can_begin s start entry is begins = subst (CanBegin s) is begins
 
-module _ (text image : List ℕ) (limit first : ℕ) (records : List Record) (start : Option Entry) (journal : IsJournal text limit records image) (place : first ≡ 13 + length text) (walks : Walks image limit first (Ok start)) where
-  -- the first of the records is that of the entry
-  pub first_next : (next : ℕ) (entry : Entry) → start ≡ Some entry → next ≡ first + 6 + entry.length → IsNext text image [] records next entry
-  first_next next entry is next_is = record_left text image limit [] records journal first next entry (place ∙ sym (length-first text)) (subst (λ (o : Option Entry). Walks image limit first (Ok o)) is walks) next_is
+pub begins_at : (s : Standing) (start : Option Entry) (entry : Entry) → start ≡ Some entry → begins_from s start ≡ entry.at
+begins_at s start entry is = ap (begins_from s) is
 
-  -- without one nothing is left to do
-  pub none_replayed : (product : ProductLists) (gate : ℕ) (new : State) → start ≡ None → gate ≡ first → new ≡ empty_state product → AreReplayed product text limit image records gate new
-  none_replayed product gate new is still empty =
-      let none : records ≡ [] = none_left text image limit [] records journal first (place ∙ sym (length-first text)) (subst (λ (o : Option Entry). Walks image limit first (Ok o)) is walks) in
-      replaying_done product text image limit records gate new (replaying_first product text records gate new (still ∙ place) empty) journal none
+-- it is at the place from which on all is read
+first_at : (s : Standing) (image_at : Option ℕ) (start : Option Entry) → CanBegin s start → IsAtImage s image_at start → begins_from s start ≡ first_read image_at s.first
+first_at s image_at None can at = can ∙ ap (λ (o : Option ℕ). first_read o s.first) (sym at)
+first_at s image_at (Some entry) can at = at
+
+pub begins_first : (s : Standing) (heads : Heads) → BeginsAt s heads → begins_from s heads.start ≡ first_read heads.image_at s.first
+begins_first s heads begins = first_at s heads.image_at heads.start begins.can begins.at_image
+
+module _ (text image : List ℕ) (limit : ℕ) (records : List Record) (start : Option Entry) (journal : IsJournal text limit records image)
+    (walks : Walks image limit (length (journal_front text (before_last_image records))) (Ok start)) where
+  abbrev place : ℕ
+  place = length (journal_front text (before_last_image records))
+
+  split : IsJournal text limit (before_last_image records ++ from_last_image records) image
+  split = subst (λ (l : List Record). IsJournal text limit l image) (sym (last_split records)) journal
+
+  pub start_head : (entry : Entry) → start ≡ Some entry → IsHead image limit place entry
+  start_head entry is = subst (λ (o : Option Entry). Walks image limit place (Ok o)) is walks
+
+  -- without an entry nothing is left to do
+  pub none_replayed : (product : ProductLists) (first gate : ℕ) (new : State) → start ≡ None → first ≡ 13 + length text → gate ≡ first → new ≡ empty_state product
+      → AreReplayed product text limit image records gate new
+  none_replayed product first gate new is first_is still empty =
+      let left : from_last_image records ≡ [] = none_left text image limit (before_last_image records) (from_last_image records) split place refl (subst (λ (o : Option Entry). Walks image limit place (Ok o)) is walks) in
+      let none = none-kept records left in
+      let at : gate ≡ place = still ∙ first_is ∙ sym (length-first text) ∙ ap (λ (l : List Record). length (journal_front text (before_last_image l))) (sym none) in
+      replaying_done product text image limit records gate new (replaying_first product text records gate new at empty) journal left
+
+  -- the first of the records from the last image on is that of the entry
+  pub first_next : (next : ℕ) (entry : Entry) → start ≡ Some entry → next ≡ entry.at + 6 + entry.length
+      → IsNext text image (before_last_image records ++ []) (from_last_image records) next entry
+  first_next next entry is next_is =
+      let head = start_head entry is in
+      subst (λ (l : List Record). IsNext text image l (from_last_image records) next entry) (sym (append-nil (before_last_image records)))
+      (record_left text image limit (before_last_image records) (from_last_image records) split place next entry refl head (omega (arith, next_is, head.at_is)))

@@ -1,5 +1,5 @@
 -- Records whose images are true: what stands behind them, and that they are good.
-use Rattle.std.proofs.Common.{◌≡◌, ℕ, ◌+◌, ◌<◌, Bool, true, false, cond, ◌||◌, List, [], ◌∷◌, ◌++◌, length, refl, sym, subst, ◌∙◌, ap, arith, append_assoc, append-nil, length-append}
+use Rattle.std.proofs.Common.{◌≡◌, ℕ, ◌+◌, ◌<◌, Bool, true, false, ◌||◌, List, [], ◌∷◌, ◌++◌, length, refl, sym, subst, ◌∙◌, ap, arith, append_assoc, append-nil, length-append}
 use Rattle.fix_frame.specs.Stream.{messages_of, rest_of}
 use Rattle.product_file.specs.Products.{ProductLists, IsRightProduct}
 use Rattle.order_kinds.specs.declared.core_state.TheConstants.{MOST_MESSAGES}
@@ -9,9 +9,9 @@ use Rattle.match_journal.specs.declared.entry.EntryKind.{EntryKind}
 use Rattle.match_journal.specs.declared.entry.EntryKind.TheVariants.{Frames, Image}
 use Rattle.image_laws.proofs.States.{states-right, states-counted}
 use Rattle.image_laws.proofs.Images.{image-right, image-read}
-use Rattle.book_recovery.specs.Recovering.{state_kept}
-use Rattle.book_recovery.specs.Images.{is_image_kind, has_image, from_last_image, kept_as, kept_by, kept_in, count_as, count_behind, count_behind_all, IsGoodAs, AreGoodRecords, IsTrueAs, AreTrueRecords, HaveWholeFrames, state_as, state_behind, state_behind_all}
-use Rattle.book_recovery.proofs.Replaying.{state-append}
+use Rattle.book_recovery.specs.Records.{state_kept, is_image_kind, has_image, from_last_image, messages_as, record_messages, messages_in, count_as, count_behind, count_behind_all, IsGoodAs, AreGoodRecords, IsTrueAs, AreTrueRecords, HaveWholeFrames, state_as, state_behind, state_behind_all}
+use Rattle.book_recovery.proofs.LastImages.{not-both, last-behind, last-here}
+use Rattle.book_recovery.proofs.StatesBehind.{state-append}
 
 -- the state and the count are those of these messages
 record StandsBehind (product : ProductLists) (messages : List (List ℕ)) (state : State) (count : ℕ) : Type 0 where
@@ -20,15 +20,15 @@ record StandsBehind (product : ProductLists) (messages : List (List ℕ)) (state
 
 -- with the messages of these records they are fewer than a core takes
 abbrev AreFew : List (List ℕ) → List Record → Type 0
-AreFew before records = length before + length (kept_in records) < MOST_MESSAGES
+AreFew before records = length before + length (messages_in records) < MOST_MESSAGES
 
 few-before : (before : List (List ℕ)) (records : List Record) → AreFew before records → length before < MOST_MESSAGES
 few-before before records few = omega (arith, few)
 
 few-behind : (before : List (List ℕ)) (r : Record) (records : List Record) → AreFew before (r ∷ records)
-    → AreFew (before ++ kept_by r) records
+    → AreFew (before ++ record_messages r) records
 few-behind before r records few =
-    omega (arith, few, length-append before (kept_by r), length-append (kept_by r) (kept_in records))
+    omega (arith, few, length-append before (record_messages r), length-append (record_messages r) (messages_in records))
 
 module _ (product : ProductLists) (right : IsRightProduct product) where
   -- ---- one record
@@ -56,7 +56,7 @@ module _ (product : ProductLists) (right : IsRightProduct product) where
   stands-as : (before : List (List ℕ)) (kind : EntryKind) (payload : List ℕ) (state : State) (count : ℕ)
       → (is_image_kind kind ≡ false → StandsBehind product before state count) → IsTrueAs product before kind payload
       → length before < MOST_MESSAGES
-      → StandsBehind product (before ++ kept_as kind payload) (state_as product state kind payload) (count_as count kind payload)
+      → StandsBehind product (before ++ messages_as kind payload) (state_as product state kind payload) (count_as count kind payload)
   stands-as before Frames payload state count stands is_true few = frames-stand before payload state count (stands refl)
   stands-as before Image payload state count stands is_true few = image-stands before payload state count is_true few
 
@@ -65,14 +65,14 @@ module _ (product : ProductLists) (right : IsRightProduct product) where
   -- the state and the count behind these records, from some before them, are those of the messages before and of all records
   abbrev StandBehind : List (List ℕ) → List Record → State → ℕ → List Record → Type 0
   StandBehind before all state count records =
-      StandsBehind product (before ++ kept_in all) (state_behind_all product state records) (count_behind_all count records)
+      StandsBehind product (before ++ messages_in all) (state_behind_all product state records) (count_behind_all count records)
 
   -- the first record moves to the messages before
   with-first : (before : List (List ℕ)) (r : Record) (all : List Record) (state : State) (count : ℕ) (records : List Record)
-      → StandBehind (before ++ kept_by r) all state count records → StandBehind before (r ∷ all) state count records
+      → StandBehind (before ++ record_messages r) all state count records → StandBehind before (r ∷ all) state count records
   with-first before r all state count records stands =
       subst (λ (m : List (List ℕ)). StandsBehind product m (state_behind_all product state records) (count_behind_all count records))
-      (append_assoc before (kept_by r) (kept_in all)) stands
+      (append_assoc before (record_messages r) (messages_in all)) stands
 
   all-stand : (before : List (List ℕ)) (records : List Record) (state : State) (count : ℕ) → StandsBehind product before state count
       → AreTrueRecords product before records → AreFew before records → StandBehind before records state count records
@@ -81,20 +81,10 @@ module _ (product : ProductLists) (right : IsRightProduct product) where
   all-stand before (r ∷ records) state count stands are_true few =
       let first = stands-as before r.kind r.payload state count (λ no. stands) are_true.0 (few-before before (r ∷ records) few) in
       with-first before r records (state_behind product state r) (count_behind count r) records
-      (all-stand (before ++ kept_by r) records (state_behind product state r) (count_behind count r) first are_true.1
+      (all-stand (before ++ record_messages r) records (state_behind product state r) (count_behind count r) first are_true.1
       (few-behind before r records few))
 
   -- ---- from the last image on
-
-  last-behind : (r : Record) (records : List Record) → has_image records ≡ true
-      → from_last_image (r ∷ records) ≡ from_last_image records
-  last-behind r records some = ap (λ (b : Bool). cond b (from_last_image records) (r ∷ records)) some
-
-  last-here : (r : Record) (records : List Record) → has_image records ≡ false → from_last_image (r ∷ records) ≡ r ∷ records
-  last-here r records none = ap (λ (b : Bool). cond b (from_last_image records) (r ∷ records)) none
-
-  not-both : (b : Bool) → b ≡ true → b ≡ false → ⊥
-  not-both b is is_not = let differ : true ≡ false = sym is ∙ is_not in cc differ
 
   -- of these records none but the first may be an image
   first-stands : (before : List (List ℕ)) (r : Record) (records : List Record) (state : State) (count : ℕ) → has_image records ≡ false
@@ -104,7 +94,7 @@ module _ (product : ProductLists) (right : IsRightProduct product) where
       let first = stands-as before r.kind r.payload state count (λ no. stands (ap (λ (b : Bool). b || has_image records) no ∙ none))
       are_true.0 (few-before before (r ∷ records) few) in
       with-first before r records (state_behind product state r) (count_behind count r) records
-      (all-stand (before ++ kept_by r) records (state_behind product state r) (count_behind count r) first are_true.1
+      (all-stand (before ++ record_messages r) records (state_behind product state r) (count_behind count r) first are_true.1
       (few-behind before r records few))
 
   -- Where there is an image, any state and count may stand before.
@@ -116,7 +106,7 @@ module _ (product : ProductLists) (right : IsRightProduct product) where
       let go : (b : Bool) → has_image records ≡ b → StandBehind before (r ∷ records) state count (from_last_image (r ∷ records)) = elim [
         | true ↦ λ some. subst (StandBehind before (r ∷ records) state count) (sym (last-behind r records some))
             (with-first before r records state count (from_last_image records)
-            (last-stands (before ++ kept_by r) records state count (λ none. absurd (not-both (has_image records) some none)) are_true.1
+            (last-stands (before ++ record_messages r) records state count (λ none. absurd (not-both (has_image records) some none)) are_true.1
             (few-behind before r records few)))
         | false ↦ λ none. subst (StandBehind before (r ∷ records) state count) (sym (last-here r records none))
             (first-stands before r records state count none stands are_true few)
@@ -129,7 +119,7 @@ module _ (product : ProductLists) (right : IsRightProduct product) where
 
   good-as : (before : List (List ℕ)) (kind : EntryKind) (payload : List ℕ) (count : ℕ) → count ≡ length before
       → IsTrueAs product before kind payload → (kind ≡ Frames → rest_of payload ≡ [])
-      → length before + length (kept_as kind payload) < MOST_MESSAGES → IsGoodAs product count kind payload
+      → length before + length (messages_as kind payload) < MOST_MESSAGES → IsGoodAs product count kind payload
   good-as before Frames payload count is is_true whole few = record { no_rest = whole refl; few = omega (arith, is, few) }
   good-as before Image payload count is is_true whole few =
       image-right product (state_kept product before) (states-right product right before (omega (arith, few))) payload is_true
@@ -138,26 +128,26 @@ module _ (product : ProductLists) (right : IsRightProduct product) where
       → AreTrueRecords product before records → HaveWholeFrames records → AreFew before records → AreGoodRecords product count records
   all-good before [] state count stands are_true whole few = tt
   all-good before (r ∷ records) state count stands are_true whole few =
-      let with_its : length before + length (kept_by r) < MOST_MESSAGES = omega (arith, few, length-append (kept_by r) (kept_in records)) in
+      let with_its : length before + length (record_messages r) < MOST_MESSAGES = omega (arith, few, length-append (record_messages r) (messages_in records)) in
       let behind = stands-as before r.kind r.payload state count (λ no. stands) are_true.0 (few-before before (r ∷ records) few) in
       let first = good-as before r.kind r.payload count stands.count_is are_true.0 whole.0 with_its in
-      let others = all-good (before ++ kept_by r) records (state_behind product state r) (count_behind count r) behind are_true.1 whole.1
+      let others = all-good (before ++ record_messages r) records (state_behind product state r) (count_behind count r) behind are_true.1 whole.1
       (few-behind before r records few) in
       (first, others)
 
   -- ---- the laws
 
-  module _ (records : List Record) (are_true : AreTrueRecords product [] records) (few : length (kept_in records) < MOST_MESSAGES) where
+  module _ (records : List Record) (are_true : AreTrueRecords product [] records) (few : length (messages_in records) < MOST_MESSAGES) where
     few-all : AreFew [] records
     few-all = omega (arith, few)
 
     from-last : StandBehind [] records (empty_state product) 0 (from_last_image records)
     from-last = last-stands [] records (empty_state product) 0 (λ none. starts) are_true few-all
 
-    pub full-state : state_behind_all product (empty_state product) (from_last_image records) ≡ state_kept product (kept_in records)
+    pub full-state : state_behind_all product (empty_state product) (from_last_image records) ≡ state_kept product (messages_in records)
     full-state = from-last.state_is
 
-    pub full-count : count_behind_all 0 (from_last_image records) ≡ length (kept_in records)
+    pub full-count : count_behind_all 0 (from_last_image records) ≡ length (messages_in records)
     full-count = from-last.count_is
 
     pub true-are-good : HaveWholeFrames records → AreGoodRecords product 0 records

@@ -1,5 +1,5 @@
+pub mod Records
 pub mod Kept
 pub mod BadPlaces
 pub mod Recovering
-pub mod Images
 pub mod Inner

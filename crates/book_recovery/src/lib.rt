@@ -1,6 +1,7 @@
 //! Recovery: the state of the engine from a journal, by replaying its records.
 #![tactic(auto)]
 
+mod image;
 mod laws;
 mod records;
 mod recovery;
@@ -10,6 +11,6 @@ mod true_images;
 
 pub use laws::an_image_is_recovered_one_way;
 pub use records::next_record;
-pub use recovery::{RecoverFault, Recovered, SHORTEST_FRAME, recover};
+pub use recovery::{RecoverFault, Recovered, recover};
 pub use scratch::Scratch;
 pub use true_images::{recovery_from_an_image_is_a_full_replay, true_records_are_good};

@@ -1,31 +1,28 @@
 //! The state of a journal.
-ghost use Rattle.std.specs.Prelude.{◌≡◌, ℕ, ◌+◌, ◌-◌, ◌*◌, ◌<◌, ◌≤◌, List, [], false, true, length, Some, OnOk, IfOk, IsErrOf};
+ghost use Rattle.std.specs.Prelude.{◌≡◌, ℕ, ◌+◌, ◌-◌, ◌*◌, ◌^◌, ◌<◌, ◌≤◌, List, [], false, true, length, vec_len, Some, OnOk, IfOk, IsErrOf};
 ghost use Rattle.gx_station.specs.Counts.{Rose};
 ghost use Rattle.match_journal.specs.Causes.{ReadsAtMost};
 ghost use Rattle.match_journal.specs.Opening.{IsOpened};
 ghost use Rattle.match_journal.specs.Standing.{IsStanding, moved};
 ghost use Rattle.match_journal.specs.declared.limits.TheConstants.{LEAST_LIMIT};
-ghost use Rattle.order_kinds.specs.State.{empty_state, state_numbered};
-ghost use Rattle.order_kinds.specs.Cores.{FitsProduct, AreNumbered};
+ghost use Rattle.order_kinds.specs.State.{empty_state};
+ghost use Rattle.order_kinds.specs.Cores.{FitsProduct};
+ghost use Rattle.order_kinds.specs.declared.core_state.TheConstants.{MOST_MESSAGES};
 ghost use Rattle.book_recovery.specs.BadPlaces.{BeginsWithRecords};
-ghost use Rattle.book_recovery.specs.Recovering.{ReadsOnly, Recovers};
+ghost use Rattle.book_recovery.specs.Recovering.{ReadsOnly, HasRoomFor, first_read, Recovers};
 ghost use Rattle.book_recovery.specs.Inner.Starting.{BeginsAt};
 ghost use Rattle.book_recovery.specs.Inner.Counting.{Counts};
 
 use crate::replay::replay_records;
 use crate::scratch::Scratch;
 use gx_station::Station;
-use match_journal::{Entry, Journal, WalkFault};
+use match_journal::{Entry, EntryKind, Journal, WalkFault};
 use order_kinds::Core;
 use plain_book::Book;
 use product_file::Product;
 use thiserror::Error;
 
-/// How many bytes a frame has at least.
-pub const SHORTEST_FRAME: u64 = 22;
-
-/// What a journal keeps: how many messages, in how many records, and the gate of the last book image, which no journal has
-/// yet.
+/// What a journal keeps: how many messages, in how many records, and the gate of the last book image, if there is one.
 #[derive(Clone, Copy, Debug, PartialEq, Eq)]
 pub struct Recovered {
     pub messages: u64,
@@ -48,8 +45,29 @@ pub enum RecoverFault {
 struct Heads {
     /// How many records there are.
     entries: u64,
-    /// The entry that the second pass begins with: that of the first record, where there is one.
+    /// The gate of the last book image.
+    image_at: Option<u64>,
+    /// The entry that the second pass begins with: that of the last book image, or else of the first record.
     start: Option<Entry>,
+}
+
+impl Heads {
+    ghost use Rattle.book_recovery.specs.Inner.Counting.{with_head};
+
+    /// One head more was met.
+    fn pass(&mut self, entry: Entry)
+        requires { self.old.entries + 1 < 2 ^ 64 }
+        ensures { self.new ≡ with_head self.old entry }
+    {
+        self.entries += 1;
+        match entry.kind {
+            EntryKind::Frames => self.start = self.start.or(Some(entry)),
+            EntryKind::Image => {
+                self.image_at = Some(entry.at);
+                self.start = Some(entry);
+            }
+        }
+    }
 }
 
 /// Goes over the heads of all records, from the first on. `Ok` leaves the journal at its end.
@@ -64,21 +82,19 @@ fn read_heads<S: Station>(station: &mut S, journal: &mut Journal) -> Result<Head
     ensures stands { IsStanding journal.new }
     ensures same { journal.new ≡ moved journal.old journal.new.gate journal.new.is_at_end }
     ensures at_end { OnOk result (journal.new.is_at_end ≡ true) }
-    ensures start { IfOk result (λ heads. BeginsAt journal.new heads.start) }
+    ensures start { IfOk result (λ heads. BeginsAt journal.new heads) }
     ensures counts { (text image : List ℕ) → S.meanings.holds station.old ≡ Some image → length image ≡ journal.old.known → BeginsWithRecords text journal.old.limit [] image → journal.old.first ≡ 13 + length text
         → Counts text journal.old.limit image journal.new.gate result }
 {
     journal.rewind();
     let mut heads = Heads {
         entries: 0,
+        image_at: None,
         start: None,
     };
     'heads: loop {
         match journal.next_entry(station) {
-            Ok(Some(entry)) => {
-                heads.entries += 1;
-                heads.start = heads.start.or(Some(entry));
-            }
+            Ok(Some(entry)) => heads.pass(entry),
             Ok(None) => return Ok(heads),
             Err(WalkFault::Store) => return Err(RecoverFault::Store),
             Err(WalkFault::Bad(at)) => return Err(RecoverFault::Bad(at)),
@@ -86,13 +102,16 @@ fn read_heads<S: Station>(station: &mut S, journal: &mut Journal) -> Result<Head
     }
 }
 
-/// Brings a new core to the state after all messages that a journal keeps, by applying each, and reports nothing. It begins at
-/// the first record, wherever the journal stands, and goes over all heads before it reads a payload. `Ok` leaves the journal
-/// at its end.
+/// Brings a new core to the state after all messages that a journal keeps, and reports nothing: it reads the last book image, if
+/// there is one, and applies each message behind it. It goes over all heads, wherever the journal stands, before it reads a
+/// payload. `Ok` leaves the journal at its end.
 ///
-/// `Store` comes only where the count of store faults rose. `Bad` comes exactly where a record is bad, with the place of the
-/// first one with a bad head, or else of the first one that is not whole frames. After a fault nothing is told of the
-/// content of the core, and `Core::clear` makes it as new. Nothing is written, synced or sent.
+/// `Store` comes only where the count of store faults rose. `Bad` comes exactly where a head is bad, or a record from the last
+/// book image on: with the place of the first bad head, or else of the first of those records that is bad. After a fault nothing
+/// is told of the content of the core, and `Core::clear` makes it as new. Nothing is written, synced or sent.
+///
+/// A right book image is believed. Where each is that of the state after the messages before it, as `checkpoint` writes it, the
+/// core is as if all messages had been applied.
 pub fn recover<S: Station, B: Book>(
     station: &mut S,
     journal: &mut Journal,
@@ -101,6 +120,7 @@ pub fn recover<S: Station, B: Book>(
     core: &mut Core<B>,
 ) -> Result<Recovered, RecoverFault>
     requires new { core.old ≡ empty_state product.now }
+    requires room { HasRoomFor product.now scratch.old }
     requires reach { journal.old.known ≤ S.meanings.reach station.old }
     requires in_limit { journal.old.first < journal.old.limit }
     requires not_lost { journal.old.is_lost ≡ false }
@@ -112,21 +132,20 @@ pub fn recover<S: Station, B: Book>(
     ensures reach { journal.new.known ≤ S.meanings.reach station.new }
     ensures at_end { OnOk result (journal.new.is_at_end ≡ true) }
     ensures in_limit { OnOk result (journal.new.gate < journal.new.limit) }
+    ensures room { HasRoomFor product.now scratch.new }
     ensures fits { FitsProduct product.now core.new }
-    ensures numbered { OnOk result (AreNumbered core.new) }
+    ensures few { OnOk result (core.new.desk.messages < MOST_MESSAGES) }
     ensures counts { IfOk result (λ recovered. recovered.messages ≡ core.new.desk.messages) }
-    // At most six bytes for each gate that is met, and once more all from the first gate to the last one met.
-    ensures bytes { IfOk result (λ recovered. ReadsAtMost (6 * (recovered.entries + 1) + (journal.new.gate - journal.old.first)) (S.meanings.bytes_read station.old) (S.meanings.bytes_read station.new)) }
-    // Each message has the bytes of a frame, so there is room in the count of messages for those that still fit the journal.
-    ensures few { OnOk result (core.new.desk.messages * SHORTEST_FRAME ≤ journal.new.gate) }
+    // At most six bytes for each gate that is met, and once more all from the last book image, or the first gate, to the last gate.
+    ensures bytes { IfOk result (λ recovered. ReadsAtMost (6 * (recovered.entries + 1) + (journal.new.gate - first_read recovered.image_at journal.old.first)) (S.meanings.bytes_read station.old) (S.meanings.bytes_read station.new)) }
     ensures recovers { (text image : List ℕ) → S.meanings.holds station.old ≡ Some image → length image ≡ journal.old.known → LEAST_LIMIT ≤ journal.old.limit → IsOpened text image → journal.old.first ≡ 13 + length text
-        → Recovers product.now text journal.old.limit image journal.new.gate (state_numbered core.new) result }
+        → Recovers product.now text journal.old.limit image journal.new.gate core.new result }
 {
     let heads = read_heads(station, journal)?;
     replay_records(station, journal, product, scratch, core, heads.start)?;
     Ok(Recovered {
         messages: core.messages(),
         entries: heads.entries,
-        image_at: None,
+        image_at: heads.image_at,
     })
 }

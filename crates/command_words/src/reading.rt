@@ -47,6 +47,7 @@ fn plain_command(name: &str) -> Option<Command>
         "fills" => Some(Command::Fills),
         "ledger" => Some(Command::Ledger),
         "steps" => Some(Command::Steps),
+        "checkpoint" => Some(Command::Checkpoint),
         _ => None,
     }
 }

@@ -1,5 +1,5 @@
 -- Records that are added to a journal, and the messages in them.
-use Rattle.std.proofs.Common.{◌≡◌, ℕ, ◌+◌, ◌≤◌, List, [], ◌∷◌, ◌++◌, length, take, refl, sym, ap, subst, ◌∙◌, append_assoc, length-append, arith}
+use Rattle.std.proofs.Common.{◌≡◌, ℕ, ◌+◌, ◌≤◌, List, [], ◌∷◌, ◌++◌, length, take, refl, sym, ap, ap₂, subst, ◌∙◌, append_assoc, length-append, arith}
 use Rattle.std.specs.List.{concat, flat_map, AllByRecursion}
 use Rattle.std.proofs.lemmas.List.Folds.{concat-append}
 use Rattle.std.proofs.lemmas.List.Sums.{sum_by-append, sum_by-cons}
@@ -10,7 +10,7 @@ use Rattle.fix_frame.specs.StreamLaws.{messages_of-append, rest_of-append, conca
 use Rattle.match_journal.specs.Journal.{Record, IsRecord, least_payload, header, open_record, journal_front}
 use Rattle.match_journal.proofs.Records.{length-record}
 use Rattle.match_journal.specs.declared.entry.EntryKind.{EntryKind}
-use Rattle.book_recovery.specs.Kept.{AreWhole, messages_in}
+use Rattle.book_recovery.specs.Records.{IsWhole, AreWhole, messages_as, record_messages, messages_in}
 use Rattle.book_recovery.proofs.Images.{length-first}
 use Rattle.globex_run.specs.Journals.{bytes_in, length_of_records, records_length}
 use Rattle.globex_run.proofs.Folds.{messages_in-append}
@@ -45,6 +45,10 @@ whole_then payload more whole = (
   rest_of-append payload more ∙ ap (λ (l : List ℕ). rest_of (l ++ more)) whole,
 )
 
+-- the messages of a whole record are those in its payload
+pub frames-are : (r : Record) → IsWhole r → record_messages r ≡ messages_of r.payload
+frames-are r whole = ap (λ (kind : EntryKind). messages_as kind r.payload) whole.frames
+
 -- whole records, and then other bytes
 pub records_then : (added : List Record) (behind : List ℕ) → AreWhole added → (messages_of (bytes_in added ++ behind) ≡ messages_in added ++ messages_of behind) × (rest_of (bytes_in added ++ behind) ≡ rest_of behind)
 records_then [] behind whole = (refl, refl)
@@ -52,7 +56,7 @@ records_then (x ∷ added) behind whole =
     let more = records_then added behind whole.1 in
     let first = whole_then x.payload (bytes_in added ++ behind) whole.0.no_rest in
     let parts = append_assoc x.payload (bytes_in added) behind in (
-      ap messages_of parts ∙ first.0 ∙ ap (λ (l : List (List ℕ)). messages_of x.payload ++ l) more.0 ∙ sym (append_assoc (messages_of x.payload) (messages_in added) (messages_of behind)),
+      ap messages_of parts ∙ first.0 ∙ ap₂ (λ (l k : List (List ℕ)). l ++ k) (sym (frames-are x whole.0)) more.0 ∙ sym (append_assoc (record_messages x) (messages_in added) (messages_of behind)),
       ap rest_of parts ∙ first.1 ∙ more.1,
     )
 
@@ -60,7 +64,8 @@ records_then (x ∷ added) behind whole =
 pub records_joined : (added : List Record) → AreWhole added → concat (messages_in added) ≡ bytes_in added
 records_joined [] whole = refl
 records_joined (x ∷ added) whole =
-    concat-append (messages_of x.payload) (messages_in added) ∙ ap (λ (l : List ℕ). l ++ concat (messages_in added)) (concat-messages_of-whole x.payload whole.0.no_rest) ∙ ap (λ (l : List ℕ). x.payload ++ l) (records_joined added whole.1)
+    concat-append (record_messages x) (messages_in added)
+    ∙ ap (λ (l : List ℕ). l ++ concat (messages_in added)) (ap concat (frames-are x whole.0) ∙ concat-messages_of-whole x.payload whole.0.no_rest) ∙ ap (λ (l : List ℕ). x.payload ++ l) (records_joined added whole.1)
 
 -- the messages in the first of the records added are the first of all messages
 module _ (taken behind : List ℕ) (added served others : List Record) (whole : AreWhole added) (are : taken ≡ bytes_in added ++ behind) (parts : added ≡ served ++ others) where
@@ -97,7 +102,7 @@ length_of_records-cons x xs = sum_by-cons (λ (r : Record). length r.payload + 6
 pub one_length : (x : Record) → length_of_records (x ∷ []) ≡ length x.payload + 6
 one_length x = omega (arith, length_of_records-cons x [])
 
-open-length : (records : List Record) → length (flat_map open_record records) ≡ length_of_records records
+pub open-length : (records : List Record) → length (flat_map open_record records) ≡ length_of_records records
 open-length [] = refl
 open-length (r ∷ records) = omega (arith, length-append (open_record r) (flat_map open_record records), length-record r, open-length records, length_of_records-cons r records)
 
@@ -142,4 +147,12 @@ each_alone (x ∷ added) whole sized =
     let long : length (concat (messages_of x.payload)) ≡ length x.payload = ap (λ (l : List ℕ). length l) all in
     let some : 1 ≤ length x.payload = subst (λ (k : EntryKind). least_payload k ≤ length x.payload) whole.0.frames sized.0.some in
     let here : length (concat (messages_of x.payload)) + 6 ≤ records_length (messages_of x.payload) = one_below (messages_of x.payload) (omega (arith, long, some)) in
-    omega (arith, here, long, each_alone added whole.1 sized.1, length_of_records-cons x added, records_length-append (messages_of x.payload) (messages_in added))
+    omega (
+      arith,
+      here,
+      long,
+      each_alone added whole.1 sized.1,
+      length_of_records-cons x added,
+      records_length-append (record_messages x) (messages_in added),
+      ap (λ (l : List (List ℕ)). records_length l) (frames-are x whole.0),
+    )

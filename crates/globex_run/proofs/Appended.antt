@@ -19,7 +19,7 @@ use Rattle.match_journal.specs.StepLaws.{adds_then, adds_weaker, steps_hold}
 use Rattle.product_file.specs.Products.{ProductLists}
 use Rattle.order_kinds.specs.State.{State}
 use Rattle.order_kinds.specs.Step.{state_after}
-use Rattle.book_recovery.specs.Kept.{IsWhole, record_messages, messages_in}
+use Rattle.book_recovery.specs.Records.{IsWhole, record_messages, messages_in}
 use Rattle.book_print.specs.Publishers.{LineForm}
 use Rattle.globex_run.specs.Inner.Recording.{lines_from, IsRecordCrash, RestsAtEnd, AllKept, Serves, Served}
 use Rattle.globex_run.specs.Inner.Serving.{FailsToKeep, FailsToSend}

@@ -18,26 +18,30 @@ use Rattle.match_journal.proofs.Unique.{not_refused, unfinished_not_opened}
 use Rattle.book_recovery.specs.Kept.{KeepsMessages}
 use Rattle.book_recovery.specs.BadPlaces.{HasBadRecordAt, IsBadPlace}
 use Rattle.book_recovery.proofs.OneWay.{no_bad_place, no_bad_record}
+use Rattle.book_recovery.proofs.FromLastImage.{good-from-last}
 use Rattle.book_print.specs.Publishers.{LineForm}
 use Rattle.book_print.specs.TallyText.{no_tally}
 use Rattle.book_print.specs.Publishing.{tally_publisher_meanings}
 use Rattle.order_maker.specs.Stream.{MadeStream, maker_meanings, made_stream}
 use Rattle.exec_report.specs.declared.texts.SendFault.{SendFault as SendFailed}
+use Rattle.journal_print.specs.Reading.{ReadsAndSends}
 use Rattle.journal_print.specs.Printed.{PrintsEvents, PrintsBook}
 use Rattle.journal_print.specs.declared.unprinted.Unprinted.{Unprinted}
 use Rattle.journal_print.specs.declared.unprinted.Unprinted.TheVariants as unprinted
 use Rattle.command_words.specs.declared.command.Command.{Command}
-use Rattle.command_words.specs.declared.command.Command.TheVariants.{Run, Replay, Book, Fills, Ledger, Steps, Drill}
+use Rattle.command_words.specs.declared.command.Command.TheVariants.{Run, Replay, Book, Fills, Ledger, Steps, Drill, Checkpoint}
 use Rattle.globex_run.specs.Outside.{SourceAt, Outside, Streams, IsQuiet, source_at}
 use Rattle.globex_run.specs.Outcomes.{outcome_of}
 use Rattle.globex_run.specs.Words.{IsPrinting}
 use Rattle.globex_run.specs.ProductTexts.{TakesAtMost, IsProductText}
-use Rattle.globex_run.specs.RunResult.{CommandResult, CommandEnded, RunEnded, DrillEnded, first_messages}
+use Rattle.globex_run.specs.RunResult.{CommandResult, CommandEnded, RunEnded, EndedUnread, first_messages}
 use Rattle.globex_run.specs.Journals.{AnswersImage}
 use Rattle.globex_run.specs.Headline.{Premises, InputPremises, SendsExactlyTheReports, EndsOtherwise, RunLeavesCrashPrefixes, RunBeforeTheFirstSync, KeepsEveryReported, KeepsARecordPerRead, ReadsFew, HasNoRoom, CanBeServed, IsServed}
 use Rattle.globex_run.specs.Drills.{made_bytes, KeepsAndSumsUp, DrillEndsOtherwise, DrillLeavesCrashPrefixes, DrillBeforeTheFirstSync, CanBeDrilled}
+use Rattle.globex_run.specs.Checkpoints.{AddsImage, KeepsTheSame, CheckpointLeavesCrashPrefixes, CheckpointBeforeTheFirstSync, HasNoRoomForImage, CanBeCheckpointed}
 use Rattle.globex_run.specs.Prints.{PrintPremises, PrintsAs, CanBePrinted, outcome_printed, outcome_sent}
 use Rattle.globex_run.specs.Inner.Drilling.{DrillResult, DrillsMade, DrillAnswers, outcome_summed}
+use Rattle.globex_run.specs.Inner.Checkpointing.{EndsCheckpoint, CheckpointResult}
 use Rattle.globex_run.specs.Inner.Executing.{Executes, HasCauses, Runs}
 use Rattle.globex_run.specs.declared.outcome.Outcome.{Outcome}
 use Rattle.globex_run.specs.declared.ending.Ending.{Ending}
@@ -46,11 +50,15 @@ use Rattle.globex_run.proofs.Told.{outside_of}
 use Rattle.globex_run.proofs.Runs.{short-text, few-of-product, told-product, run-exactly, run-otherwise, run-every-moment, run-first-sync, run-every-message, run-balanced, run-full, run-record-per-read, run-reads-few, run-all}
 use Rattle.globex_run.proofs.FewReads.{drill-reads}
 use Rattle.globex_run.proofs.Drills.{empty_front, drill-all, drill-otherwise, drill-moments, drill-first-sync, drill-full}
+use Rattle.globex_run.proofs.CheckpointHeadlines.{not-among, not-done, adds-image as checkpoint-adds, the-same as checkpoint-keeps, every-moment as checkpoint-moments, first-sync as checkpoint-first-sync, few-read as checkpoint-reads, image-full as checkpoint-full}
 use Rattle.globex_run.proofs.Complete.{served}
 
 -- ---- an image from which a run can start has no fault
 
-module _ (text image : List ℕ) (limit : ℕ) (kept : List (List ℕ)) (short : length text ≤ 65536) (can : KeepsMessages text limit kept image) where
+module _ (product : ProductLists) (text image : List ℕ) (kept : List (List ℕ)) (short : length text ≤ 65536) (can : KeepsMessages product text kept image) where
+  abbrev limit : ℕ
+  limit = product.journal_limit
+
   not-foreign : (at : ℕ) → IsForeignAt image at → ⊥
   not-foreign at foreign = not_refused text image limit can.records (start.NotAJournal at) short can.keeps foreign (λ e. cc e)
 
@@ -60,15 +68,15 @@ module _ (text image : List ℕ) (limit : ℕ) (kept : List (List ℕ)) (short :
   not-other : (at : ℕ) → HasOtherText text image at → ⊥
   not-other at other = not_refused text image limit can.records (start.ProductDiffers at) short can.keeps other (λ e. cc e)
 
-  not-bad : (at : ℕ) → IsOpened text image → IsBadPlace text limit image at → ⊥
+  not-bad : (at : ℕ) → IsOpened text image → IsBadPlace product text limit image at → ⊥
   not-bad at opened bad = ⊎_elim
-      (λ journal. no_bad_place text limit can.records image at journal can.whole bad)
+      (λ journal. no_bad_place product text limit can.records image at journal (good-from-last product can.records can.good) bad)
       (λ unfinished. unfinished_not_opened text image unfinished.1.unfinished opened)
       can.keeps
 
-  not-bad-record : (at : ℕ) → IsOpened text image → HasBadRecordAt text limit image at → ⊥
+  not-bad-record : (at : ℕ) → IsOpened text image → HasBadRecordAt product text limit image at → ⊥
   not-bad-record at opened bad = ⊎_elim
-      (λ journal. no_bad_record text limit can.records image at journal can.whole bad)
+      (λ journal. no_bad_record product text limit can.records image at journal can.good bad)
       (λ unfinished. unfinished_not_opened text image unfinished.1.unfinished opened)
       can.keeps
 
@@ -255,12 +263,105 @@ module _ {P I S : Type 0} (m : StationMeanings S) (p q : SourceAt P) (i j : Sour
         pub all-drilled : (outcome.status ≡ 1) ⊎ (outcome.status ≡ 0)
         all-drilled = ⊎_elim (λ none. inl (ap (λ (o : Outcome). o.status) none.0)) (λ made. inr (made-all made)) (drilled can.text can.product can.text_known can.gives)
 
+    -- ---- a checkpoint
+
+    module _ (asks : asked ≡ Some Checkpoint) where
+      checkpointed : CheckpointResult m product lent old new outcome
+      checkpointed = (did-as Checkpoint asks).0
+
+      -- it sends nothing, and answers no send fault
+      pub checkpoint-sends-nothing : (m.sent new ≡ m.sent old) × (outcome.status ≢ 6)
+      checkpoint-sends-nothing =
+          (checkpointed.silent.sent, not-among outcome 6 checkpointed.ending checkpointed.is checkpointed.possible (λ e. omega (arith, e)) (λ e. omega (arith, e)) (inl (omega arith)))
+
+      -- where the image was not added, no message is counted
+      pub checkpoint-counts : outcome.status ≢ 0 → outcome.messages ≡ 0
+      checkpoint-counts other = checkpointed.none (not-done outcome checkpointed.ending checkpointed.is other)
+
+      checkpointed-as : (told : List ℕ) (lists : ProductLists) → p.left ≡ Some told → product_of told ≡ Ok lists → CheckpointResult m lists told old new outcome
+      checkpointed-as told lists known are =
+          told-product p q text lent same product took gives (λ (l : ProductLists) (bytes : List ℕ). CheckpointResult m l bytes old new outcome) told lists known are checkpointed
+
+      module _ (given : Premises m entry exit outcome.status) where
+        checkpoint-did : CheckpointResult m given.product given.text old new outcome
+        checkpoint-did = checkpointed-as given.text given.product given.text_known given.gives
+
+        pub adds-image : outcome.status ≡ 0 → AddsImage m entry exit outcome given
+        adds-image none = checkpoint-adds m p q i j old new outcome given checkpoint-did none
+
+        pub keeps-the-same : KeepsTheSame m entry exit outcome given
+        keeps-the-same = checkpoint-keeps m p q i j old new outcome given checkpoint-did
+
+        pub checkpoint-every-moment : CheckpointLeavesCrashPrefixes m entry exit outcome given
+        checkpoint-every-moment = checkpoint-moments m p q i j old new outcome given checkpoint-did
+
+        pub checkpoint-before-sync : IsHonestNow m old → CheckpointBeforeTheFirstSync m entry exit outcome given
+        checkpoint-before-sync now = checkpoint-first-sync m p q i j old new outcome given checkpoint-did now
+
+        pub checkpoint-few-read : ReadsFew m entry exit outcome given
+        checkpoint-few-read = checkpoint-reads m p q i j old new outcome given checkpoint-did
+
+        pub image-full : outcome.status ≡ 12 → HasNoRoomForImage m entry exit outcome given
+        image-full twelve = checkpoint-full m p q i j old new outcome given checkpoint-did twelve
+
+      -- where there is room and no fault comes, the image is added
+      module _ (can : CanBeCheckpointed m entry) (quiet : IsQuiet entry exit) where
+        checkpoint-can : CheckpointResult m can.product can.text old new outcome
+        checkpoint-can = checkpointed-as can.text can.product can.text_known can.gives
+
+        quiet-checkpoint : (outcome.status ≢ 5) × (outcome.status ≢ 6)
+        quiet-checkpoint = no-fault Checkpoint (causes-as Checkpoint asks) quiet
+
+        done-by : (ending : Ending) → outcome ≡ outcome_of ending outcome.messages → EndsCheckpoint m can.product can.text old new ending can.startable.records can.kept outcome.messages → outcome.status ≡ 0
+        done-by Done is ends = ap (λ (o : Outcome). o.status) is
+        done-by (ReadFault place) is ends = absurd ends
+        done-by StoreFault is ends = absurd (quiet-checkpoint.0 (ap (λ (o : Outcome). o.status) is))
+        done-by SendFault is ends = absurd ends
+        done-by (BadFrame place) is ends = absurd ends
+        done-by (Truncated place) is ends = absurd ends
+        done-by (NotAJournal place) is ends = absurd ends
+        done-by (JournalBad place) is ends = absurd ends
+        done-by (ProductDiffers place) is ends = absurd ends
+        done-by (Full place) is ends = absurd (omega (arith, can.room, ends.too_long, ends.place_is))
+
+        pub all-checkpointed : outcome.status ≡ 0
+        all-checkpointed = done-by checkpoint-can.ending checkpoint-can.is (checkpoint-can.from can.image can.kept can.honest can.image_known can.startable).ends
+
     -- ---- what was printed
 
     module _ (c : Command) (asks : asked ≡ Some c) where
+      reads-by : (x : Command) → IsPrinting x → Did x → ReadsAndSends m old new
+      reads-by Run printing did = absurd printing
+      reads-by (Drill first count) printing did = absurd printing
+      reads-by Checkpoint printing did = absurd printing
+      reads-by Replay printing did = did.reads
+      reads-by Book printing did = did.reads
+      reads-by Fills printing did = did.reads
+      reads-by Ledger printing did = did.reads
+      reads-by Steps printing did = did.reads
+
+      -- a command that prints only reads
+      pub reads-only : IsPrinting c → ReadsAndSends m old new
+      reads-only printing = reads-by c printing (did-as c asks)
+
+      input-by : (x : Command) → (x ≡ Run → ⊥) → Did x → exit.streams.input ≡ entry.streams.input
+      input-by Run other did = absurd (other refl)
+      input-by (Drill first count) other did = did.1
+      input-by Checkpoint other did = did.1
+      input-by Replay other did = did.input
+      input-by Book other did = did.input
+      input-by Fills other did = did.input
+      input-by Ledger other did = did.input
+      input-by Steps other did = did.input
+
+      -- a run alone reads the input
+      pub input-untouched : (c ≡ Run → ⊥) → j.object ≡ i.object
+      input-untouched other = ap (λ (x : SourceAt I). x.object) (input-by c other (did-as c asks))
+
       form-of : (x : Command) → Did x → PrintsAs m product lent entry.streams.station exit.streams.station outcome x
       form-of Run any = tt
       form-of (Drill first count) drilled = tt
+      form-of Checkpoint did = tt
       form-of Replay printed = printed.form
       form-of Book printed = printed.form
       form-of Fills printed = printed.form
@@ -279,7 +380,7 @@ module _ {P I S : Type 0} (m : StationMeanings S) (p q : SourceAt P) (i j : Sour
         quiet-print : (outcome.status ≢ 5) × (outcome.status ≢ 6)
         quiet-print = no-fault c (causes-as c asks) quiet
 
-        module _ (image : List ℕ) (kept : List (List ℕ)) (start : KeepsMessages can.text can.product.journal_limit kept image) where
+        module _ (image : List ℕ) (kept : List (List ℕ)) (start : KeepsMessages can.product can.text kept image) where
           short : length can.text ≤ 65536
           short = short-text can.text can.product can.gives
 
@@ -287,19 +388,19 @@ module _ {P I S : Type 0} (m : StationMeanings S) (p q : SourceAt P) (i j : Sour
           events-printed line whole (Ok n) is printed = ap (λ (o : Outcome). o.status) is
           events-printed line whole (Err unprinted.Store) is printed = absurd (quiet-print.0 (ap (λ (o : Outcome). o.status) is))
           events-printed line whole (Err unprinted.Send) is printed = absurd (quiet-print.1 (ap (λ (o : Outcome). o.status) is))
-          events-printed line whole (Err (unprinted.NotAJournal at)) is printed = absurd (not-foreign can.text image can.product.journal_limit kept short start at printed.0)
+          events-printed line whole (Err (unprinted.NotAJournal at)) is printed = absurd (not-foreign can.product can.text image kept short start at printed.0)
           events-printed line whole (Err (unprinted.Bad at)) is printed =
-              absurd (⊎_elim (λ header. not-headless can.text image can.product.journal_limit kept short start at header.0) (λ sent. not-bad-record can.text image can.product.journal_limit kept short start at sent.opened sent.bad) printed)
-          events-printed line whole (Err (unprinted.ProductDiffers at)) is printed = absurd (not-other can.text image can.product.journal_limit kept short start at printed.0)
+              absurd (⊎_elim (λ header. not-headless can.product can.text image kept short start at header.0) (λ sent. not-bad-record can.product can.text image kept short start at sent.opened sent.bad) printed)
+          events-printed line whole (Err (unprinted.ProductDiffers at)) is printed = absurd (not-other can.product can.text image kept short start at printed.0)
 
           book-printed : (answer : Result ℕ Unprinted) → outcome ≡ outcome_printed answer → PrintsBook m can.product can.text image old new answer → outcome.status ≡ 0
           book-printed (Ok n) is printed = ap (λ (o : Outcome). o.status) is
           book-printed (Err unprinted.Store) is printed = absurd (quiet-print.0 (ap (λ (o : Outcome). o.status) is))
           book-printed (Err unprinted.Send) is printed = absurd (quiet-print.1 (ap (λ (o : Outcome). o.status) is))
-          book-printed (Err (unprinted.NotAJournal at)) is printed = absurd (not-foreign can.text image can.product.journal_limit kept short start at printed.0)
+          book-printed (Err (unprinted.NotAJournal at)) is printed = absurd (not-foreign can.product can.text image kept short start at printed.0)
           book-printed (Err (unprinted.Bad at)) is printed =
-              absurd (⊎_elim (λ header. not-headless can.text image can.product.journal_limit kept short start at header) (λ bad. not-bad can.text image can.product.journal_limit kept short start at bad.0 bad.1) printed.0)
-          book-printed (Err (unprinted.ProductDiffers at)) is printed = absurd (not-other can.text image can.product.journal_limit kept short start at printed.0)
+              absurd (⊎_elim (λ header. not-headless can.product can.text image kept short start at header) (λ bad. not-bad can.product can.text image kept short start at bad.0 bad.1) printed.0)
+          book-printed (Err (unprinted.ProductDiffers at)) is printed = absurd (not-other can.product can.text image kept short start at printed.0)
 
         steps-printed : (result : Result (Unit {0}) SendFailed) → outcome ≡ outcome_sent result → outcome.status ≡ 0
         steps-printed (Ok t) is = ap (λ (o : Outcome). o.status) is
@@ -309,11 +410,12 @@ module _ {P I S : Type 0} (m : StationMeanings S) (p q : SourceAt P) (i j : Sour
         Printed x = PrintsAs m can.product can.text entry.streams.station exit.streams.station outcome x
 
         abbrev Startable : Command → Type 0
-        Startable x = x ≢ Steps → (image : List ℕ) × ((entry.streams.station.image ≡ Some image) × ((kept : List (List ℕ)) × KeepsMessages can.text can.product.journal_limit kept image))
+        Startable x = x ≢ Steps → (image : List ℕ) × ((entry.streams.station.image ≡ Some image) × ((kept : List (List ℕ)) × KeepsMessages can.product can.text kept image))
 
         by-command : (x : Command) → IsPrinting x → Startable x → Printed x → outcome.status ≡ 0
         by-command Run printing startable form = absurd printing
         by-command (Drill first count) printing startable form = absurd printing
+        by-command Checkpoint printing startable form = absurd printing
         by-command Replay printing startable form =
             let at = startable (λ e. cc e) in events-printed at.0 at.1.1.0 at.1.1.1 _ _ form.answer form.outcome_is (form.prints at.0 at.1.0)
         by-command Fills printing startable form =
@@ -333,16 +435,16 @@ module _ {P I S : Type 0} (m : StationMeanings S) (p q : SourceAt P) (i j : Sour
       ran-ended ran = record {
         ending = ran.session.ending;
         is = ran.session.is;
-        image = subst (λ (l : List ℕ). IfSome entry.streams.station.image (λ image. AnswersImage l product.journal_limit image ran.session.ending)) same ran.session.image;
+        image = subst (λ (l : List ℕ). IfSome entry.streams.station.image (λ image. AnswersImage product l image ran.session.ending)) same ran.session.image;
         serving = ran.session.serving;
       }
 
       module _ (first count : ℕ) (input : exit.streams.input ≡ entry.streams.input) (made : DrillsMade m product lent first count old new outcome) where
         abbrev Fits : Ending → Type 0
-        Fits ending = IfSome entry.streams.station.image (λ image. AnswersImage text product.journal_limit image ending)
+        Fits ending = IfSome entry.streams.station.image (λ image. AnswersImage product text image ending)
 
         fits : Fits made.did.session.ending
-        fits = subst (λ (l : List ℕ). IfSome entry.streams.station.image (λ image. AnswersImage l product.journal_limit image made.did.session.ending)) same made.did.session.image
+        fits = subst (λ (l : List ℕ). IfSome entry.streams.station.image (λ image. AnswersImage product l image made.did.session.ending)) same made.did.session.image
 
         fits-done : (ending : Ending) → made.did.served ≡ outcome_of ending made.did.served.messages → made.did.served.status ≡ 0 → Fits ending → Fits Done
         fits-done Done is none fits = fits
@@ -356,11 +458,11 @@ module _ {P I S : Type 0} (m : StationMeanings S) (p q : SourceAt P) (i j : Sour
         fits-done (ProductDiffers place) is none fits = absurd (omega (arith, none, ap (λ (o : Outcome). o.status) is))
         fits-done (Full place) is none fits = fits
 
-        ended-by : (result : Result (Unit {0}) SendFailed) → outcome ≡ outcome_summed made.did.served.messages result → Fits Done → DrillEnded entry exit outcome text product
+        ended-by : (result : Result (Unit {0}) SendFailed) → outcome ≡ outcome_summed made.did.served.messages result → Fits Done → EndedUnread entry exit outcome text product
         ended-by (Ok t) is fits = record { ending = Done; is = is ∙ ap (λ (n : ℕ). outcome_of Done n) (sym (ap (λ (o : Outcome). o.messages) is)); image = fits; input = input }
         ended-by (Err fault) is fits = record { ending = SendFault; is = is ∙ ap (λ (n : ℕ). outcome_of SendFault n) (sym (ap (λ (o : Outcome). o.messages) is)); image = fits; input = input }
 
-        drill-ended : DrillEnded entry exit outcome text product
+        drill-ended : EndedUnread entry exit outcome text product
         drill-ended = elim (eqb_tells made.did.served.status 0) [
           | inl none ↦
               let sums = made.did.sums_up none.1 in
@@ -375,9 +477,18 @@ module _ {P I S : Type 0} (m : StationMeanings S) (p q : SourceAt P) (i j : Sour
               }
         ]
 
+      checkpoint-ended : exit.streams.input ≡ entry.streams.input → CheckpointResult m product lent old new outcome → EndedUnread entry exit outcome text product
+      checkpoint-ended input did = record {
+        ending = did.ending;
+        is = did.is;
+        image = subst (λ (l : List ℕ). IfSome entry.streams.station.image (λ image. AnswersImage product l image did.ending)) same did.image;
+        input = input;
+      }
+
       ended : (x : Command) → Did x → outcome.status ≢ 1 → CommandEnded entry exit outcome text product x
       ended Run did told = ran-ended did
       ended (Drill first count) drilled told = ⊎_elim (λ none. absurd (told (ap (λ (o : Outcome). o.status) none.0))) (λ made. drill-ended first count drilled.1 made) drilled.0
+      ended Checkpoint did told = checkpoint-ended did.1 did.0
       ended Replay printed told = printed.input
       ended Book printed told = printed.input
       ended Fills printed told = printed.input

@@ -7,7 +7,7 @@ use Rattle.fix_frame.specs.FrontLaws.{refused_more}
 use Rattle.fix_frame.specs.Stream.{messages_of, rest_of, IsBroken, IsCut}
 use Rattle.fix_frame.specs.StreamLaws.{rest_of-append, rest_of-none, rest_of-begins_with_none, messages_of-frame-append}
 use Rattle.match_journal.specs.Journal.{IsRecord}
-use Rattle.book_recovery.specs.Kept.{messages_in}
+use Rattle.book_recovery.specs.Records.{messages_in}
 use Rattle.gx_base.specs.declared.event.Event.{Event}
 use Rattle.order_kinds.specs.State.{State}
 use Rattle.book_print.specs.Publishers.{LineForm}

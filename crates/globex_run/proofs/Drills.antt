@@ -20,8 +20,8 @@ use Rattle.order_kinds.specs.State.{State}
 use Rattle.order_kinds.specs.Step.{state_after, events_from}
 use Rattle.plain_book.specs.Book.{live_orders}
 use Rattle.match_journal.specs.Journal.{Record}
-use Rattle.book_recovery.specs.Kept.{messages_in, KeepsMessages}
-use Rattle.book_recovery.specs.Recovering.{state_kept}
+use Rattle.book_recovery.specs.Records.{messages_in, state_kept}
+use Rattle.book_recovery.specs.Kept.{KeepsMessages}
 use Rattle.order_maker.specs.Stream.{MadeStream, maker_meanings, made_stream}
 use Rattle.book_print.specs.TallyText.{no_tally, tally_line, tally_of}
 use Rattle.book_print.specs.Publishing.{tally_publisher_meanings}
@@ -273,7 +273,7 @@ module _ {P I S : Type 0} (m : StationMeanings S) (p q : SourceAt P) (i j : Sour
         record {
           count = at.count;
           within = omega (arith, at.within, fewer stream taken end.left whole parts);
-          keeps = subst (λ (l : List (List ℕ)). KeepsMessages given.text given.product.journal_limit (given.kept ++ l) left) same at.keeps;
+          keeps = subst (λ (l : List (List ℕ)). KeepsMessages given.product given.text (given.kept ++ l) left) same at.keeps;
           no_longer = at.no_longer;
           output = at.output;
           front = subst (λ (l : List (List ℕ)). IsPrefix at.output (sums l)) same at.front;
@@ -312,7 +312,7 @@ module _ {P I S : Type 0} (m : StationMeanings S) (p q : SourceAt P) (i j : Sour
         now-same same xs ys are now = record {
           image = now.image;
           image_known = same ∙ now.image_known;
-          keeps = subst (λ (l : List (List ℕ)). KeepsMessages given.text given.product.journal_limit (given.kept ++ l) now.image) are now.keeps;
+          keeps = subst (λ (l : List (List ℕ)). KeepsMessages given.product given.text (given.kept ++ l) now.image) are now.keeps;
         }
 
     -- all messages of the records added were counted: the session kept them, and sent nothing
@@ -438,12 +438,12 @@ module _ {P I S : Type 0} (m : StationMeanings S) (p q : SourceAt P) (i j : Sour
           (subst (λ (l : List ℕ). IsKnownPrefix (m.sent new) (sent_and (m.sent mid) l)) line-is (sends_at_most m mid new (tally_line served.messages did.publisher.tally (length (live_orders did.then.book))) sums-up.result sums-up.sends))
 
       -- all made messages are kept
-      keeps-at : (image : List ℕ) → m.holds mid ≡ Some image → KeepsMessages given.text given.product.journal_limit (given.kept ++ messages_of stream) image
+      keeps-at : (image : List ℕ) → m.holds mid ≡ Some image → KeepsMessages given.product given.text (given.kept ++ messages_of stream) image
       keeps-at image read =
           let now = at-end.all.kept in
           let all : first_messages served.messages taken ≡ messages_of stream = take_all served.messages (messages_of taken) (omega (arith, at-end.all_counted)) ∙ ap messages_of (sym at-end.all_taken) in
-          subst (λ (x : List ℕ). KeepsMessages given.text given.product.journal_limit (given.kept ++ messages_of stream) x) (same_Some now.image image (sym now.image_known ∙ read))
-          (subst (λ (l : List (List ℕ)). KeepsMessages given.text given.product.journal_limit (given.kept ++ l) now.image) all now.keeps)
+          subst (λ (x : List ℕ). KeepsMessages given.product given.text (given.kept ++ messages_of stream) x) (same_Some now.image image (sym now.image_known ∙ read))
+          (subst (λ (l : List (List ℕ)). KeepsMessages given.product given.text (given.kept ++ l) now.image) all now.keeps)
 
       now-all : (messages : List (List ℕ)) → messages ≡ messages_of stream → KeepsNow m entry exit outcome given (messages_of stream) sums messages
       now-all messages are =
@@ -451,7 +451,7 @@ module _ {P I S : Type 0} (m : StationMeanings S) (p q : SourceAt P) (i j : Sour
           record {
             image = now.image;
             image_known = sums-up.sends.quiet.holds ∙ now.image_known;
-            keeps = subst (λ (l : List (List ℕ)). KeepsMessages given.text given.product.journal_limit (given.kept ++ l) now.image) (sym are) (keeps-at now.image now.image_known);
+            keeps = subst (λ (l : List (List ℕ)). KeepsMessages given.product given.text (given.kept ++ l) now.image) (sym are) (keeps-at now.image now.image_known);
           }
 
       -- while the summary is sent, a crash leaves all of them and a front of it
@@ -469,7 +469,7 @@ module _ {P I S : Type 0} (m : StationMeanings S) (p q : SourceAt P) (i j : Sour
           record {
             count = length (messages_of stream);
             within = omega arith;
-            keeps = subst (λ (l : List (List ℕ)). KeepsMessages given.text given.product.journal_limit (given.kept ++ l) left) (sym all) (keeps-at left read);
+            keeps = subst (λ (l : List (List ℕ)). KeepsMessages given.product given.text (given.kept ++ l) left) (sym all) (keeps-at left read);
             no_longer = omega (arith, rest.short, ap (λ (l : List ℕ). length l) same);
             output = front.0;
             front = subst (λ (l : List ℕ). IsPrefix front.0 l) (sym (summary_sent given.product given.kept (messages_of stream) (take (length (messages_of stream)) (messages_of stream)) (ap (λ (l : List (List ℕ)). length l) all))) front.1;

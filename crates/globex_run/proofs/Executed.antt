@@ -42,6 +42,7 @@ any-published m line product text before after Published then outcome session = 
   from = λ image kept honest read startable.
       let from = session.from image kept honest read startable in
       record {
+        right = from.right;
         added = from.added;
         behind = from.behind;
         are = from.are;

@@ -21,14 +21,14 @@ use Rattle.globex_run.specs.declared.ending.Ending.{Ending}
 
 -- a session whose status is not that of the store's fault did not end by it
 pub session-reads : {I S : Type 0} (m : StationMeanings S) (line : LineForm) (product : ProductLists) (text : List ℕ) (before after : Streams I S) (Published : List Event → Type 0) (then : State) (outcome : Outcome) → SessionResult m line product text before after Published then outcome
-    → (image : List ℕ) (kept : List (List ℕ)) → m.is_honest before.station.object → before.station.image ≡ Some image → (startable : KeepsMessages text product.journal_limit kept image) → outcome.status ≢ 5
+    → (image : List ℕ) (kept : List (List ℕ)) → m.is_honest before.station.object → before.station.image ≡ Some image → (startable : KeepsMessages product text kept image) → outcome.status ≢ 5
     → ReadsAtMost (most_read startable.records) (m.bytes_read before.station.object) (m.bytes_read after.station.object)
 session-reads m line product text before after Published then outcome session image kept honest read startable other =
     (session.from image kept honest read startable).bytes (λ is. other (ap (λ (o : Outcome). o.status) session.is ∙ ap (λ (e : Ending). (outcome_of e outcome.messages).status) is))
 
 -- the summary of a drill is sent, and nothing is read for it
 pub drill-reads : {S : Type 0} (m : StationMeanings S) (product : ProductLists) (text : List ℕ) (made rest : MadeStream) (old new : S) (outcome : Outcome) → DrillResult m product text made rest old new outcome
-    → (image : List ℕ) (kept : List (List ℕ)) → m.is_honest old → m.holds old ≡ Some image → (startable : KeepsMessages text product.journal_limit kept image) → outcome.status ≢ 5
+    → (image : List ℕ) (kept : List (List ℕ)) → m.is_honest old → m.holds old ≡ Some image → (startable : KeepsMessages product text kept image) → outcome.status ≢ 5
     → ReadsAtMost (most_read startable.records) (m.bytes_read old) (m.bytes_read new)
 drill-reads m product text made rest old new outcome did image kept honest read startable other =
     let Counted = λ (events : List Event). did.publisher ≡ tally_publisher_meanings.after (record { tally = no_tally }) events in

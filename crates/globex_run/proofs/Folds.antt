@@ -6,7 +6,7 @@ use Rattle.gx_station.specs.Stations.{sent_and}
 use Rattle.gx_station.specs.SendLaws.{sent_and-append}
 use Rattle.product_file.specs.Products.{ProductLists}
 use Rattle.match_journal.specs.Journal.{Record}
-use Rattle.book_recovery.specs.Kept.{record_messages, messages_in}
+use Rattle.book_recovery.specs.Records.{record_messages, messages_in}
 use Rattle.order_kinds.specs.State.{State}
 use Rattle.order_kinds.specs.Step.{step_of, state_after, events_from}
 use Rattle.book_print.specs.Publishers.{LineForm}

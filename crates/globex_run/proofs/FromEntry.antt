@@ -1,5 +1,5 @@
 -- A session from the image of entry on: its journal is opened, and the input served.
-use Rattle.std.proofs.Common.{◌≡◌, ◌⊎◌, inl, inr, ⊎_elim, ℕ, ◌+◌, ◌-◌, ◌≤◌, max, List, [], ◌∷◌, ◌++◌, length, take, Option, Some, None, Result, Ok, Err, IfSome, refl, sym, ap, subst, ◌∙◌, arith}
+use Rattle.std.proofs.Common.{◌≡◌, ◌⊎◌, inl, inr, ⊎_elim, ℕ, ◌+◌, ◌-◌, ◌≤◌, max, List, [], ◌∷◌, ◌++◌, length, take, Option, Some, None, Result, Ok, Err, IfSome, refl, sym, ap, subst, ◌∙◌, arith, length-append}
 use Rattle.std.proofs.lemmas.List.{append-nil}
 use Rattle.gx_base.specs.KnownBytes.{IsKnownPrefix, known_itself}
 use Rattle.gx_station.specs.Counts.{Rose}
@@ -8,17 +8,18 @@ use Rattle.gx_station.specs.Stations.{StationMeanings, sent_and}
 use Rattle.gx_station.specs.Moments.{AddsOnly}
 use Rattle.match_journal.specs.Journal.{Record}
 use Rattle.match_journal.specs.Causes.{SendsNothing, ReadsAtMost}
-use Rattle.match_journal.specs.Classes.{Keeps, IsBlank, IsSealed}
+use Rattle.match_journal.specs.Classes.{Keeps}
 use Rattle.match_journal.specs.Opening.{IsOpening}
 use Rattle.match_journal.specs.Steps.{HoldsOne}
 use Rattle.match_journal.specs.StepLaws.{adds_then, adds_weaker}
 use Rattle.match_journal.specs.declared.standing.Standing.{Standing}
-use Rattle.book_recovery.specs.Kept.{AreWhole, messages_in, IsGoodJournal}
-use Rattle.book_recovery.specs.Recovering.{state_kept}
+use Rattle.book_recovery.specs.Records.{messages_in, state_kept, AreGoodRecords, AreTrueRecords}
+use Rattle.book_recovery.specs.Kept.{CanBeRecovered}
 use Rattle.match_journal.specs.declared.limits.TheConstants.{MOST_UNFINISHED}
 use Rattle.product_file.specs.declared.limits.TheConstants.{LEAST_JOURNAL}
 use Rattle.product_file.specs.Products.{ProductLists, IsRightProduct}
-use Rattle.order_kinds.specs.State.{State}
+use Rattle.order_kinds.specs.State.{State, state_numbered}
+use Rattle.order_kinds.specs.Cores.{AreNumbered}
 use Rattle.book_print.specs.Publishers.{LineForm}
 use Rattle.gx_base.specs.declared.event.Event.{Event}
 use Rattle.order_kinds.specs.Step.{state_after, events_from}
@@ -27,7 +28,7 @@ use Rattle.globex_run.specs.Outcomes.{outcome_of}
 use Rattle.globex_run.specs.Journals.{AnswersImage, bytes_in, most_read}
 use Rattle.globex_run.specs.RunResult.{EndsAs}
 use Rattle.globex_run.specs.Inner.Recording.{lines_from, IsRecordCrash, Serves, AllKept, Served}
-use Rattle.globex_run.specs.Inner.Serving.{IsDone, CausedBy, EndsServing, ServesInput}
+use Rattle.globex_run.specs.Inner.Serving.{IsDone, CausedBy, HasNoRoomAt, IsLastCounted, EndsServing, ServesInput}
 use Rattle.globex_run.specs.Inner.Sessions.{ending_without, AnswersOpening, IsRefused, Opens, IsAllServed, EndsSession, SessionFrom, SessionResult, IsAtRest}
 use Rattle.globex_run.specs.declared.ending.Ending.{Ending}
 use Rattle.globex_run.specs.declared.ending.Ending.TheVariants.{Done, ReadFault, StoreFault, SendFault, BadFrame, Truncated, NotAJournal, JournalBad, ProductDiffers, Full}
@@ -36,6 +37,8 @@ use Rattle.globex_run.specs.declared.open.Unopened.{Unopened}
 use Rattle.globex_run.specs.declared.open.Unopened.TheVariants as unopened
 use Rattle.globex_run.proofs.Lists.{and_left-none}
 use Rattle.globex_run.proofs.SentReports.{known_more}
+use Rattle.globex_run.proofs.Folds.{messages_in-append}
+use Rattle.globex_run.proofs.KeptMore.{never-last}
 use Rattle.globex_run.proofs.TakenBytes.{taken_by}
 
 -- one of two holds of the image that a read gives
@@ -48,7 +51,10 @@ holds_either m P Q s holds = ⊎_elim
 holds_weaker : {S : Type 0} (m : StationMeanings S) (P Q : List ℕ → Type 0) (s : S) → ((image : List ℕ) → P image → Q image) → HoldsOne m P s → HoldsOne m Q s
 holds_weaker m P Q s weaker holds = record { image = holds.image; read = holds.read; has = weaker holds.image holds.has }
 
-module _ {I S : Type 0} (inputs : SourceMeanings I) (m : StationMeanings S) (line : LineForm) (Published : List Event → Type 0) (product : ProductLists) (text image : List ℕ) (records : List Record) (kept : List (List ℕ)) (old : S) (large : LEAST_JOURNAL ≤ product.journal_limit) where
+module _ {I S : Type 0} (inputs : SourceMeanings I) (m : StationMeanings S) (line : LineForm) (Published : List Event → Type 0) (product : ProductLists) (text image : List ℕ) (records : List Record) (kept : List (List ℕ)) (old : S) (right : IsRightProduct product) where
+  large : LEAST_JOURNAL ≤ product.journal_limit
+  large = right.least_limit
+
   abbrev Crash : List Record → List ℕ → List ℕ → Type 0
   Crash added = IsRecordCrash line product (state_kept product kept) text product.journal_limit records added (length image) (m.sent old)
 
@@ -74,6 +80,7 @@ module _ {I S : Type 0} (inputs : SourceMeanings I) (m : StationMeanings S) (lin
   from_unopened input new state after opens silent =
       let same : records ≡ records ++ [] = sym (append-nil records) in
       record {
+        right = right;
         added = [];
         behind = [];
         are = refl;
@@ -100,7 +107,7 @@ module _ {I S : Type 0} (inputs : SourceMeanings I) (m : StationMeanings S) (lin
       sent_and_itself (Some out) = ap Some (sym (append-nil out))
 
   -- the journal was opened, and the input served
-  module _ (mid : S) (state : State) (Numbered : Type 0) (numbered : Numbered) (journal : Standing) (opens : Opens m product text old mid image records state (Ok journal)) (silent : m.sent mid ≡ m.sent old) (state_is : state ≡ state_kept product kept)
+  module _ (mid : S) (core state : State) (Numbered : Type 0) (numbered : Numbered) (journal : Standing) (opens : Opens m product text old mid image records core (Ok journal)) (silent : m.sent mid ≡ m.sent old) (state_is : state ≡ state_kept product kept) (state_count : state.desk.messages ≡ length (messages_in records))
       (input input' : I) (new : S) (end : ℕ) (then : State) (added : List Record) (behind : List ℕ) (serves : Serves m Numbered line product product.journal_limit mid new journal.gate state added) (count : ℕ) (counted : then.desk.messages ≡ state.desk.messages + count) where
     abbrev most : ℕ
     most = max (length image) MOST_UNFINISHED
@@ -140,6 +147,16 @@ module _ {I S : Type 0} (inputs : SourceMeanings I) (m : StationMeanings S) (lin
     all_served : Served m Numbered line product product.journal_limit mid new journal.gate end state then added → IsAllServed m line product text at_entry at_exit records kept added count
     all_served served = record { sent = served.sent numbered ∙ sent_as (messages_in added); keeps = all_kept served.all_kept; messages = omega (arith, served.count, counted) }
 
+    -- so many messages have no room in a journal that not one more can be counted
+    has_no_room : Served m Numbered line product product.journal_limit mid new journal.gate end state then added → HasNoRoomAt product.journal_limit end behind ⊎ IsLastCounted then.desk.messages behind → HasNoRoomAt product.journal_limit end behind
+    has_no_room served full = ⊎_elim
+        (λ long. long)
+        (λ last.
+        let rests = served.all_kept.at_end text records most opens.at_end in
+        absurd (never-last product right text (records ++ added) rests.image rests.journal.journal
+        (omega (arith, last.0, served.count, state_count, ap (λ (l : List (List ℕ)). length l) (messages_in-append records added), length-append (messages_in records) (messages_in added)))))
+        full
+
     ends_session : (ending : Ending) → EndsServing m Numbered line product product.journal_limit (streams_at inputs m input mid) at_exit journal.gate end state then ending added behind → EndsSession m line product text at_entry at_exit ending count records kept added behind
     ends_session Done ends = all_served ends.0
     ends_session (ReadFault place) ends = all_served ends.0
@@ -164,7 +181,7 @@ module _ {I S : Type 0} (inputs : SourceMeanings I) (m : StationMeanings S) (lin
             end = end;
             end_is = omega (arith, ends.0.all_kept.grown, opens.at_end.journal.gate_is);
             journal = record { image = rests.image; read = rests.rests.read; has = rests.journal };
-            no_room = ends.2;
+            no_room = has_no_room ends.0 ends.2;
           },
         )
 
@@ -197,6 +214,7 @@ module _ {I S : Type 0} (inputs : SourceMeanings I) (m : StationMeanings S) (lin
     pub from_opened : (ending : Ending) → AreWithinReads at_entry.input at_exit.input (length added) → m.bytes_read new ≡ m.bytes_read mid → (Numbered → IsDone ending → Published (events_from product state (messages_in added))) → EndsServing m Numbered line product product.journal_limit (streams_at inputs m input mid) at_exit journal.gate end state then ending added behind
         → SessionFrom m line product text at_entry at_exit Published then image records kept (bytes_in added ++ behind) ending count
     from_opened ending reads bytes published ends = record {
+      right = right;
       at_rest = λ done. done_rests ending done ends;
       is_state = λ done. done_state ending done ends ∙ ap (λ (s : State). state_after product s (messages_in added)) state_is;
       added = added;
@@ -213,12 +231,12 @@ module _ {I S : Type 0} (inputs : SourceMeanings I) (m : StationMeanings S) (lin
 
 -- ---- what else a session tells
 
-module _ {I S : Type 0} (inputs : SourceMeanings I) (m : StationMeanings S) (line : LineForm) (Published : List Event → Type 0) (product : ProductLists) (text : List ℕ) (old : S) where
-  -- what holds of the image, where that is told
-  pub where_told : (told : Option (List ℕ)) (P : List ℕ → Type 0) → ((image : List ℕ) → told ≡ Some image → P image) → IfSome told P
-  where_told None P says = tt
-  where_told (Some image) P says = says image refl
+-- what holds of the image, where that is told
+pub where_told : (told : Option (List ℕ)) (P : List ℕ → Type 0) → ((image : List ℕ) → told ≡ Some image → P image) → IfSome told P
+where_told None P says = tt
+where_told (Some image) P says = says image refl
 
+module _ {I S : Type 0} (inputs : SourceMeanings I) (m : StationMeanings S) (line : LineForm) (Published : List Event → Type 0) (product : ProductLists) (text : List ℕ) (old : S) where
   -- opening raised no count of faults
   pub caused_by : (ending : Ending) (mid : S) (input : I) (after : Streams I S) → m.store_faults mid ≡ m.store_faults old → m.send_faults mid ≡ m.send_faults old → CausedBy ending (streams_at inputs m input mid) after → CausedBy ending (streams_at inputs m input old) after
   caused_by Done mid input after store send cause = (cause.0, cause.1 ∙ store, cause.2 ∙ send)
@@ -234,7 +252,7 @@ module _ {I S : Type 0} (inputs : SourceMeanings I) (m : StationMeanings S) (lin
 
   -- what was opened stays what it was, however serving ends
   pub answers_by : (Numbered : Type 0) (limit : ℕ) (mid : Streams I S) (after : Streams I S) (gate end : ℕ) (state then : State) (added : List Record) (behind image : List ℕ) (ending : Ending) → EndsServing m Numbered line product limit mid after gate end state then ending added behind
-      → (IsBlank image ⊎ IsSealed text image) ⊎ IsGoodJournal text product.journal_limit image → AnswersImage text product.journal_limit image ending
+      → CanBeRecovered product text product.journal_limit image → AnswersImage product text image ending
   answers_by Numbered limit mid after gate end state then added behind image Done ends was = was
   answers_by Numbered limit mid after gate end state then added behind image (ReadFault place) ends was = was
   answers_by Numbered limit mid after gate end state then added behind image StoreFault ends was = tt
@@ -261,12 +279,12 @@ module _ {I S : Type 0} (inputs : SourceMeanings I) (m : StationMeanings S) (lin
     ends_unopened (unopened.Bad at) = record { none = refl; nothing = refl; input = refl }
     ends_unopened (unopened.ProductDiffers at) = record { none = refl; nothing = refl; input = refl }
 
-    pub from_unopened_by : (image : List ℕ) (records : List Record) (kept : List (List ℕ)) (state after : State) (reason : Unopened) → LEAST_JOURNAL ≤ product.journal_limit → m.sent new ≡ m.sent old → Opens m product text old new image records state (Err reason)
+    pub from_unopened_by : (image : List ℕ) (records : List Record) (kept : List (List ℕ)) (state after : State) (reason : Unopened) → IsRightProduct product → m.sent new ≡ m.sent old → Opens m product text old new image records state (Err reason)
         → SessionFrom m line product text (streams_at inputs m input old) (streams_at inputs m input new) Published after image records kept [] (ending_without reason) 0
-    from_unopened_by image records kept state after unopened.Store large silent opens = from_unopened inputs m line Published product text image records kept old large input new state after opens silent
-    from_unopened_by image records kept state after (unopened.NotAJournal at) large silent opens = absurd (opens.accepted tt)
-    from_unopened_by image records kept state after (unopened.Bad at) large silent opens = absurd (opens.accepted tt)
-    from_unopened_by image records kept state after (unopened.ProductDiffers at) large silent opens = absurd (opens.accepted tt)
+    from_unopened_by image records kept state after unopened.Store right silent opens = from_unopened inputs m line Published product text image records kept old right input new state after opens silent
+    from_unopened_by image records kept state after (unopened.NotAJournal at) right silent opens = absurd (opens.accepted tt)
+    from_unopened_by image records kept state after (unopened.Bad at) right silent opens = absurd (opens.accepted tt)
+    from_unopened_by image records kept state after (unopened.ProductDiffers at) right silent opens = absurd (opens.accepted tt)
 
 -- ---- the outcome
 
@@ -283,7 +301,7 @@ count_told (JournalBad place) count = refl
 count_told (ProductDiffers place) count = refl
 count_told (Full place) count = refl
 
-count_is : (outcome : Outcome) (ending : Ending) (count : ℕ) → outcome ≡ outcome_of ending count → outcome.messages ≡ count
+pub count_is : (outcome : Outcome) (ending : Ending) (count : ℕ) → outcome ≡ outcome_of ending count → outcome.messages ≡ count
 count_is outcome ending count is = ap (λ (o : Outcome). o.messages) is ∙ count_told ending count
 
 -- a status that refuses the image comes only where it was refused
@@ -309,13 +327,13 @@ no_fewer m Numbered line product limit mid after gate end state then added behin
 no_fewer m Numbered line product limit mid after gate end state then added behind (ProductDiffers place) ends = absurd ends
 no_fewer m Numbered line product limit mid after gate end state then added behind (Full place) ends = omega (arith, ends.0.count)
 
-module _ {I S : Type 0} (inputs : SourceMeanings I) (m : StationMeanings S) (line : LineForm) (Published : List Event → Type 0) (product : ProductLists) (text : List ℕ) (old mid : S) (input : I) (state : State) (right : IsRightProduct product) (silent : SendsNothing m old mid) where
-  -- what opening ensures of an image that keeps whole records
+module _ {I S : Type 0} (inputs : SourceMeanings I) (m : StationMeanings S) (line : LineForm) (Published : List Event → Type 0) (product : ProductLists) (text : List ℕ) (old mid : S) (input : I) (core : State) (right : IsRightProduct product) (silent : SendsNothing m old mid) where
+  -- what opening ensures of an image from which a run can start
   abbrev pub OpensAs : Result Standing Unopened → Type 0
-  OpensAs result = (image : List ℕ) (records : List Record) → m.is_honest old → m.holds old ≡ Some image → Keeps text product.journal_limit records image → AreWhole records → Opens m product text old mid image records state result
+  OpensAs result = (image : List ℕ) (records : List Record) → m.is_honest old → m.holds old ≡ Some image → Keeps text product.journal_limit records image → AreGoodRecords product 0 records → AreTrueRecords product [] records → Opens m product text old mid image records core result
 
   pub unopened_session : (after : State) (reason : Unopened) (outcome : Outcome) → outcome ≡ outcome_of (ending_without reason) 0 → (reason ≡ unopened.Store → Rose (m.store_faults old) (m.store_faults mid)) → ((reason ≡ unopened.Store → ⊥) → m.store_faults mid ≡ m.store_faults old)
-      → ((image : List ℕ) → m.holds old ≡ Some image → AnswersImage text product.journal_limit image (ending_without reason)) → OpensAs (Err reason) → SessionResult m line product text (streams_at inputs m input old) (streams_at inputs m input mid) Published after outcome
+      → ((image : List ℕ) → m.holds old ≡ Some image → AnswersImage product text image (ending_without reason)) → OpensAs (Err reason) → SessionResult m line product text (streams_at inputs m input old) (streams_at inputs m input mid) Published after outcome
   unopened_session after reason outcome is store none answers opens =
       let count = count_is outcome (ending_without reason) 0 is in
       record {
@@ -323,7 +341,7 @@ module _ {I S : Type 0} (inputs : SourceMeanings I) (m : StationMeanings S) (lin
         ending = ending_without reason;
         is = is ∙ ap (outcome_of (ending_without reason)) (sym count);
         cause = caused_unopened inputs m line Published product text old input mid silent.send_faults reason store none;
-        image = where_told inputs m line Published product text old (m.holds old) _ answers;
+        image = where_told (m.holds old) _ answers;
         serving = record {
           taken = [];
           took = and_left-none (inputs.left input);
@@ -332,15 +350,17 @@ module _ {I S : Type 0} (inputs : SourceMeanings I) (m : StationMeanings S) (lin
         };
         from = λ image kept honest read startable.
             subst (λ n. SessionFrom m line product text (streams_at inputs m input old) (streams_at inputs m input mid) Published after image startable.records kept [] (ending_without reason) n) (sym count)
-            (from_unopened_by inputs m line Published product text old input mid silent.send_faults image startable.records kept state after reason right.least_limit silent.sent (opens image startable.records honest read startable.keeps startable.whole));
+            (from_unopened_by inputs m line Published product text old input mid silent.send_faults image startable.records kept core after reason right silent.sent (opens image startable.records honest read startable.keeps startable.good startable.are_true));
       }
 
-  pub opened_session : (Numbered : Type 0) (numbered : Numbered) (journal : Standing) (limit_is : journal.limit ≡ product.journal_limit) (store : m.store_faults mid ≡ m.store_faults old) (answers : (image : List ℕ) → m.holds old ≡ Some image → AnswersOpening text product.journal_limit image (Ok journal)) (opens : OpensAs (Ok journal)) (input' : I) (new : S) (end : ℕ)
-      (then : State) (ending : Ending) → ServesInput m Numbered line product journal.limit (streams_at inputs m input mid) (streams_at inputs m input' new) journal.gate end state then Published ending → CausedBy ending (streams_at inputs m input mid) (streams_at inputs m input' new) → m.bytes_read new ≡ m.bytes_read mid
-      → (outcome : Outcome) (counts : ℕ) → counts ≡ then.desk.messages - state.desk.messages → outcome ≡ outcome_of ending counts → SessionResult m line product text (streams_at inputs m input old) (streams_at inputs m input' new) Published then outcome
-  opened_session Numbered numbered journal limit_is store answers opens input' new end then ending serves cause bytes outcome counts more is =
+  pub opened_session : (journal : Standing) (limit_is : journal.limit ≡ product.journal_limit) (store : m.store_faults mid ≡ m.store_faults old) (answers : (image : List ℕ) → m.holds old ≡ Some image → AnswersOpening product text image (Ok journal)) (opens : OpensAs (Ok journal)) (input' : I) (new : S) (end : ℕ)
+      (then : State) (ending : Ending) → ServesInput m (AreNumbered core) line product journal.limit (streams_at inputs m input mid) (streams_at inputs m input' new) journal.gate end (state_numbered core) then Published ending → CausedBy ending (streams_at inputs m input mid) (streams_at inputs m input' new) → m.bytes_read new ≡ m.bytes_read mid
+      → (outcome : Outcome) (counts : ℕ) → counts ≡ then.desk.messages - core.desk.messages → outcome ≡ outcome_of ending counts → SessionResult m line product text (streams_at inputs m input old) (streams_at inputs m input' new) Published then outcome
+  opened_session journal limit_is store answers opens input' new end then ending serves cause bytes outcome counts more is =
       let before = streams_at inputs m input mid in
       let after = streams_at inputs m input' new in
+      let Numbered = AreNumbered core in
+      let state = state_numbered core in
       let served = subst (λ k. ServesInput m Numbered line product k before after journal.gate end state then Published ending) limit_is serves in
       let count = count_is outcome ending counts is in
       let counted : then.desk.messages ≡ state.desk.messages + outcome.messages =
@@ -351,10 +371,11 @@ module _ {I S : Type 0} (inputs : SourceMeanings I) (m : StationMeanings S) (lin
         ending = ending;
         is = is ∙ ap (outcome_of ending) (sym count);
         cause = caused_by inputs m line Published product text old ending mid input after store silent.send_faults cause;
-        image = where_told inputs m line Published product text old (m.holds old) _ (λ image read. answers_by inputs m line Published product text old Numbered product.journal_limit before after journal.gate end state then served.added served.behind image ending served.ends (answers image read));
+        image = where_told (m.holds old) _ (λ image read. answers_by inputs m line Published product text old Numbered product.journal_limit before after journal.gate end state then served.added served.behind image ending served.ends (answers image read));
         serving = record { taken = bytes_in served.added ++ served.behind; took = served.took; some = taken.0; ends = taken.1 };
         from = λ image kept honest read startable.
-            let from_image = opens image startable.records honest read startable.keeps startable.whole in
-            from_opened inputs m line Published product text image startable.records kept old right.least_limit mid state Numbered numbered journal from_image silent.sent (from_image.is_state ∙ ap (state_kept product) (sym startable.are)) input input' new end then served.added served.behind served.serves outcome.messages counted ending served.reads bytes served.published
+            let from_image = opens image startable.records honest read startable.keeps startable.good startable.are_true in
+            let at_start = from_image.is_state in
+            from_opened inputs m line Published product text image startable.records kept old right mid core state Numbered at_start.numbered journal from_image silent.sent (at_start.state_is ∙ ap (state_kept product) (sym startable.are)) at_start.count_is input input' new end then served.added served.behind served.serves outcome.messages counted ending served.reads bytes served.published
             served.ends;
       }

@@ -14,8 +14,8 @@ use Rattle.match_journal.specs.Classes.{Keeps}
 use Rattle.match_journal.specs.Steps.{HoldsOne}
 use Rattle.match_journal.specs.StepLaws.{adds_weaker}
 use Rattle.order_kinds.specs.State.{State}
-use Rattle.book_recovery.specs.Kept.{IsWhole, AreWhole, messages_in, KeepsMessages}
-use Rattle.book_recovery.specs.Recovering.{state_kept}
+use Rattle.book_recovery.specs.Records.{IsWhole, AreWhole, messages_in, state_kept}
+use Rattle.book_recovery.specs.Kept.{KeepsMessages}
 use Rattle.book_print.specs.Publishers.{LineForm}
 use Rattle.globex_run.specs.Outside.{SourceAt, Outside}
 use Rattle.globex_run.specs.Outcomes.{outcome_of}
@@ -29,7 +29,8 @@ use Rattle.globex_run.specs.declared.ending.Ending.TheVariants.{Done, ReadFault,
 use Rattle.globex_run.specs.Journals.{bytes_in, length_of_records, records_length, end_of_journal}
 use Rattle.match_journal.specs.Journal.{Record, IsRecord}
 use Rattle.globex_run.proofs.Folds.{messages_in-append}
-use Rattle.globex_run.proofs.Additions.{all_front, all_back, all_append, first_served, within_served, records_joined, each_alone, records_length-append, one_record}
+use Rattle.globex_run.proofs.KeptMore.{keeps-frames}
+use Rattle.globex_run.proofs.Additions.{all_front, all_back, first_served, within_served, records_joined, each_alone, records_length-append, one_record}
 use Rattle.globex_run.proofs.Told.{outside_of}
 
 module _ {P I S : Type 0} (m : StationMeanings S) (p q : SourceAt P) (i j : SourceAt I) (old new : S) (line : LineForm) (Published : List Event → Type 0) (then : State) (outcome : Outcome) where
@@ -50,7 +51,7 @@ module _ {P I S : Type 0} (m : StationMeanings S) (p q : SourceAt P) (i j : Sour
 
     -- an image that keeps the earlier messages and then these
     abbrev KeepsAt : List (List ℕ) → List ℕ → Type 0
-    KeepsAt messages left = KeepsMessages given.text given.product.journal_limit (given.kept ++ messages) left
+    KeepsAt messages left = KeepsMessages given.product given.text (given.kept ++ messages) left
 
     -- what is sent of the messages in these records
     abbrev lines_in : List Record → List ℕ
@@ -78,15 +79,12 @@ module _ {P I S : Type 0} (m : StationMeanings S) (p q : SourceAt P) (i j : Sour
 
         -- an image that keeps the first records keeps their messages
         keeps_served : (messages : List (List ℕ)) → messages ≡ messages_in served → (left : List ℕ) → Keeps given.text given.product.journal_limit (given.startable.records ++ served) left → KeepsAt messages left
-        keeps_served messages same left keeps = record {
-          records = given.startable.records ++ served;
-          keeps = keeps;
-          whole = all_append IsWhole given.startable.records served given.startable.whole (all_front IsWhole served others (subst (λ (l : List Record). AreWhole l) parts from.whole));
-          are =
-              ap (λ (l : List (List ℕ)). given.kept ++ l) same
-              ∙ ap (λ (l : List (List ℕ)). l ++ messages_in served) given.startable.are
-              ∙ sym (messages_in-append given.startable.records served);
-        }
+        keeps_served messages same left keeps =
+            keeps-frames given.product from.right given.text given.startable.records given.startable.good given.startable.are_true
+            served (all_front IsWhole served others (subst (λ (l : List Record). AreWhole l) parts from.whole)) left (given.kept ++ messages) keeps
+            (ap (λ (l : List (List ℕ)). given.kept ++ l) same
+            ∙ ap (λ (l : List (List ℕ)). l ++ messages_in served) given.startable.are
+            ∙ sym (messages_in-append given.startable.records served))
 
         -- and so does what a read gives
         pub keeps_now : (messages : List (List ℕ)) → messages ≡ messages_in served → HoldsOne m (Keeps given.text given.product.journal_limit (given.startable.records ++ served)) new → KeepsNow m entry exit outcome given (messages_of taken) sends messages
@@ -140,7 +138,7 @@ module _ {P I S : Type 0} (m : StationMeanings S) (p q : SourceAt P) (i j : Sour
           record {
             count = 0;
             within = omega arith;
-            keeps = subst (λ (l : List (List ℕ)). KeepsMessages given.text given.product.journal_limit l left) (sym (append-nil given.kept)) (subst (λ (l : List ℕ). KeepsMessages given.text given.product.journal_limit given.kept l) same given.startable);
+            keeps = subst (λ (l : List (List ℕ)). KeepsMessages given.product given.text l left) (sym (append-nil given.kept)) (subst (λ (l : List ℕ). KeepsMessages given.product given.text given.kept l) same given.startable);
             no_longer = omega (arith, ap (λ (l : List ℕ). length l) same);
             output = [];
             front = nothing;

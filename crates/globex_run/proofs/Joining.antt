@@ -10,7 +10,7 @@ use Rattle.match_journal.specs.Journal.{Record}
 use Rattle.match_journal.specs.Classes.{Keeps}
 use Rattle.match_journal.specs.Appending.{IsJournalTo}
 use Rattle.match_journal.specs.StepLaws.{adds_then, adds_weaker}
-use Rattle.book_recovery.specs.Kept.{IsWhole, messages_in}
+use Rattle.book_recovery.specs.Records.{IsWhole, messages_in}
 use Rattle.product_file.specs.Products.{ProductLists}
 use Rattle.order_kinds.specs.State.{State}
 use Rattle.order_kinds.specs.Step.{state_after}

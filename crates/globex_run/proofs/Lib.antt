@@ -11,6 +11,7 @@ mod Turns
 mod Openings
 mod TakenBytes
 mod FromEntry
+mod KeptMore
 mod Reported
 mod Told
 mod Headlines
@@ -19,6 +20,8 @@ mod ReadRecords
 mod Complete
 mod Drills
 mod Drilled
+mod Checkpointed
+mod CheckpointHeadlines
 mod Executed
 mod FewReads
 mod Runs

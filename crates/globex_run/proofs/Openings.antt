@@ -1,5 +1,5 @@
 -- A journal is opened, and then recovered.
-use Rattle.std.proofs.Common.{◌≡◌, ◌⊎◌, inl, inr, ⊎_elim, ℕ, ◌+◌, ◌-◌, ◌*◌, ◌≤◌, List, [], length, Some, Result, Ok, Err, sym, ap, subst, ◌∙◌, arith}
+use Rattle.std.proofs.Common.{◌≡◌, ◌⊎◌, inl, inr, ⊎_elim, ℕ, ◌+◌, ◌-◌, ◌*◌, ◌≤◌, List, [], length, Option, Some, Result, Ok, Err, sym, ap, ap₂, subst, ◌∙◌, arith}
 use Rattle.gx_station.specs.Stations.{StationMeanings}
 use Rattle.gx_station.specs.Moments.{AddsOnly}
 use Rattle.gx_station.specs.Honest.{KeepsImage, IsSettled}
@@ -17,9 +17,10 @@ use Rattle.match_journal.specs.declared.standing.Standing.{Standing}
 use Rattle.match_journal.specs.declared.faults.StartFault.{StartFault}
 use Rattle.product_file.specs.Products.{ProductLists}
 use Rattle.order_kinds.specs.State.{State}
-use Rattle.book_recovery.specs.Kept.{AreWhole, messages_in, IsGoodJournal}
+use Rattle.book_recovery.specs.Records.{from_last_image, image_gate, messages_in, AreGoodRecords, AreTrueRecords}
+use Rattle.book_recovery.specs.Kept.{CanBeRecovered}
+use Rattle.book_recovery.specs.Recovering.{first_read, IsStateAfter, Recovers}
 use Rattle.book_recovery.specs.BadPlaces.{IsBadPlace}
-use Rattle.book_recovery.specs.Recovering.{state_kept, Recovers}
 use Rattle.book_recovery.specs.declared.recovery.Recovered.{Recovered}
 use Rattle.book_recovery.specs.declared.recovery.RecoverFault.{RecoverFault}
 use Rattle.book_recovery.specs.declared.recovery.RecoverFault.TheVariants as fault
@@ -28,7 +29,9 @@ use Rattle.globex_run.specs.Inner.Sessions.{Opens}
 use Rattle.globex_run.specs.declared.open.Unopened.TheVariants as unopened
 use Rattle.match_journal.proofs.Unique.{journal_opened, one_keeping}
 use Rattle.book_recovery.proofs.OneWay.{no_bad_place}
-use Rattle.globex_run.proofs.Additions.{front-length}
+use Rattle.book_recovery.proofs.FromLastImage.{good-from-last, front-from-last}
+use Rattle.book_recovery.proofs.Images.{length-first}
+use Rattle.globex_run.proofs.Additions.{open-length}
 
 -- a look behind other calls adds no image and no output
 pub adds_looked : {S : Type 0} (m : StationMeanings S) (a b c : S) (P : List ℕ → List ℕ → Type 0) → AddsOnly m a b P → KeepsImage m b c → AddsOnly m a c P
@@ -89,16 +92,16 @@ module _ {S : Type 0} (m : StationMeanings S) (product : ProductLists) (text : L
           subst (λ k. Recovers product text k last gate state result) limit_is
           (recovers text last held (long image last read held) (omega (arith, least, ap (λ (s : Standing). s.limit) place)) opened (ap (λ (s : Standing). s.first) place))
 
-      -- a journal of whole records is not bad
-      not_bad : (records : List Record) (at : ℕ) → result ≡ Err (fault.Bad at) → HoldsOne m (IsJournal text product.journal_limit records) mid → AreWhole records → ⊥
-      not_bad records at is last whole =
-          no_bad_place text product.journal_limit records last.image at last.has whole
+      -- a journal of good records is not bad
+      not_bad : (records : List Record) (at : ℕ) → result ≡ Err (fault.Bad at) → HoldsOne m (IsJournal text product.journal_limit records) mid → AreGoodRecords product 0 records → ⊥
+      not_bad records at is last good =
+          no_bad_place product text product.journal_limit records last.image at last.has (good-from-last product records good)
           (subst (Recovers product text product.journal_limit last.image gate state) is (answered last.image last.read (journal_opened text product.journal_limit last.image records short last.has)))
 
-      pub kept_not_bad : (records : List Record) (at : ℕ) → result ≡ Err (fault.Bad at) → Keeps text product.journal_limit records image → AreWhole records → ⊥
-      kept_not_bad records at is keeps whole =
+      pub kept_not_bad : (records : List Record) (at : ℕ) → result ≡ Err (fault.Bad at) → Keeps text product.journal_limit records image → AreGoodRecords product 0 records → ⊥
+      kept_not_bad records at is keeps good =
           let last = (steps records keeps).ends read in
-          not_bad records at is (record { image = last.image; read = last.read; has = last.has.1 }) whole
+          not_bad records at is (record { image = last.image; read = last.read; has = last.has.1 }) good
 
       -- a journal that is bad was one before
       module _ (at : ℕ) (is : result ≡ Err (fault.Bad at)) (was : (IsBlank image ⊎ IsSealed text image) ⊎ IsOpened text image) (makes : MakesWithin m text old mid limit) where
@@ -109,32 +112,34 @@ module _ {S : Type 0} (m : StationMeanings S) (product : ProductLists) (text : L
           pub bad_stays : (new : S) → KeepsImage m mid new → KeepsImage m old new
           bad_stays new looks = keeps_then m old mid new (stayed image read was_opened.0) looks
 
-          pub bad_answers : (told : ℕ) → at ≡ told → HasBadHeader image told ⊎ (IsOpened text image × IsBadPlace text product.journal_limit image told)
+          pub bad_answers : (told : ℕ) → at ≡ told → HasBadHeader image told ⊎ (IsOpened text image × IsBadPlace product text product.journal_limit image told)
           bad_answers told told_is =
               let found = subst (Recovers product text product.journal_limit image gate state) is (answered image ((stayed image read was_opened.0).holds ∙ read) was_opened) in
-              inr (was_opened, subst (IsBadPlace text product.journal_limit image) told_is found)
+              inr (was_opened, subst (IsBadPlace product text product.journal_limit image) told_is found)
 
-      -- a journal whose records were all replayed is a good one
+      -- a journal that was recovered is good from the last book image on
       pub good_answers : (recovered : Recovered) → result ≡ Ok recovered → (IsBlank image ⊎ IsSealed text image) ⊎ IsOpened text image → ((before : List ℕ) → m.holds old ≡ Some before → HasOpenGate before → KeepsImage m old mid)
-          → (IsBlank image ⊎ IsSealed text image) ⊎ IsGoodJournal text product.journal_limit image
+          → CanBeRecovered product text product.journal_limit image
       good_answers recovered is was stayed = ⊎_elim
           (λ unfinished. inl unfinished)
           (λ opened.
           let found = subst (Recovers product text product.journal_limit image gate state) is (answered image ((stayed image read opened.0).holds ∙ read) opened) in
-          inr record { records = found.records; journal = found.journal.journal; whole = found.whole })
+          inr record { records = found.records; journal = found.journal.journal; good = found.good })
           was
 
       -- what was read of a journal that keeps these records
-      few_read : (records : List Record) (recovered : Recovered) (new : S) → recovered.entries ≡ length records → gate ≡ length (journal_front text records) → ReadsAtMost MOST_UNFINISHED (m.bytes_read old) (m.bytes_read mid)
-          → ReadsAtMost (6 * (recovered.entries + 1) + (gate - journal.first)) (m.bytes_read mid) (m.bytes_read new) → ReadsAtMost (most_read records) (m.bytes_read old) (m.bytes_read new)
-      few_read records recovered new entries gate_is opened replayed =
-          reads_more _ (most_read records) (m.bytes_read old) (m.bytes_read new) (omega (arith, entries, gate_is, front-length text records, ap (λ (s : Standing). s.first) place))
-          (reads_then MOST_UNFINISHED (6 * (recovered.entries + 1) + (gate - journal.first)) (m.bytes_read old) (m.bytes_read mid) (m.bytes_read new) opened replayed)
+      few_read : (records : List Record) (recovered : Recovered) (new : S) → recovered.entries ≡ length records → recovered.image_at ≡ image_gate text records → gate ≡ length (journal_front text records) → ReadsAtMost MOST_UNFINISHED (m.bytes_read old) (m.bytes_read mid)
+          → ReadsAtMost (6 * (recovered.entries + 1) + (gate - first_read recovered.image_at journal.first)) (m.bytes_read mid) (m.bytes_read new) → ReadsAtMost (most_read records) (m.bytes_read old) (m.bytes_read new)
+      few_read records recovered new entries image_is gate_is opened replayed =
+          let first : first_read recovered.image_at journal.first ≡ first_read (image_gate text records) (length (journal_front text [])) =
+          ap₂ (λ (at : Option ℕ) (k : ℕ). first_read at k) image_is (ap (λ (s : Standing). s.first) place ∙ sym (length-first text)) in
+          reads_more _ (most_read records) (m.bytes_read old) (m.bytes_read new) (omega (arith, entries, gate_is, first, front-from-last text records, open-length (from_last_image records)))
+          (reads_then MOST_UNFINISHED (6 * (recovered.entries + 1) + (gate - first_read recovered.image_at journal.first)) (m.bytes_read old) (m.bytes_read mid) (m.bytes_read new) opened replayed)
 
-      -- every record was replayed
-      pub opens_recovered : (new : S) (looks : KeepsImage m mid new) → KeepsWithin m text old mid limit → (then : Standing) (recovered : Recovered) → then.gate ≡ gate → result ≡ Ok recovered → (m.is_honest old → IsSettled m mid) → ReadsAtMost MOST_UNFINISHED (m.bytes_read old) (m.bytes_read mid) → ReadsAtMost (6 * (recovered.entries + 1) + (gate - journal.first)) (m.bytes_read mid) (m.bytes_read new)
-          → (records : List Record) → m.is_honest old → Keeps text product.journal_limit records image → Opens m product text old new image records state (Ok then)
-      opens_recovered new looks holds then recovered stands is settled opened replayed records honest keeps =
+      -- the journal was recovered
+      pub opens_recovered : (new : S) (looks : KeepsImage m mid new) → KeepsWithin m text old mid limit → (then : Standing) (recovered : Recovered) → then.gate ≡ gate → result ≡ Ok recovered → (m.is_honest old → IsSettled m mid) → ReadsAtMost MOST_UNFINISHED (m.bytes_read old) (m.bytes_read mid) → ReadsAtMost (6 * (recovered.entries + 1) + (gate - first_read recovered.image_at journal.first)) (m.bytes_read mid) (m.bytes_read new)
+          → (records : List Record) → m.is_honest old → Keeps text product.journal_limit records image → AreTrueRecords product [] records → Opens m product text old new image records state (Ok then)
+      opens_recovered new looks holds then recovered stands is settled opened replayed records honest keeps are_true =
           let last = (steps records keeps).ends read in
           let adds = (steps records keeps).moments honest read in
           let found = subst (Recovers product text product.journal_limit last.image gate state) is (answered last.image last.read (journal_opened text product.journal_limit last.image records short last.has.1)) in
@@ -150,6 +155,6 @@ module _ {S : Type 0} (m : StationMeanings S) (product : ProductLists) (text : L
               journal = subst (λ k. IsJournalTo text product.journal_limit records k last.image) (sym stands) (subst (λ (rs : List Record). IsJournalTo text product.journal_limit rs gate last.image) one found.journal);
               short = last.has.0.no_longer;
             };
-            is_state = subst (λ (rs : List Record). state ≡ state_kept product (messages_in rs)) one found.is_state;
-            bytes = subst (λ (rs : List Record). ReadsAtMost (most_read rs) (m.bytes_read old) (m.bytes_read new)) one (few_read found.records recovered new found.entries found.journal.gate_is opened replayed);
+            is_state = subst (λ (rs : List Record). AreTrueRecords product [] rs → IsStateAfter product (messages_in rs) state) one found.kept are_true;
+            bytes = subst (λ (rs : List Record). ReadsAtMost (most_read rs) (m.bytes_read old) (m.bytes_read new)) one (few_read found.records recovered new found.entries found.image_at found.journal.gate_is opened replayed);
           }

@@ -8,8 +8,7 @@ use Rattle.gx_station.specs.Stations.{StationMeanings, sent_and}
 use Rattle.fix_frame.specs.Stream.{messages_of}
 use Rattle.order_kinds.specs.State.{State}
 use Rattle.match_journal.specs.Journal.{Record}
-use Rattle.book_recovery.specs.Kept.{messages_in}
-use Rattle.book_recovery.specs.Recovering.{state_kept}
+use Rattle.book_recovery.specs.Records.{messages_in, state_kept}
 use Rattle.globex_run.specs.Outside.{SourceAt, Outside}
 use Rattle.globex_run.specs.Outcomes.{outcome_of}
 use Rattle.globex_run.specs.RunResult.{EndsAs, AreAll, first_messages}

@@ -1,5 +1,5 @@
 -- The bytes taken, and their messages: those of the records added, and what stands behind.
-use Rattle.std.proofs.Common.{◌≡◌, ℕ, ◌+◌, ◌≤◌, List, [], ◌∷◌, ◌++◌, length, take, drop, refl, sym, ap, subst, ◌∙◌, arith, length-append}
+use Rattle.std.proofs.Common.{◌≡◌, ◌⊎◌, ⊎_elim, ℕ, ◌+◌, ◌≤◌, List, [], ◌∷◌, ◌++◌, length, take, drop, refl, sym, ap, subst, ◌∙◌, arith, length-append}
 use Rattle.std.specs.List.{concat}
 use Rattle.std.proofs.lemmas.List.{take_at, drop_at}
 use Rattle.std.proofs.lemmas.Grind.{flat_map-append}
@@ -9,14 +9,14 @@ use Rattle.fix_frame.specs.Grammar.{IsFrameFront}
 use Rattle.fix_frame.specs.FrontLaws.{unfinished_front, unfinished_none}
 use Rattle.fix_frame.specs.StreamLaws.{messages_of-unfinished, messages_of-refused, rest_of-none}
 use Rattle.match_journal.specs.Journal.{Record}
-use Rattle.book_recovery.specs.Kept.{AreWhole, record_messages, messages_in}
+use Rattle.book_recovery.specs.Records.{AreWhole, record_messages, messages_in}
 use Rattle.product_file.specs.Products.{ProductLists}
 use Rattle.order_kinds.specs.State.{State}
 use Rattle.book_print.specs.Publishers.{LineForm}
 use Rattle.globex_run.specs.Outside.{Streams}
 use Rattle.globex_run.specs.Journals.{bytes_in}
-use Rattle.globex_run.specs.RunResult.{AreAll, end_of_messages, EndsAs}
-use Rattle.globex_run.specs.Inner.Serving.{EndsServing}
+use Rattle.globex_run.specs.RunResult.{AreAll, BeginsWithFrame, end_of_messages, EndsAs}
+use Rattle.globex_run.specs.Inner.Serving.{HasNoRoomAt, IsLastCounted, EndsServing}
 use Rattle.globex_run.specs.declared.ending.Ending.{Ending}
 use Rattle.globex_run.specs.declared.ending.Ending.TheVariants.{Done, ReadFault, StoreFault, SendFault, BadFrame, Truncated, NotAJournal, JournalBad, ProductDiffers, Full}
 use Rattle.globex_run.proofs.Additions.{records_then, records_joined}
@@ -38,6 +38,13 @@ module _ (added : List Record) (behind : List ℕ) (whole : AreWhole added) (cou
 
   rest_is : rest_of taken ≡ rest_of behind
   rest_is = (records_then added behind whole).1
+
+-- where the next message has no room, it stands behind the records
+frame_behind : (limit end count : ℕ) (behind : List ℕ) → HasNoRoomAt limit end behind ⊎ IsLastCounted count behind → BeginsWithFrame behind
+frame_behind limit end count behind full = ⊎_elim
+    (λ long. record { frame = long.frame; more = long.more; is_frame = long.is_frame; front = long.front })
+    (λ counted. counted.1)
+    full
 
 module _ {I S : Type 0} (m : StationMeanings S) (Numbered : Type 0) (line : LineForm) (product : ProductLists) (limit : ℕ) (before mid after : Streams I S) (gate end : ℕ) (state then : State) (added : List Record) (behind : List ℕ) (whole : AreWhole added) (count : ℕ) (counted : then.desk.messages ≡ state.desk.messages + count) where
   -- how many of the messages taken were counted, and what the bytes taken are at an ending
@@ -75,11 +82,12 @@ module _ {I S : Type 0} (m : StationMeanings S) (Numbered : Type 0) (line : Line
         some added behind whole count is,
         (
           ends.1 ∙ sym (end_is added behind whole count is),
-          record {
-            frame = ends.2.frame;
-            more = ends.2.more;
-            is_frame = ends.2.is_frame;
-            front = ap (λ k. drop k (bytes_in added ++ behind)) ends.1 ∙ drop_at (bytes_in added) behind (length (bytes_in added)) refl ∙ ends.2.front;
-          },
+          let follows = frame_behind limit end then.desk.messages behind ends.2 in
+              record {
+                frame = follows.frame;
+                more = follows.more;
+                is_frame = follows.is_frame;
+                front = ap (λ k. drop k (bytes_in added ++ behind)) ends.1 ∙ drop_at (bytes_in added) behind (length (bytes_in added)) refl ∙ follows.front;
+              },
         ),
       )

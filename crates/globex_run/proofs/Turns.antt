@@ -8,16 +8,17 @@ use Rattle.gx_station.specs.Stations.{StationMeanings}
 use Rattle.fix_frame.specs.Grammar.{IsUnfinished, IsRefused}
 use Rattle.fix_frame.specs.Framing.{Framing}
 use Rattle.match_journal.specs.Journal.{IsJournal, Record, frames_record}
-use Rattle.book_recovery.specs.Kept.{messages_in}
+use Rattle.book_recovery.specs.Records.{messages_in}
 use Rattle.product_file.specs.Products.{ProductLists}
 use Rattle.order_kinds.specs.State.{State}
+use Rattle.order_kinds.specs.declared.core_state.TheConstants.{MOST_MESSAGES}
 use Rattle.book_print.specs.Publishers.{LineForm, PublisherMeanings}
 use Rattle.gx_base.specs.declared.event.Event.{Event}
 use Rattle.order_kinds.specs.Step.{events_from}
 use Rattle.globex_run.specs.Outside.{SourceAt, Streams, AreWithinReads, station_at}
 use Rattle.globex_run.specs.Journals.{bytes_in, length_of_records}
 use Rattle.globex_run.specs.Inner.Recording.{Serves, Served}
-use Rattle.globex_run.specs.Inner.Serving.{TakesMore, record_of, HasNoRoomBehind, GivesFrames, FailsToKeep, FailsToSend, AnswersFrames, IsEmptyFramer, CausedBy, HasNoRoomAt, EndsServing, ServesInput, ending_by}
+use Rattle.globex_run.specs.Inner.Serving.{TakesMore, record_of, HasNoRoomBehind, AreMostGiven, GivesFrames, FailsToKeep, FailsToSend, AnswersFrames, IsEmptyFramer, CausedBy, HasNoRoomAt, IsLastCounted, EndsServing, ServesInput, ending_by}
 use Rattle.globex_run.specs.declared.give_frames.Behind.{Behind}
 use Rattle.globex_run.specs.declared.serve_record.Unserved.{Unserved}
 use Rattle.globex_run.specs.declared.serve_record.Unserved.TheVariants as unserved
@@ -131,12 +132,12 @@ module _ {I S : Type 0} (m : StationMeanings S) (Numbered : Type 0) (line : Line
     ends_broken at is broken = ended input refl refl (BadFrame at) (turn.did, is ∙ turn.offset, broken)
 
     -- or a frame that has no room
-    pub ends_full : (at : ℕ) → at ≡ framing.offset → HasNoRoomAt limit end framing.rest → ServesInput m Numbered line product limit before (record { input = input; station = station_at m now }) gate end state s Published (Full at)
+    pub ends_full : (at : ℕ) → at ≡ framing.offset → HasNoRoomAt limit end framing.rest ⊎ IsLastCounted s.desk.messages framing.rest → ServesInput m Numbered line product limit before (record { input = input; station = station_at m now }) gate end state s Published (Full at)
     ends_full at is full = ended input refl refl (Full at) (turn.did, is ∙ turn.offset, full)
 
   -- ---- frames were given
 
-  module _ (input : SourceAt I) (now : S) (end : ℕ) (s : State) (framing : Framing) (Published : List Event → Type 0) (turn : Turn 1 input now end s framing Published) (room : ℕ) (next : Framing) (stands : Behind) (gives : GivesFrames room framing next stands) where
+  module _ (input : SourceAt I) (now : S) (end : ℕ) (s : State) (framing : Framing) (Published : List Event → Type 0) (turn : Turn 1 input now end s framing Published) (room most : ℕ) (next : Framing) (stands : Behind) (gives : GivesFrames room most framing next stands) where
     abbrev frames : List (List ℕ)
     frames = next.given
 
@@ -243,6 +244,14 @@ no_room limit gate end frames rest end_is behind = record {
   front = behind.front;
   too_long = omega (arith, end_is, behind.too_long);
 }
+
+-- nor has it where as many are counted as may be
+pub no_room_behind : (limit gate end before most count : ℕ) (f : Framing) → end ≡ gate + length_of_records (record_of f.given) → most ≡ MOST_MESSAGES - 1 - before → before < MOST_MESSAGES → count ≡ before + length f.given
+    → HasNoRoomBehind (limit - (gate + 7)) f.given f.rest ⊎ AreMostGiven most f → HasNoRoomAt limit end f.rest ⊎ IsLastCounted count f.rest
+no_room_behind limit gate end before most count f end_is most_is few counted full = ⊎_elim
+    (λ long. inl (no_room limit gate end f.given f.rest end_is long))
+    (λ last. inr (omega (arith, last.0, most_is, few, counted), last.1))
+    full
 
 -- what was served has no more bytes than the journal
 pub offset_behind : (gate end : ℕ) (frames : List (List ℕ)) (at next : ℕ) → end ≡ gate + length_of_records (record_of frames) → next ≡ at + length (concat frames) → at ≤ gate → next ≤ end

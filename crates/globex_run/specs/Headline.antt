@@ -35,7 +35,7 @@ pub record Premises {P I S : Type 0} (m : StationMeanings S) (before after : Out
   pub image : List ℕ
   pub image_known : before.streams.station.image ≡ Some image
   pub kept : List (List ℕ)
-  pub startable : KeepsMessages text product.journal_limit kept image
+  pub startable : KeepsMessages product text kept image
   -- the status is not 1, 2 or 3, and not 4 by the product's read
   pub memory : status ≢ 1
   pub words : status ≢ 2
@@ -64,7 +64,7 @@ module _ {P I S : Type 0} (m : StationMeanings S) (before after : Outside P I S)
   pub record KeepsNow (first : List (List ℕ)) : Type 0 where
     pub image : List ℕ
     pub image_known : after.streams.station.image ≡ Some image
-    pub keeps : KeepsMessages given.text given.product.journal_limit (given.kept ++ first) image
+    pub keeps : KeepsMessages given.product given.text (given.kept ++ first) image
 
   -- All was done: what is sent of all messages was sent, and all of them are kept.
   pub record SendsAndKeepsAll : Type 0 where
@@ -83,7 +83,7 @@ module _ {P I S : Type 0} (m : StationMeanings S) (before after : Outside P I S)
   pub record IsCrashPrefix (left out : List ℕ) : Type 0 where
     pub count : ℕ
     pub within : count ≤ length messages
-    pub keeps : KeepsMessages given.text given.product.journal_limit (given.kept ++ take count messages) left
+    pub keeps : KeepsMessages given.product given.text (given.kept ++ take count messages) left
     pub no_longer : length left ≤ max (length given.image) given.product.journal_limit
     pub output : List ℕ
     pub front : IsPrefix output (sends (take count messages))
@@ -118,7 +118,7 @@ module _ {P I S : Type 0} (m : StationMeanings S) (before after : Outside P I S)
   abbrev pub KeepsEverySent : Type 0
   KeepsEverySent =
       (left out : List ℕ) → LeftSinceEntry left out → (n : ℕ) → HasSentBehind n out
-      → (count : ℕ) × (n < count) × (count ≤ length messages) × KeepsMessages given.text given.product.journal_limit (given.kept ++ take count messages) left
+      → (count : ℕ) × (n < count) × (count ≤ length messages) × KeepsMessages given.product given.text (given.kept ++ take count messages) left
 
 -- ---- a run: the messages are those read, and what is sent are their reports
 
@@ -169,7 +169,7 @@ pub record KeepsARecordPerRead {P I S : Type 0} (m : StationMeanings S) (before 
 -- ---- how much of the journal is read
 
 -- Where no call on the store failed, and where the station tells how many bytes were read: no more than those of the opening, six for
--- each gate behind the header of the image of entry, and its records once.
+-- each gate behind the header of the image of entry, and once its records from the last book image on.
 abbrev pub ReadsFew : {P I S : Type 0} (m : StationMeanings S) (before after : Outside P I S) (outcome : Outcome) → Premises m before after outcome.status → Type 0
 ReadsFew m before after outcome given = outcome.status ≢ 5 → ReadsAtMost (most_read given.startable.records) (m.bytes_read before.streams.station.object) (m.bytes_read after.streams.station.object)
 
@@ -203,7 +203,7 @@ pub record CanBeServed {P I S : Type 0} (m : StationMeanings S) (before : Outsid
   pub image : List ℕ
   pub image_known : before.streams.station.image ≡ Some image
   pub kept : List (List ℕ)
-  pub startable : KeepsMessages text product.journal_limit kept image
+  pub startable : KeepsMessages product text kept image
   pub bytes : List ℕ
   pub input_known : before.streams.input.left ≡ Some bytes
   pub room : end_of_journal text startable.records + records_length (messages_of bytes) ≤ product.journal_limit

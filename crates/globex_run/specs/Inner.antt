@@ -7,4 +7,5 @@ pub mod Serving
 pub mod Sessions
 pub mod Buffers
 pub mod Drilling
+pub mod Checkpointing
 pub mod Executing

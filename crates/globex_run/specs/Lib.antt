@@ -6,5 +6,6 @@ pub mod Journals
 pub mod RunResult
 pub mod Headline
 pub mod Drills
+pub mod Checkpoints
 pub mod Prints
 pub mod Inner

@@ -16,7 +16,7 @@ use Rattle.journal_print.specs.Reading.{ReadsOnce}
 use Rattle.journal_print.specs.declared.unprinted.Unprinted.{Unprinted}
 use Rattle.journal_print.specs.declared.unprinted.Unprinted.TheVariants as unprinted
 use Rattle.command_words.specs.declared.command.Command.{Command}
-use Rattle.command_words.specs.declared.command.Command.TheVariants.{Run, Replay, Book, Fills, Ledger, Steps, Drill}
+use Rattle.command_words.specs.declared.command.Command.TheVariants.{Run, Replay, Book, Fills, Ledger, Steps, Drill, Checkpoint}
 use Rattle.globex_run.specs.Outside.{Outside, StationAt, NoFault}
 use Rattle.globex_run.specs.declared.outcome.Outcome.{Outcome}
 
@@ -58,11 +58,11 @@ pub record PrintsSteps {S : Type 0} (m : StationMeanings S) (product : ProductLi
   pub sends : Sends m old new (steps_text product) result
 
 module _ {S : Type 0} (m : StationMeanings S) (product : ProductLists) (text : List ℕ) (before after : StationAt S) (outcome : Outcome) where
-  -- The book was printed, or not to its end; and of a journal with no bad record, where no call on the store failed, its opening was
-  -- read, six bytes for each gate behind its header, and its records once.
+  -- The book was printed, or not to its end; and of a journal that a state can be recovered from, where no call on the store failed,
+  -- its opening was read, six bytes for each gate behind its header, and once its records from the last book image on.
   pub record PrintsBookOnce (image : List ℕ) (answer : Result ℕ Unprinted) : Type 0 where
     pub prints : PrintsBook m product text image before.object after.object answer
-    pub bytes : ReadsOnce m text product.journal_limit image before.object after.object answer
+    pub bytes : ReadsOnce m product text product.journal_limit image before.object after.object answer
 
   -- What each command prints: the reports again, the fills, the ledger with its totals, the book, and the steps.
   abbrev pub PrintsAs : Command → Type 0
@@ -73,6 +73,7 @@ module _ {S : Type 0} (m : StationMeanings S) (product : ProductLists) (text : L
   PrintsAs Steps = PrintsSteps m product before.object after.object outcome
   PrintsAs Run = Unit {0}
   PrintsAs (Drill first count) = Unit {0}
+  PrintsAs Checkpoint = Unit {0}
 
 -- A command that prints can do it to its end: the product is told, and its text breaks no rule; and but for `steps`, a run can start
 -- from the image of entry.
@@ -81,4 +82,4 @@ pub record CanBePrinted {P I S : Type 0} (before : Outside P I S) (command : Com
   pub product : ProductLists
   pub text_known : before.product.left ≡ Some text
   pub gives : product_of text ≡ Ok product
-  pub startable : command ≢ Steps → (image : List ℕ) × ((before.streams.station.image ≡ Some image) × ((kept : List (List ℕ)) × KeepsMessages text product.journal_limit kept image))
+  pub startable : command ≢ Steps → (image : List ℕ) × ((before.streams.station.image ≡ Some image) × ((kept : List (List ℕ)) × KeepsMessages product text kept image))

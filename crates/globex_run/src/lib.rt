@@ -1,7 +1,8 @@
-//! A run: messages in, reports out, and each message kept in a journal before it is answered.
+//! A run: messages in, reports out, and each message kept in a journal before it is answered. The other commands stand beside it.
 #![tactic(auto)]
 
 mod buffers;
+mod checkpoint;
 mod drill;
 mod ending;
 mod execute;

@@ -1,15 +1,16 @@
 //! The journal of a product, opened, and the core in the state that it keeps.
-ghost use Rattle.std.specs.Prelude.{◌≡◌, ℕ, ◌*◌, ◌<◌, ◌≤◌, List, true, length, Some, OnOk, IfOk, IsErrOf};
+ghost use Rattle.std.specs.Prelude.{◌≡◌, ℕ, ◌*◌, ◌<◌, ◌≤◌, List, [], true, length, Some, OnOk, IfOk, IsErrOf};
 ghost use Rattle.gx_station.specs.Counts.{Rose};
 ghost use Rattle.gx_station.specs.Honest.{KeepsImage};
 ghost use Rattle.product_file.specs.declared.limits.TheConstants.{LONGEST_TEXT};
 ghost use Rattle.match_journal.specs.Causes.{SendsNothing};
 ghost use Rattle.match_journal.specs.Journal.{Record};
 ghost use Rattle.match_journal.specs.Classes.{Keeps};
-ghost use Rattle.order_kinds.specs.State.{empty_state, state_numbered};
-ghost use Rattle.order_kinds.specs.Cores.{FitsProduct, AreNumbered};
-ghost use Rattle.book_recovery.specs.declared.recovery.TheConstants.{SHORTEST_FRAME};
-ghost use Rattle.book_recovery.specs.Kept.{AreWhole};
+ghost use Rattle.order_kinds.specs.State.{empty_state};
+ghost use Rattle.order_kinds.specs.Cores.{FitsProduct};
+ghost use Rattle.order_kinds.specs.declared.core_state.TheConstants.{MOST_MESSAGES};
+ghost use Rattle.book_recovery.specs.Records.{AreGoodRecords, AreTrueRecords};
+ghost use Rattle.book_recovery.specs.Recovering.{HasRoomFor};
 ghost use Rattle.globex_run.specs.Inner.Sessions.{AnswersOpening, IsRefused, Opens};
 
 use crate::ending::Ending;
@@ -57,6 +58,7 @@ pub fn open_journal<B: Book, S: Station>(
 ) -> Result<Journal, Unopened>
     requires short { length text.now ≤ LONGEST_TEXT }
     requires new { core.old ≡ empty_state product.now }
+    requires room { HasRoomFor product.now scratch.old }
     ensures silent { SendsNothing S.meanings station.old station.new }
     ensures store { IsErrOf result Unopened.Store → Rose (S.meanings.store_faults station.old) (S.meanings.store_faults station.new) }
     ensures none { (IsErrOf result Unopened.Store → ⊥) → S.meanings.store_faults station.new ≡ S.meanings.store_faults station.old }
@@ -64,13 +66,13 @@ pub fn open_journal<B: Book, S: Station>(
     ensures at_end { IfOk result (λ journal. journal.is_at_end ≡ true) }
     ensures reach { IfOk result (λ journal. journal.known ≤ S.meanings.reach station.new) }
     ensures in_limit { IfOk result (λ journal. journal.gate < journal.limit) }
-    ensures few { IfOk result (λ journal. core.new.desk.messages * SHORTEST_FRAME ≤ journal.gate) }
+    ensures room { HasRoomFor product.now scratch.new }
+    ensures few { OnOk result (core.new.desk.messages < MOST_MESSAGES) }
     ensures fits { OnOk result (FitsProduct product.now core.new) }
-    ensures numbered { OnOk result (AreNumbered core.new) }
-    ensures answers { (image : List ℕ) → S.meanings.holds station.old ≡ Some image → AnswersOpening text.now product.now.journal_limit image result }
+    ensures answers { (image : List ℕ) → S.meanings.holds station.old ≡ Some image → AnswersOpening product.now text.now image result }
     ensures stays { (image : List ℕ) → S.meanings.holds station.old ≡ Some image → IsRefused result → KeepsImage S.meanings station.old station.new }
-    ensures opens { (image : List ℕ) (records : List Record) → S.meanings.is_honest station.old → S.meanings.holds station.old ≡ Some image → Keeps text.now product.now.journal_limit records image → AreWhole records
-        → Opens S.meanings product.now text.now station.old station.new image records (state_numbered core.new) result }
+    ensures opens { (image : List ℕ) (records : List Record) → S.meanings.is_honest station.old → S.meanings.holds station.old ≡ Some image → Keeps text.now product.now.journal_limit records image → AreGoodRecords product.now 0 records → AreTrueRecords product.now [] records
+        → Opens S.meanings product.now text.now station.old station.new image records core.new result }
 {
     let mut journal = match Journal::start(station, text, product.journal_limit()) {
         Ok(journal) => journal,

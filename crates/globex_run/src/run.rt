@@ -14,6 +14,7 @@ ghost use Rattle.globex_run.specs.ProductTexts.{TakesAtMost};
 ghost use Rattle.globex_run.specs.RunResult.{CommandResult, first_messages};
 ghost use Rattle.globex_run.specs.Headline.{Premises, InputPremises, SendsExactlyTheReports, EndsOtherwise, RunLeavesCrashPrefixes, RunBeforeTheFirstSync, KeepsEveryReported, KeepsARecordPerRead, ReadsFew, HasNoRoom, CanBeServed, IsServed};
 ghost use Rattle.globex_run.specs.Drills.{made_bytes, KeepsAndSumsUp, DrillEndsOtherwise, DrillLeavesCrashPrefixes, DrillBeforeTheFirstSync, CanBeDrilled};
+ghost use Rattle.globex_run.specs.Checkpoints.{AddsImage, KeepsTheSame, CheckpointLeavesCrashPrefixes, CheckpointBeforeTheFirstSync, HasNoRoomForImage, CanBeCheckpointed};
 ghost use Rattle.globex_run.specs.Prints.{PrintPremises, PrintsAs, CanBePrinted};
 ghost use Rattle.globex_run.specs.Inner.Statuses.{outcome_without, outcome_of_words};
 
@@ -47,7 +48,8 @@ fn outcome_without(reason: NoProduct) -> Outcome
     }
 }
 
-/// Executes the command of the words: `run`, `drill`, or one of those that only print: `replay`, `book`, `fills`, `ledger`, `steps`.
+/// Executes the command of the words: `run`, `drill`, `checkpoint`, or one of those that only print: `replay`, `book`, `fills`,
+/// `ledger`, `steps`.
 ///
 /// `run` takes the product, opens its journal and recovers the state of the messages kept there, and serves the input: all whole
 /// messages at hand are kept in one record of the journal, then applied, and then their reports are sent, before more is read.
@@ -55,8 +57,9 @@ fn outcome_without(reason: NoProduct) -> Outcome
 /// those that the journal kept, of as many as `messages` says: all of these, or at a send fault a part from their front. And at
 /// every moment, inside a write or a send too, a crash leaves a journal that keeps the earlier messages and then a prefix of
 /// those read, with every message of whose reports a byte was sent. `drill` serves messages that are made by rule in the same
-/// way, but that it reports none of them and sends one line that sums them up, once all are kept. The others send what they
-/// print, and write nothing. `Outcome` lists the statuses.
+/// way, but that it reports none of them and sends one line that sums them up, once all are kept. `checkpoint` adds one book image to
+/// the journal, from which these commands and `book` begin then, and sends nothing. The others send what they print, and write
+/// nothing. `Outcome` lists the statuses.
 ///
 /// The words are tried first: 2 comes exactly where they are no command. The product is tried next: 3 comes exactly where its text
 /// breaks a rule. Memory is taken only before the first call on the station and the first read of the input; want of it is status 1.
@@ -85,8 +88,8 @@ pub fn globex<P: Source, I: Source, S: Station>(
     // All whole frames at hand share one record.
     ensures record_per_read { let before = outside_at P.meanings I.meanings S.meanings product.old input.old station.old in let after = outside_at P.meanings I.meanings S.meanings product.new input.new station.new in AsksFor words.now command.Run → (given : Premises S.meanings before after result.status) → KeepsARecordPerRead S.meanings before after result given }
 
-    // How much of the journal is read: its opening, six bytes for each gate behind the header of the image of entry, and its records
-    // once.
+    // How much of the journal is read: its opening, six bytes for each gate behind the header of the image of entry, and once its
+    // records from the last book image on.
     ensures few_bytes { let before = outside_at P.meanings I.meanings S.meanings product.old input.old station.old in let after = outside_at P.meanings I.meanings S.meanings product.new input.new station.new in AsksFor words.now command.Run → (given : Premises S.meanings before after result.status) → ReadsFew S.meanings before after result given }
 
     // The quantities in the reports of all messages that are kept, the earlier ones and those of this call, add up.
@@ -107,16 +110,28 @@ pub fn globex<P: Source, I: Source, S: Station>(
     ensures drill_full { let before = outside_at P.meanings I.meanings S.meanings product.old input.old station.old in let after = outside_at P.meanings I.meanings S.meanings product.new input.new station.new in (first count : ℕ) → AsksFor words.now (command.Drill first count) → (given : Premises S.meanings before after result.status) → result.status ≡ 12 → HasNoRoom S.meanings before after result given (made_bytes given.product first count) }
     ensures all_drilled { let before = outside_at P.meanings I.meanings S.meanings product.old input.old station.old in let after = outside_at P.meanings I.meanings S.meanings product.new input.new station.new in (first count : ℕ) → AsksFor words.now (command.Drill first count) → CanBeDrilled S.meanings before first count → IsQuiet before after → (result.status ≡ 1) ⊎ (result.status ≡ 0) }
 
+    // `checkpoint`: one record is added, the image of the state after the messages kept, and nothing is sent. The crash clauses are
+    // those of a run with no message.
+    ensures adds_image { let before = outside_at P.meanings I.meanings S.meanings product.old input.old station.old in let after = outside_at P.meanings I.meanings S.meanings product.new input.new station.new in AsksFor words.now command.Checkpoint → (given : Premises S.meanings before after result.status) → result.status ≡ 0 → AddsImage S.meanings before after result given }
+    ensures keeps_the_same { let before = outside_at P.meanings I.meanings S.meanings product.old input.old station.old in let after = outside_at P.meanings I.meanings S.meanings product.new input.new station.new in AsksFor words.now command.Checkpoint → (given : Premises S.meanings before after result.status) → KeepsTheSame S.meanings before after result given }
+    ensures checkpoint_at_every_moment { let before = outside_at P.meanings I.meanings S.meanings product.old input.old station.old in let after = outside_at P.meanings I.meanings S.meanings product.new input.new station.new in AsksFor words.now command.Checkpoint → (given : Premises S.meanings before after result.status) → CheckpointLeavesCrashPrefixes S.meanings before after result given }
+    ensures checkpoint_before_the_first_sync { let before = outside_at P.meanings I.meanings S.meanings product.old input.old station.old in let after = outside_at P.meanings I.meanings S.meanings product.new input.new station.new in AsksFor words.now command.Checkpoint → (given : Premises S.meanings before after result.status) → CheckpointBeforeTheFirstSync S.meanings before after result given }
+    ensures checkpoint_few_bytes { let before = outside_at P.meanings I.meanings S.meanings product.old input.old station.old in let after = outside_at P.meanings I.meanings S.meanings product.new input.new station.new in AsksFor words.now command.Checkpoint → (given : Premises S.meanings before after result.status) → ReadsFew S.meanings before after result given }
+    ensures image_full { let before = outside_at P.meanings I.meanings S.meanings product.old input.old station.old in let after = outside_at P.meanings I.meanings S.meanings product.new input.new station.new in AsksFor words.now command.Checkpoint → (given : Premises S.meanings before after result.status) → result.status ≡ 12 → HasNoRoomForImage S.meanings before after result given }
+    ensures all_checkpointed { let before = outside_at P.meanings I.meanings S.meanings product.old input.old station.old in let after = outside_at P.meanings I.meanings S.meanings product.new input.new station.new in AsksFor words.now command.Checkpoint → CanBeCheckpointed S.meanings before → IsQuiet before after → (result.status ≡ 1) ⊎ (result.status ≡ 0) }
+    ensures checkpoint_sends_nothing { AsksFor words.now command.Checkpoint → (S.meanings.sent station.new ≡ S.meanings.sent station.old) × (result.status ≢ 6) }
+    ensures checkpoint_counts { AsksFor words.now command.Checkpoint → result.status ≢ 0 → result.messages ≡ 0 }
+
     // `replay`, `fills`, `ledger`, `book` and `steps`: what each prints, whatever the answer, and that it only reads.
     ensures prints { let before = outside_at P.meanings I.meanings S.meanings product.old input.old station.old in let after = outside_at P.meanings I.meanings S.meanings product.new input.new station.new in (asked : Command) → AsksFor words.now asked → (given : PrintPremises before after result.status) → PrintsAs S.meanings given.product given.text before.streams.station after.streams.station result asked }
     ensures only_reads { (asked : Command) → AsksFor words.now asked → IsPrinting asked → ReadsAndSends S.meanings station.old station.new }
     ensures all_printed { let before = outside_at P.meanings I.meanings S.meanings product.old input.old station.old in let after = outside_at P.meanings I.meanings S.meanings product.new input.new station.new in (asked : Command) → AsksFor words.now asked → IsPrinting asked → CanBePrinted before asked → IsQuiet before after → (result.status ≡ 1) ⊎ (result.status ≡ 0) }
 
     // What is kept balances, whatever the messages are: those that `replay` and `ledger` read.
-    ensures kept_balanced { let before = outside_at P.meanings I.meanings S.meanings product.old input.old station.old in let after = outside_at P.meanings I.meanings S.meanings product.new input.new station.new in (given : PrintPremises before after result.status) → (image : List ℕ) → before.streams.station.image ≡ Some image → (kept : List (List ℕ)) → HasKept given.text given.product.journal_limit kept image → IsBalanced given.product kept }
+    ensures kept_balanced { let before = outside_at P.meanings I.meanings S.meanings product.old input.old station.old in let after = outside_at P.meanings I.meanings S.meanings product.new input.new station.new in (given : PrintPremises before after result.status) → (image : List ℕ) → before.streams.station.image ≡ Some image → (kept : List (List ℕ)) → HasKept given.product given.text kept image → IsBalanced given.product kept }
 
     // Each command: what it took from the product's source, and `run` from the input, and why it ended there, for all statuses but 1.
-    // It says what the image of entry is at 9, 10 and 11 of `run` and `drill`, and at 12 what follows.
+    // It says what the image of entry is at 9, 10 and 11 of `run`, `drill` and `checkpoint`, and at 12 of `run` what follows.
     ensures did { let before = outside_at P.meanings I.meanings S.meanings product.old input.old station.old in let after = outside_at P.meanings I.meanings S.meanings product.new input.new station.new in (asked : Command) → AsksFor words.now asked → result.status ≢ 1 → CommandResult before after result asked }
     ensures untouched_input { (asked : Command) → AsksFor words.now asked → (asked ≡ command.Run → ⊥) → input.new ≡ input.old }
 
@@ -127,7 +142,7 @@ pub fn globex<P: Source, I: Source, S: Station>(
     ensures bad_words { result.status ≡ 2 → (product.new ≡ product.old) × (input.new ≡ input.old) × (station.new ≡ station.old) }
     ensures bad_product { result.status ≡ 3 → (input.new ≡ input.old) × (station.new ≡ station.old) }
 
-    // A journal that `run` or `drill` refuses stays as it is, and nothing is sent.
+    // A journal that `run`, `drill` or `checkpoint` refuses stays as it is, and nothing is sent.
     ensures refused { (asked : Command) → AsksFor words.now asked → IsWriting asked → (result.status ≡ 9) ⊎ ((result.status ≡ 10) ⊎ (result.status ≡ 11)) → S.meanings.sent station.new ≡ S.meanings.sent station.old }
     ensures stays { (image : List ℕ) (asked : Command) → AsksFor words.now asked → IsWriting asked → S.meanings.holds station.old ≡ Some image → (result.status ≡ 9) ⊎ ((result.status ≡ 10) ⊎ (result.status ≡ 11)) → KeepsImage S.meanings station.old station.new }
 
@@ -149,7 +164,7 @@ pub fn globex<P: Source, I: Source, S: Station>(
         Ok(taken) => taken,
         Err(reason) => return outcome_without(reason),
     };
-    let Ok(mut buffers) = Buffers::new(alloc, &taken.product) else {
+    let Ok(mut buffers) = Buffers::new(alloc, command, &taken.product) else {
         return Status::NoMemory.outcome(0, 0);
     };
     execute(

@@ -4,7 +4,7 @@ ghost use Rattle.fix_frame.specs.declared.framer.TheConstants.{ROOM};
 ghost use Rattle.fix_frame.specs.declared.place.TheConstants.{FRONT_LIMIT};
 ghost use Rattle.order_kinds.specs.State.{state_numbered};
 ghost use Rattle.order_kinds.specs.Cores.{FitsProduct, AreNumbered};
-ghost use Rattle.book_recovery.specs.declared.recovery.TheConstants.{SHORTEST_FRAME};
+ghost use Rattle.order_kinds.specs.declared.core_state.TheConstants.{MOST_MESSAGES};
 ghost use Rattle.globex_run.specs.Outside.{source_at, streams_at};
 ghost use Rattle.globex_run.specs.Inner.Serving.{TakesMore, CausedBy, IsDone, ServesInput, IsEmptyFramer};
 
@@ -16,7 +16,7 @@ use exec_report::ReportBuffer;
 use fix_frame::{FRONT_LIMIT, Framer, ROOM};
 use gx_station::{Failed, LEAST_READ, Source, Station};
 use match_journal::Journal;
-use order_kinds::Core;
+use order_kinds::{Core, MOST_MESSAGES};
 use plain_book::Book;
 use product_file::Product;
 
@@ -43,9 +43,9 @@ fn take_more<I: Source>(
 }
 
 /// Serves the input to its end, or as far as it can be served. Each turn reads once; all whole frames at hand are then kept in
-/// one record, cut where the journal's limit cuts it; their messages are applied, and then their events are published. It ends
-/// since each record lengthens the journal towards its limit, and each read that does not end the input takes at least one
-/// byte into a bounded buffer.
+/// one record, cut where the journal's limit cuts it, or where no more messages can be counted; they are applied, and then their
+/// events are published. It ends since each record lengthens the journal towards its limit, and each read that does not end the
+/// input takes at least one byte into a bounded buffer.
 ///
 /// Where the order numbers of the core differ, the state, what is sent and the publisher are those of the engine's events. Over
 /// any other core that fits, the records are kept as well, and their messages are counted.
@@ -64,7 +64,7 @@ pub fn serve<P: Publisher, B: Book, I: Source, S: Station>(
     requires at_end { journal.old.is_at_end ≡ true }
     requires reach { journal.old.known ≤ S.meanings.reach station.old }
     requires in_limit { journal.old.gate < journal.old.limit }
-    requires few { core.old.desk.messages * SHORTEST_FRAME ≤ journal.old.gate }
+    requires few { core.old.desk.messages < MOST_MESSAGES }
     requires fits { FitsProduct product.now core.old }
     requires framer { IsEmptyFramer framer.old }
     requires chunk { vec_len chunk.old ≡ ROOM }
@@ -85,7 +85,8 @@ pub fn serve<P: Publisher, B: Book, I: Source, S: Station>(
             Ok(_) => {}
             Err(Failed) => return Ending::ReadFault(at + held as u64),
         }
-        let behind = give_frames(framer, journal.room());
+        let most = MOST_MESSAGES - 1 - core.messages();
+        let behind = give_frames(framer, journal.room(), most);
         if let Err(reason) = serve_record(
             publisher, product, core, journal, framer, buffer, station,
         ) {

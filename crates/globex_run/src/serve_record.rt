@@ -4,8 +4,8 @@ ghost use Rattle.std.specs.List.{concat};
 ghost use Rattle.order_kinds.specs.Step.{events_from};
 ghost use Rattle.order_kinds.specs.State.{state_numbered};
 ghost use Rattle.order_kinds.specs.Cores.{FitsProduct, AreNumbered};
-ghost use Rattle.book_recovery.specs.declared.recovery.TheConstants.{SHORTEST_FRAME};
-ghost use Rattle.book_recovery.specs.Kept.{messages_in};
+ghost use Rattle.order_kinds.specs.declared.core_state.TheConstants.{MOST_MESSAGES};
+ghost use Rattle.book_recovery.specs.Records.{messages_in};
 ghost use Rattle.globex_run.specs.Inner.Serving.{record_of, AnswersFrames};
 
 use crate::ending::Ending;
@@ -59,7 +59,7 @@ pub fn serve_record<P: Publisher, B: Book, S: Station>(
     requires reach { journal.old.known ≤ S.meanings.reach station.old }
     requires in_limit { journal.old.gate < journal.old.limit }
     requires room { length (concat framer.now.given) ≤ journal.old.limit - (journal.old.gate + 7) }
-    requires few { core.old.desk.messages * SHORTEST_FRAME ≤ journal.old.gate }
+    requires few { core.old.desk.messages + length framer.now.given < MOST_MESSAGES }
     requires fits { FitsProduct product.now core.old }
     requires empty { buffer.old ≡ [] }
     ensures limit { journal.new.limit ≡ journal.old.limit }
@@ -70,7 +70,8 @@ pub fn serve_record<P: Publisher, B: Book, S: Station>(
     ensures at_end { OnOk result (journal.new.is_at_end ≡ true) }
     ensures reach { OnOk result (journal.new.known ≤ S.meanings.reach station.new) }
     ensures in_limit { OnOk result (journal.new.gate < journal.new.limit) }
-    ensures few { OnOk result (core.new.desk.messages * SHORTEST_FRAME ≤ journal.new.gate) }
+    ensures counts { OnOk result (core.new.desk.messages ≡ core.old.desk.messages + length framer.now.given) }
+    ensures few { OnOk result (core.new.desk.messages < MOST_MESSAGES) }
     ensures fits { OnOk result (FitsProduct product.now core.new) }
     ensures numbered { AreNumbered core.old → OnOk result (AreNumbered core.new) }
     ensures empty { OnOk result (buffer.new ≡ []) }

@@ -40,6 +40,7 @@ pub fn serve_session<P: Publisher, I: Source, S: Station>(
         framer,
         chunk,
         reports,
+        ..
     } = buffers;
     let mut journal = match open_journal(product, text, scratch, core, station) {
         Ok(journal) => journal,

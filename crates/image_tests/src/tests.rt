@@ -1,378 +1,96 @@
-//! Images of small books: their bytes, and the place of each thing that is wrong with one.
-ghost use Rattle.std.specs.Prelude.{◌≡◌, IfOk};
-ghost use Rattle.order_kinds.specs.State.{empty_state};
-ghost use Rattle.order_kinds.specs.Cores.{FitsProduct};
+//! Images alone, and journals that have them.
+mod checkpoints;
+mod endings;
+mod images;
 
-use book_image::{ImageBad, image_len, read_image, write_image};
-use book_side::LinkedBook;
-use fix_frame::{Framer, Next};
-use fix_request::read_request;
-use gx_base::NullEmit;
-use order_kinds::{Core, MOST_MESSAGES};
-use plain_book::Book;
-use product_file::{Product, read_product};
-use run_fixtures::{PRODUCT, frames_of};
+use globex_run::Outcome;
+use gx_station::{MemSource, MemStation};
+use run_fixtures::{ROOM, ended, frames_of, run_over, station_over};
 use std::alloc::{AllocError, Global};
 use std::process::Abort;
 use std::test::Fail;
 
-/// An order of ten lots, four of which were traded.
-const ONE_ORDER: [&str; 2] = [
-    "35=D|49=AAA|56=GX|34=1|52=20240102-09:30:00|11=a1|55=ESZ4|54=2|38=10|40=2|44=100.00|59=0|",
-    "35=D|49=BBB|56=GX|34=1|52=20240102-09:30:01|11=b1|55=ESZ4|54=1|38=4|40=2|44=100.00|59=0|",
-];
-
-/// How many bytes the image of `ONE_ORDER` has, with one instrument and one order.
-const ONE_ORDER_BYTES: usize = 667;
-
-/// The bytes of that image that are not 0, each with its place.
-const ONE_ORDER_IMAGE: [(usize, u8); 24] = [
-    // two messages, two orders, four reports, one trade; two lines to each of two firms
-    (7, 2),
-    (15, 2),
-    (23, 4),
-    (31, 1),
-    (39, 2),
-    (47, 2),
-    // the last trade price is 10,000 units
-    (552, 1),
-    (559, 0x27),
-    (560, 0x10),
-    // one resting order: number, side, kind, the length of its id, the id, price, quantity, filled, leaves, shown
-    (580, 1),
-    (588, 1),
-    (591, 2),
-    (592, 2),
-    (594, 2),
-    (595, b'a'),
-    (596, b'1'),
-    (625, 0x27),
-    (626, 0x10),
-    (638, 10),
-    (642, 4),
-    (646, 6),
-    (654, 6),
-    // no waiting stop
-    (663, 0),
-    (666, 0),
-];
-
-/// Two instruments, of which the first has a TOP step, behind the number of orders that may be live.
-const TWO_INSTRUMENTS: &str = r#"exchange = "GX"
+/// The usual product with few live orders, whose memory is soon taken, and a journal as short as it may be.
+const SMALL_PRODUCT: &str = r#"exchange = "GX"
 firms = ["AAA", "BBB", "CCC", "DDD"]
+max_orders = 8
+journal_limit = 131072
 
 [[instrument]]
 name = "ESZ4"
-decimals = 2
-tick = 25
-protection = 2
-algorithm = "O"
-
-[[instrument]]
-name = "NQZ4"
 decimals = 2
 tick = 1
 protection = 2
 algorithm = "F"
 "#;
 
-/// Two buys at one price, a sell that shows three lots at a time, and a waiting stop.
-const FOUR_ORDERS: [&str; 4] = [
-    "35=D|49=AAA|56=GX|34=1|52=20240102-09:30:00|11=a1|55=ESZ4|54=1|38=10|40=2|44=100.00|59=0|",
-    "35=D|49=AAA|56=GX|34=2|52=20240102-09:30:01|11=a2|55=ESZ4|54=1|38=5|40=2|44=100.00|59=1|",
-    "35=D|49=BBB|56=GX|34=1|52=20240102-09:30:02|11=b1|55=ESZ4|54=2|38=8|40=2|44=101.00|59=0|210=3|",
-    "35=D|49=CCC|56=GX|34=1|52=20240102-09:30:03|11=c1|55=ESZ4|54=1|38=7|40=4|44=102.50|99=102.00|59=0|",
+/// It trades what `ONE_ORDER` left open.
+const THIRD_ORDER: &str =
+    "35=D|49=CCC|56=GX|34=1|52=20240102-09:30:02|11=c1|55=ESZ4|54=1|38=6|40=2|44=100.00|59=0|";
+
+/// The reports of it.
+const THIRD_REPORTS: [&str; 3] = [
+    "35=8|34=1|49=GX|52=20240102-09:30:02|56=CCC|37=3|11=c1|17=5|20=0|150=0|39=0|55=ESZ4|54=1|38=6|40=2|44=100.00|59=0|151=6|14=0|6=0|60=20240102-09:30:02|9003=0|",
+    "35=8|34=3|49=GX|52=20240102-09:30:02|56=AAA|37=1|11=a1|17=6|20=0|150=2|39=2|55=ESZ4|54=2|38=10|40=2|44=100.00|59=0|32=6|31=100.00|151=0|14=10|6=0|60=20240102-09:30:02|9001=FIFO|9002=2|9003=0|",
+    "35=8|34=2|49=GX|52=20240102-09:30:02|56=CCC|37=3|11=c1|17=7|20=0|150=2|39=2|55=ESZ4|54=1|38=6|40=2|44=100.00|59=0|32=6|31=100.00|151=0|14=6|6=0|60=20240102-09:30:02|9001=FIFO|9002=2|9003=0|",
 ];
 
-/// Where the parts of the image of `FOUR_ORDERS` begin.
-const FIRST_PART: u64 = 552;
-
-const SECOND_PART: u64 = 577;
-
-const RESTING: u64 = 602;
-
-const FIRST_BUY: u64 = 606;
-
-const SECOND_BUY: u64 = 688;
-
-const SELL: u64 = 770;
-
-const WAITING: u64 = 852;
-
-const STOP: u64 = 856;
-
-/// Applies the next `count` messages that the framer holds, or all where it holds fewer, with no report.
-fn apply_held<B: Book>(
-    rt: &impl Abort,
-    product: &Product,
-    core: &mut Core<B>,
-    framer: &mut Framer,
-    count: usize,
-)
-    requires fits { FitsProduct product.now core.old }
-    ensures fits { FitsProduct product.now core.new }
-{
-    for _message in 0..count {
-        let Next::Frame(start, end) = framer.next() else {
-            return;
-        };
-        let request = read_request(framer.frame(start, end), product);
-        assert!(rt; core.messages() < MOST_MESSAGES);
-        core.apply(product, &request, &mut NullEmit);
-    }
-}
-
-/// Applies the messages of these bodies, with no report.
-fn apply_all<B: Book>(
-    rt: &(impl Abort + AllocGlobal),
-    product: &Product,
-    core: &mut Core<B>,
-    bodies: &[&str],
-) -> Result<(), Fail>
-    requires fits { FitsProduct product.now core.old }
-    ensures fits { FitsProduct product.now core.new }
-{
-    let bytes = frames_of(rt.alloc(), bodies)?;
-    let mut framer = Framer::new(rt.alloc())?;
-    assert_eq!(rt; framer.feed(bytes.as_slice()), bytes.len());
-    apply_held(rt, product, core, &mut framer, bodies.len());
-    assert_eq!(rt; framer.rest(), 0);
-    Ok(())
-}
-
-/// The product of two instruments, with room for so many orders.
-fn two_instruments(alloc: Global, orders: u32) -> Result<String, AllocError> {
-    format!(in alloc; "max_orders = {orders}\n{TWO_INSTRUMENTS}")
-}
-
-/// A core over an empty book.
-fn new_core(alloc: Global, product: &Product) -> Result<Core<LinkedBook>, AllocError>
-    ensures { IfOk result (λ core. core ≡ empty_state product.now) }
-{
-    let instruments = product.names().instrument_count() as u8;
-    let book = LinkedBook::new(alloc, product.max_orders(), instruments)?;
-    Ok(Core::new(book, product))
-}
-
-/// The image of a core.
-fn image_of<B: Book>(
+/// Executes the command of these words over the product of this text and the frames of these bodies.
+fn execute(
     alloc: Global,
-    product: &Product,
-    core: &Core<B>,
-) -> Result<Vec<u8>, AllocError>
-    requires fits { FitsProduct product.now core.now }
-{
-    let instruments = product.names().instrument_count() as u32;
-    let size = image_len(instruments, core.book().live());
-    let mut image = vec![in alloc; 0; size]?;
-    write_image(core, product, image.as_mut_slice());
-    Ok(image)
-}
-
-/// What is answered to who reads this payload into a new core.
-fn read(
-    alloc: Global,
-    product: &Product,
-    payload: &[u8],
-) -> Result<Result<(), ImageBad>, AllocError> {
-    let mut core = new_core(alloc, product)?;
-    Ok(read_image(payload, product, &mut core))
-}
-
-/// The image after these messages.
-fn image_after(
-    rt: &(impl Abort + AllocGlobal),
-    product: &Product,
-    bodies: &[&str],
-) -> Result<Vec<u8>, Fail> {
-    let mut core = new_core(rt.alloc(), product)?;
-    apply_all(rt, product, &mut core, bodies)?;
-    Ok(image_of(rt.alloc(), product, &core)?)
-}
-
-/// Each of these images is refused at its place: the image after some messages, with these bytes in place of its own.
-fn expect_faults(
-    rt: &(impl Abort + AllocGlobal),
     text: &str,
+    line: &str,
     bodies: &[&str],
-    faults: &[(&[(usize, u8)], u64)],
-) -> Result<(), Fail> {
-    let alloc = rt.alloc();
-    let product = read_product(alloc, text.as_bytes())?;
-    let image = image_after(rt, &product, bodies)?;
-    assert_eq!(rt; read(alloc, &product, image.as_slice())?, Ok(()));
-    for (changes, place) in faults {
-        let mut other = image.as_slice().to_vec(alloc)?;
-        for (at, byte) in *changes {
-            assert!(rt; *at < other.len());
-            other.as_mut_slice()[*at] = *byte;
-        }
-        assert_eq!(rt;
-            read(alloc, &product, other.as_slice())?,
-            Err(ImageBad(*place))
-        );
+    station: &mut MemStation,
+) -> Result<Outcome, AllocError> {
+    let text = text.as_bytes().to_vec(alloc)?;
+    let mut product = MemSource::new(alloc, text, Vec::new(alloc), Vec::new(alloc))?;
+    let input = frames_of(alloc, bodies)?;
+    let mut input = MemSource::new(alloc, input, Vec::new(alloc), Vec::new(alloc))?;
+    run_over(alloc, line, &mut product, &mut input, station)
+}
+
+/// Executes the command over the small product and this image.
+fn execute_over(
+    rt: &(impl Abort + AllocGlobal),
+    line: &str,
+    bodies: &[&str],
+    image: &[u8],
+) -> Result<(Outcome, MemStation), Fail> {
+    assert!(rt; image.len() <= ROOM);
+    let mut station = station_over(rt.alloc(), image, Vec::new(rt.alloc()))?;
+    let outcome = execute(rt.alloc(), SMALL_PRODUCT, line, bodies, &mut station)?;
+    Ok((outcome, station))
+}
+
+/// The image after a command over this one that does all it should.
+fn image_behind(
+    rt: &(impl Abort + AllocGlobal),
+    line: &str,
+    bodies: &[&str],
+    image: &[u8],
+) -> Result<Vec<u8>, Fail> {
+    let (got, station) = execute_over(rt, line, bodies, image)?;
+    assert_eq!(rt; got.status, 0, "{line}");
+    Ok(station.image().to_vec(rt.alloc())?)
+}
+
+/// The first bytes of some.
+fn front_of(
+    rt: &(impl Abort + AllocGlobal),
+    bytes: &[u8],
+    count: usize,
+) -> Result<Vec<u8>, AllocError> {
+    assert!(rt; count <= bytes.len());
+    bytes[..count].to_vec(rt.alloc())
+}
+
+/// The parts, one behind the other, and a closed gate.
+fn closed(alloc: Global, parts: &[&[u8]]) -> Result<Vec<u8>, AllocError> {
+    let mut bytes = Vec::new(alloc);
+    for part in parts {
+        bytes.extend_from_slice(part)?;
     }
-    Ok(())
-}
-
-#[test]
-fn image_of_one_order(rt: HostRuntime) -> Result<(), Fail> {
-    let product = read_product(rt.alloc(), PRODUCT.as_bytes())?;
-    let image = image_after(&rt, &product, &ONE_ORDER)?;
-    let mut bytes = [0; ONE_ORDER_BYTES];
-    for (at, byte) in ONE_ORDER_IMAGE {
-        assert!(rt; at < ONE_ORDER_BYTES);
-        bytes[at] = byte;
-    }
-    assert_eq!(rt; image.as_slice(), bytes.as_slice());
-    Ok(())
-}
-
-/// The core that an image was read into has that image.
-#[test]
-fn image_is_read_back(rt: HostRuntime) -> Result<(), Fail> {
-    let alloc = rt.alloc();
-    let product = read_product(alloc, two_instruments(alloc, 4)?.as_bytes())?;
-    let image = image_after(&rt, &product, &FOUR_ORDERS)?;
-    let mut core = new_core(alloc, &product)?;
-    assert_eq!(rt; read_image(image.as_slice(), &product, &mut core), Ok(()));
-    assert_eq!(rt;
-        image_of(alloc, &product, &core)?.as_slice(),
-        image.as_slice()
-    );
-    assert_eq!(rt; core.messages(), 4);
-    assert_eq!(rt; core.book().live(), 4);
-    Ok(())
-}
-
-/// An image that ends too early, in each of its parts, or goes on.
-#[test]
-fn lengths_of_images(rt: HostRuntime) -> Result<(), Fail> {
-    let alloc = rt.alloc();
-    let product = read_product(alloc, PRODUCT.as_bytes())?;
-    let image = image_after(&rt, &product, &ONE_ORDER)?;
-    for count in [0, 8, 551, 552, 576, 577, 580, 581, 662, 663, 666] {
-        assert!(rt; count < image.len());
-        let short = &image.as_slice()[..count];
-        assert_eq!(rt; read(alloc, &product, short)?, Err(ImageBad(count as u64)));
-    }
-    let mut long = image.as_slice().to_vec(alloc)?;
-    long.push(0)?;
-    assert_eq!(rt; read(alloc, &product, long.as_slice())?, Err(ImageBad(667)));
-    Ok(())
-}
-
-/// Counters, the parts of an instrument, counts, and each field of a row.
-#[test]
-fn faults_of_one_order(rt: HostRuntime) -> Result<(), Fail> {
-    expect_faults(
-        &rt,
-        PRODUCT,
-        &ONE_ORDER,
-        &[
-            // 2^24 messages and more; more orders than messages; counters above 2^38 for each message
-            (&[(4, 1)], 0),
-            (&[(15, 3)], 8),
-            (&[(16, 1)], 16),
-            (&[(24, 1)], 24),
-            (&[(32, 1)], 32),
-            (&[(544, 1)], 544),
-            // no mark of a last price; none with a price; a price out of range; a TOP order where the steps have none
-            (&[(552, 2)], 552),
-            (&[(552, 0)], 552),
-            (&[(553, 1)], 552),
-            (&[(568, 1)], 552),
-            (&[(576, 1)], 552),
-            // no row by the count, and one stop by the count and no row
-            (&[(580, 0)], 585),
-            (&[(666, 1)], 667),
-            // number, firm, instrument, side, kind, life
-            (&[(588, 0)], 581),
-            (&[(588, 3)], 581),
-            (&[(589, 4)], 581),
-            (&[(590, 1)], 581),
-            (&[(591, 3)], 581),
-            (&[(592, 1)], 581),
-            (&[(592, 3)], 581),
-            (&[(592, 4)], 581),
-            (&[(593, 2)], 581),
-            (&[(593, 3)], 581),
-            (&[(593, 4)], 581),
-            // the id: its length, its bytes, and what it is filled up with
-            (&[(594, 0)], 581),
-            (&[(594, 1)], 581),
-            (&[(594, 3)], 581),
-            (&[(594, 25)], 581),
-            (&[(595, 31)], 581),
-            (&[(596, 127)], 581),
-            (&[(597, 1)], 581),
-            // price, trigger, quantity, filled, leaves, show, shown, min, prorated
-            (&[(619, 1)], 581),
-            (&[(634, 1)], 581),
-            (&[(638, 11)], 581),
-            (&[(642, 5)], 581),
-            (&[(642, 10), (646, 0)], 581),
-            (&[(635, 1), (643, 1)], 581),
-            (&[(646, 7)], 581),
-            (&[(650, 11)], 581),
-            (&[(650, 5)], 581),
-            (&[(654, 5)], 581),
-            (&[(658, 1)], 581),
-            (&[(659, 1)], 581),
-        ],
-    )
-}
-
-/// TOP, rows beside each other, and what a waiting stop has.
-#[test]
-fn faults_of_four_orders(rt: HostRuntime) -> Result<(), Fail> {
-    expect_faults(
-        &rt,
-        two_instruments(rt.alloc(), 4)?.as_str(),
-        &FOUR_ORDERS,
-        &[
-            // TOP of the buys is the sell, or no order; that of the sells a buy; there is a TOP where the steps have none
-            (&[(568, 3)], FIRST_PART),
-            (&[(568, 5)], FIRST_PART),
-            (&[(576, 1)], FIRST_PART),
-            (&[(593, 1)], SECOND_PART),
-            // TOP is tried last, whatever its place
-            (&[(568, 5), (684, 1)], FIRST_BUY),
-            // the second buy has the first one's id, or a better price
-            (&[(703, b'1')], SECOND_BUY),
-            (&[(650, 0x26), (651, 0xF7)], SECOND_BUY),
-            // the sell is at the best buy price, below it, or off the tick; it shows more than it may
-            (&[(815, 0x10)], SELL),
-            (&[(814, 0x26), (815, 0xF7)], SELL),
-            (&[(815, 0x75)], SELL),
-            (&[(843, 4)], SELL),
-            (&[(843, 0)], SELL),
-            // the stop has the id of a resting order, the kind of one, a price below its trigger, or a trigger off the tick
-            (&[(864, 0), (870, b'a')], STOP),
-            (&[(867, 2)], STOP),
-            (&[(900, 0x27), (901, 0xBF)], STOP),
-            (&[(909, 0xD9)], STOP),
-            // it has lots that were filled or are shown, a least, or a share
-            (&[(917, 1), (921, 6)], STOP),
-            (&[(929, 1)], STOP),
-            (&[(933, 1)], STOP),
-            (&[(937, 1)], STOP),
-            // the waiting stop of an instrument that there is not
-            (&[(865, 2)], STOP),
-        ],
-    )
-}
-
-/// A lower number of orders that may be live is passed by the resting ones, or only with the stops.
-#[test]
-fn more_orders_than_may_be_live(rt: HostRuntime) -> Result<(), Fail> {
-    let alloc = rt.alloc();
-    let product = read_product(alloc, two_instruments(alloc, 4)?.as_bytes())?;
-    let image = image_after(&rt, &product, &FOUR_ORDERS)?;
-    for (orders, place) in [(3, WAITING), (2, RESTING)] {
-        let smaller = read_product(alloc, two_instruments(alloc, orders)?.as_bytes())?;
-        let answer = read(alloc, &smaller, image.as_slice())?;
-        assert_eq!(rt; answer, Err(ImageBad(place)));
-    }
-    Ok(())
+    bytes.push(0)?;
+    Ok(bytes)
 }

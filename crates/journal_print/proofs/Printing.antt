@@ -8,7 +8,7 @@ use Rattle.product_file.specs.Products.{ProductLists}
 use Rattle.match_journal.specs.Classes.{IsBlank, IsSealed}
 use Rattle.match_journal.specs.Opening.{IsOpened}
 use Rattle.order_kinds.specs.State.{State, state_numbered, empty_state}
-use Rattle.book_recovery.specs.Kept.{messages_in}
+use Rattle.book_recovery.specs.Records.{messages_in}
 use Rattle.book_print.specs.Publishers.{PublisherMeanings}
 use Rattle.book_print.specs.Publishers.{LineForm}
 use Rattle.journal_print.specs.Printed.{lines_in, SentPart, PrintsEvents}
@@ -58,7 +58,7 @@ module _ {S P : Type 0} (m : StationMeanings S) (p : PublisherMeanings P) (produ
     pub all_kept : (count : ℕ) → AllPublished m p product text product.journal_limit image mid new publisher then state → count ≡ state.desk.messages → KeptPublished m p product text image old new publisher then state count
     all_kept count all is = record {
       messages = messages_in all.records;
-      kept = inr (record { records = all.records; journal = all.journal; whole = all.whole }, refl);
+      kept = inr (record { records = all.records; journal = all.journal; good = all.good }, refl);
       published = record {
         sent = all.published.sent ∙ ap (λ s. sent_and s (lines_in p.text product (messages_in all.records))) looked;
         publisher_is = all.published.publisher_is;

@@ -7,9 +7,9 @@ use Rattle.match_journal.specs.Journal.{Record}
 use Rattle.match_journal.specs.Classes.{IsForeignAt, HasBadHeader, HasOtherText}
 use Rattle.match_journal.specs.Opening.{IsOpened}
 use Rattle.order_kinds.specs.Step.{events_of}
-use Rattle.book_recovery.specs.Kept.{messages_in, HasKept}
+use Rattle.book_recovery.specs.Records.{state_kept, messages_in}
+use Rattle.book_recovery.specs.Kept.{HasKept, HasTrueKept, CanBeRecovered}
 use Rattle.book_recovery.specs.BadPlaces.{AreFirstRecords, HasBadRecordAt, IsBadPlace}
-use Rattle.book_recovery.specs.Recovering.{state_kept}
 use Rattle.book_print.specs.BookText.{book_text}
 use Rattle.book_print.specs.Publishers.{LineForm}
 use Rattle.journal_print.specs.declared.unprinted.Unprinted.{Unprinted}
@@ -27,26 +27,26 @@ module _ {S : Type 0} (m : StationMeanings S) (product : ProductLists) (text ima
   -- a part was sent of the lines of the messages in the first records, none of them bad
   pub record SentPart (line : LineForm) : Type 0 where
     pub records : List Record
-    pub first : AreFirstRecords text product.journal_limit records image
+    pub first : AreFirstRecords product text product.journal_limit records image
     pub sent : IsKnownPrefix (m.sent new) (sent_and (m.sent old) (lines_in line product (messages_in records)))
 
   -- a part was sent of what is printed of the messages kept
   pub record SentPartOfAll (whole : List (List ℕ) → List ℕ) : Type 0 where
     pub messages : List (List ℕ)
-    pub kept : HasKept text product.journal_limit messages image
+    pub kept : HasKept product text messages image
     pub sent : IsKnownPrefix (m.sent new) (sent_and (m.sent old) (whole messages))
 
   -- all was sent that is printed of the messages kept, and these were counted
   pub record SentAll (whole : List (List ℕ) → List ℕ) (count : ℕ) : Type 0 where
     pub messages : List (List ℕ)
-    pub kept : HasKept text product.journal_limit messages image
+    pub kept : HasKept product text messages image
     pub sent : m.sent new ≡ sent_and (m.sent old) (whole messages)
     pub count_is : count ≡ length messages
 
   -- a record is bad, and the lines of the messages in all records before it were sent
   pub record SentToBadRecord (line : LineForm) (at : ℕ) : Type 0 where
     pub opened : IsOpened text image
-    pub bad : HasBadRecordAt text product.journal_limit image at
+    pub bad : HasBadRecordAt product text product.journal_limit image at
     pub sent : m.sent new ≡ sent_and (m.sent old) (lines_in line product (messages_in bad.before))
 
   -- What was printed of the events of all messages, line by line, and what is printed of them as a whole. No two of these answers
@@ -63,11 +63,24 @@ module _ {S : Type 0} (m : StationMeanings S) (product : ProductLists) (text ima
   abbrev pub book_kept : List (List ℕ) → List ℕ
   book_kept messages = book_text product (state_kept product messages)
 
-  -- What was printed of the book: nothing, unless no record is bad.
+  -- The image is an unfinished creation, or a journal with no bad head and no bad record from the last book image on. What is sent
+  -- and counted then, by the messages kept, is said where each book image is that of the state after the messages before it.
+  pub record SentBook (Sends : List (List ℕ) → Type 0) : Type 0 where
+    pub recovered : CanBeRecovered product text product.journal_limit image
+    pub sends : (messages : List (List ℕ)) → HasTrueKept product text messages image → Sends messages
+
+  -- the book of the state after these messages was sent, and they were counted
+  abbrev pub SentAllOfBook : ℕ → List (List ℕ) → Type 0
+  SentAllOfBook count messages = (m.sent new ≡ sent_and (m.sent old) (book_kept messages)) × (count ≡ length messages)
+
+  abbrev pub SentPartOfBook : List (List ℕ) → Type 0
+  SentPartOfBook messages = IsKnownPrefix (m.sent new) (sent_and (m.sent old) (book_kept messages))
+
+  -- What was printed of the book: nothing, unless a state was recovered.
   abbrev pub PrintsBook : Result ℕ Unprinted → Type 0
-  PrintsBook (Ok count) = SentAll book_kept count
+  PrintsBook (Ok count) = SentBook (SentAllOfBook count)
   PrintsBook (Err unprinted.Store) = SentNothing
-  PrintsBook (Err unprinted.Send) = SentPartOfAll book_kept
+  PrintsBook (Err unprinted.Send) = SentBook SentPartOfBook
   PrintsBook (Err (unprinted.NotAJournal at)) = IsForeignAt image at × SentNothing
-  PrintsBook (Err (unprinted.Bad at)) = (HasBadHeader image at ⊎ (IsOpened text image × IsBadPlace text product.journal_limit image at)) × SentNothing
+  PrintsBook (Err (unprinted.Bad at)) = (HasBadHeader image at ⊎ (IsOpened text image × IsBadPlace product text product.journal_limit image at)) × SentNothing
   PrintsBook (Err (unprinted.ProductDiffers at)) = HasOtherText text image at × SentNothing

@@ -9,6 +9,7 @@ ghost use Rattle.order_kinds.specs.declared.core_state.TheConstants.{MOST_MESSAG
 ghost use Rattle.order_kinds.specs.Step.{events_of, reports_of};
 ghost use Rattle.book_print.specs.FillText.{fill_line, fill_text};
 ghost use Rattle.book_print.specs.LedgerText.{ledger_line, ledger_text};
+ghost use Rattle.book_recovery.specs.Recovering.{HasRoomFor};
 ghost use Rattle.journal_print.specs.Reading.{ReadsAndSends};
 ghost use Rattle.journal_print.specs.Printed.{PrintsEvents};
 ghost use Rattle.journal_print.specs.Inner.Publishing.{PublishesKept};
@@ -33,11 +34,14 @@ fn publish_kept<P: Publisher, B: Book, S: Station>(
     text: &[u8],
     scratch: &mut Scratch,
     core: &mut Core<B>,
+    spare: &mut Core<B>,
     buffer: &mut ReportBuffer,
     station: &mut S,
 ) -> Result<u64, Unprinted>
     requires short { length text.now ≤ LONGEST_TEXT }
     requires new { core.old ≡ empty_state product.now }
+    requires spare { spare.old ≡ empty_state product.now }
+    requires room { HasRoomFor product.now scratch.old }
     requires empty { buffer.old ≡ [] }
     ensures reads { ReadsAndSends S.meanings station.old station.new }
     ensures store { IsErrOf result Unprinted.Store → Rose (S.meanings.store_faults station.old) (S.meanings.store_faults station.new) }
@@ -60,6 +64,7 @@ fn publish_kept<P: Publisher, B: Book, S: Station>(
         &mut journal,
         scratch,
         core,
+        spare,
         buffer,
         station,
     ) {
@@ -69,7 +74,8 @@ fn publish_kept<P: Publisher, B: Book, S: Station>(
 }
 
 /// Sends the report lines of all messages that the journal of a product keeps, and answers how many messages these are. Each
-/// record is read whole before a line of its messages is sent. The core is to be new, and the buffer empty.
+/// record is read whole before a line of its messages is sent, and a book image is held to its form and passed by. Both cores are
+/// to be new, and the buffer empty.
 ///
 /// `Store` and `Send` come only where the count of store or send faults rose. `NotAJournal`, `Bad` and `ProductDiffers` come
 /// exactly where the image is none, is bad, or is of another product; where a record is bad, the lines of the messages in
@@ -79,11 +85,14 @@ pub fn print_reports<B: Book, S: Station>(
     text: &[u8],
     scratch: &mut Scratch,
     core: &mut Core<B>,
+    spare: &mut Core<B>,
     buffer: &mut ReportBuffer,
     station: &mut S,
 ) -> Result<u64, Unprinted>
     requires short { length text.now ≤ LONGEST_TEXT }
     requires new { core.old ≡ empty_state product.now }
+    requires spare { spare.old ≡ empty_state product.now }
+    requires room { HasRoomFor product.now scratch.old }
     requires empty { buffer.old ≡ [] }
     ensures reads { ReadsAndSends S.meanings station.old station.new }
     ensures store { IsErrOf result Unprinted.Store → Rose (S.meanings.store_faults station.old) (S.meanings.store_faults station.new) }
@@ -98,6 +107,7 @@ pub fn print_reports<B: Book, S: Station>(
         text,
         scratch,
         core,
+        spare,
         buffer,
         station,
     )
@@ -110,11 +120,14 @@ pub fn print_fills<B: Book, S: Station>(
     text: &[u8],
     scratch: &mut Scratch,
     core: &mut Core<B>,
+    spare: &mut Core<B>,
     buffer: &mut ReportBuffer,
     station: &mut S,
 ) -> Result<u64, Unprinted>
     requires short { length text.now ≤ LONGEST_TEXT }
     requires new { core.old ≡ empty_state product.now }
+    requires spare { spare.old ≡ empty_state product.now }
+    requires room { HasRoomFor product.now scratch.old }
     requires empty { buffer.old ≡ [] }
     ensures reads { ReadsAndSends S.meanings station.old station.new }
     ensures store { IsErrOf result Unprinted.Store → Rose (S.meanings.store_faults station.old) (S.meanings.store_faults station.new) }
@@ -129,6 +142,7 @@ pub fn print_fills<B: Book, S: Station>(
         text,
         scratch,
         core,
+        spare,
         buffer,
         station,
     )
@@ -142,11 +156,14 @@ pub fn print_ledger<B: Book, S: Station>(
     text: &[u8],
     scratch: &mut Scratch,
     core: &mut Core<B>,
+    spare: &mut Core<B>,
     buffer: &mut ReportBuffer,
     station: &mut S,
 ) -> Result<u64, Unprinted>
     requires short { length text.now ≤ LONGEST_TEXT }
     requires new { core.old ≡ empty_state product.now }
+    requires spare { spare.old ≡ empty_state product.now }
+    requires room { HasRoomFor product.now scratch.old }
     requires empty { buffer.old ≡ [] }
     ensures reads { ReadsAndSends S.meanings station.old station.new }
     ensures store { IsErrOf result Unprinted.Store → Rose (S.meanings.store_faults station.old) (S.meanings.store_faults station.new) }
@@ -169,6 +186,7 @@ pub fn print_ledger<B: Book, S: Station>(
         text,
         scratch,
         core,
+        spare,
         buffer,
         station,
     ) {

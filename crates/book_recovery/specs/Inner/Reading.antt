@@ -1,23 +1,38 @@
 -- Reading one record more.
-use Rattle.std.specs.Prelude.{◌≡◌, ℕ, Bool, true, false, List, [], ◌∷◌, ◌++◌, length, Result, Ok, Err}
+use Rattle.std.specs.Prelude.{◌≡◌, ℕ, List, [], ◌∷◌, ◌++◌, length, Option, Some, None, Result, Ok, Err}
+use Rattle.product_file.specs.Products.{ProductLists}
+use Rattle.book_image.specs.Rows.{number_at}
+use Rattle.book_image.specs.Faults.{image_fault}
 use Rattle.match_journal.specs.Journal.{IsJournal, Record, journal_front}
+use Rattle.book_recovery.specs.Records.{record_messages, count_behind_all}
 use Rattle.book_recovery.specs.BadPlaces.{AreFirstRecords, HasBadRecordAt}
 use Rattle.book_recovery.specs.declared.recovery.RecoverFault.{RecoverFault}
 use Rattle.book_recovery.specs.declared.recovery.RecoverFault.TheVariants as fault
 
--- the record behind these is this one, and not bad; the next gate is the one behind it
-pub record IsOneMore (text : List ℕ) (limit : ℕ) (image : List ℕ) (before : List Record) (gate : ℕ) (r : Record) : Type 0 where
-  pub first : AreFirstRecords text limit (before ++ r ∷ []) image
-  pub gate_is : gate ≡ length (journal_front text (before ++ r ∷ []))
+-- what is answered at an image with this payload and gate: the count of messages of its state, where it is right
+abbrev pub PassesImage : ProductLists → List ℕ → ℕ → Result (Option ℕ) RecoverFault → Type 0
+PassesImage product payload gate (Ok (Some count)) = (image_fault product payload ≡ None) × (count ≡ number_at payload 0)
+PassesImage product payload gate (Ok None) = ⊥
+PassesImage product payload gate (Err fault.Store) = Unit {0}
+PassesImage product payload gate (Err (fault.Bad at)) = (image_fault product payload ≡ None → ⊥) × (at ≡ gate)
 
--- the record behind these is the first bad one
-pub record IsBadBehind (text : List ℕ) (limit : ℕ) (image : List ℕ) (before : List Record) (at : ℕ) : Type 0 where
-  pub bad : HasBadRecordAt text limit image at
-  pub behind : bad.before ≡ before
+module _ (product : ProductLists) (text : List ℕ) (limit : ℕ) (image : List ℕ) (before : List Record) where
+  -- one record more is not bad; these are its messages, the next gate is the one behind it, and so many messages are counted there
+  pub record IsOneMore (gate : ℕ) (messages : List (List ℕ)) (count : ℕ) : Type 0 where
+    pub found : Record
+    pub first : AreFirstRecords product text limit (before ++ found ∷ []) image
+    pub gate_is : gate ≡ length (journal_front text (before ++ found ∷ []))
+    pub messages_are : messages ≡ record_messages found
+    pub count_is : count ≡ count_behind_all 0 (before ++ found ∷ [])
 
--- what is answered at the gate behind some records of an image, none of them bad
-abbrev pub ReadsRecord : List ℕ → ℕ → List ℕ → List Record → ℕ → Record → Result Bool RecoverFault → Type 0
-ReadsRecord text limit image before gate r (Ok true) = IsOneMore text limit image before gate r
-ReadsRecord text limit image before gate r (Ok false) = IsJournal text limit before image
-ReadsRecord text limit image before gate r (Err fault.Store) = Unit {0}
-ReadsRecord text limit image before gate r (Err (fault.Bad at)) = IsBadBehind text limit image before at
+  -- the record behind these is the first bad one
+  pub record IsBadBehind (at : ℕ) : Type 0 where
+    pub bad : HasBadRecordAt product text limit image at
+    pub behind : bad.before ≡ before
+
+  -- what is answered at the gate behind some records of an image, none of them bad
+  abbrev pub ReadsRecord : ℕ → List (List ℕ) → Result (Option ℕ) RecoverFault → Type 0
+  ReadsRecord gate messages (Ok (Some count)) = IsOneMore gate messages count
+  ReadsRecord gate messages (Ok None) = IsJournal text limit before image
+  ReadsRecord gate messages (Err fault.Store) = Unit {0}
+  ReadsRecord gate messages (Err (fault.Bad at)) = IsBadBehind at

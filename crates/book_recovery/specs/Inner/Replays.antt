@@ -1,37 +1,59 @@
--- Applying the messages of records.
-use Rattle.std.specs.Prelude.{◌≡◌, ℕ, ◌+◌, List, length, Result, Ok, Err}
+-- Replaying records: their messages are applied, and an image takes the place of the state.
+use Rattle.std.specs.Prelude.{◌≡◌, ℕ, ◌+◌, false, List, [], take, drop, None, Result, Ok, Err}
 use Rattle.product_file.specs.Products.{ProductLists}
 use Rattle.order_kinds.specs.State.{State, state_numbered}
-use Rattle.order_kinds.specs.Step.{state_after}
+use Rattle.order_kinds.specs.Cores.{AreNumbered}
+use Rattle.book_image.specs.Faults.{image_fault}
+use Rattle.book_image.specs.Reading.{state_of_image}
 use Rattle.match_journal.specs.Journal.{Record}
 use Rattle.match_journal.specs.Appending.{IsJournalTo}
-use Rattle.book_recovery.specs.Kept.{IsWhole, AreWhole, record_messages, messages_in}
+use Rattle.match_journal.specs.declared.entry.Entry.{Entry}
+use Rattle.book_recovery.specs.Records.{is_image, from_last_image, messages_in, count_behind, count_behind_all, state_behind, IsGoodRecord, AreGoodRecords, AreTrueRecords}
 use Rattle.book_recovery.specs.BadPlaces.{HasBadPayloadAt}
-use Rattle.book_recovery.specs.Recovering.{state_kept}
+use Rattle.book_recovery.specs.Recovering.{IsStateAfter}
 use Rattle.book_recovery.specs.declared.recovery.RecoverFault.{RecoverFault}
 use Rattle.book_recovery.specs.declared.recovery.RecoverFault.TheVariants as fault
 
--- the record is whole frames, and its messages were applied
+-- the payload of an entry, and its record
+abbrev pub payload_at : List ℕ → Entry → List ℕ
+payload_at image entry = take entry.length (drop (entry.at + 6) image)
+
+abbrev pub record_at : List ℕ → Entry → Record
+record_at image entry = record { kind = entry.kind; payload = payload_at image entry }
+
+-- the payload is a right image, and the state is the one that it is of
+pub record IsImageRead (product : ProductLists) (payload : List ℕ) (new : State) : Type 0 where
+  pub right : image_fault product payload ≡ None
+  pub state : state_numbered new ≡ state_of_image product payload
+
+-- what is answered at an image with this payload and gate
+abbrev pub ReadsImage : ProductLists → List ℕ → State → ℕ → Result (Unit {0}) RecoverFault → Type 0
+ReadsImage product payload new gate (Ok t) = IsImageRead product payload new
+ReadsImage product payload new gate (Err fault.Store) = Unit {0}
+ReadsImage product payload new gate (Err (fault.Bad at)) = (image_fault product payload ≡ None → ⊥) × (at ≡ gate)
+
+-- The record is good behind so many messages, and the state is the one behind it; where it is frames, only if order numbers differed.
 pub record IsReplayed (product : ProductLists) (old new : State) (r : Record) : Type 0 where
-  pub whole : IsWhole r
-  pub state : state_numbered new ≡ state_after product (state_numbered old) (record_messages r)
-  pub messages : new.desk.messages ≡ old.desk.messages + length (record_messages r)
+  pub good : IsGoodRecord product old.desk.messages r
+  pub messages : new.desk.messages ≡ count_behind old.desk.messages r
+  pub state : (is_image r ≡ false → AreNumbered old) → state_numbered new ≡ state_behind product (state_numbered old) r
+  pub numbered : is_image r ≡ false → AreNumbered old → AreNumbered new
 
 -- what is answered at this record, with its gate
 abbrev pub ReplaysOne : ProductLists → State → State → ℕ → Record → Result (Unit {0}) RecoverFault → Type 0
 ReplaysOne product old new gate r (Ok t) = IsReplayed product old new r
 ReplaysOne product old new gate r (Err fault.Store) = Unit {0}
-ReplaysOne product old new gate r (Err (fault.Bad at)) = (IsWhole r → ⊥) × (at ≡ gate)
+ReplaysOne product old new gate r (Err (fault.Bad at)) = (IsGoodRecord product old.desk.messages r → ⊥) × (at ≡ gate)
 
--- all records are whole frames, and their messages were applied to a new core
+-- all records from the last image on are good, and were replayed
 pub record AreReplayed (product : ProductLists) (text : List ℕ) (limit : ℕ) (image : List ℕ) (records : List Record) (gate : ℕ) (new : State) : Type 0 where
   pub journal : IsJournalTo text limit records gate image
-  pub whole : AreWhole records
-  pub state : state_numbered new ≡ state_kept product (messages_in records)
-  pub messages : new.desk.messages ≡ length (messages_in records)
+  pub good : AreGoodRecords product 0 (from_last_image records)
+  pub messages : new.desk.messages ≡ count_behind_all 0 (from_last_image records)
+  pub kept : AreTrueRecords product [] records → IsStateAfter product (messages_in records) new
 
 -- what is answered over a journal with these records
 abbrev pub ReplaysAll : ProductLists → List ℕ → ℕ → List ℕ → List Record → ℕ → State → Result (Unit {0}) RecoverFault → Type 0
 ReplaysAll product text limit image records gate new (Ok t) = AreReplayed product text limit image records gate new
 ReplaysAll product text limit image records gate new (Err fault.Store) = Unit {0}
-ReplaysAll product text limit image records gate new (Err (fault.Bad at)) = HasBadPayloadAt text limit image at
+ReplaysAll product text limit image records gate new (Err (fault.Bad at)) = HasBadPayloadAt product text limit image at

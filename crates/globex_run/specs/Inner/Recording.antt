@@ -7,7 +7,7 @@ use Rattle.match_journal.specs.Journal.{Record}
 use Rattle.match_journal.specs.Classes.{Keeps}
 use Rattle.match_journal.specs.Appending.{IsJournalTo}
 use Rattle.match_journal.specs.Steps.{Rests}
-use Rattle.book_recovery.specs.Kept.{AreWhole, messages_in}
+use Rattle.book_recovery.specs.Records.{AreWhole, messages_in}
 use Rattle.product_file.specs.Products.{ProductLists}
 use Rattle.order_kinds.specs.State.{State}
 use Rattle.gx_base.specs.Line.{line_of}

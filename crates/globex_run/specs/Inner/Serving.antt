@@ -9,14 +9,16 @@ use Rattle.fix_frame.specs.Grammar.{IsFrame, IsUnfinished, IsRefused}
 use Rattle.fix_frame.specs.declared.place.TheConstants.{FRONT_LIMIT}
 use Rattle.match_journal.specs.Journal.{IsJournal, Record, frames_record}
 use Rattle.match_journal.specs.Steps.{HoldsOne}
-use Rattle.book_recovery.specs.Kept.{messages_in}
+use Rattle.book_recovery.specs.Records.{messages_in}
 use Rattle.product_file.specs.Products.{ProductLists}
 use Rattle.gx_base.specs.declared.event.Event.{Event}
 use Rattle.order_kinds.specs.State.{State}
+use Rattle.order_kinds.specs.declared.core_state.TheConstants.{MOST_MESSAGES}
 use Rattle.order_kinds.specs.Step.{events_from}
 use Rattle.book_print.specs.Publishers.{LineForm}
 use Rattle.globex_run.specs.Outside.{SourceAt, Streams, AreWithinReads}
 use Rattle.globex_run.specs.Journals.{bytes_in, length_of_records}
+use Rattle.globex_run.specs.RunResult.{BeginsWithFrame}
 use Rattle.globex_run.specs.Inner.Recording.{lines_from, RestsAtEnd, Serves, AllKept, Served}
 use Rattle.globex_run.specs.declared.give_frames.Behind.{Behind}
 use Rattle.globex_run.specs.declared.give_frames.Behind.TheVariants as behind
@@ -53,18 +55,23 @@ pub record HasNoRoomBehind (room : ℕ) (given : List (List ℕ)) (rest : List �
   pub front : rest ≡ frame ++ more
   pub too_long : room < length_of_records (record_of given) + length frame
 
--- what stands behind the frames that were given
-abbrev pub StandsBehind : ℕ → Framing → Behind → Type 0
-StandsBehind room f behind.Front = IsUnfinished f.rest × (length f.rest < FRONT_LIMIT)
-StandsBehind room f behind.NoRoom = HasNoRoomBehind room f.given f.rest
-StandsBehind room f behind.Broken = IsRefused f.rest
+-- a frame stands here, and as many were given as may be
+abbrev pub AreMostGiven : ℕ → Framing → Type 0
+AreMostGiven most f = (length f.given ≡ most) × BeginsWithFrame f.rest
 
--- of the bytes held frames were given, which have this room together
-pub record GivesFrames (room : ℕ) (old new : Framing) (behind : Behind) : Type 0 where
+-- what stands behind the frames that were given
+abbrev pub StandsBehind : ℕ → ℕ → Framing → Behind → Type 0
+StandsBehind room most f behind.Front = IsUnfinished f.rest × (length f.rest < FRONT_LIMIT)
+StandsBehind room most f behind.NoRoom = HasNoRoomBehind room f.given f.rest ⊎ AreMostGiven most f
+StandsBehind room most f behind.Broken = IsRefused f.rest
+
+-- of the bytes held frames were given, at most so many, which have this room together
+pub record GivesFrames (room most : ℕ) (old new : Framing) (behind : Behind) : Type 0 where
   pub front : old.rest ≡ concat new.given ++ new.rest
   pub offset : new.offset ≡ old.offset + length (concat new.given)
   pub fits : length (concat new.given) ≤ room
-  pub stands : StandsBehind room new behind
+  pub few : length new.given ≤ most
+  pub stands : StandsBehind room most new behind
 
 module _ {S : Type 0} (m : StationMeanings S) (Numbered : Type 0) (line : LineForm) (product : ProductLists) (limit : ℕ) where
   -- an append has failed: nothing was sent, and the image keeps the records before, or those and this one
@@ -139,6 +146,10 @@ pub record HasNoRoomAt (limit end : ℕ) (behind : List ℕ) : Type 0 where
   pub front : behind ≡ frame ++ more
   pub too_long : limit < end + 7 + length frame
 
+-- so many messages are counted that with the next one there would be more than a journal may have
+abbrev pub IsLastCounted : ℕ → List ℕ → Type 0
+IsLastCounted count behind = (count + 1 ≡ MOST_MESSAGES) × BeginsWithFrame behind
+
 module _ {I S : Type 0} (m : StationMeanings S) (Numbered : Type 0) (line : LineForm) (product : ProductLists) (limit : ℕ) (before after : Streams I S) (gate end : ℕ) (state then : State) where
   -- Why serving ended that added these records, where these bytes were read behind them.
   abbrev pub EndsServing : Ending → List Record → List ℕ → Type 0
@@ -156,7 +167,7 @@ module _ {I S : Type 0} (m : StationMeanings S) (Numbered : Type 0) (line : Line
   EndsServing (JournalBad place) added behind = ⊥
   EndsServing (ProductDiffers place) added behind = ⊥
   EndsServing (Full place) added behind =
-      Served m Numbered line product limit before.station.object after.station.object gate end state then added × (place ≡ length (bytes_in added)) × HasNoRoomAt limit end behind
+      Served m Numbered line product limit before.station.object after.station.object gate end state then added × (place ≡ length (bytes_in added)) × (HasNoRoomAt limit end behind ⊎ IsLastCounted then.desk.messages behind)
 
   -- The bytes read are those of the records added, and then some; there is at most one record for each read. Where all of the
   -- input was served, and the order numbers differed at the start, the events of their messages were published.

@@ -5,15 +5,16 @@ use Rattle.gx_station.specs.Stations.{StationMeanings, sent_and}
 use Rattle.gx_station.specs.Honest.{IsSettled}
 use Rattle.gx_station.specs.Moments.{AddsOnly}
 use Rattle.match_journal.specs.Journal.{Record, journal_front}
-use Rattle.match_journal.specs.Classes.{Keeps, IsBlank, IsSealed}
+use Rattle.match_journal.specs.Classes.{Keeps}
 use Rattle.match_journal.specs.Appending.{IsJournalTo}
 use Rattle.match_journal.specs.Causes.{ReadsAtMost}
 use Rattle.match_journal.specs.Opening.{IsOpening}
 use Rattle.match_journal.specs.Steps.{HoldsOne}
 use Rattle.match_journal.specs.declared.limits.TheConstants.{MOST_UNFINISHED}
 use Rattle.match_journal.specs.declared.standing.Standing.{Standing}
-use Rattle.book_recovery.specs.Kept.{AreWhole, messages_in, KeepsMessages, IsGoodJournal}
-use Rattle.book_recovery.specs.Recovering.{state_kept}
+use Rattle.book_recovery.specs.Records.{AreWhole, messages_in, state_kept}
+use Rattle.book_recovery.specs.Kept.{KeepsMessages, CanBeRecovered}
+use Rattle.book_recovery.specs.Recovering.{IsStateAfter}
 use Rattle.product_file.specs.Products.{ProductLists, IsRightProduct}
 use Rattle.gx_base.specs.declared.event.Event.{Event}
 use Rattle.order_kinds.specs.State.{State}
@@ -41,9 +42,9 @@ ending_without (unopened.Bad at) = ending.JournalBad at
 ending_without (unopened.ProductDiffers at) = ending.ProductDiffers at
 
 -- what the image is, by the answer
-abbrev pub AnswersOpening : List ℕ → ℕ → List ℕ → Result Standing Unopened → Type 0
-AnswersOpening text limit image (Ok journal) = (IsBlank image ⊎ IsSealed text image) ⊎ IsGoodJournal text limit image
-AnswersOpening text limit image (Err reason) = AnswersImage text limit image (ending_without reason)
+abbrev pub AnswersOpening : ProductLists → List ℕ → List ℕ → Result Standing Unopened → Type 0
+AnswersOpening product text image (Ok journal) = CanBeRecovered product text product.journal_limit image
+AnswersOpening product text image (Err reason) = AnswersImage product text image (ending_without reason)
 
 -- the image was refused
 abbrev pub IsRefused : {J : Type 0} → Result J Unopened → Type 0
@@ -54,14 +55,14 @@ IsRefused (Err (unopened.Bad at)) = Unit {0}
 IsRefused (Err (unopened.ProductDiffers at)) = Unit {0}
 
 module _ {S : Type 0} (m : StationMeanings S) (product : ProductLists) (text : List ℕ) where
-  -- The journal of an honest station, whose image keeps these records, was opened, and the core is in the state of their
+  -- The journal of an honest station, whose image keeps these records, was opened, and the core is in the state after their
   -- messages; or a call on the store has failed. In either case the image keeps the same records.
   pub record Opens (old new : S) (image : List ℕ) (records : List Record) (state : State) (result : Result Standing Unopened) : Type 0 where
     pub accepted : IsRefused result → ⊥
     pub moments : AddsOnly m old new (λ left out. IsOpening text product.journal_limit records image left × (m.sent old ≡ Some out))
     pub keeps : HoldsOne m (IsOpening text product.journal_limit records image) new
     pub at_end : IfOk result (λ journal. RestsAtEnd m text product.journal_limit records journal.gate (max (length image) MOST_UNFINISHED) new)
-    pub is_state : IfOk result (λ journal. state ≡ state_kept product (messages_in records))
+    pub is_state : IfOk result (λ journal. IsStateAfter product (messages_in records) state)
     pub bytes : IfOk result (λ journal. ReadsAtMost (most_read records) (m.bytes_read old) (m.bytes_read new))
 
 -- ---- a session, from its opening on
@@ -120,6 +121,7 @@ module _ {I S : Type 0} (m : StationMeanings S) (line : LineForm) (product : Pro
 
   -- From an image that keeps these records: which records were added, what was sent and is kept, and what a crash leaves.
   pub record SessionFrom (Published : List Event → Type 0) (then : State) (image : List ℕ) (records : List Record) (kept : List (List ℕ)) (taken : List ℕ) (ending : Ending) (count : ℕ) : Type 0 where
+    pub right : IsRightProduct product
     pub added : List Record
     pub behind : List ℕ
     pub are : taken ≡ bytes_in added ++ behind
@@ -139,7 +141,7 @@ module _ {I S : Type 0} (m : StationMeanings S) (line : LineForm) (product : Pro
     pub ending : Ending
     pub is : outcome ≡ outcome_of ending outcome.messages
     pub cause : CausedBy ending before after
-    pub image : IfSome before.station.image (λ image. AnswersImage text product.journal_limit image ending)
+    pub image : IfSome before.station.image (λ image. AnswersImage product text image ending)
     pub serving : ServingResult before after ending outcome.messages
-    pub from : (image : List ℕ) (kept : List (List ℕ)) → m.is_honest before.station.object → before.station.image ≡ Some image → (startable : KeepsMessages text product.journal_limit kept image)
+    pub from : (image : List ℕ) (kept : List (List ℕ)) → m.is_honest before.station.object → before.station.image ≡ Some image → (startable : KeepsMessages product text kept image)
         → SessionFrom Published then image startable.records kept serving.taken ending outcome.messages

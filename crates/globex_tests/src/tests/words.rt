@@ -10,12 +10,13 @@ fn answer(alloc: Global, line: &str) -> Result<Result<Command, WordsFault>, Fail
     Ok(read_command(alloc, words.as_slice()))
 }
 
-const TAKEN: [(&str, Command); 11] = [
+const TAKEN: [(&str, Command); 12] = [
     ("run", Command::Run),
     ("replay", Command::Replay),
     ("book", Command::Book),
     ("fills", Command::Fills),
     ("steps", Command::Steps),
+    ("checkpoint", Command::Checkpoint),
     ("-- ledger", Command::Ledger),
     (
         "--count 2 drill --first 7",
@@ -70,7 +71,7 @@ const REFUSED: [&str; 30] = [
     "run --help",
     "run -x",
     "drill --first 1 --count 1 --third 1",
-    "checkpoint",
+    "checkpoint --count 1",
     "--first 1",
     "drill --firs 1 --count 1",
 ];

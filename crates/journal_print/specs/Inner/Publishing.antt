@@ -6,9 +6,9 @@ use Rattle.match_journal.specs.Journal.{IsJournal, Record}
 use Rattle.match_journal.specs.Classes.{IsForeignAt, HasBadHeader, HasOtherText}
 use Rattle.order_kinds.specs.State.{State, state_numbered}
 use Rattle.order_kinds.specs.Step.{events_of}
-use Rattle.book_recovery.specs.Kept.{AreWhole, messages_in, HasKept}
+use Rattle.book_recovery.specs.Records.{state_kept, messages_in, AreGoodRecords}
+use Rattle.book_recovery.specs.Kept.{HasKept}
 use Rattle.book_recovery.specs.BadPlaces.{HasBadRecordAt}
-use Rattle.book_recovery.specs.Recovering.{state_kept}
 use Rattle.book_print.specs.Publishers.{PublisherMeanings}
 use Rattle.journal_print.specs.Printed.{lines_in, SentNothing, SentPart, SentToBadRecord}
 use Rattle.journal_print.specs.declared.unprinted.Unprinted.{Unprinted}
@@ -26,12 +26,12 @@ module _ {S P : Type 0} (m : StationMeanings S) (p : PublisherMeanings P) (produ
   pub record AllPublished (limit : ℕ) (image : List ℕ) (old new : S) (publisher then : P) (state : State) : Type 0 where
     pub records : List Record
     pub journal : IsJournal text limit records image
-    pub whole : AreWhole records
+    pub good : AreGoodRecords product 0 records
     pub published : ArePublished old new publisher then state (messages_in records)
 
   -- a record is bad, and those before it were gone through
   pub record StoppedAtBad (limit : ℕ) (image : List ℕ) (old new : S) (at : ℕ) : Type 0 where
-    pub bad : HasBadRecordAt text limit image at
+    pub bad : HasBadRecordAt product text limit image at
     pub sent : m.sent new ≡ sent_and (m.sent old) (lines_in p.text product (messages_in bad.before))
 
   -- what is answered over an image whose first gate and header are good
@@ -46,7 +46,7 @@ module _ {S P : Type 0} (m : StationMeanings S) (p : PublisherMeanings P) (produ
   -- the messages that an image keeps were gone through
   pub record KeptPublished (image : List ℕ) (old new : S) (publisher then : P) (state : State) (count : ℕ) : Type 0 where
     pub messages : List (List ℕ)
-    pub kept : HasKept text product.journal_limit messages image
+    pub kept : HasKept product text messages image
     pub published : ArePublished old new publisher then state messages
     pub count_is : count ≡ length messages
 

@@ -8,7 +8,7 @@ use Rattle.book_recovery.specs.Inner.Counting.{AreRecords}
 use Rattle.book_recovery.proofs.Looks.{looks_by, reads_of}
 use Rattle.book_recovery.proofs.Starting.{begins_then}
 use Rattle.book_recovery.proofs.Standings.{moved_then, some_moved, none_moved, entry_found}
-use Rattle.book_recovery.proofs.Counting.{counting_more, counting_done, counting_bad, head_found, gate_found, bad_found}
+use Rattle.book_recovery.proofs.Counting.{entries_more, counting_more, counting_done, counting_bad, head_found, gate_found, bad_found}
 use Rattle.book_recovery.proofs.recovery.read_heads.Goals as goal
 
 pub heads-preserved : goal.heads-preserved
@@ -17,19 +17,20 @@ heads-preserved g c =
     let before = c.heads.invariant in
     let step = some_moved c.heads.journal c.next_entry.new.self c.in-Ok-Some.field-0 c.in-Ok-Some.entry c.in-Ok-Some.field-0-is c.in-Ok-Some.ensures.moves in
     let gate = ap (λ (s : Standing). s.gate) step in
+    let more = entries_more c.heads.heads c.pass.new.self c.in-Ok-Some.entry c.pass.ensures in
     let entry = entry_found (λ (e : Entry). (e.at ≡ c.heads.journal.gate) × Fits c.heads.journal.known c.heads.journal.limit e) c.in-Ok-Some.field-0 c.in-Ok-Some.entry c.in-Ok-Some.field-0-is c.in-Ok-Some.ensures.entry in
     record {
-      looks = looks_by m _ _ _ (6 * c.heads.heads.entries) 6 _ before.looks c.next_entry.ensures.looks (omega arith);
+      looks = looks_by m _ _ _ (6 * c.heads.heads.entries) 6 _ before.looks c.next_entry.ensures.looks (omega (arith, more));
       reach = c.next_entry.ensures.reach ∙ before.reach;
       faults = c.in-Ok-Some.ensures.none (λ e. cc e) ∙ before.faults;
       same = moved_then c.args.journal.now c.heads.journal c.next_entry.new.self _ _ before.same step;
-      few = omega (arith, before.few, gate);
-      start = begins_then c.heads.journal c.next_entry.new.self c.heads.heads.start _ c.in-Ok-Some.entry _ _ step before.start entry c.or-heads.ensures;
+      few = omega (arith, before.few, gate, more);
+      start = begins_then c.heads.journal c.next_entry.new.self c.heads.heads c.pass.new.self c.in-Ok-Some.entry _ _ step before.start entry c.pass.ensures;
       counting = λ text image read known begins first.
           let at = before.counting text image read known begins first in
           let walks = c.in-Ok-Some.ensures.walks image (before.looks.keeps.holds ∙ read) (known ∙ sym (ap (λ (s : Standing). s.known) before.same)) in
           let head = head_found image _ _ c.in-Ok-Some.field-0 c.in-Ok-Some.entry c.in-Ok-Some.field-0-is walks in
-          counting_more text _ image _ _ at c.in-Ok-Some.entry _ _ (subst (λ k. IsHead image k c.heads.journal.gate c.in-Ok-Some.entry) (ap (λ (s : Standing). s.limit) before.same) head) gate c.or-heads.ensures;
+          counting_more text _ image _ _ at c.in-Ok-Some.entry _ c.pass.new.self (subst (λ k. IsHead image k c.heads.journal.gate c.in-Ok-Some.entry) (ap (λ (s : Standing). s.limit) before.same) head) gate c.pass.ensures;
     }
 
 pub returns-in-Ok-None-clause-reads : goal.returns-in-Ok-None-clause-reads

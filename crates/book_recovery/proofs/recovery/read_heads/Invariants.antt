@@ -15,7 +15,7 @@ invariant-heads g l =
       faults : m.store_faults l.station ≡ m.store_faults l.fn.station;
       same : l.journal ≡ moved l.fn.journal l.journal.gate l.journal.is_at_end;
       few : l.heads.entries ≤ l.journal.gate;
-      start : BeginsAt l.journal l.heads.start;
+      start : BeginsAt l.journal l.heads;
       counting : (text image : List ℕ) → m.holds l.fn.station ≡ Some image → length image ≡ l.fn.journal.known → BeginsWithRecords text l.fn.journal.limit [] image → l.fn.journal.first ≡ 13 + length text → IsCounting text l.fn.journal.limit image l.journal.gate l.heads;
     }
 

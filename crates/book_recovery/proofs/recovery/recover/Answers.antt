@@ -1,9 +1,13 @@
-use Rattle.std.proofs.Common.{◌+◌, ◌-◌, ◌*◌, Ok, Err, arith, refl, ◌∙◌, ap}
+use Rattle.std.proofs.Common.{length, ◌+◌, ◌-◌, ◌*◌, Ok, Err, arith, refl, ◌∙◌, ap}
 use Rattle.std.proofs.lemmas.Result.{err_from_is_err_and}
 use Rattle.match_journal.specs.LookLaws.{reads_more, reads_then as bytes_then}
 use Rattle.match_journal.specs.declared.standing.Standing.{Standing}
-use Rattle.order_kinds.specs.State.{state_numbered}
+use Rattle.match_journal.specs.Journal.{journal_front}
+use Rattle.book_recovery.specs.Records.{before_last_image}
+use Rattle.book_recovery.specs.Recovering.{first_read}
+use Rattle.book_recovery.specs.Inner.Starting.{begins_from}
 use Rattle.book_recovery.proofs.Images.{opened_begins}
+use Rattle.book_recovery.proofs.Starting.{begins_first}
 use Rattle.book_recovery.proofs.Looks.{reads_then}
 use Rattle.book_recovery.proofs.Passes.{stopped_counting, stopped_replaying, recovered, replays_after}
 use Rattle.book_recovery.proofs.recovery.recover.Goals as goal
@@ -12,7 +16,7 @@ pub returns-in_err-heads-clause-recovers : goal.returns-in_err-heads-clause-reco
 returns-in_err-heads-clause-recovers g c = λ text image read known least opened first.
     let counts = c.in_err-heads.ensures.counts text image read known (opened_begins text c.args.journal.now.limit image opened least) first in
     let p = err_from_is_err_and c.from_residual.result c.from_residual.ensures.1 in
-    rw (p.1, p.2) (stopped_counting c.args.product.now text image c.args.journal.now.limit c.read_heads.new.journal.gate c.read_heads.new.journal.gate (state_numbered c.args.core.now) c.in_err-heads.field-0.0 counts)
+    rw (p.1, p.2) (stopped_counting c.args.product.now text image c.args.journal.now.limit c.read_heads.new.journal.gate c.read_heads.new.journal.gate c.args.core.now c.in_err-heads.field-0.0 counts)
 
 pub returns-in_err-replay_records-clause-reads : goal.returns-in_err-replay_records-clause-reads
 returns-in_err-replay_records-clause-reads g c = reads_then g.S.Station.meanings _ _ _ _ c.read_heads.ensures.reads c.replay_records.ensures.reads.looks
@@ -21,9 +25,9 @@ pub returns-in_err-replay_records-clause-recovers : goal.returns-in_err-replay_r
 returns-in_err-replay_records-clause-recovers g c = λ text image read known least opened first.
     let records = c.in_ok-heads.ensures.counts text image read known (opened_begins text c.args.journal.now.limit image opened least) first in
     let p = err_from_is_err_and c.from_residual-in_err-replay_records.result c.from_residual-in_err-replay_records.ensures.1 in
-    let told = replays_after c.args.product.now text image c.args.journal.now.limit c.args.journal.now c.read_heads.new.journal records.records c.replay_records.new.journal.gate c.replay_records.new.core c.in_ok-heads.heads.start (Err c.in_err-replay_records.field-0.0) refl c.read_heads.ensures.same
+    let told = replays_after c.args.product.now text image c.args.journal.now.limit c.args.journal.now c.read_heads.new.journal records.records (length (journal_front text (before_last_image records.records))) c.replay_records.new.journal.gate c.replay_records.new.core c.in_ok-heads.heads.start (Err c.in_err-replay_records.field-0.0) refl c.read_heads.ensures.same
     (λ known' journal' first' walks'. c.in_err-replay_records.ensures.replays text image records.records (c.read_heads.ensures.reads.looks.keeps.holds ∙ read) known' journal' first' walks') known records.journal.journal first records.start in
-    rw (p.1, p.2) (stopped_replaying c.args.product.now text image c.args.journal.now.limit records.records c.replay_records.new.journal.gate c.replay_records.new.journal.gate c.replay_records.new.core (state_numbered c.replay_records.new.core) c.in_err-replay_records.field-0.0 told)
+    rw (p.1, p.2) (stopped_replaying c.args.product.now text image c.args.journal.now.limit records.records c.replay_records.new.journal.gate c.replay_records.new.journal.gate c.replay_records.new.core c.replay_records.new.core c.in_err-replay_records.field-0.0 told)
 
 pub returns-clause-reads : goal.returns-clause-reads
 returns-clause-reads g c = reads_then g.S.Station.meanings _ _ _ _ c.read_heads.ensures.reads c.replay_records.ensures.reads.looks
@@ -31,13 +35,18 @@ returns-clause-reads g c = reads_then g.S.Station.meanings _ _ _ _ c.read_heads.
 pub returns-clause-recovers : goal.returns-clause-recovers
 returns-clause-recovers g c = λ text image read known least opened first.
     let records = c.in_ok-heads.ensures.counts text image read known (opened_begins text c.args.journal.now.limit image opened least) first in
-    let told = replays_after c.args.product.now text image c.args.journal.now.limit c.args.journal.now c.read_heads.new.journal records.records c.replay_records.new.journal.gate c.replay_records.new.core c.in_ok-heads.heads.start (Ok tt) refl c.read_heads.ensures.same
+    let told = replays_after c.args.product.now text image c.args.journal.now.limit c.args.journal.now c.read_heads.new.journal records.records (length (journal_front text (before_last_image records.records))) c.replay_records.new.journal.gate c.replay_records.new.core c.in_ok-heads.heads.start (Ok tt) refl c.read_heads.ensures.same
     (λ known' journal' first' walks'. c.in_ok-replay_records.ensures.replays text image records.records (c.read_heads.ensures.reads.looks.keeps.holds ∙ read) known' journal' first' walks') known records.journal.journal first records.start in
     recovered c.args.product.now text image c.args.journal.now.limit c.read_heads.new.journal.gate c.replay_records.new.journal.gate c.messages.result c.in_ok-heads.heads c.replay_records.new.core records told c.messages.ensures.count
 
 pub returns-clause-bytes : goal.returns-clause-bytes
 returns-clause-bytes g c =
     let m = g.S.Station.meanings in
-    let gates = ap (λ (s : Standing). s.first) c.read_heads.ensures.same in
-    reads_more _ _ _ _ (omega (arith, gates)) (bytes_then (6 * (c.in_ok-heads.heads.entries + 1)) (c.replay_records.new.journal.gate - c.read_heads.new.journal.first) (m.bytes_read c.args.station.now) (m.bytes_read c.read_heads.new.station) (m.bytes_read c.replay_records.new.station)
+    let mid = c.read_heads.new.journal in
+    let heads = c.in_ok-heads.heads in
+    let begins = begins_first mid heads c.in_ok-heads.ensures.start ∙ ap (λ (s : Standing). first_read heads.image_at s.first) c.read_heads.ensures.same in
+    reads_more _ _ _ _ (omega (arith, begins)) (bytes_then (6 * (heads.entries + 1)) (c.replay_records.new.journal.gate - begins_from mid heads.start) (m.bytes_read c.args.station.now) (m.bytes_read c.read_heads.new.station) (m.bytes_read c.replay_records.new.station)
     c.in_ok-heads.ensures.bytes c.in_ok-replay_records.ensures.bytes)
+
+pub replay_records-requires-clause-start : goal.replay_records-requires-clause-start
+replay_records-requires-clause-start g c = c.in_ok-heads.ensures.start.can

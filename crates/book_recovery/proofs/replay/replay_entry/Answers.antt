@@ -1,20 +1,30 @@
-use Rattle.std.proofs.Common.{◌≡◌, [], length, arith, refl, sym, ◌∙◌, ap}
-use Rattle.std.proofs.lemmas.List.{nil_from_length}
-use Rattle.fix_frame.specs.Stream.{rest_of}
+use Rattle.std.proofs.Common.{◌≡◌, true, false, refl, sym, ◌∙◌}
+use Rattle.book_recovery.specs.Inner.Replays.{payload_at}
 use Rattle.book_recovery.proofs.Looks.{on_ok}
-use Rattle.book_recovery.proofs.Replaying.{nothing_left}
+use Rattle.book_recovery.proofs.NewCores.{cleared_new}
+use Rattle.book_recovery.proofs.ReplayedOne.{image-replayed, frames-replayed, frames-wrong}
 use Rattle.book_recovery.proofs.replay.replay_entry.Goals as goal
 
-pub returns-then-rest-gt0-clause-replays : goal.returns-then-rest-gt0-clause-replays
-returns-then-rest-gt0-clause-replays g c = λ text image before after gate read next.
-    let is = on_ok c.read_payload-read.result (sym c.is_err.ensures.value ∙ c.if-is_err.false) c.read_payload-read.ensures.payload text image before after gate read next in (
-      λ whole. omega (arith, c.if-rest-gt0.true, c.rest.ensures.count, ap length (c.apply_frames.ensures.rest ∙ ap rest_of is ∙ whole.no_rest)),
-      refl,
-    )
+pub read_image_record-requires-clause-new : goal.read_image_record-requires-clause-new
+read_image_record-requires-clause-new g c = c.clear.ensures ∙ cleared_new c.args.product.now c.args.core.now c.requires.fits
+
+pub returns-in-Image-clause-replays : goal.returns-in-Image-clause-replays
+returns-in-Image-clause-replays g c = λ image read known.
+    let entry = c.args.entry.now in
+    image-replayed c.args.product.now c.args.core.now c.read_image_record.new.core entry.at entry.kind (payload_at image entry) c.read_image_record.result c.in-Image.is (c.read_image_record.ensures.reads image read known)
+
+pub returns-then-apply_frames-clause-replays : goal.returns-then-apply_frames-clause-replays
+returns-then-apply_frames-clause-replays g c = λ image read known.
+    let entry = c.args.entry.now in
+    let same = on_ok c.read_frames-read.result (sym c.is_err.ensures.value ∙ c.if-is_err.false) c.read_frames-read.ensures.bytes image read in
+    frames-replayed c.args.product.now c.args.core.now c.apply_frames.new.core entry.kind c.read_frames-read.new.framer.rest (payload_at image entry) c.in-Frames.is same
+    (c.apply_frames.ensures.good.0 c.if-apply_frames.true) (c.apply_frames.ensures.state c.if-apply_frames.true) (c.apply_frames.ensures.count c.if-apply_frames.true) c.apply_frames.ensures.numbered
 
 pub returns-clause-replays : goal.returns-clause-replays
-returns-clause-replays g c = λ text image before after gate read next.
-    let is = on_ok c.read_payload-read.result (sym c.is_err.ensures.value ∙ c.if-is_err.false) c.read_payload-read.ensures.payload text image before after gate read next in
-    let frames = sym next.kind ∙ c.in-Frames.is in
-    let none : c.apply_frames.new.framer.rest ≡ [] = nil_from_length c.apply_frames.new.framer.rest (omega (arith, c.if-rest-gt0.false, c.rest.ensures.count)) in
-    nothing_left c.args.product.now c.args.core.now c.apply_frames.new.core c.read_payload-read.new.framer.rest c.apply_frames.new.framer.rest next.found frames is c.apply_frames.ensures.rest none c.apply_frames.ensures.state c.apply_frames.ensures.count
+returns-clause-replays g c = λ image read known.
+    let entry = c.args.entry.now in
+    let same = on_ok c.read_frames-read.result (sym c.is_err.ensures.value ∙ c.if-is_err.false) c.read_frames-read.ensures.bytes image read in (
+      frames-wrong c.args.product.now c.args.core.now c.apply_frames.new.core entry.kind c.read_frames-read.new.framer.rest (payload_at image entry) c.in-Frames.is same
+          (λ good. let differ : true ≡ false = sym (c.apply_frames.ensures.good.1 good) ∙ c.if-apply_frames.false in cc differ),
+      refl,
+    )

@@ -4,22 +4,22 @@ use Rattle.match_journal.proofs.Unique.{not_refused}
 use Rattle.globex_run.proofs.open.open_journal.Goals as goal
 
 pub returns-in-Err-Store-clause-opens : goal.returns-in-Err-Store-clause-opens
-returns-in-Err-Store-clause-opens g c = λ image records honest read keeps whole.
+returns-in-Err-Store-clause-opens g c = λ image records honest read keeps good are_true.
     opens_stopped g.S.Station.meanings c.args.product.now c.args.text.now c.args.station.now c.start.new.station c.journal_limit.result c.journal_limit.ensures.limit image read c.start.result c.start.ensures.starts c.start.ensures.keeps records _ honest keeps
 
 pub returns-in-Err-Bad-clause-opens : goal.returns-in-Err-Bad-clause-opens
-returns-in-Err-Bad-clause-opens g c = λ image records honest read keeps whole.
+returns-in-Err-Bad-clause-opens g c = λ image records honest read keeps good are_true.
     absurd (not_refused c.args.text.now image c.args.product.now.journal_limit records c.in-Err-Bad.field-0 c.requires.short keeps (c.in-Err-Bad.ensures.answers image read) (λ is. cc (is, c.in-Err-Bad.field-0-is)))
 
 pub returns-in-Err-ProductDiffers-clause-opens : goal.returns-in-Err-ProductDiffers-clause-opens
-returns-in-Err-ProductDiffers-clause-opens g c = λ image records honest read keeps whole.
+returns-in-Err-ProductDiffers-clause-opens g c = λ image records honest read keeps good are_true.
     absurd (not_refused c.args.text.now image c.args.product.now.journal_limit records c.in-Err-ProductDiffers.field-0 c.requires.short keeps (c.in-Err-ProductDiffers.ensures.answers image read) (λ is. cc (is, c.in-Err-ProductDiffers.field-0-is)))
 
 pub returns-in-Ok-recover-clause-opens : goal.returns-in-Ok-recover-clause-opens
-returns-in-Ok-recover-clause-opens g c = λ image records honest read keeps whole.
+returns-in-Ok-recover-clause-opens g c = λ image records honest read keeps good are_true.
     opens_recovered g.S.Station.meanings c.args.product.now c.args.text.now c.args.station.now c.start.new.station c.journal_limit.result c.journal_limit.ensures.limit image read c.in-Ok.journal c.in-Ok.ensures.starts
     c.requires.short c.journal_limit.ensures.some c.in-Ok.ensures.place.0 c.in-Ok.ensures.known c.recover.new.journal.gate _ c.recover.result c.recover.ensures.recovers
-    c.recover.new.station c.recover.ensures.reads.looks.keeps c.start.ensures.keeps c.recover.new.journal c.in-Ok-recover.field-0 refl c.in-Ok-recover.is c.in-Ok.ensures.settles c.start.ensures.bytes_read c.in-Ok-recover.ensures.bytes records honest keeps
+    c.recover.new.station c.recover.ensures.reads.looks.keeps c.start.ensures.keeps c.recover.new.journal c.in-Ok-recover.field-0 refl c.in-Ok-recover.is c.in-Ok.ensures.settles c.start.ensures.bytes_read c.in-Ok-recover.ensures.bytes records honest keeps are_true
 
 pub returns-in-Ok-recover-clause-answers : goal.returns-in-Ok-recover-clause-answers
 returns-in-Ok-recover-clause-answers g c = λ image read.
@@ -28,7 +28,7 @@ returns-in-Ok-recover-clause-answers g c = λ image read.
     c.in-Ok-recover.field-0 c.in-Ok-recover.is (c.in-Ok.ensures.answers image read) c.start.ensures.opened
 
 pub returns-in-Err-Store-recover-clause-opens : goal.returns-in-Err-Store-recover-clause-opens
-returns-in-Err-Store-recover-clause-opens g c = λ image records honest read keeps whole.
+returns-in-Err-Store-recover-clause-opens g c = λ image records honest read keeps good are_true.
     opens_unread g.S.Station.meanings c.args.product.now c.args.text.now c.args.station.now c.start.new.station c.journal_limit.result c.journal_limit.ensures.limit image read c.in-Ok.journal c.in-Ok.ensures.starts
     c.recover.new.station c.recover.ensures.reads.looks.keeps c.start.ensures.keeps records _ honest keeps
 
@@ -45,7 +45,7 @@ returns-in-Err-Bad-recover-clause-stays g c = λ image read refused.
     c.in-Err-Bad-recover.at (c.in-Err-Bad-recover.is ∙ ap Err c.in-Err-Bad-recover.field-0-is) (c.in-Ok.ensures.answers image read) c.in-Ok.ensures.makes c.start.ensures.opened c.recover.new.station c.recover.ensures.reads.looks.keeps
 
 pub returns-in-Err-Bad-recover-clause-opens : goal.returns-in-Err-Bad-recover-clause-opens
-returns-in-Err-Bad-recover-clause-opens g c = λ image records honest read keeps whole.
+returns-in-Err-Bad-recover-clause-opens g c = λ image records honest read keeps good are_true.
     absurd (kept_not_bad g.S.Station.meanings c.args.product.now c.args.text.now c.args.station.now c.start.new.station c.journal_limit.result c.journal_limit.ensures.limit image read c.in-Ok.journal c.in-Ok.ensures.starts
     c.requires.short c.journal_limit.ensures.some c.in-Ok.ensures.place.0 c.in-Ok.ensures.known c.recover.new.journal.gate _ c.recover.result c.recover.ensures.recovers
-    records c.in-Err-Bad-recover.at (c.in-Err-Bad-recover.is ∙ ap Err c.in-Err-Bad-recover.field-0-is) keeps whole)
+    records c.in-Err-Bad-recover.at (c.in-Err-Bad-recover.is ∙ ap Err c.in-Err-Bad-recover.field-0-is) keeps good)

@@ -1,7 +1,9 @@
-use Rattle.std.proofs.Common.{◌≤◌, inl, inr, ℕ, List, length, refl, sym, subst}
+use Rattle.std.proofs.Common.{◌≤◌, inl, inr, ℕ, List, length, refl, sym, subst, ◌∙◌}
+use Rattle.std.proofs.lemmas.Option.{same_Some}
 use Rattle.globex_run.specs.Outside.{source_at}
+use Rattle.globex_run.specs.Words.{IsWriting}
 use Rattle.globex_run.proofs.Runs.{short-text, few-of-product, memory-without}
-use Rattle.globex_run.proofs.Commands.{no-memory, balances, exactly, otherwise, every-moment, first-sync, every-message, balanced, full, each-read, few-read, all-served, sums-up, drill-ends, drill-every-moment, drill-before-sync, drill-few-read, drill-has-no-room, all-drilled, prints, all-printed, told-ended}
+use Rattle.globex_run.proofs.Commands.{no-memory, balances, exactly, otherwise, every-moment, first-sync, every-message, balanced, full, each-read, few-read, all-served, sums-up, drill-ends, drill-every-moment, drill-before-sync, drill-few-read, drill-has-no-room, all-drilled, adds-image, keeps-the-same, checkpoint-every-moment, checkpoint-before-sync, checkpoint-few-read, image-full, all-checkpointed, checkpoint-sends-nothing, checkpoint-counts, reads-only, input-untouched, prints, all-printed, told-ended}
 use Rattle.globex_run.proofs.run.globex.Goals as goal
 
 pub returns-in-Err-take_product-clause-all_served : goal.returns-in-Err-take_product-clause-all_served
@@ -11,6 +13,11 @@ returns-in-Err-take_product-clause-all_served g c asks can quiet =
 
 pub returns-in-Err-take_product-clause-all_drilled : goal.returns-in-Err-take_product-clause-all_drilled
 returns-in-Err-take_product-clause-all_drilled g c first count asks can quiet =
+    inl (memory-without (source_at g.P.Source.meanings c.args.product.now) (source_at g.P.Source.meanings c.take_product.new.source)
+    c.in-Err-take_product.reason _ c.in-Err-take_product.ensures c.outcome_without.ensures can.text can.product can.text_known can.gives quiet.product)
+
+pub returns-in-Err-take_product-clause-all_checkpointed : goal.returns-in-Err-take_product-clause-all_checkpointed
+returns-in-Err-take_product-clause-all_checkpointed g c asks can quiet =
     inl (memory-without (source_at g.P.Source.meanings c.args.product.now) (source_at g.P.Source.meanings c.take_product.new.source)
     c.in-Err-take_product.reason _ c.in-Err-take_product.ensures c.outcome_without.ensures can.text can.product can.text_known can.gives quiet.product)
 
@@ -112,6 +119,51 @@ returns-clause-all_drilled g c first count asks can quiet =
     all-drilled g.S.Station.meanings (source_at g.P.Source.meanings c.args.product.now) (source_at g.P.Source.meanings c.take_product.new.source) (source_at g.I.Source.meanings c.args.input.now) (source_at g.I.Source.meanings c.execute.new.input)
     c.args.station.now c.execute.new.station c.execute.result _ _ c.deref.ensures.value c.in-Ok-take_product.taken.product c.in-Ok-take_product.ensures.0 c.in-Ok-take_product.ensures.1 _ _ c.in-Ok.ensures.given c.execute.ensures.executes c.execute.ensures.causes first count asks can quiet
 
+pub returns-clause-adds_image : goal.returns-clause-adds_image
+returns-clause-adds_image g c asks given none =
+    adds-image g.S.Station.meanings (source_at g.P.Source.meanings c.args.product.now) (source_at g.P.Source.meanings c.take_product.new.source) (source_at g.I.Source.meanings c.args.input.now) (source_at g.I.Source.meanings c.execute.new.input)
+    c.args.station.now c.execute.new.station c.execute.result _ _ c.deref.ensures.value c.in-Ok-take_product.taken.product c.in-Ok-take_product.ensures.0 c.in-Ok-take_product.ensures.1 _ _ c.in-Ok.ensures.given c.execute.ensures.executes c.execute.ensures.causes asks given none
+
+pub returns-clause-keeps_the_same : goal.returns-clause-keeps_the_same
+returns-clause-keeps_the_same g c asks given =
+    keeps-the-same g.S.Station.meanings (source_at g.P.Source.meanings c.args.product.now) (source_at g.P.Source.meanings c.take_product.new.source) (source_at g.I.Source.meanings c.args.input.now) (source_at g.I.Source.meanings c.execute.new.input)
+    c.args.station.now c.execute.new.station c.execute.result _ _ c.deref.ensures.value c.in-Ok-take_product.taken.product c.in-Ok-take_product.ensures.0 c.in-Ok-take_product.ensures.1 _ _ c.in-Ok.ensures.given c.execute.ensures.executes c.execute.ensures.causes asks given
+
+pub returns-clause-checkpoint_at_every_moment : goal.returns-clause-checkpoint_at_every_moment
+returns-clause-checkpoint_at_every_moment g c asks given =
+    checkpoint-every-moment g.S.Station.meanings (source_at g.P.Source.meanings c.args.product.now) (source_at g.P.Source.meanings c.take_product.new.source) (source_at g.I.Source.meanings c.args.input.now) (source_at g.I.Source.meanings c.execute.new.input)
+    c.args.station.now c.execute.new.station c.execute.result _ _ c.deref.ensures.value c.in-Ok-take_product.taken.product c.in-Ok-take_product.ensures.0 c.in-Ok-take_product.ensures.1 _ _ c.in-Ok.ensures.given c.execute.ensures.executes c.execute.ensures.causes asks given
+
+pub returns-clause-checkpoint_before_the_first_sync : goal.returns-clause-checkpoint_before_the_first_sync
+returns-clause-checkpoint_before_the_first_sync g c asks given =
+    checkpoint-before-sync g.S.Station.meanings (source_at g.P.Source.meanings c.args.product.now) (source_at g.P.Source.meanings c.take_product.new.source) (source_at g.I.Source.meanings c.args.input.now) (source_at g.I.Source.meanings c.execute.new.input)
+    c.args.station.now c.execute.new.station c.execute.result _ _ c.deref.ensures.value c.in-Ok-take_product.taken.product c.in-Ok-take_product.ensures.0 c.in-Ok-take_product.ensures.1 _ _ c.in-Ok.ensures.given c.execute.ensures.executes c.execute.ensures.causes asks given (g.met.S.Station.honest c.args.station.now given.honest)
+
+pub returns-clause-checkpoint_few_bytes : goal.returns-clause-checkpoint_few_bytes
+returns-clause-checkpoint_few_bytes g c asks given =
+    checkpoint-few-read g.S.Station.meanings (source_at g.P.Source.meanings c.args.product.now) (source_at g.P.Source.meanings c.take_product.new.source) (source_at g.I.Source.meanings c.args.input.now) (source_at g.I.Source.meanings c.execute.new.input)
+    c.args.station.now c.execute.new.station c.execute.result _ _ c.deref.ensures.value c.in-Ok-take_product.taken.product c.in-Ok-take_product.ensures.0 c.in-Ok-take_product.ensures.1 _ _ c.in-Ok.ensures.given c.execute.ensures.executes c.execute.ensures.causes asks given
+
+pub returns-clause-image_full : goal.returns-clause-image_full
+returns-clause-image_full g c asks given twelve =
+    image-full g.S.Station.meanings (source_at g.P.Source.meanings c.args.product.now) (source_at g.P.Source.meanings c.take_product.new.source) (source_at g.I.Source.meanings c.args.input.now) (source_at g.I.Source.meanings c.execute.new.input)
+    c.args.station.now c.execute.new.station c.execute.result _ _ c.deref.ensures.value c.in-Ok-take_product.taken.product c.in-Ok-take_product.ensures.0 c.in-Ok-take_product.ensures.1 _ _ c.in-Ok.ensures.given c.execute.ensures.executes c.execute.ensures.causes asks given twelve
+
+pub returns-clause-all_checkpointed : goal.returns-clause-all_checkpointed
+returns-clause-all_checkpointed g c asks can quiet =
+    inr (all-checkpointed g.S.Station.meanings (source_at g.P.Source.meanings c.args.product.now) (source_at g.P.Source.meanings c.take_product.new.source) (source_at g.I.Source.meanings c.args.input.now) (source_at g.I.Source.meanings c.execute.new.input)
+    c.args.station.now c.execute.new.station c.execute.result _ _ c.deref.ensures.value c.in-Ok-take_product.taken.product c.in-Ok-take_product.ensures.0 c.in-Ok-take_product.ensures.1 _ _ c.in-Ok.ensures.given c.execute.ensures.executes c.execute.ensures.causes asks can quiet)
+
+pub returns-clause-checkpoint_sends_nothing : goal.returns-clause-checkpoint_sends_nothing
+returns-clause-checkpoint_sends_nothing g c asks =
+    checkpoint-sends-nothing g.S.Station.meanings (source_at g.P.Source.meanings c.args.product.now) (source_at g.P.Source.meanings c.take_product.new.source) (source_at g.I.Source.meanings c.args.input.now) (source_at g.I.Source.meanings c.execute.new.input)
+    c.args.station.now c.execute.new.station c.execute.result _ _ c.deref.ensures.value c.in-Ok-take_product.taken.product c.in-Ok-take_product.ensures.0 c.in-Ok-take_product.ensures.1 _ _ c.in-Ok.ensures.given c.execute.ensures.executes c.execute.ensures.causes asks
+
+pub returns-clause-checkpoint_counts : goal.returns-clause-checkpoint_counts
+returns-clause-checkpoint_counts g c asks other =
+    checkpoint-counts g.S.Station.meanings (source_at g.P.Source.meanings c.args.product.now) (source_at g.P.Source.meanings c.take_product.new.source) (source_at g.I.Source.meanings c.args.input.now) (source_at g.I.Source.meanings c.execute.new.input)
+    c.args.station.now c.execute.new.station c.execute.result _ _ c.deref.ensures.value c.in-Ok-take_product.taken.product c.in-Ok-take_product.ensures.0 c.in-Ok-take_product.ensures.1 _ _ c.in-Ok.ensures.given c.execute.ensures.executes c.execute.ensures.causes asks other
+
 pub returns-clause-prints : goal.returns-clause-prints
 returns-clause-prints g c asked asks given =
     prints g.S.Station.meanings (source_at g.P.Source.meanings c.args.product.now) (source_at g.P.Source.meanings c.take_product.new.source) (source_at g.I.Source.meanings c.args.input.now) (source_at g.I.Source.meanings c.execute.new.input)
@@ -136,3 +188,17 @@ pub returns-clause-no_memory : goal.returns-clause-no_memory
 returns-clause-no_memory g c one =
     no-memory g.S.Station.meanings (source_at g.P.Source.meanings c.args.product.now) (source_at g.P.Source.meanings c.take_product.new.source) (source_at g.I.Source.meanings c.args.input.now) (source_at g.I.Source.meanings c.execute.new.input)
     c.args.station.now c.execute.new.station c.execute.result _ _ c.deref.ensures.value c.in-Ok-take_product.taken.product c.in-Ok-take_product.ensures.0 c.in-Ok-take_product.ensures.1 _ c.execute.ensures.causes one
+
+pub returns-clause-only_reads : goal.returns-clause-only_reads
+returns-clause-only_reads g c asked asks printing =
+    reads-only g.S.Station.meanings (source_at g.P.Source.meanings c.args.product.now) (source_at g.P.Source.meanings c.take_product.new.source) (source_at g.I.Source.meanings c.args.input.now) (source_at g.I.Source.meanings c.execute.new.input)
+    c.args.station.now c.execute.new.station c.execute.result _ _ c.deref.ensures.value c.in-Ok-take_product.taken.product c.in-Ok-take_product.ensures.0 c.in-Ok-take_product.ensures.1 _ _ c.in-Ok.ensures.given c.execute.ensures.executes c.execute.ensures.causes asked asks printing
+
+pub returns-clause-untouched_input : goal.returns-clause-untouched_input
+returns-clause-untouched_input g c asked asks other =
+    input-untouched g.S.Station.meanings (source_at g.P.Source.meanings c.args.product.now) (source_at g.P.Source.meanings c.take_product.new.source) (source_at g.I.Source.meanings c.args.input.now) (source_at g.I.Source.meanings c.execute.new.input)
+    c.args.station.now c.execute.new.station c.execute.result _ _ c.deref.ensures.value c.in-Ok-take_product.taken.product c.in-Ok-take_product.ensures.0 c.in-Ok-take_product.ensures.1 _ _ c.in-Ok.ensures.given c.execute.ensures.executes c.execute.ensures.causes asked asks other
+
+pub returns-clause-stays : goal.returns-clause-stays
+returns-clause-stays g c image asked asks writing read refused =
+    c.execute.ensures.stays image (subst IsWriting (same_Some asked _ (sym asks ∙ c.in-Ok.ensures.given)) writing) read refused

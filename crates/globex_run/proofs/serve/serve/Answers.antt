@@ -1,11 +1,11 @@
-use Rattle.std.proofs.Common.{◌≡◌, ◌+◌, ◌-◌, ◌*◌, ◌<◌, ℕ, List, length, Ok, Err, refl, sym, ap, subst, ◌∙◌, arith}
+use Rattle.std.proofs.Common.{◌≡◌, ◌⊎◌, ◌+◌, ◌-◌, ◌*◌, ◌<◌, ℕ, List, length, Ok, Err, refl, sym, ap, subst, ◌∙◌, arith}
 use Rattle.gx_base.specs.declared.event.Event.{Event}
 use Rattle.fix_frame.specs.Grammar.{IsUnfinished}
 use Rattle.order_kinds.specs.State.{state_numbered}
 use Rattle.order_kinds.specs.Cores.{AreNumbered}
 use Rattle.globex_run.specs.Outside.{source_at, streams_at}
-use Rattle.globex_run.specs.Inner.Serving.{HasNoRoomBehind}
-use Rattle.globex_run.proofs.Turns.{nothing_unfinished, turn_first, turn_read, turn_more, turn_falls, offset_behind, same_limit, published_then, no_room, ends_read_fault, ends_truncated, ends_stopped, ends_full, ends_broken}
+use Rattle.globex_run.specs.Inner.Serving.{HasNoRoomBehind, AreMostGiven}
+use Rattle.globex_run.proofs.Turns.{nothing_unfinished, turn_first, turn_read, turn_more, turn_falls, offset_behind, same_limit, published_then, no_room_behind, ends_read_fault, ends_truncated, ends_stopped, ends_full, ends_broken}
 use Rattle.globex_run.proofs.serve.serve.Goals as goal
 
 pub turns-init : goal.turns-init
@@ -37,7 +37,7 @@ returns-in-Err-clause-serves g c =
 pub returns-in-Err-serve_record-clause-serves : goal.returns-in-Err-serve_record-clause-serves
 returns-in-Err-serve_record-clause-serves g c =
     let read = turn_read g.S.Station.meanings (AreNumbered c.args.core.now) g.P.Publisher.meanings.text c.args.product.now c.args.journal.now.limit (streams_at g.I.Source.meanings g.S.Station.meanings c.args.input.now c.args.station.now) c.args.journal.now.gate (state_numbered c.args.core.now) (source_at g.I.Source.meanings c.turns.input) (source_at g.I.Source.meanings c.take_more.new.input) c.turns.station c.turns.journal.gate (state_numbered c.turns.core) c.turns.framer c.take_more.new.framer (λ (events : List Event). c.turns.publisher ≡ g.P.Publisher.meanings.after c.args.publisher.now events) c.in-Ok.field-0 (λ none. c.in-Ok.field-0-test.1 none) c.turns.invariant.turn c.in-Ok.ensures.takes in
-    ends_stopped g.S.Station.meanings (AreNumbered c.args.core.now) g.P.Publisher.meanings.text c.args.product.now c.args.journal.now.limit (streams_at g.I.Source.meanings g.S.Station.meanings c.args.input.now c.args.station.now) c.args.journal.now.gate (state_numbered c.args.core.now) (source_at g.I.Source.meanings c.take_more.new.input) c.turns.station c.turns.journal.gate (state_numbered c.turns.core) c.take_more.new.framer (λ (events : List Event). c.turns.publisher ≡ g.P.Publisher.meanings.after c.args.publisher.now events) read c.room.result c.give_frames-behind.new.framer c.give_frames-behind.result c.give_frames-behind.ensures c.serve_record.new.station c.serve_record.new.journal.gate (state_numbered c.serve_record.new.core) (λ (events : List Event). c.serve_record.new.publisher ≡ g.P.Publisher.meanings.after c.args.publisher.now events)
+    ends_stopped g.S.Station.meanings (AreNumbered c.args.core.now) g.P.Publisher.meanings.text c.args.product.now c.args.journal.now.limit (streams_at g.I.Source.meanings g.S.Station.meanings c.args.input.now c.args.station.now) c.args.journal.now.gate (state_numbered c.args.core.now) (source_at g.I.Source.meanings c.take_more.new.input) c.turns.station c.turns.journal.gate (state_numbered c.turns.core) c.take_more.new.framer (λ (events : List Event). c.turns.publisher ≡ g.P.Publisher.meanings.after c.args.publisher.now events) read c.room.result _ c.give_frames-behind.new.framer c.give_frames-behind.result c.give_frames-behind.ensures c.serve_record.new.station c.serve_record.new.journal.gate (state_numbered c.serve_record.new.core) (λ (events : List Event). c.serve_record.new.publisher ≡ g.P.Publisher.meanings.after c.args.publisher.now events)
     c.in-Err-serve_record.reason (same_limit g.S.Station.meanings (AreNumbered c.args.core.now) (AreNumbered c.turns.core) c.turns.invariant.numbered g.P.Publisher.meanings.text c.args.product.now c.args.journal.now.limit c.turns.journal.limit c.turns.station c.serve_record.new.station c.turns.journal.gate c.serve_record.new.journal.gate (state_numbered c.turns.core) (state_numbered c.serve_record.new.core) c.give_frames-behind.new.framer.given (Err c.in-Err-serve_record.reason) c.turns.invariant.limit c.in-Err-serve_record.ensures.answers) c.ending.result c.ending.ensures
 
 pub turns-smaller : goal.turns-smaller
@@ -51,7 +51,7 @@ turns-preserved g c =
     let read = turn_read g.S.Station.meanings (AreNumbered c.args.core.now) g.P.Publisher.meanings.text c.args.product.now c.args.journal.now.limit (streams_at g.I.Source.meanings g.S.Station.meanings c.args.input.now c.args.station.now) c.args.journal.now.gate (state_numbered c.args.core.now) (source_at g.I.Source.meanings c.turns.input) (source_at g.I.Source.meanings c.take_more.new.input) c.turns.station c.turns.journal.gate (state_numbered c.turns.core) c.turns.framer c.take_more.new.framer (λ (events : List Event). c.turns.publisher ≡ g.P.Publisher.meanings.after c.args.publisher.now events) c.in-Ok.field-0 (λ none. c.in-Ok.field-0-test.1 none) c.turns.invariant.turn c.in-Ok.ensures.takes in
     let did = same_limit g.S.Station.meanings (AreNumbered c.args.core.now) (AreNumbered c.turns.core) c.turns.invariant.numbered g.P.Publisher.meanings.text c.args.product.now c.args.journal.now.limit c.turns.journal.limit c.turns.station c.serve_record.new.station c.turns.journal.gate c.serve_record.new.journal.gate (state_numbered c.turns.core) (state_numbered c.serve_record.new.core) c.give_frames-behind.new.framer.given (Ok c.in_default.field-0) c.turns.invariant.limit c.in_default.ensures.answers in
     record {
-      turn = turn_more g.S.Station.meanings (AreNumbered c.args.core.now) g.P.Publisher.meanings.text c.args.product.now c.args.journal.now.limit (streams_at g.I.Source.meanings g.S.Station.meanings c.args.input.now c.args.station.now) c.args.journal.now.gate (state_numbered c.args.core.now) (source_at g.I.Source.meanings c.take_more.new.input) c.turns.station c.turns.journal.gate (state_numbered c.turns.core) c.take_more.new.framer (λ (events : List Event). c.turns.publisher ≡ g.P.Publisher.meanings.after c.args.publisher.now events) read c.room.result c.give_frames-behind.new.framer c.give_frames-behind.result c.give_frames-behind.ensures c.serve_record.new.station c.serve_record.new.journal.gate (state_numbered c.serve_record.new.core) c.in_default.field-0 (λ (events : List Event). c.serve_record.new.publisher ≡ g.P.Publisher.meanings.after c.args.publisher.now events)
+      turn = turn_more g.S.Station.meanings (AreNumbered c.args.core.now) g.P.Publisher.meanings.text c.args.product.now c.args.journal.now.limit (streams_at g.I.Source.meanings g.S.Station.meanings c.args.input.now c.args.station.now) c.args.journal.now.gate (state_numbered c.args.core.now) (source_at g.I.Source.meanings c.take_more.new.input) c.turns.station c.turns.journal.gate (state_numbered c.turns.core) c.take_more.new.framer (λ (events : List Event). c.turns.publisher ≡ g.P.Publisher.meanings.after c.args.publisher.now events) read c.room.result _ c.give_frames-behind.new.framer c.give_frames-behind.result c.give_frames-behind.ensures c.serve_record.new.station c.serve_record.new.journal.gate (state_numbered c.serve_record.new.core) c.in_default.field-0 (λ (events : List Event). c.serve_record.new.publisher ≡ g.P.Publisher.meanings.after c.args.publisher.now events)
           (λ numbered events here. published_then g.P.Publisher.meanings c.args.publisher.now c.turns.publisher c.serve_record.new.publisher events _ here (c.in_default.ensures.published (c.turns.invariant.numbered numbered))) did;
       front = c.in-Front.ensures.stands.0;
       short = c.in-Front.ensures.stands.1;
@@ -75,15 +75,17 @@ returns-in-NoRoom-clause-serves g c =
     let room : c.room.result ≡ c.args.journal.now.limit - (c.turns.journal.gate + 7) = c.room.ensures ∙ ap (λ (l : ℕ). l - (c.turns.journal.gate + 7)) c.turns.invariant.limit in
     let read = turn_read g.S.Station.meanings (AreNumbered c.args.core.now) g.P.Publisher.meanings.text c.args.product.now c.args.journal.now.limit (streams_at g.I.Source.meanings g.S.Station.meanings c.args.input.now c.args.station.now) c.args.journal.now.gate (state_numbered c.args.core.now) (source_at g.I.Source.meanings c.turns.input) (source_at g.I.Source.meanings c.take_more.new.input) c.turns.station c.turns.journal.gate (state_numbered c.turns.core) c.turns.framer c.take_more.new.framer (λ (events : List Event). c.turns.publisher ≡ g.P.Publisher.meanings.after c.args.publisher.now events) c.in-Ok.field-0 (λ none. c.in-Ok.field-0-test.1 none) c.turns.invariant.turn c.in-Ok.ensures.takes in
     let did = same_limit g.S.Station.meanings (AreNumbered c.args.core.now) (AreNumbered c.turns.core) c.turns.invariant.numbered g.P.Publisher.meanings.text c.args.product.now c.args.journal.now.limit c.turns.journal.limit c.turns.station c.serve_record.new.station c.turns.journal.gate c.serve_record.new.journal.gate (state_numbered c.turns.core) (state_numbered c.serve_record.new.core) c.give_frames-behind.new.framer.given (Ok c.in_default.field-0) c.turns.invariant.limit c.in_default.ensures.answers in
-    let turn = turn_more g.S.Station.meanings (AreNumbered c.args.core.now) g.P.Publisher.meanings.text c.args.product.now c.args.journal.now.limit (streams_at g.I.Source.meanings g.S.Station.meanings c.args.input.now c.args.station.now) c.args.journal.now.gate (state_numbered c.args.core.now) (source_at g.I.Source.meanings c.take_more.new.input) c.turns.station c.turns.journal.gate (state_numbered c.turns.core) c.take_more.new.framer (λ (events : List Event). c.turns.publisher ≡ g.P.Publisher.meanings.after c.args.publisher.now events) read c.room.result c.give_frames-behind.new.framer c.give_frames-behind.result c.give_frames-behind.ensures c.serve_record.new.station c.serve_record.new.journal.gate (state_numbered c.serve_record.new.core) c.in_default.field-0 (λ (events : List Event). c.serve_record.new.publisher ≡ g.P.Publisher.meanings.after c.args.publisher.now events)
+    let turn = turn_more g.S.Station.meanings (AreNumbered c.args.core.now) g.P.Publisher.meanings.text c.args.product.now c.args.journal.now.limit (streams_at g.I.Source.meanings g.S.Station.meanings c.args.input.now c.args.station.now) c.args.journal.now.gate (state_numbered c.args.core.now) (source_at g.I.Source.meanings c.take_more.new.input) c.turns.station c.turns.journal.gate (state_numbered c.turns.core) c.take_more.new.framer (λ (events : List Event). c.turns.publisher ≡ g.P.Publisher.meanings.after c.args.publisher.now events) read c.room.result _ c.give_frames-behind.new.framer c.give_frames-behind.result c.give_frames-behind.ensures c.serve_record.new.station c.serve_record.new.journal.gate (state_numbered c.serve_record.new.core) c.in_default.field-0 (λ (events : List Event). c.serve_record.new.publisher ≡ g.P.Publisher.meanings.after c.args.publisher.now events)
     (λ numbered events here. published_then g.P.Publisher.meanings c.args.publisher.now c.turns.publisher c.serve_record.new.publisher events _ here (c.in_default.ensures.published (c.turns.invariant.numbered numbered))) did in
     ends_full g.S.Station.meanings (AreNumbered c.args.core.now) g.P.Publisher.meanings.text c.args.product.now c.args.journal.now.limit (streams_at g.I.Source.meanings g.S.Station.meanings c.args.input.now c.args.station.now) c.args.journal.now.gate (state_numbered c.args.core.now) (source_at g.I.Source.meanings c.take_more.new.input) c.serve_record.new.station c.serve_record.new.journal.gate (state_numbered c.serve_record.new.core) c.give_frames-behind.new.framer (λ (events : List Event). c.serve_record.new.publisher ≡ g.P.Publisher.meanings.after c.args.publisher.now events) turn c.offset.result c.offset.ensures
-    (no_room c.args.journal.now.limit c.turns.journal.gate c.serve_record.new.journal.gate frames rest did.1.all_kept.grown (subst (λ (n : ℕ). HasNoRoomBehind n frames rest) room c.in-NoRoom.ensures.stands))
+    (no_room_behind c.args.journal.now.limit c.turns.journal.gate c.serve_record.new.journal.gate c.turns.core.desk.messages (16777215 - c.messages.result) c.serve_record.new.core.desk.messages c.give_frames-behind.new.framer did.1.all_kept.grown
+    (ap (λ (n : ℕ). 16777215 - n) c.messages.ensures.count) c.turns.invariant.few c.in_default.ensures.counts
+    (subst (λ (n : ℕ). HasNoRoomBehind n frames rest ⊎ AreMostGiven (16777215 - c.messages.result) c.give_frames-behind.new.framer) room c.in-NoRoom.ensures.stands))
 
 pub returns-in-Broken-clause-serves : goal.returns-in-Broken-clause-serves
 returns-in-Broken-clause-serves g c =
     let read = turn_read g.S.Station.meanings (AreNumbered c.args.core.now) g.P.Publisher.meanings.text c.args.product.now c.args.journal.now.limit (streams_at g.I.Source.meanings g.S.Station.meanings c.args.input.now c.args.station.now) c.args.journal.now.gate (state_numbered c.args.core.now) (source_at g.I.Source.meanings c.turns.input) (source_at g.I.Source.meanings c.take_more.new.input) c.turns.station c.turns.journal.gate (state_numbered c.turns.core) c.turns.framer c.take_more.new.framer (λ (events : List Event). c.turns.publisher ≡ g.P.Publisher.meanings.after c.args.publisher.now events) c.in-Ok.field-0 (λ none. c.in-Ok.field-0-test.1 none) c.turns.invariant.turn c.in-Ok.ensures.takes in
     let did = same_limit g.S.Station.meanings (AreNumbered c.args.core.now) (AreNumbered c.turns.core) c.turns.invariant.numbered g.P.Publisher.meanings.text c.args.product.now c.args.journal.now.limit c.turns.journal.limit c.turns.station c.serve_record.new.station c.turns.journal.gate c.serve_record.new.journal.gate (state_numbered c.turns.core) (state_numbered c.serve_record.new.core) c.give_frames-behind.new.framer.given (Ok c.in_default.field-0) c.turns.invariant.limit c.in_default.ensures.answers in
-    let turn = turn_more g.S.Station.meanings (AreNumbered c.args.core.now) g.P.Publisher.meanings.text c.args.product.now c.args.journal.now.limit (streams_at g.I.Source.meanings g.S.Station.meanings c.args.input.now c.args.station.now) c.args.journal.now.gate (state_numbered c.args.core.now) (source_at g.I.Source.meanings c.take_more.new.input) c.turns.station c.turns.journal.gate (state_numbered c.turns.core) c.take_more.new.framer (λ (events : List Event). c.turns.publisher ≡ g.P.Publisher.meanings.after c.args.publisher.now events) read c.room.result c.give_frames-behind.new.framer c.give_frames-behind.result c.give_frames-behind.ensures c.serve_record.new.station c.serve_record.new.journal.gate (state_numbered c.serve_record.new.core) c.in_default.field-0 (λ (events : List Event). c.serve_record.new.publisher ≡ g.P.Publisher.meanings.after c.args.publisher.now events)
+    let turn = turn_more g.S.Station.meanings (AreNumbered c.args.core.now) g.P.Publisher.meanings.text c.args.product.now c.args.journal.now.limit (streams_at g.I.Source.meanings g.S.Station.meanings c.args.input.now c.args.station.now) c.args.journal.now.gate (state_numbered c.args.core.now) (source_at g.I.Source.meanings c.take_more.new.input) c.turns.station c.turns.journal.gate (state_numbered c.turns.core) c.take_more.new.framer (λ (events : List Event). c.turns.publisher ≡ g.P.Publisher.meanings.after c.args.publisher.now events) read c.room.result _ c.give_frames-behind.new.framer c.give_frames-behind.result c.give_frames-behind.ensures c.serve_record.new.station c.serve_record.new.journal.gate (state_numbered c.serve_record.new.core) c.in_default.field-0 (λ (events : List Event). c.serve_record.new.publisher ≡ g.P.Publisher.meanings.after c.args.publisher.now events)
     (λ numbered events here. published_then g.P.Publisher.meanings c.args.publisher.now c.turns.publisher c.serve_record.new.publisher events _ here (c.in_default.ensures.published (c.turns.invariant.numbered numbered))) did in
     ends_broken g.S.Station.meanings (AreNumbered c.args.core.now) g.P.Publisher.meanings.text c.args.product.now c.args.journal.now.limit (streams_at g.I.Source.meanings g.S.Station.meanings c.args.input.now c.args.station.now) c.args.journal.now.gate (state_numbered c.args.core.now) (source_at g.I.Source.meanings c.take_more.new.input) c.serve_record.new.station c.serve_record.new.journal.gate (state_numbered c.serve_record.new.core) c.give_frames-behind.new.framer (λ (events : List Event). c.serve_record.new.publisher ≡ g.P.Publisher.meanings.after c.args.publisher.now events) turn c.offset-in-Broken.result c.offset-in-Broken.ensures c.in-Broken.ensures.stands

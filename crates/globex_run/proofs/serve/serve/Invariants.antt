@@ -20,7 +20,7 @@ invariant-turns g l =
       at_end : l.journal.is_at_end ≡ true;
       reach : l.journal.known ≤ m.reach l.station;
       in_limit : l.journal.gate < l.journal.limit;
-      few : l.core.desk.messages * 22 ≤ l.journal.gate;
+      few : l.core.desk.messages < 16777216;
       fits : FitsProduct l.product l.core;
       numbered : AreNumbered l.fn.core → AreNumbered l.core;
       chunk : vec_len l.chunk ≡ 8192;

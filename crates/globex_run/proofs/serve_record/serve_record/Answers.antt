@@ -10,7 +10,7 @@ use Rattle.globex_run.specs.Inner.Recording.{Serves, Served}
 use Rattle.globex_run.specs.Inner.Serving.{record_of, FailsToKeep, FailsToSend}
 use Rattle.globex_run.proofs.Appended.{answers_unkept, answers_served, answers_unsent}
 use Rattle.globex_run.proofs.Joining.{serves_none, served_none}
-use Rattle.book_recovery.specs.Kept.{messages_in}
+use Rattle.book_recovery.specs.Records.{messages_in}
 use Rattle.order_kinds.specs.Step.{events_from}
 use Rattle.globex_run.proofs.Records.{no_record, payload_is, record_is, messages_are, payload_least}
 use Rattle.globex_run.proofs.serve_record.serve_record.Goals as goal

@@ -1,5 +1,5 @@
 use Rattle.order_kinds.specs.Cores.{FitsProduct}
-use Rattle.image_tests.proofs.tests.apply_held.Given as goal
+use Rattle.image_tests.proofs.tests.images.apply_held.Given as goal
 
 abbrev pub invariant-loop-message : goal.invariant-loop-message
 invariant-loop-message g l = record {

@@ -1,20 +1,23 @@
--- Journals whose records are messages and book images: what stands behind each record, when records are good, and when their
+-- The records of a journal, which are messages and book images: what stands behind each, when they are good, and when their
 -- images are true. Our own rule.
-use Rattle.std.specs.Prelude.{◌≡◌, ℕ, ◌+◌, ◌<◌, Bool, true, false, if◌then◌else◌, List, [], ◌∷◌, ◌++◌, flat_map, length, None}
+use Rattle.std.specs.Prelude.{◌≡◌, ℕ, ◌+◌, ◌<◌, Bool, true, false, if◌then◌else◌, List, [], ◌∷◌, ◌++◌, flat_map, length, Option, Some, None}
 use Rattle.std.specs.List.{list_any, AllByRecursion}
 use Rattle.fix_frame.specs.Stream.{messages_of, rest_of}
 use Rattle.product_file.specs.Products.{ProductLists}
 use Rattle.order_kinds.specs.declared.core_state.TheConstants.{MOST_MESSAGES}
-use Rattle.order_kinds.specs.State.{State}
+use Rattle.order_kinds.specs.State.{State, empty_state}
 use Rattle.order_kinds.specs.Step.{state_after}
 use Rattle.book_image.specs.Rows.{number_at}
 use Rattle.book_image.specs.Image.{image_of}
 use Rattle.book_image.specs.Faults.{image_fault}
 use Rattle.book_image.specs.Reading.{state_of_image}
-use Rattle.match_journal.specs.Journal.{Record}
+use Rattle.match_journal.specs.Journal.{Record, journal_front}
 use Rattle.match_journal.specs.declared.entry.EntryKind.{EntryKind}
 use Rattle.match_journal.specs.declared.entry.EntryKind.TheVariants.{Frames, Image}
-use Rattle.book_recovery.specs.Recovering.{state_kept}
+
+-- the state of the engine after these messages
+abbrev pub state_kept : ProductLists → List (List ℕ) → State
+state_kept product messages = state_after product (empty_state product) messages
 
 -- ---- kinds
 
@@ -34,19 +37,36 @@ abbrev pub from_last_image : List Record → List Record
 from_last_image [] = []
 from_last_image (r ∷ records) = if has_image records then from_last_image records else r ∷ records
 
+-- the records before the last image, and none where there is none
+abbrev pub before_last_image : List Record → List Record
+before_last_image [] = []
+before_last_image (r ∷ records) = if has_image records then r ∷ before_last_image records else []
+
+-- the gate of the last image in a journal of this text, where there is one
+abbrev pub image_gate : List ℕ → List Record → Option ℕ
+image_gate text records = if has_image records then Some (length (journal_front text (before_last_image records))) else None
+
 -- ---- messages
 
 -- the messages in a payload of a kind: an image has none
-abbrev pub kept_as : EntryKind → List ℕ → List (List ℕ)
-kept_as Frames payload = messages_of payload
-kept_as Image payload = []
+abbrev pub messages_as : EntryKind → List ℕ → List (List ℕ)
+messages_as Frames payload = messages_of payload
+messages_as Image payload = []
 
-abbrev pub kept_by : Record → List (List ℕ)
-kept_by r = kept_as r.kind r.payload
+abbrev pub record_messages : Record → List (List ℕ)
+record_messages r = messages_as r.kind r.payload
 
 -- the messages in these records, one behind the other
-abbrev pub kept_in : List Record → List (List ℕ)
-kept_in records = flat_map kept_by records
+abbrev pub messages_in : List Record → List (List ℕ)
+messages_in records = flat_map record_messages records
+
+-- the record is frames, one behind the other, and nothing else
+pub record IsWhole (r : Record) : Type 0 where
+  pub frames : r.kind ≡ Frames
+  pub no_rest : rest_of r.payload ≡ []
+
+abbrev pub AreWhole : List Record → Type 0
+AreWhole records = AllByRecursion IsWhole records
 
 -- ---- the count of messages
 
@@ -96,7 +116,7 @@ IsTrueRecord product before r = IsTrueAs product before r.kind r.payload
 -- each is true by all messages before it
 abbrev pub AreTrueRecords : ProductLists → List (List ℕ) → List Record → Type 0
 AreTrueRecords product before [] = Unit {0}
-AreTrueRecords product before (r ∷ records) = IsTrueRecord product before r × AreTrueRecords product (before ++ kept_by r) records
+AreTrueRecords product before (r ∷ records) = IsTrueRecord product before r × AreTrueRecords product (before ++ record_messages r) records
 
 -- where the record is frames, nothing stands behind them
 abbrev pub HasWholeFrames : Record → Type 0

@@ -1,0 +1,109 @@
+-- The records before the last image, and those from it on: what becomes of both where one record more comes.
+use Rattle.std.proofs.Common.{◌≡◌, ℕ, Bool, true, false, cond, ◌||◌, List, [], ◌∷◌, ◌++◌, length, Some, None, refl, sym, ◌∙◌, ap, ap₂}
+use Rattle.match_journal.specs.Journal.{Record, journal_front}
+use Rattle.book_recovery.specs.Records.{is_image, has_image, from_last_image, before_last_image, image_gate}
+
+-- ---- the first record
+
+pub not-both : (b : Bool) → b ≡ true → b ≡ false → ⊥
+not-both b is is_not = let differ : true ≡ false = sym is ∙ is_not in cc differ
+
+or-true : (a : Bool) → (a || true) ≡ true
+or-true true = refl
+or-true false = refl
+
+pub or-none : (a b : Bool) → (a || b) ≡ false → (a ≡ false) × (b ≡ false)
+or-none true b neither = absurd (let differ : true ≡ false = neither in cc differ)
+or-none false b neither = (refl, neither)
+
+module _ (r : Record) (records : List Record) where
+  pub last-behind : has_image records ≡ true → from_last_image (r ∷ records) ≡ from_last_image records
+  last-behind some = ap (λ (b : Bool). cond b (from_last_image records) (r ∷ records)) some
+
+  pub last-here : has_image records ≡ false → from_last_image (r ∷ records) ≡ r ∷ records
+  last-here none = ap (λ (b : Bool). cond b (from_last_image records) (r ∷ records)) none
+
+  pub front-behind : has_image records ≡ true → before_last_image (r ∷ records) ≡ r ∷ before_last_image records
+  front-behind some = ap (λ (b : Bool). cond b (r ∷ before_last_image records) []) some
+
+  pub front-here : has_image records ≡ false → before_last_image (r ∷ records) ≡ []
+  front-here none = ap (λ (b : Bool). cond b (r ∷ before_last_image records) []) none
+
+-- ---- both are all
+
+split-by : (b : Bool) (r : Record) (before from records : List Record) → before ++ from ≡ records → cond b (r ∷ before) [] ++ cond b from (r ∷ records) ≡ r ∷ records
+split-by true r before from records is = ap (λ (l : List Record). r ∷ l) is
+split-by false r before from records is = refl
+
+pub last_split : (records : List Record) → before_last_image records ++ from_last_image records ≡ records
+last_split [] = refl
+last_split (r ∷ records) = split-by (has_image records) r (before_last_image records) (from_last_image records) records (last_split records)
+
+-- ---- an image more
+
+module _ (r : Record) (is : is_image r ≡ true) where
+  pub has-image-more : (xs : List Record) → has_image (xs ++ r ∷ []) ≡ true
+  has-image-more [] = ap (λ (b : Bool). b || false) is
+  has-image-more (x ∷ xs) = ap (λ (b : Bool). is_image x || b) (has-image-more xs) ∙ or-true (is_image x)
+
+  pub before-image-more : (xs : List Record) → before_last_image (xs ++ r ∷ []) ≡ xs
+  before-image-more [] = refl
+  before-image-more (x ∷ xs) = front-behind x (xs ++ r ∷ []) (has-image-more xs) ∙ ap (λ (l : List Record). x ∷ l) (before-image-more xs)
+
+  pub from-image-more : (xs : List Record) → from_last_image (xs ++ r ∷ []) ≡ r ∷ []
+  from-image-more [] = refl
+  from-image-more (x ∷ xs) = last-behind x (xs ++ r ∷ []) (has-image-more xs) ∙ from-image-more xs
+
+  pub gate-image-more : (text : List ℕ) (xs : List Record) → image_gate text (xs ++ r ∷ []) ≡ Some (length (journal_front text xs))
+  gate-image-more text xs =
+      ap₂ (λ (b : Bool) (l : List Record). cond b (Some (length (journal_front text l))) None) (has-image-more xs) (before-image-more xs)
+
+-- ---- frames more
+
+module _ (r : Record) (is : is_image r ≡ false) where
+  pub has-frames-more : (xs : List Record) → has_image (xs ++ r ∷ []) ≡ has_image xs
+  has-frames-more [] = ap (λ (b : Bool). b || false) is
+  has-frames-more (x ∷ xs) = ap (λ (b : Bool). is_image x || b) (has-frames-more xs)
+
+  pub before-frames-more : (xs : List Record) → before_last_image (xs ++ r ∷ []) ≡ before_last_image xs
+  before-frames-more [] = refl
+  before-frames-more (x ∷ xs) = ap₂ (λ (b : Bool) (l : List Record). cond b (x ∷ l) []) (has-frames-more xs) (before-frames-more xs)
+
+  push-by : (b : Bool) (xs ys : List Record) → cond b (xs ++ r ∷ []) (ys ++ r ∷ []) ≡ cond b xs ys ++ r ∷ []
+  push-by true xs ys = refl
+  push-by false xs ys = refl
+
+  pub from-frames-more : (xs : List Record) → from_last_image (xs ++ r ∷ []) ≡ from_last_image xs ++ r ∷ []
+  from-frames-more [] = refl
+  from-frames-more (x ∷ xs) =
+      ap₂ (λ (b : Bool) (l : List Record). cond b l (x ∷ (xs ++ r ∷ []))) (has-frames-more xs) (from-frames-more xs)
+      ∙ push-by (has_image xs) (from_last_image xs) (x ∷ xs)
+
+  pub gate-frames-more : (text : List ℕ) (xs : List Record) → image_gate text (xs ++ r ∷ []) ≡ image_gate text xs
+  gate-frames-more text xs =
+      ap₂ (λ (b : Bool) (l : List Record). cond b (Some (length (journal_front text l))) None) (has-frames-more xs) (before-frames-more xs)
+
+-- ---- no image
+
+pub none-before : (records : List Record) → has_image records ≡ false → before_last_image records ≡ []
+none-before [] none = refl
+none-before (r ∷ records) none = front-here r records (or-none (is_image r) (has_image records) none).1
+
+-- ---- none from the last image on
+
+pub none-kept : (records : List Record) → from_last_image records ≡ [] → records ≡ []
+none-kept [] is = refl
+none-kept (x ∷ records) is =
+    let go : (b : Bool) → has_image records ≡ b → x ∷ records ≡ [] = elim [
+      | true ↦ λ some. absurd (not-both (has_image records) some (ap has_image (none-kept records (sym (last-behind x records some) ∙ is))))
+      | false ↦ λ none. sym (last-here x records none) ∙ is
+    ] in go (has_image records) refl
+
+-- where no image is among them, there is none
+pub none-from-none : (records : List Record) → has_image (from_last_image records) ≡ false → has_image records ≡ false
+none-from-none [] none = refl
+none-from-none (x ∷ records) is =
+    let go : (b : Bool) → has_image records ≡ b → has_image (x ∷ records) ≡ false = elim [
+      | true ↦ λ some. absurd (not-both (has_image records) some (none-from-none records (ap has_image (sym (last-behind x records some)) ∙ is)))
+      | false ↦ λ none. ap has_image (sym (last-here x records none)) ∙ is
+    ] in go (has_image records) refl
