@@ -1,5 +1,6 @@
 mod Heads
 mod Frames
+mod Parts
 mod Places
 mod Scanning
 mod Ends

@@ -34,15 +34,18 @@ pub enum Place {
     Broken,
 }
 
-/// The place behind one more byte of the begin string.
-pub fn after_begin(count: usize, byte: u8) -> Place
-    requires { count < 12 }
-    ensures { (before : List ℕ) (checksum : ℕ) → InBegin before count checksum → IsAt (before ++ byte ∷ []) result ((checksum + byte) % 256) }
+/// The place behind more bytes, where so many of the begin string stand before them.
+#[inline]
+pub fn after_begin(count: usize, part: &[u8]) -> Place
+    requires { (count < 12) × (0 < length part.now) × (count + length part.now ≤ 12) }
+    ensures { (before : List ℕ) (checksum : ℕ) → InBegin before count checksum → IsAt (before ++ part.now) result ((checksum + checksum_of part.now) % 256) }
 {
-    if byte != BEGIN[count] {
+    let end = count + part.len();
+    let begin = &BEGIN[..];
+    if part != &begin[count..end] {
         Place::Broken
-    } else if count + 1 < BEGIN.len() {
-        Place::Begin(count + 1)
+    } else if end < BEGIN.len() {
+        Place::Begin(end)
     } else {
         Place::Length {
             digits: 0,
@@ -52,6 +55,7 @@ pub fn after_begin(count: usize, byte: u8) -> Place
 }
 
 /// The place behind one more byte of the body's length, a digit or the SOH that ends it.
+#[inline]
 pub fn after_length(digits: usize, number: usize, byte: u8) -> Place
     requires { (digits ≤ MOST_LENGTH_DIGITS) × (number ≤ LONGEST_BODY) }
     ensures { (before : List ℕ) (checksum : ℕ) → InLength before digits number checksum → IsAt (before ++ byte ∷ []) result ((checksum + byte) % 256) }
@@ -72,6 +76,7 @@ pub fn after_length(digits: usize, number: usize, byte: u8) -> Place
 }
 
 /// Whether so many digits that write this number are a length or go on to one. Zeros need another digit behind them.
+#[inline]
 fn may_be_length(digits: usize, number: usize) -> bool
     ensures { IsTrue result ↔ MayBeLength digits number }
 {
@@ -81,6 +86,7 @@ fn may_be_length(digits: usize, number: usize) -> bool
 }
 
 /// The place behind more bytes of the body, of which so many were left.
+#[inline]
 #[tactic(auto, using(crate::proofs::Places::body_to_body, crate::proofs::Places::body_to_trailer))]
 pub fn after_body(left: usize, part: &[u8]) -> Place
     requires { (0 < length part.now) × (length part.now ≤ left) }
@@ -95,15 +101,18 @@ pub fn after_body(left: usize, part: &[u8]) -> Place
     }
 }
 
-/// The place behind one more byte of the trailer of bytes with this checksum.
-pub fn after_trailer(count: usize, checksum: u8, byte: u8) -> Place
-    requires { count < TRAILER_LENGTH }
-    ensures { (before : List ℕ) → InTrailer before count checksum → IsAt (before ++ byte ∷ []) result checksum }
+/// The place behind more bytes, where so many of the trailer of bytes with this checksum stand before them.
+#[inline]
+pub fn after_trailer(count: usize, checksum: u8, part: &[u8]) -> Place
+    requires { (count < TRAILER_LENGTH) × (0 < length part.now) × (count + length part.now ≤ TRAILER_LENGTH) }
+    ensures { (before : List ℕ) → InTrailer before count checksum → IsAt (before ++ part.now) result checksum }
 {
-    if byte != trailer_with(checksum)[count] {
+    let end = count + part.len();
+    let trailer = trailer_with(checksum);
+    if part != &trailer[count..end] {
         Place::Broken
-    } else if count + 1 < TRAILER_LENGTH {
-        Place::Trailer(count + 1)
+    } else if end < TRAILER_LENGTH {
+        Place::Trailer(end)
     } else {
         Place::Whole
     }

@@ -1,9 +1,9 @@
-//! A scan of the bytes held, which goes on where it stopped. That it looks at no byte twice is no claim of the proof.
-ghost use Rattle.std.specs.Prelude.{◌≡◌, ◌+◌, ◌%◌, ◌^◌, ◌↔◌, ◌<◌, [], length, take, IsTrue};
-ghost use Rattle.fix_frame.specs.Scans.{InBody, IsAt, IsOpen, IsScanOf, GivesFront};
+//! A scan of the bytes held, which goes on where it stopped. That it scans no byte twice is no claim of the proof.
+ghost use Rattle.std.specs.Prelude.{◌≡◌, ◌+◌, ◌%◌, ◌^◌, ◌↔◌, ◌<◌, ◌≤◌, [], length, take, IsTrue};
+ghost use Rattle.fix_frame.specs.Scans.{InBegin, InBody, InTrailer, IsAt, IsOpen, IsPart, IsScanOf, GivesFront};
 
-use crate::place::{Place, after_begin, after_body, after_length, after_trailer};
-use gx_base::checksum;
+use crate::place::{BEGIN, Place, after_begin, after_body, after_length, after_trailer};
+use gx_base::{TRAILER_LENGTH, checksum};
 
 /// What some bytes begin with.
 pub enum Front {
@@ -28,6 +28,7 @@ pub struct Scan {
 
 impl Scan {
     /// The scan of no bytes.
+    #[inline]
     pub fn new() -> Scan
         ensures { (result.count ≡ 0) × IsAt [] result.place result.checksum }
     {
@@ -56,13 +57,15 @@ impl Scan {
     }
 
     /// Whether more bytes can change the place.
+    #[inline]
     fn is_open(&self) -> bool
         ensures { IsTrue result ↔ IsOpen self.now.place }
     {
         !matches!(self.place, Place::Whole | Place::Broken)
     }
 
-    /// Scans one byte more, or all the bytes of the body that are there.
+    /// Scans a byte of the body's length, or all the bytes that are there of the begin string, the body or the trailer.
+    #[inline]
     fn advance(&mut self, held: &[u8])
         requires scan { IsScanOf self.old held.now }
         requires more { self.old.count < length held.now }
@@ -70,42 +73,76 @@ impl Scan {
         ensures scan { IsScanOf self.new held.now }
         ensures rises { self.old.count < self.new.count }
     {
-        let byte = held[self.count];
         match self.place {
-            Place::Begin(count) => self.pass(byte, after_begin(count, byte)),
-            Place::Length { digits, number } => self.pass(byte, after_length(digits, number, byte)),
-            Place::Body(left) => self.pass_body(held, left),
-            Place::Trailer(count) => {
-                self.place = after_trailer(count, self.checksum, byte);
-                self.count += 1;
+            Place::Begin(count) => self.pass_begin(held, count),
+            Place::Length { digits, number } => {
+                let byte = held[self.count];
+                self.pass(1, byte, after_length(digits, number, byte));
             }
+            Place::Body(left) => self.pass_body(held, left),
+            Place::Trailer(count) => self.pass_trailer(held, count),
             Place::Whole | Place::Broken => unreachable!(),
         }
     }
 
-    /// Counts a byte before the trailer.
-    fn pass(&mut self, byte: u8, place: Place)
-        requires { self.old.count < 2 ^ 63 }
-        ensures count { self.new.count ≡ self.old.count + 1 }
+    /// Counts bytes before the trailer, so many and of this sum.
+    #[inline]
+    fn pass(&mut self, count: usize, sum: u8, place: Place)
+        requires { self.old.count + count < 2 ^ 63 }
+        ensures count { self.new.count ≡ self.old.count + count }
         ensures place { self.new.place ≡ place }
-        ensures checksum { self.new.checksum ≡ (self.old.checksum + byte) % 256 }
+        ensures checksum { self.new.checksum ≡ (self.old.checksum + sum) % 256 }
     {
-        self.count += 1;
+        self.count += count;
         self.place = place;
-        self.checksum = self.checksum.wrapping_add(byte);
+        self.checksum = self.checksum.wrapping_add(sum);
+    }
+
+    /// Scans the bytes of the begin string that are there, behind so many that were scanned.
+    #[inline]
+    fn pass_begin(&mut self, held: &[u8], count: usize)
+        requires more { self.old.count < length held.now }
+        requires begin { InBegin (take self.old.count held.now) count self.old.checksum }
+        ensures scan { IsScanOf self.new held.now }
+        ensures rises { self.old.count < self.new.count }
+    {
+        let part = next_part(held, self.count, BEGIN.len() - count);
+        self.pass(part.len(), checksum(part), after_begin(count, part));
     }
 
     /// Scans the bytes of the body that are there, of which so many were left.
+    #[inline]
     fn pass_body(&mut self, held: &[u8], left: usize)
         requires more { self.old.count < length held.now }
         requires body { InBody (take self.old.count held.now) left self.old.checksum }
         ensures scan { IsScanOf self.new held.now }
         ensures rises { self.old.count < self.new.count }
     {
-        let end = self.count + left.min(held.len() - self.count);
-        let part = &held[self.count..end];
-        self.count = end;
-        self.place = after_body(left, part);
-        self.checksum = self.checksum.wrapping_add(checksum(part));
+        let part = next_part(held, self.count, left);
+        self.pass(part.len(), checksum(part), after_body(left, part));
     }
+
+    /// Scans the bytes of the trailer that are there, behind so many that were scanned.
+    #[inline]
+    fn pass_trailer(&mut self, held: &[u8], count: usize)
+        requires more { self.old.count < length held.now }
+        requires trailer { InTrailer (take self.old.count held.now) count self.old.checksum }
+        ensures scan { IsScanOf self.new held.now }
+        ensures rises { self.old.count < self.new.count }
+    {
+        let part = next_part(held, self.count, TRAILER_LENGTH - count);
+        self.count += part.len();
+        self.place = after_trailer(count, self.checksum, part);
+    }
+}
+
+/// Lends the bytes held from this place on, so many of them, or all where fewer are there.
+#[inline]
+fn next_part(held: &[u8], from: usize, most: usize) -> &[u8]
+    requires { (from < length held.now) × (0 < most) }
+    ensures part { IsPart held.now from result.now }
+    ensures count { (0 < length result.now) × (length result.now ≤ most) }
+{
+    let rest = &held[from..];
+    &rest[..most.min(rest.len())]
 }
