@@ -1,7 +1,7 @@
 mod Capped
+mod Decimals
 mod Places
 mod PriceTexts
-mod Times
 mod Logs
 pub mod Framing
 mod Rows

@@ -85,9 +85,14 @@ module _ {text : List ℕ} {decimals : ℕ} {rest whole fraction : List ℕ} {un
       ∙ cond-true _ _ _ (lt-ltb price_limit (units_of text decimals) (omega (arith, capped))))
 
 -- the room that a price takes
-length-fixed_digits : (width n : ℕ) → length (fixed_digits width n) ≡ width
+pub length-fixed_digits : (width n : ℕ) → length (fixed_digits width n) ≡ width
 length-fixed_digits zero n = refl
 length-fixed_digits (suc width) n = length_push (fixed_digits width (n / 10)) _ ∙ omega (arith, length-fixed_digits width (n / 10))
+
+-- with decimals there is a point
+pub some_fraction : (decimals n : ℕ) → (decimals ≡ 0 → ⊥) → fraction_text decimals n ≡ 46 ∷ fixed_digits decimals n
+some_fraction zero n some = absurd (some refl)
+some_fraction (suc k) n some = refl
 
 pub length-fraction_text : (decimals n : ℕ) → length (fraction_text decimals n) ≤ decimals + 1
 length-fraction_text zero n = omega arith

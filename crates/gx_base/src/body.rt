@@ -1,6 +1,7 @@
 //! The bodies of report lines, field by field. As in `fields`, each call writes behind the first `at` bytes, and answers
 //! where what it wrote ends. A field takes at most `LONGEST_FIELD` bytes.
 ghost use Rattle.std.specs.Prelude.{◌≡◌, ◌+◌, ◌*◌, ◌≤◌, ◌++◌, ◌==◌, if◌then◌else◌, Some, None, codes, decimal, length, take};
+ghost use Rattle.std.specs.Option.{option_copied};
 ghost use Rattle.gx_base.specs.Frames.{field};
 ghost use Rattle.gx_base.specs.Line.{field_if, cause_text, number_text, cancel_id, cancelled_id, line_head, id_fields, report_fields, price_fields, order_fields, order_front, state_fields, trade_fields, refused_fields, wanted_fields, nothing_fields, fault_fields, request_fields, change_fields, session_fields, body_of};
 
@@ -18,11 +19,11 @@ use crate::values::{
 
 /// The ids in the report of an order.
 #[derive(Clone, Copy)]
-struct Ids {
+struct Ids<'a> {
     /// Tag 11.
-    id: ShortId,
+    id: &'a ShortId,
     /// Tag 41, where it is there.
-    old: Option<ShortId>,
+    old: Option<&'a ShortId>,
 }
 
 /// Writes the body of an event: at most 28 fields.
@@ -67,7 +68,15 @@ pub(crate) fn write_body(into: &mut [u8], at: usize, event: &Event, names: &Name
             by,
             cause,
         } => {
-            let at = order_front(into, at, names, head, order, cancel_ids(order, *by), b"4");
+            let at = order_front(
+                into,
+                at,
+                names,
+                head,
+                order,
+                cancel_ids(order, by.as_ref()),
+                b"4",
+            );
             let at = state_fields(into, at, head, order);
             let at = cause_field(into, at, *cause);
             number(into, at, b"9003=", u64::from(*gone))
@@ -79,8 +88,8 @@ pub(crate) fn write_body(into: &mut [u8], at: usize, event: &Event, names: &Name
             ..
         } => {
             let ids = Ids {
-                id: order.id,
-                old: Some(*old),
+                id: &order.id,
+                old: Some(old),
             };
             let at = order_front(into, at, names, head, order, ids, b"5");
             let at = state_fields(into, at, head, order);
@@ -142,12 +151,12 @@ fn order_front(
     names: &Names,
     head: &Head,
     order: &Order,
-    ids: Ids,
+    ids: Ids<'_>,
     status: &[u8],
 ) -> usize
     requires room { at + 19 * LONGEST_FIELD ≤ length into.old }
     requires short_status { length status.now ≤ LONGEST_VALUE }
-    ensures fields { take result into.new ≡ take at into.old ++ order_front names.now head.now order.now ids.id ids.old status.now }
+    ensures fields { take result into.new ≡ take at into.old ++ order_front names.now head.now order.now ids.entry.id.now (option_copied ids.entry.old) status.now }
     ensures short { result ≤ at + 19 * LONGEST_FIELD }
 {
     let at = line_head(into, at, names, b"8", head);
@@ -157,9 +166,9 @@ fn order_front(
 }
 
 /// Which order, under which id, and in the place of which id.
-fn id_fields(into: &mut [u8], at: usize, order_number: u64, ids: Ids) -> usize
+fn id_fields(into: &mut [u8], at: usize, order_number: u64, ids: Ids<'_>) -> usize
     requires { at + 3 * LONGEST_FIELD ≤ length into.old }
-    ensures fields { take result into.new ≡ take at into.old ++ id_fields order_number ids.id ids.old }
+    ensures fields { take result into.new ≡ take at into.old ++ id_fields order_number ids.entry.id.now (option_copied ids.entry.old) }
     ensures short { result ≤ at + 3 * LONGEST_FIELD }
 {
     let at = number(into, at, b"37=", order_number);
@@ -168,9 +177,9 @@ fn id_fields(into: &mut [u8], at: usize, order_number: u64, ids: Ids) -> usize
 }
 
 /// The id in whose place this one stands, if there is one.
-fn old_field(into: &mut [u8], at: usize, old: Option<ShortId>) -> usize
+fn old_field(into: &mut [u8], at: usize, old: Option<&ShortId>) -> usize
     requires { at + LONGEST_FIELD ≤ length into.old }
-    ensures fields { take result into.new ≡ take at into.old ++ field_if "41" old }
+    ensures fields { take result into.new ≡ take at into.old ++ field_if "41" (option_copied old.entry) }
     ensures short { result ≤ at + LONGEST_FIELD }
 {
     match old {
@@ -180,25 +189,25 @@ fn old_field(into: &mut [u8], at: usize, old: Option<ShortId>) -> usize
 }
 
 /// The order's own id alone.
-fn own_id(order: &Order) -> Ids
-    ensures id { result.id ≡ order.now.id }
+fn own_id(order: &Order) -> Ids<'_>
+    ensures id { result.id.now ≡ order.now.id }
     ensures old { result.old ≡ None }
 {
     Ids {
-        id: order.id,
+        id: &order.id,
         old: None,
     }
 }
 
 /// The id of the cancel that asked for it and then the order's own, or the order's own alone.
-fn cancel_ids(order: &Order, by: Option<ShortId>) -> Ids
-    ensures id { result.id ≡ cancel_id order.now by }
-    ensures old { result.old ≡ cancelled_id order.now by }
+fn cancel_ids<'a>(order: &'a Order, by: Option<&'a ShortId>) -> Ids<'a>
+    ensures id { result.id.now ≡ cancel_id order.now (option_copied by.entry) }
+    ensures old { option_copied result.old ≡ cancelled_id order.now (option_copied by.entry) }
 {
     match by {
         Some(id) => Ids {
             id,
-            old: Some(order.id),
+            old: Some(&order.id),
         },
         None => own_id(order),
     }
@@ -298,7 +307,7 @@ fn refused_fields(
     ensures short { result ≤ at + 8 * LONGEST_FIELD }
 {
     let ids = Ids {
-        id: order.id,
+        id: &order.id,
         old: None,
     };
     let at = id_fields(into, at, 0, ids);

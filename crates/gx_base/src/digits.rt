@@ -13,6 +13,7 @@ pub const MOST_DIGITS: usize = 9;
 pub(crate) const CEILING: u64 = MOST_PRICE_UNITS + 1;
 
 /// Whether each byte is a digit.
+#[inline]
 pub fn are_digits(text: &[u8]) -> bool
     ensures { result ≡ are_digits text.now }
 {
@@ -20,6 +21,7 @@ pub fn are_digits(text: &[u8]) -> bool
 }
 
 /// Whether each byte is the digit 0.
+#[inline]
 pub(crate) fn are_zeros(text: &[u8]) -> bool
     ensures { result ≡ are_zeros text.now }
 {
@@ -27,6 +29,7 @@ pub(crate) fn are_zeros(text: &[u8]) -> bool
 }
 
 /// The number that these digits write behind those of `front`, or `CEILING` where that is less.
+#[inline]
 pub(crate) fn read_on(front: u64, digits: &[u8]) -> u64
     requires low { front ≤ CEILING }
     requires digits { IsTrue (are_digits digits.now) }
@@ -40,6 +43,7 @@ pub(crate) fn read_on(front: u64, digits: &[u8]) -> u64
 }
 
 /// The number that at most `MOST_DIGITS` digits write.
+#[inline]
 pub fn read_digits(digits: &[u8]) -> u32
     requires digits { IsTrue (are_digits digits.now) }
     requires short { length digits.now ≤ MOST_DIGITS }

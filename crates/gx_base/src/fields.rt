@@ -4,9 +4,10 @@ ghost use Rattle.std.specs.Prelude.{◌≡◌, ◌+◌, ◌-◌, ◌<◌, ◌≤
 ghost use Rattle.gx_base.specs.Frames.{head_of, trailer_of, frame_of};
 ghost use Rattle.gx_base.specs.Numbers.{price_text};
 
-use crate::bytes::append;
+use crate::bytes::{append, append_few};
+use crate::decimal::append_number;
 use crate::limits::{LONGEST_LINE, LONGEST_VALUE, MOST_DECIMALS, SOH};
-use crate::price::{Price, write_price};
+use crate::price::{Price, append_price};
 use crate::trailer::{checksum, trailer_with};
 
 /// How many bytes a tag has at most, with its `=`.
@@ -19,6 +20,7 @@ pub const LONGEST_FIELD: usize = LONGEST_TAG + LONGEST_VALUE + 1;
 pub const GAP: usize = 16;
 
 /// Writes a field: its tag and `=`, its value, and SOH. Answers where it ends, at most `LONGEST_FIELD` bytes further.
+#[inline]
 pub fn field(into: &mut [u8], at: usize, tag: &[u8], value: &[u8]) -> usize
     requires room { at + LONGEST_FIELD ≤ length into.old }
     requires tag { length tag.now ≤ LONGEST_TAG }
@@ -28,12 +30,13 @@ pub fn field(into: &mut [u8], at: usize, tag: &[u8], value: &[u8]) -> usize
     ensures end { result ≡ at + length tag.now + length value.now + 1 }
     ensures short { result ≤ at + LONGEST_FIELD }
 {
-    let end = append(into, at, tag);
+    let end = append_few(into, at, tag);
     let end = append(into, end, value);
-    append(into, end, &[SOH])
+    append_few(into, end, &[SOH])
 }
 
 /// Writes a field whose value is a number, as `field` does.
+#[inline]
 pub fn number(into: &mut [u8], at: usize, tag: &[u8], n: u64) -> usize
     requires room { at + LONGEST_FIELD ≤ length into.old }
     requires tag { length tag.now ≤ LONGEST_TAG }
@@ -42,11 +45,13 @@ pub fn number(into: &mut [u8], at: usize, tag: &[u8], n: u64) -> usize
     ensures end { result ≡ at + length tag.now + length (decimal n) + 1 }
     ensures short { result ≤ at + LONGEST_FIELD }
 {
-    let mut digits = itoa::Buffer::new();
-    field(into, at, tag, digits.format(n).as_bytes())
+    let end = append_few(into, at, tag);
+    let end = append_number(into, end, n);
+    append_few(into, end, &[SOH])
 }
 
 /// Writes a field whose value is a price with so many decimals, as `field` does.
+#[inline]
 pub fn price(into: &mut [u8], at: usize, tag: &[u8], price: Price, decimals: u8) -> usize
     requires room { at + LONGEST_FIELD ≤ length into.old }
     requires tag { length tag.now ≤ LONGEST_TAG }
@@ -54,9 +59,9 @@ pub fn price(into: &mut [u8], at: usize, tag: &[u8], price: Price, decimals: u8)
     ensures field { take result into.new ≡ take at into.old ++ (tag.now ++ price_text price decimals ++ SOH ∷ []) }
     ensures short { result ≤ at + LONGEST_FIELD }
 {
-    let mut text = [0; LONGEST_VALUE];
-    let count = write_price(price, decimals, &mut text);
-    field(into, at, tag, &text[..count])
+    let end = append_few(into, at, tag);
+    let end = append_price(into, end, price, decimals);
+    append_few(into, end, &[SOH])
 }
 
 /// Puts the frame round a body that stands behind the gap and ends at `end`: its head, its length and its checksum (FIX

@@ -30,6 +30,7 @@ impl Model for ShortId {
 
 impl ShortId {
     /// The name with these bytes. `None` exactly where there are not 1 to `LONGEST_NAME` of them, or one is outside 32..=126.
+    #[inline]
     pub fn new(bytes: &[u8]) -> Option<ShortId>
         ensures { SomeIff result (IsTrue (is_name bytes.now)) bytes.now }
     {
@@ -42,6 +43,7 @@ impl ShortId {
     }
 
     /// Lends the bytes of the name.
+    #[inline]
     pub fn bytes(&self) -> &[u8]
         ensures bytes { result.now ≡ self.now }
         ensures name { IsTrue (is_name result.now) }
@@ -51,6 +53,7 @@ impl ShortId {
 }
 
 /// Whether there are 1 to `LONGEST_NAME` bytes, each of them printable ASCII.
+#[inline]
 fn is_name(bytes: &[u8]) -> bool
     ensures { result ≡ is_name bytes.now }
 {
@@ -58,6 +61,7 @@ fn is_name(bytes: &[u8]) -> bool
 }
 
 /// Whether each byte is printable ASCII.
+#[inline]
 fn are_name_bytes(bytes: &[u8]) -> bool
     ensures { result ≡ list_all is_name_byte bytes.now }
 {

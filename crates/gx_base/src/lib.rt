@@ -3,6 +3,7 @@
 
 mod body;
 mod bytes;
+mod decimal;
 mod digits;
 mod emit;
 mod event;

@@ -4,9 +4,9 @@ ghost use Rattle.std.specs.Str.Parse.{digits_value};
 ghost use Rattle.gx_base.specs.Numbers.{are_digits, are_zeros, has_minus, signed_units, unsigned_text, fraction_text, price_of, price_text};
 
 use crate::bytes::{append, split_at_byte};
+use crate::decimal::append_number;
 use crate::digits::{CEILING, are_digits, are_zeros, read_on, write_fixed_digits};
 use crate::limits::{LONGEST_VALUE, MOST_DECIMALS, MOST_PRICE_UNITS};
-use itoa::Buffer;
 use std::cmp;
 use thiserror::Error;
 
@@ -53,6 +53,7 @@ pub fn read_price(text: &[u8], decimals: u8) -> Result<Price, PriceFault>
 }
 
 /// Whether the first byte is a minus sign.
+#[inline]
 fn has_minus(text: &[u8]) -> bool
     ensures { result ≡ has_minus text.now }
 {
@@ -60,6 +61,7 @@ fn has_minus(text: &[u8]) -> bool
 }
 
 /// The text behind its minus sign, if it has one.
+#[inline]
 fn without_minus(text: &[u8]) -> &[u8]
     ensures { result.now ≡ unsigned_text text.now }
 {
@@ -67,6 +69,7 @@ fn without_minus(text: &[u8]) -> &[u8]
 }
 
 /// Whether these are the digits of a price, before its point and behind it: there is at least one of them.
+#[inline]
 fn are_price_digits(whole: &[u8], fraction: &[u8]) -> bool
     ensures { result ≡ (nat_le 1 (length whole.now + length fraction.now) && are_digits whole.now && are_digits fraction.now) }
 {
@@ -74,6 +77,7 @@ fn are_price_digits(whole: &[u8], fraction: &[u8]) -> bool
 }
 
 /// Whether each digit behind the first `decimals` is 0.
+#[inline]
 fn are_zeros_behind(fraction: &[u8], decimals: u8) -> bool
     ensures { result ≡ are_zeros (drop decimals fraction.now) }
 {
@@ -83,6 +87,7 @@ fn are_zeros_behind(fraction: &[u8], decimals: u8) -> bool
 
 /// The number whose digits are those of `whole` and the first `decimals` of `fraction`, filled up with zeros, or
 /// `CEILING` where that is less.
+#[inline]
 fn read_units(whole: &[u8], fraction: &[u8], decimals: u8) -> u64
     requires few { decimals ≤ MOST_DECIMALS }
     requires whole_digits { IsTrue (are_digits whole.now) }
@@ -96,6 +101,7 @@ fn read_units(whole: &[u8], fraction: &[u8], decimals: u8) -> u64
 }
 
 /// So many units, or as many below zero.
+#[inline]
 fn with_sign(units: u64, negative: bool) -> i64
     requires { units ≤ MOST_PRICE_UNITS }
     ensures { result ≡ signed_units negative units }
@@ -104,36 +110,48 @@ fn with_sign(units: u64, negative: bool) -> i64
     if negative { -units } else { units }
 }
 
-/// Writes a price with exactly `decimals` digits behind the point, at most `MOST_DECIMALS`, into the front of `into`, and answers how
-/// many bytes that takes; what stands behind them is left open. There is at least one digit before the point, and no
-/// point where `decimals` is 0. It takes every `i64`, also those that `read_price` refuses.
+/// Writes a price as `append_price` does, into the front of `into`, and answers how many bytes that takes; what stands
+/// behind them is left open.
 pub fn write_price(price: Price, decimals: u8, into: &mut [u8; LONGEST_VALUE]) -> usize
     requires { decimals ≤ MOST_DECIMALS }
     ensures text { take result into.new ≡ price_text price decimals }
     ensures count { result ≡ length (price_text price decimals) }
     ensures short { result ≤ LONGEST_VALUE }
 {
+    append_price(into, 0, price, decimals)
+}
+
+/// Writes a price with exactly `decimals` digits behind the point, at most `MOST_DECIMALS`, behind the first `at` bytes of
+/// `into`, and answers where it ends. There is at least one digit before the point, and no point where `decimals` is 0. It
+/// takes every `i64`, also those that `read_price` refuses.
+pub(crate) fn append_price(into: &mut [u8], at: usize, price: Price, decimals: u8) -> usize
+    requires few { decimals ≤ MOST_DECIMALS }
+    requires room { at + LONGEST_VALUE ≤ length into.old }
+    ensures text { take result into.new ≡ take at into.old ++ price_text price decimals }
+    ensures end { result ≡ at + length (price_text price decimals) }
+    ensures short { result ≤ at + LONGEST_VALUE }
+{
     let units = price.0.unsigned_abs();
     let sign: &[u8] = if price.0 < 0 { b"-" } else { b"" };
-    let whole = units / 10u64.pow(decimals as u32);
-    let end = append(into, 0, sign);
-    let end = append(into, end, Buffer::new().format(whole).as_bytes());
+    let end = append(into, at, sign);
+    let end = append_number(into, end, units / 10u64.pow(decimals as u32));
     append_fraction(into, end, units, decimals)
 }
 
 /// Writes a point and the last `decimals` digits of a number behind the first `end` bytes of `into`, or nothing where
 /// `decimals` is 0. Answers where they end.
-fn append_fraction(into: &mut [u8; LONGEST_VALUE], end: usize, units: u64, decimals: u8) -> usize
+#[inline]
+fn append_fraction(into: &mut [u8], end: usize, units: u64, decimals: u8) -> usize
     requires few { decimals ≤ MOST_DECIMALS }
-    requires room { end + length (fraction_text decimals units) ≤ LONGEST_VALUE }
+    requires room { end + decimals + 1 ≤ length into.old }
     ensures text { take result into.new ≡ take end into.old ++ fraction_text decimals units }
     ensures end { result ≡ end + length (fraction_text decimals units) }
 {
     if decimals == 0 {
         return end;
     }
-    let mut text = [b'.'; 1 + MOST_DECIMALS as usize];
-    let len = 1 + decimals as usize;
-    write_fixed_digits(units, &mut text[1..len]);
-    append(into, end, &text[..len])
+    let start = append(into, end, b".");
+    let end = start + decimals as usize;
+    write_fixed_digits(units, &mut into[start..end]);
+    end
 }

@@ -2,7 +2,7 @@
 ghost use Rattle.std.specs.Prelude.{◌≡◌, ◌+◌, ◌≤◌, SomeIff, IsTrue, length, codes};
 ghost use Rattle.gx_base.specs.Texts.{is_time_text, is_time_of_seconds, has_two_digits, is_stamp};
 
-use crate::digits::{are_digits, read_digits};
+use crate::digits::are_digits;
 use crate::text::Text;
 use std::marker::Model;
 
@@ -52,6 +52,7 @@ impl Stamp {
     }
 
     /// Lends the text.
+    #[inline]
     pub fn bytes(&self) -> &[u8]
         ensures bytes { result.now ≡ self.now }
         ensures stamp { IsTrue (is_stamp result.now) }
@@ -61,6 +62,7 @@ impl Stamp {
 }
 
 /// Whether a text is a time, without or with milliseconds.
+#[inline]
 fn is_time_text(text: &[u8]) -> bool
     ensures { result ≡ is_time_text text.now }
 {
@@ -72,6 +74,7 @@ fn is_time_text(text: &[u8]) -> bool
 }
 
 /// Whether a text begins with `YYYYMMDD-HH:MM:SS`.
+#[inline]
 fn is_time_of_seconds(text: &[u8]) -> bool
     requires { 17 ≤ length text.now }
     ensures { result ≡ is_time_of_seconds text.now }
@@ -88,14 +91,15 @@ fn is_time_of_seconds(text: &[u8]) -> bool
 }
 
 /// Whether the two bytes from `start` on are digits of a number from `low` to `high`.
+#[inline]
 fn has_two_digits(text: &[u8], start: usize, low: u32, high: u32) -> bool
     requires { start + 2 ≤ length text.now }
     ensures { result ≡ has_two_digits text.now start low high }
 {
-    let part = &text[start..start + 2];
-    if !are_digits(part) {
+    let (tens, ones) = (text[start], text[start + 1]);
+    if !tens.is_ascii_digit() || !ones.is_ascii_digit() {
         return false;
     }
-    let value = read_digits(part);
+    let value = u32::from(tens - b'0') * 10 + u32::from(ones - b'0');
     low <= value && value <= high
 }

@@ -26,6 +26,7 @@ impl<const N: usize> Model for Text<N> {
 
 impl<const N: usize> Text<N> {
     /// A copy of these bytes, of which there are at most `N`.
+    #[inline]
     pub fn new(bytes: &[u8]) -> Text<N>
         requires { length bytes.now ≤ N }
         ensures { result ≡ bytes.now }
@@ -39,6 +40,7 @@ impl<const N: usize> Text<N> {
     }
 
     /// Lends the bytes.
+    #[inline]
     pub fn bytes(&self) -> &[u8]
         ensures { result.now ≡ self.now }
     {

@@ -4,6 +4,6 @@ use Rattle.gx_base.proofs.fields.field.Goals as goal
 
 pub returns-clause-behind : goal.returns-clause-behind
 returns-clause-behind c =
-    c.append.ensures.behind
-    ∙ same_further _ _ c.append-end-2.new.into c.append-end.new.into (omega arith) c.append-end-2.ensures.behind
-    ∙ same_further _ _ c.append-end.new.into c.args.into.now (omega arith) c.append-end.ensures.behind
+    c.append_few.ensures.behind
+    ∙ same_further _ _ c.append-end.new.into c.append_few-end.new.into (omega arith) c.append-end.ensures.behind
+    ∙ same_further _ _ c.append_few-end.new.into c.args.into.now (omega arith) c.append_few-end.ensures.behind
