@@ -10,3 +10,4 @@ mod Noting
 mod Numbers
 mod Prices
 mod Splits
+mod TwoDigits

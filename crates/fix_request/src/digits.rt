@@ -10,6 +10,7 @@ use gx_base::{MOST_DIGITS, are_digits, read_digits};
 pub const MOST_TAG_DIGITS: usize = 5;
 
 /// The number of a tag: one to `MOST_TAG_DIGITS` digits, the first not 0.
+#[inline]
 pub fn read_tag(text: &[u8]) -> Option<u32>
     ensures { result ≡ (if is_tag text.now then Some (digits_value 10 text.now) else None) }
 {
@@ -20,6 +21,7 @@ pub fn read_tag(text: &[u8]) -> Option<u32>
 }
 
 /// The number of a sequence number: one to `MOST_DIGITS` digits, with a value of at least 1.
+#[inline]
 pub fn read_sequence_number(text: &[u8]) -> Option<u32>
     ensures { result ≡ (if is_sequence_number text.now then Some (digits_value 10 text.now) else None) }
 {

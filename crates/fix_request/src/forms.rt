@@ -49,6 +49,7 @@ pub fn order_forms(names: &Names, symbol_tag: u32, texts: &OrderTexts) -> Result
 }
 
 /// The name that a text is.
+#[inline]
 pub fn read_name(tag: u32, text: &[u8]) -> Result<ShortId, Fault>
     ensures { result ≡ formed tag (where_passes is_name text.now) }
 {
@@ -59,6 +60,7 @@ pub fn read_name(tag: u32, text: &[u8]) -> Result<ShortId, Fault>
 }
 
 /// The instrument of this name.
+#[inline]
 fn find_named(names: &Names, symbol: &ShortId) -> Named
     ensures named { result ≡ named_of names.now symbol.now }
     ensures listed { IsListed names.now result }
@@ -70,6 +72,7 @@ fn find_named(names: &Names, symbol: &ShortId) -> Named
 }
 
 /// The number of a quantity text.
+#[inline]
 fn read_lots(tag: u32, text: &[u8]) -> Result<u32, Fault>
     ensures { result ≡ formed tag (quantity_of text.now) }
 {
@@ -80,6 +83,7 @@ fn read_lots(tag: u32, text: &[u8]) -> Result<u32, Fault>
 }
 
 /// The number of a quantity text, 0 where there is none.
+#[inline]
 pub fn read_lots_or_zero(tag: u32, text: Option<&[u8]>) -> Result<u32, Fault>
     ensures { result ≡ quantity_or_zero tag (option_copied text.entry) }
 {
@@ -90,6 +94,7 @@ pub fn read_lots_or_zero(tag: u32, text: Option<&[u8]>) -> Result<u32, Fault>
 }
 
 /// The price of a text, `Absent` where there is none.
+#[inline]
 fn read_px_if_there(
     names: &Names,
     named: Named,
@@ -107,6 +112,7 @@ fn read_px_if_there(
 
 /// The price of a text in the decimals of this instrument. Where there is no instrument only the format is tried. `None`
 /// where it is out of range.
+#[inline]
 fn read_px(names: &Names, named: Named, tag: u32, text: &[u8]) -> Result<Option<Px>, Fault>
     requires { IsListed names.now named }
     ensures { result ≡ price_in names.now named tag text.now }
@@ -118,6 +124,7 @@ fn read_px(names: &Names, named: Named, tag: u32, text: &[u8]) -> Result<Option<
 }
 
 /// What became of a price text: `None` where it is out of range.
+#[inline]
 fn px_of(tag: u32, read: Result<Price, PriceFault>) -> Result<Option<Px>, Fault>
     ensures { result ≡ px_of tag read }
 {
@@ -130,6 +137,7 @@ fn px_of(tag: u32, read: Result<Price, PriceFault>) -> Result<Option<Px>, Fault>
 }
 
 /// What a price text gives where no instrument has the symbol.
+#[inline]
 fn read_between(tag: u32, text: &[u8]) -> Result<Option<Px>, Fault>
     ensures { result ≡ formed tag (if is_price_text text.now then Some (Some Px.Between) else None) }
 {

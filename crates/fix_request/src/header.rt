@@ -15,6 +15,7 @@ use gx_base::{Names, Stamp};
 
 /// The number of the firm that sends (49).
 #[tactic(auto, unfolding(crate::specs::Inner::Requests::firm_of))]
+#[inline]
 pub fn read_firm(names: &Names, values: &Values) -> Result<u8, Fault>
     ensures { result ≡ firm_of names.now (values_view values.now) }
 {
@@ -29,6 +30,7 @@ pub fn read_firm(names: &Names, values: &Values) -> Result<u8, Fault>
 
 /// Tries whether the exchange is the target (56).
 #[tactic(auto, unfolding(crate::specs::Inner::Requests::target_of))]
+#[inline]
 pub fn check_target(names: &Names, values: &Values) -> Result<(), Fault>
     ensures { result ≡ target_of names.now (values_view values.now) }
 {
@@ -43,6 +45,7 @@ pub fn check_target(names: &Names, values: &Values) -> Result<(), Fault>
 
 /// The sequence number (34).
 #[tactic(auto, unfolding(crate::specs::Inner::Requests::sequence_of))]
+#[inline]
 pub fn read_sequence(values: &Values) -> Result<u32, Fault>
     ensures { result ≡ sequence_of (values_view values.now) }
 {
@@ -57,6 +60,7 @@ pub fn read_sequence(values: &Values) -> Result<u32, Fault>
 
 /// The sending time (52).
 #[tactic(auto, unfolding(crate::specs::Inner::Requests::time_of))]
+#[inline]
 pub fn read_time(values: &Values) -> Result<Stamp, Fault>
     ensures { result ≡ time_of (values_view values.now) }
 {
@@ -67,6 +71,7 @@ pub fn read_time(values: &Values) -> Result<Stamp, Fault>
 }
 
 /// The time that a text is.
+#[inline]
 fn read_stamp(text: &[u8]) -> Result<Stamp, Fault>
     ensures { result ≡ ok_or (where_passes is_time_text text.now) (fault 6 6 52) }
 {

@@ -10,6 +10,7 @@ mod lists;
 mod message_type;
 mod orders;
 mod read;
+mod refusal;
 mod request;
 mod tags;
 mod texts;

@@ -10,6 +10,7 @@ use crate::tags;
 use gx_base::{Kind, Life, Side};
 
 /// The side of its text: 1 or 2.
+#[inline]
 pub fn read_side(text: &[u8]) -> Result<Side, Fault>
     ensures { result ≡ listed 54 (side_of text.now) }
 {
@@ -21,6 +22,7 @@ pub fn read_side(text: &[u8]) -> Result<Side, Fault>
 }
 
 /// The kind of its text: 1, 2 or 4.
+#[inline]
 pub fn read_kind(text: &[u8]) -> Result<Kind, Fault>
     ensures { result ≡ listed 40 (kind_of text.now) }
 {
@@ -33,6 +35,7 @@ pub fn read_kind(text: &[u8]) -> Result<Kind, Fault>
 }
 
 /// The life of its text, which is 0, 1, 3 or 4: `Day` where there is none.
+#[inline]
 pub fn read_life(text: Option<&[u8]>) -> Result<Life, Fault>
     ensures { result ≡ listed 59 (life_of (option_copied text.entry)) }
 {
@@ -43,6 +46,7 @@ pub fn read_life(text: Option<&[u8]>) -> Result<Life, Fault>
 }
 
 /// The life of its text: 0, 1, 3 or 4.
+#[inline]
 fn read_life_text(text: &[u8]) -> Result<Life, Fault>
     ensures { result ≡ listed 59 (life_of_text text.now) }
 {
@@ -56,6 +60,7 @@ fn read_life_text(text: &[u8]) -> Result<Life, Fault>
 }
 
 /// The price, which has to be in range.
+#[inline]
 pub fn in_range(tag: u32, price: Option<Px>) -> Result<Px, Fault>
     ensures { result ≡ listed tag price }
 {

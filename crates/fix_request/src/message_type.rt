@@ -20,6 +20,7 @@ pub enum MessageType {
 }
 
 /// The type of a message (35).
+#[inline]
 pub fn read_type(values: &Values) -> Result<MessageType, Fault>
     ensures { result ≡ type_of (values_view values.now) }
 {
@@ -30,6 +31,7 @@ pub fn read_type(values: &Values) -> Result<MessageType, Fault>
 }
 
 /// The type of its text.
+#[inline]
 fn message_type_of(text: &[u8]) -> Option<MessageType>
     ensures { result ≡ message_type_of text.now }
 {

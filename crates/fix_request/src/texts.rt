@@ -44,6 +44,7 @@ pub fn order_texts<'a>(values: &Values<'a>) -> Result<OrderTexts<'a>, Fault>
 }
 
 /// The value of a needed tag.
+#[inline]
 pub fn needed<'a>(tag: u32, value: Option<&'a [u8]>) -> Result<&'a [u8], Fault>
     ensures { result_map (λ x. x.now) result ≡ needed tag (option_copied value.entry) }
 {
@@ -54,6 +55,7 @@ pub fn needed<'a>(tag: u32, value: Option<&'a [u8]>) -> Result<&'a [u8], Fault>
 }
 
 /// The value of a tag that is needed where this holds, and is else not read.
+#[inline]
 fn needed_where<'a>(
     is_needed: bool,
     tag: u32,
@@ -69,6 +71,7 @@ fn needed_where<'a>(
 }
 
 /// Whether an order of this kind has a limit.
+#[inline]
 fn has_price(kind: &[u8]) -> bool
     ensures { result ≡ has_price kind.now }
 {
@@ -76,6 +79,7 @@ fn has_price(kind: &[u8]) -> bool
 }
 
 /// Whether an order of this kind has a stop price.
+#[inline]
 fn has_trigger(kind: &[u8]) -> bool
     ensures { result ≡ has_trigger kind.now }
 {
@@ -83,6 +87,7 @@ fn has_trigger(kind: &[u8]) -> bool
 }
 
 /// The value of 107 where there is one, else of 55.
+#[inline]
 fn symbol_text<'a>(values: &Values<'a>) -> Option<&'a [u8]>
     ensures { option_copied result ≡ symbol_text (values_view values.now) }
 {
@@ -93,6 +98,7 @@ fn symbol_text<'a>(values: &Values<'a>) -> Option<&'a [u8]>
 }
 
 /// The tag that the symbol is read from.
+#[inline]
 pub fn symbol_tag(values: &Values) -> u32
     ensures { result ≡ symbol_tag (values_view values.now) }
 {

@@ -1,5 +1,6 @@
 //! The values of the tags that rules name.
-ghost use Rattle.std.specs.Prelude.{◌≡◌, []};
+ghost use Rattle.std.specs.Prelude.{◌≡◌, [], Some};
+ghost use Rattle.std.specs.Option.{option_copied, option_or};
 ghost use Rattle.fix_request.specs.Inner.Values.{values_of};
 ghost use Rattle.fix_request.specs.Inner.Rules.{result_map};
 ghost use Rattle.fix_request.specs.Inner.Requests.{checked_values, well_formed_values};
@@ -48,22 +49,26 @@ pub struct Values<'a> {
     pub show: Option<&'a [u8]>,
 }
 
-/// The values of a body, taken in one pass. An `Err` is the first of these faults: the body does not begin with `35=`;
-/// a field has no tag; a field has an empty value.
-pub fn read_values(body: &[u8]) -> Result<Values<'_>, Fault>
-    ensures { result_map values_view result ≡ checked_values body.now }
+/// Notes the values of a body, where none is noted yet, in one pass. An `Err` is the first of these faults: the body does
+/// not begin with `35=`; a field has no tag; a field has an empty value.
+#[inline]
+pub fn read_values<'a>(body: &'a [u8], values: &mut Values<'a>) -> Result<(), Fault>
+    requires { values_view values.now ≡ values_of [] }
+    ensures { result_map (λ _. values_view values.exit.now) result ≡ checked_values body.now }
 {
     if !body.starts_with(b"35=") {
         return Err(Fault::message_type(1));
     }
-    read_fields(body)
+    read_fields(body, values)
 }
 
-/// The values of some fields, each ended by SOH, or the first of the faults in their form.
-fn read_fields(bytes: &[u8]) -> Result<Values<'_>, Fault>
-    ensures { result_map values_view result ≡ well_formed_values bytes.now }
+/// Notes the values of some fields, each ended by SOH, where none is noted yet. An `Err` is the first of the faults in their
+/// form.
+#[inline]
+fn read_fields<'a>(bytes: &'a [u8], values: &mut Values<'a>) -> Result<(), Fault>
+    requires { values_view values.now ≡ values_of [] }
+    ensures { result_map (λ _. values_view values.exit.now) result ≡ well_formed_values bytes.now }
 {
-    let mut values = no_values();
     let mut without_value = None;
     let mut rest = bytes;
     while !rest.is_empty() {
@@ -72,18 +77,19 @@ fn read_fields(bytes: &[u8]) -> Result<Values<'_>, Fault>
             return Err(Fault::bad_tag());
         };
         without_value = without_value.or(field.value.is_empty().then_some(field.tag));
-        note(&mut values, field.tag, field.value);
+        note(values, field.tag, field.value);
         rest = behind;
     }
     match without_value {
         Some(tag) => Err(Fault::no_value(tag)),
-        None => Ok(values),
+        None => Ok(()),
     }
 }
 
 /// No value yet.
 #[tactic(auto, unfolding(crate::specs::Inner::Values::values_of))]
-fn no_values() -> Values<'static>
+#[inline]
+pub fn no_values<'a>() -> Values<'a>
     ensures { values_view result ≡ values_of [] }
 {
     Values {
@@ -109,27 +115,38 @@ fn no_values() -> Values<'static>
 
 /// Notes the value of one more field, unless an earlier one has its tag, or no rule names it.
 #[tactic(auto, unfolding(crate::specs::Inner::Views::noted))]
+#[inline]
 fn note<'a>(values: &mut Values<'a>, tag: u32, value: &'a [u8])
     ensures { values_view values.exit.now ≡ noted (values_view values.entry.now) (record { tag = tag; value = value.entry.now }) }
 {
     match tag {
-        35 => values.message_type = values.message_type.or(Some(value)),
-        49 => values.sender = values.sender.or(Some(value)),
-        56 => values.target = values.target.or(Some(value)),
-        34 => values.sequence = values.sequence.or(Some(value)),
-        52 => values.time = values.time.or(Some(value)),
-        11 => values.id = values.id.or(Some(value)),
-        41 => values.old = values.old.or(Some(value)),
-        55 => values.symbol = values.symbol.or(Some(value)),
-        107 => values.description = values.description.or(Some(value)),
-        54 => values.side = values.side.or(Some(value)),
-        38 => values.quantity = values.quantity.or(Some(value)),
-        40 => values.kind = values.kind.or(Some(value)),
-        44 => values.price = values.price.or(Some(value)),
-        99 => values.trigger = values.trigger.or(Some(value)),
-        59 => values.life = values.life.or(Some(value)),
-        110 => values.min = values.min.or(Some(value)),
-        210 => values.show = values.show.or(Some(value)),
+        35 => note_first(&mut values.message_type, value),
+        49 => note_first(&mut values.sender, value),
+        56 => note_first(&mut values.target, value),
+        34 => note_first(&mut values.sequence, value),
+        52 => note_first(&mut values.time, value),
+        11 => note_first(&mut values.id, value),
+        41 => note_first(&mut values.old, value),
+        55 => note_first(&mut values.symbol, value),
+        107 => note_first(&mut values.description, value),
+        54 => note_first(&mut values.side, value),
+        38 => note_first(&mut values.quantity, value),
+        40 => note_first(&mut values.kind, value),
+        44 => note_first(&mut values.price, value),
+        99 => note_first(&mut values.trigger, value),
+        59 => note_first(&mut values.life, value),
+        110 => note_first(&mut values.min, value),
+        210 => note_first(&mut values.show, value),
         _ => {}
+    }
+}
+
+/// Notes a value, unless one is noted already.
+#[inline]
+fn note_first<'a>(noted: &mut Option<&'a [u8]>, value: &'a [u8])
+    ensures { option_copied noted.exit.now ≡ option_or (option_copied noted.entry.now) (Some value.entry.now) }
+{
+    if noted.is_none() {
+        *noted = Some(value);
     }
 }

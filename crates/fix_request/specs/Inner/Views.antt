@@ -1,5 +1,6 @@
 -- Fields and values as the code holds them: slices, which contracts see as their bytes.
-use Rattle.std.specs.Prelude.{ℕ, ◌==◌, if◌then◌else◌, List, Option, Some, None}
+use Rattle.std.specs.Prelude.{ℕ, Bool, not, ◌&&◌, ◌==◌, nat_lt, if◌then◌else◌, List, length, slice_index, Option, Some, None}
+use Rattle.std.specs.Char.{is_ascii_digit}
 use Rattle.std.specs.List.{before_first, after_first, list_any}
 use Rattle.std.specs.Option.{option_or, option_copied}
 use Rattle.fix_request.specs.Fields.{is_equals_sign, Field}
@@ -11,6 +12,15 @@ use Rattle.fix_request.specs.declared.texts.OrderTexts.{OrderTexts as OrderSlice
 
 abbrev pub field_view : FieldSlices → Field
 field_view f = record { tag = f.tag; value = f.value.now }
+
+-- two digits, the first not 0, and `=`
+abbrev pub has_tag_of_two_digits : List ℕ → Bool
+has_tag_of_two_digits text =
+    nat_lt 2 (length text)
+    && is_equals_sign (slice_index text 2)
+    && is_ascii_digit (slice_index text 0)
+    && not (slice_index text 0 == 48)
+    && is_ascii_digit (slice_index text 1)
 
 -- what stands before the first `=` of a text and behind it, where it has one
 abbrev pub split_at_equals_sign : List ℕ → Option (List ℕ × List ℕ)

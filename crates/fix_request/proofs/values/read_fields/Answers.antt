@@ -6,7 +6,7 @@ use Rattle.fix_request.proofs.Noting.{none_read, one_read, stops_there}
 use Rattle.fix_request.proofs.values.read_fields.Goals as goal
 
 pub loop-rest-init : goal.loop-rest-init
-loop-rest-init c = rw c.no_values-values.ensures (none_read c.args.bytes.now)
+loop-rest-init c = rw c.requires (none_read c.args.bytes.now)
 
 pub returns-in_default : goal.returns-in_default
 returns-in_default c =
