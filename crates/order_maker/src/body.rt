@@ -1,12 +1,11 @@
 //! The bodies of messages, field by field. Each call writes behind the first `at` bytes, and answers where what it wrote
 //! ends.
-ghost use Rattle.std.specs.Prelude.{◌≡◌, ◌+◌, ◌*◌, ◌≤◌, [], ◌∷◌, ◌++◌, length, take};
-ghost use Rattle.order_maker.specs.Stream.{id_of, head_fields, tick_at, order_fields, body_of};
+ghost use Rattle.std.specs.Prelude.{◌≡◌, ◌+◌, ◌*◌, ◌≤◌, ◌++◌, length, take};
+ghost use Rattle.order_maker.specs.Stream.{head_fields, tick_at, order_fields, body_of};
 
 use crate::made::{Made, firm_at, instrument_at, side_at};
-use gx_base::fields::{LONGEST_FIELD, LONGEST_TAG, field, number, price};
-use gx_base::{LONGEST_VALUE, Price, SOH, append, side_text};
-use itoa::Buffer;
+use gx_base::fields::{LONGEST_FIELD, field, number, price};
+use gx_base::{LONGEST_VALUE, Price, side_text};
 use product_file::{MOST_TICK, Product};
 
 /// The time of each message.
@@ -27,14 +26,14 @@ pub(crate) fn write_body(
     match *made {
         Made::New { lots, ticks } => {
             let at = head_fields(into, at, product, b"D", message, message);
-            let at = id_field(into, at, b"11=", message);
+            let at = number(into, at, b"11=G", message);
             let at = order_fields(into, at, product, message, lots, ticks);
             field(into, at, b"59=", b"0")
         }
         Made::Cancel { target } => {
             let at = head_fields(into, at, product, b"F", message, target);
-            let at = id_field(into, at, b"11=", message);
-            id_field(into, at, b"41=", target)
+            let at = number(into, at, b"11=G", message);
+            number(into, at, b"41=G", target)
         }
         Made::Replace {
             target,
@@ -42,8 +41,8 @@ pub(crate) fn write_body(
             ticks,
         } => {
             let at = head_fields(into, at, product, b"G", message, target);
-            let at = id_field(into, at, b"11=", message);
-            let at = id_field(into, at, b"41=", target);
+            let at = number(into, at, b"11=G", message);
+            let at = number(into, at, b"41=G", target);
             order_fields(into, at, product, target, lots, ticks)
         }
     }
@@ -71,20 +70,6 @@ fn head_fields(
     let at = field(into, at, b"56=", exchange.bytes());
     let at = number(into, at, b"34=", message);
     field(into, at, b"52=", TIME)
-}
-
-/// The id of a message.
-fn id_field(into: &mut [u8], at: usize, tag: &[u8], message: u64) -> usize
-    requires room { at + LONGEST_FIELD ≤ length into.old }
-    requires tag { length tag.now ≤ LONGEST_TAG }
-    ensures field { take result into.new ≡ take at into.old ++ (tag.now ++ id_of message ++ SOH ∷ []) }
-    ensures short { result ≤ at + LONGEST_FIELD }
-{
-    let mut digits = Buffer::new();
-    let mut text = [0; LONGEST_VALUE];
-    let end = append(&mut text, 0, b"G");
-    let end = append(&mut text, end, digits.format(message).as_bytes());
-    field(into, at, tag, &text[..end])
 }
 
 /// A limit order on the instrument and the side of a message.
