@@ -8,10 +8,7 @@ use Rattle.match_journal.specs.declared.entry.EntryKind.{EntryKind}
 use Rattle.match_journal.specs.declared.entry.EntryKind.TheVariants.{Frames, Image}
 use Rattle.book_recovery.specs.Records.{is_image_kind, has_image, from_last_image, before_last_image, image_gate, count_as, count_behind, IsGoodAs, AreGoodRecords}
 use Rattle.book_recovery.specs.Recovering.{first_read}
-use Rattle.book_recovery.proofs.LastImages.{last-behind, last-here, last_split, none-before}
-
-not-both : (b : Bool) → b ≡ true → b ≡ false → ⊥
-not-both b is is_not = let differ : true ≡ false = sym is ∙ is_not in cc differ
+use Rattle.book_recovery.proofs.LastImages.{not-both, last-behind, last-here, last_split, none-before}
 
 -- ---- good records
 

@@ -39,7 +39,7 @@ true_at product before (x ∷ xs) r more are_true =
 
 -- ---- how many messages fit
 
-payload-messages : (kind : EntryKind) (payload : List ℕ) → length (messages_as kind payload) * 22 ≤ length payload
+pub payload-messages : (kind : EntryKind) (payload : List ℕ) → length (messages_as kind payload) * 22 ≤ length payload
 payload-messages Frames payload =
     omega (
       arith,

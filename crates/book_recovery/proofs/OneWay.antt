@@ -150,11 +150,6 @@ module _ (product : ProductLists) (text image : List ℕ) (limit gate gate' : �
 
 -- ---- the first bad record, for who reads each whole
 
--- of these records the last is good
-last_good : (product : ProductLists) (count : ℕ) (before : List Record) (r : Record) (more : List Record) → AreGoodRecords product count ((before ++ r ∷ []) ++ more) → IsGoodRecord product (count_behind_all count before) r
-last_good product count [] r more good = good.0
-last_good product count (x ∷ before) r more good = last_good product (count_behind count x) before r more good.1
-
 -- a journal of good records has no bad record
 pub no_bad_record : (product : ProductLists) (text : List ℕ) (limit : ℕ) (ps : List Record) (image : List ℕ) (at : ℕ) → IsJournal text limit ps image → AreGoodRecords product 0 ps → HasBadRecordAt product text limit image at → ⊥
 no_bad_record product text limit ps image at journal good bad =
@@ -164,7 +159,7 @@ no_bad_record product text limit ps image at journal good bad =
     bad.bad
   where
     not_last : (behind : HasBadPayloadBehind product text limit bad.before image) (more : List Record) → (bad.before ++ behind.bad ∷ []) ++ more ≡ ps → ⊥
-    not_last behind more is = behind.not_good (last_good product 0 bad.before behind.bad more (subst (AreGoodRecords product 0) (sym is) good))
+    not_last behind more is = behind.not_good (good_within product 0 bad.before behind.bad more (subst (AreGoodRecords product 0) (sym is ∙ append_assoc bad.before (behind.bad ∷ []) more) good))
 
     past : (behind : HasBadPayloadBehind product text limit bad.before image) → IsBehind ps (bad.before ++ behind.bad ∷ []) → ⊥
     past behind ([], is) = not_last behind [] (append-nil (bad.before ++ behind.bad ∷ []) ∙ is ∙ append-nil ps)

@@ -1,9 +1,8 @@
 -- Reading one record more of an image.
-use Rattle.std.proofs.Common.{◌≡◌, ◌≢◌, inl, inr, ℕ, ◌+◌, ◌<◌, ◌≤◌, List, [], ◌∷◌, ◌++◌, length, get_or, take, drop, Option, Some, None, Result, Ok, Err, OnOk, refl, sym, subst, ◌∙◌, ap, arith, length-append}
+use Rattle.std.proofs.Common.{◌≡◌, ◌≢◌, inl, inr, ℕ, ◌+◌, ◌<◌, ◌≤◌, List, [], ◌∷◌, ◌++◌, length, get_or, take, drop, Option, Some, None, Result, Ok, Err, OnOk, refl, sym, subst, ◌∙◌, ap, arith}
 use Rattle.std.specs.List.{concat}
 use Rattle.fix_frame.specs.Stream.{messages_of, rest_of}
-use Rattle.fix_frame.specs.StreamLaws.{concat-messages_of, concat-messages_of-whole, messages_of-are_frames}
-use Rattle.fix_frame.specs.FramingLaws.{frames_least}
+use Rattle.fix_frame.specs.StreamLaws.{concat-messages_of-whole}
 use Rattle.product_file.specs.Products.{ProductLists}
 use Rattle.order_kinds.specs.State.{State}
 use Rattle.order_kinds.specs.declared.core_state.TheConstants.{MOST_MESSAGES}
@@ -19,19 +18,13 @@ use Rattle.book_recovery.specs.Inner.Reading.{PassesImage, IsOneMore, IsBadBehin
 use Rattle.book_recovery.specs.declared.recovery.RecoverFault.{RecoverFault}
 use Rattle.book_recovery.specs.declared.recovery.RecoverFault.TheVariants as fault
 use Rattle.book_recovery.proofs.Images.{length-push, payload_size, begins_more, begins_closed}
-use Rattle.book_recovery.proofs.GoodRecords.{count_push, good_push}
+use Rattle.book_recovery.proofs.GoodRecords.{count_push, good_push, payload-messages}
 
 -- ---- the frames of a payload
 
 -- there are no more of them than bytes
 pub few_messages : (payload : List ℕ) → length (messages_of payload) ≤ length payload
-few_messages payload =
-    omega (
-      arith,
-      frames_least (messages_of payload) (messages_of-are_frames payload),
-      ap length (concat-messages_of payload),
-      length-append (concat (messages_of payload)) (rest_of payload),
-    )
+few_messages payload = omega (arith, payload-messages Frames payload)
 
 -- all frames of a whole payload were given
 module _ (payload : List ℕ) (given behind : List (List ℕ)) (none_before : given ≡ []) (are : behind ≡ given ++ messages_of payload) where

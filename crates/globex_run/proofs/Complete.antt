@@ -21,8 +21,10 @@ use Rattle.globex_run.specs.Inner.Sessions.{SessionFrom}
 use Rattle.globex_run.specs.declared.outcome.Outcome.{Outcome}
 use Rattle.globex_run.specs.declared.ending.Ending.{Ending}
 use Rattle.globex_run.specs.declared.ending.Ending.TheVariants.{Done, ReadFault, StoreFault, SendFault, BadFrame, Truncated, NotAJournal, JournalBad, ProductDiffers, Full}
-use Rattle.globex_run.proofs.Additions.{all_back, records_then, each_alone, records_length-append, records_length-cons}
+use Rattle.plain_book.proofs.Pairs.{all-back}
+use Rattle.globex_run.proofs.Additions.{records_then, each_alone, records_length-append, records_length-cons}
 use Rattle.globex_run.proofs.Told.{outside_of, nil_from_end}
+use Rattle.globex_run.proofs.Endings.{status_of}
 
 -- bytes that are the front of no frame stay so, however they go on
 pub broken_more : (taken rest : List ℕ) → IsBroken taken → IsBroken (taken ++ rest)
@@ -43,10 +45,6 @@ module _ {P I S : Type 0} (m : StationMeanings S) (p q : SourceAt P) (i j : Sour
     abbrev From : Ending → Type 0
     From ending = SessionFrom m line can.product can.text entry.streams exit.streams Published then can.image can.startable.records can.kept taken ending outcome.messages
 
-    -- the status of an ending
-    status_is : (ending : Ending) → outcome ≡ outcome_of ending outcome.messages → outcome.status ≡ (outcome_of ending outcome.messages).status
-    status_is ending is = ap (λ (o : Outcome). o.status) is
-
     -- at the end of the input all its bytes were taken
     all_taken : rest ≡ [] → taken ≡ can.bytes
     all_taken none = sym (append-nil taken) ∙ ap (λ (l : List ℕ). taken ++ l) (sym none) ∙ sym all
@@ -65,21 +63,21 @@ module _ {P I S : Type 0} (m : StationMeanings S) (p q : SourceAt P) (i j : Sour
         let messages : messages_of can.bytes ≡ messages_in from.added ++ frame ∷ messages_of more =
         ap messages_of bytes ∙ (records_then from.added (frame ++ more) from.whole).0 ∙ ap (λ (l : List (List ℕ)). messages_in from.added ++ l) (messages_of-frame-append frame more full.no_room.is_frame) in
         let total : records_length (messages_of can.bytes) ≡ records_length (messages_in from.added ++ frame ∷ messages_of more) = ap (λ (l : List (List ℕ)). records_length l) messages in
-        let sized = all_back IsRecord can.startable.records from.added full.journal.has.journal.sized in
+        let sized = all-back IsRecord can.startable.records from.added full.journal.has.journal.sized in
         let alone : length_of_records from.added ≤ records_length (messages_in from.added) = each_alone from.added from.whole sized in
         absurd (omega (arith, can.room, full.no_room.too_long, full.end_is, total, alone, records_length-append (messages_in from.added) (frame ∷ messages_of more), records_length-cons frame (messages_of more)))
 
     -- so it ends with the input
     pub served : (ending : Ending) → outcome ≡ outcome_of ending outcome.messages → CausedBy ending entry.streams exit.streams → EndsAs entry.streams exit.streams ending outcome.messages taken → From ending → IsServed can.bytes outcome.status
     served Done is cause ends from =
-        inl (status_is Done is, subst (λ (l : List ℕ). rest_of l ≡ []) (all_taken (nil_from_end j.left rest left ends.0)) ends.2)
+        inl (status_of outcome Done is, subst (λ (l : List ℕ). rest_of l ≡ []) (all_taken (nil_from_end j.left rest left ends.0)) ends.2)
     served (ReadFault place) is cause ends from = absurd (quiet.input cause.0)
     served StoreFault is cause ends from = absurd (quiet.store cause.1)
     served SendFault is cause ends from = absurd (quiet.sends cause.2)
     served (BadFrame place) is cause ends from =
-        inr (inr (status_is (BadFrame place) is, subst (λ (l : List ℕ). IsBroken l) (sym all) (broken_more taken rest ends.2)))
+        inr (inr (status_of outcome (BadFrame place) is, subst (λ (l : List ℕ). IsBroken l) (sym all) (broken_more taken rest ends.2)))
     served (Truncated place) is cause ends from =
-        inr (inl (status_is (Truncated place) is, subst (λ (l : List ℕ). IsCut l) (all_taken (nil_from_end j.left rest left ends.0)) ends.3))
+        inr (inl (status_of outcome (Truncated place) is, subst (λ (l : List ℕ). IsCut l) (all_taken (nil_from_end j.left rest left ends.0)) ends.3))
     served (NotAJournal place) is cause ends from = absurd from.ends
     served (JournalBad place) is cause ends from = absurd from.ends
     served (ProductDiffers place) is cause ends from = absurd from.ends

@@ -48,6 +48,7 @@ use Rattle.globex_run.proofs.Complete.{broken_more}
 use Rattle.globex_run.proofs.Reported.{front-between}
 use Rattle.globex_run.proofs.SentReports.{sends_at_most}
 use Rattle.globex_run.proofs.Told.{outside_of}
+use Rattle.globex_run.proofs.Endings.{status_of, when_done}
 
 -- nothing is sent of any events
 no_lines : (product : ProductLists) (state : State) (messages : List (List ℕ)) → lines_from tally_publisher_meanings.text product state messages ≡ []
@@ -160,10 +161,6 @@ module _ {P I S : Type 0} (m : StationMeanings S) (p q : SourceAt P) (i j : Sour
         same_bytes : Some stream ≡ and_left taken (Some end.left) → stream ≡ taken ++ end.left
         same_bytes e = same_Some stream (taken ++ end.left) e
 
-    -- the status of the session
-    served-status : (ending : Ending) → served ≡ outcome_of ending served.messages → served.status ≡ (outcome_of ending served.messages).status
-    served-status ending is = ap (λ (o : Outcome). o.status) is
-
     -- the premises of the session
     abbrev session-given : served.status ≢ 1 → served.status ≢ 2 → served.status ≢ 3 → served.status ≢ 4 → Premises m before after served.status
     session-given memory words right read = record {
@@ -205,7 +202,7 @@ module _ {P I S : Type 0} (m : StationMeanings S) (p q : SourceAt P) (i j : Sour
     ended Done is cause ends here = inl tt
     ended (ReadFault place) is cause ends here = absurd (omega (arith, cause.0))
     ended StoreFault is cause ends here = inr (inl refl)
-    ended SendFault is cause ends here = absurd (did.silent (served-status SendFault is))
+    ended SendFault is cause ends here = absurd (did.silent (status_of served SendFault is))
     ended (BadFrame place) is cause ends here = absurd (broken_more taken end.left ends.2 (subst (λ (l : List ℕ). IsFrameFront (rest_of l)) parts (subst (λ (l : List ℕ). IsFrameFront l) (sym whole) empty_front)))
     ended (Truncated place) is cause ends here =
         let all : stream ≡ taken = parts ∙ ap (λ (l : List ℕ). taken ++ l) ends.0 ∙ append-nil taken in
@@ -219,27 +216,18 @@ module _ {P I S : Type 0} (m : StationMeanings S) (p q : SourceAt P) (i j : Sour
     how = ended did.session.ending did.session.is did.session.cause did.session.serving.ends from
 
     -- its status, by how it ended
-    done_status : (ending : Ending) → IsDone ending → served ≡ outcome_of ending served.messages → served.status ≡ 0
-    done_status Done done is = served-status Done is
-    done_status (ReadFault place) done is = absurd done
-    done_status StoreFault done is = absurd done
-    done_status SendFault done is = absurd done
-    done_status (BadFrame place) done is = absurd done
-    done_status (Truncated place) done is = absurd done
-    done_status (NotAJournal place) done is = absurd done
-    done_status (JournalBad place) done is = absurd done
-    done_status (ProductDiffers place) done is = absurd done
-    done_status (Full place) done is = absurd done
+    done_status : IsDone did.session.ending → served.status ≡ 0
+    done_status done = when_done (λ (e : Ending). served ≡ outcome_of e served.messages → served.status ≡ 0) (λ is. status_of served Done is) did.session.ending done did.session.is
 
     store_status : did.session.ending ≡ StoreFault → served.status ≡ 5
-    store_status e = served-status StoreFault (did.session.is ∙ ap (λ (x : Ending). outcome_of x served.messages) e)
+    store_status e = status_of served StoreFault (did.session.is ∙ ap (λ (x : Ending). outcome_of x served.messages) e)
 
     full_status : (place : ℕ) → did.session.ending ≡ Full place → served.status ≡ 12
-    full_status place e = served-status (Full place) (did.session.is ∙ ap (λ (x : Ending). outcome_of x served.messages) e)
+    full_status place e = status_of served (Full place) (did.session.is ∙ ap (λ (x : Ending). outcome_of x served.messages) e)
 
     statuses : (served.status ≡ 0) ⊎ ((served.status ≡ 5) ⊎ (served.status ≡ 12))
     statuses = ⊎_elim
-        (λ done. inl (done_status did.session.ending done did.session.is))
+        (λ done. inl (done_status done))
         (λ other. inr (⊎_elim (λ e. inl (store_status e)) (λ e. inr (full_status e.0 e.1)) other))
         how
 
@@ -345,9 +333,9 @@ module _ {P I S : Type 0} (m : StationMeanings S) (p q : SourceAt P) (i j : Sour
 
       -- by its ending
       stopped-by : (ending : Ending) (here : From ending) → here.added ≡ from.added → served ≡ outcome_of ending served.messages → Ended ending → KeepsCounted m before after served given-then (messages_of taken) sums × (m.sent mid ≡ m.sent old)
-      stopped-by Done here same is how = absurd (stopped (served-status Done is))
+      stopped-by Done here same is how = absurd (stopped (status_of served Done is))
       stopped-by StoreFault here same is how = (
-        headline.keeps-front m p q (source_at maker_meanings at_first) (source_at maker_meanings end) old mid tally_publisher_meanings.text Counted did.then served given-then taken sums StoreFault here (served-status StoreFault is) few-served here.ends,
+        headline.keeps-front m p q (source_at maker_meanings at_first) (source_at maker_meanings end) old mid tally_publisher_meanings.text Counted did.then served given-then taken sums StoreFault here (status_of served StoreFault is) few-served here.ends,
         still_sent given.product (state_kept given.product given.kept) (messages_in here.ends.served) (m.sent old) (m.sent mid) here.ends.sent,
       )
       stopped-by (Full place) here same is how =
@@ -397,20 +385,11 @@ module _ {P I S : Type 0} (m : StationMeanings S) (p q : SourceAt P) (i j : Sour
         pub all_taken : stream ≡ taken
         pub all_counted : served.messages ≡ length (messages_of taken)
 
-      at-end-by : (ending : Ending) (here : From ending) → here.added ≡ from.added → EndsAs before.streams after.streams ending served.messages taken → IsDone ending → AtEnd
-      at-end-by Done here same ends done = record { all = did-all Done here same here.ends; all_taken = parts ∙ ap (λ (l : List ℕ). taken ++ l) ends.0 ∙ append-nil taken; all_counted = ends.1 }
-      at-end-by (ReadFault place) here same ends done = absurd done
-      at-end-by StoreFault here same ends done = absurd done
-      at-end-by SendFault here same ends done = absurd done
-      at-end-by (BadFrame place) here same ends done = absurd done
-      at-end-by (Truncated place) here same ends done = absurd done
-      at-end-by (NotAJournal place) here same ends done = absurd done
-      at-end-by (JournalBad place) here same ends done = absurd done
-      at-end-by (ProductDiffers place) here same ends done = absurd done
-      at-end-by (Full place) here same ends done = absurd done
+      at-done : (here : From Done) → here.added ≡ from.added → EndsAs before.streams after.streams Done served.messages taken → AtEnd
+      at-done here same ends = record { all = did-all Done here same here.ends; all_taken = parts ∙ ap (λ (l : List ℕ). taken ++ l) ends.0 ∙ append-nil taken; all_counted = ends.1 }
 
       at-end : AtEnd
-      at-end = at-end-by did.session.ending from refl did.session.serving.ends is-done
+      at-end = when_done (λ (e : Ending). (here : From e) → here.added ≡ from.added → EndsAs before.streams after.streams e served.messages taken → AtEnd) at-done did.session.ending is-done from refl did.session.serving.ends
 
       -- as many as were made
       all-count : served.messages ≡ length (messages_of stream)

@@ -12,10 +12,6 @@ use Rattle.order_kinds.specs.Step.{step_of, state_after, events_from}
 use Rattle.book_print.specs.Publishers.{LineForm}
 use Rattle.globex_run.specs.Inner.Recording.{lines_from}
 
-pub state-append : (product : ProductLists) (state : State) (xs ys : List (List ℕ)) → state_after product state (xs ++ ys) ≡ state_after product (state_after product state xs) ys
-state-append product state [] ys = refl
-state-append product state (x ∷ xs) ys = state-append product (step_of product state x).0 xs ys
-
 pub events-append : (product : ProductLists) (state : State) (xs ys : List (List ℕ)) → events_from product state (xs ++ ys) ≡ events_from product state xs ++ events_from product (state_after product state xs) ys
 events-append product state [] ys = refl
 events-append product state (x ∷ xs) ys =

@@ -40,6 +40,7 @@ use Rattle.globex_run.proofs.SentReports.{known_more}
 use Rattle.globex_run.proofs.Folds.{messages_in-append}
 use Rattle.globex_run.proofs.KeptMore.{never-last}
 use Rattle.globex_run.proofs.TakenBytes.{taken_by}
+use Rattle.globex_run.proofs.Endings.{when_done}
 
 -- one of two holds of the image that a read gives
 holds_either : {S : Type 0} (m : StationMeanings S) (P Q : List ℕ → Type 0) (s : S) → HoldsOne m (λ image. P image ⊎ Q image) s → HoldsOne m P s ⊎ HoldsOne m Q s
@@ -157,7 +158,11 @@ module _ {I S : Type 0} (inputs : SourceMeanings I) (m : StationMeanings S) (lin
         (omega (arith, last.0, served.count, state_count, ap (λ (l : List (List ℕ)). length l) (messages_in-append records added), length-append (messages_in records) (messages_in added)))))
         full
 
-    ends_session : (ending : Ending) → EndsServing m Numbered line product product.journal_limit (streams_at inputs m input mid) at_exit journal.gate end state then ending added behind → EndsSession m line product text at_entry at_exit ending count records kept added behind
+    -- what serving came to
+    abbrev Ends : Ending → Type 0
+    Ends ending = EndsServing m Numbered line product product.journal_limit (streams_at inputs m input mid) at_exit journal.gate end state then ending added behind
+
+    ends_session : (ending : Ending) → Ends ending → EndsSession m line product text at_entry at_exit ending count records kept added behind
     ends_session Done ends = all_served ends.0
     ends_session (ReadFault place) ends = all_served ends.0
     ends_session StoreFault ends = record {
@@ -185,33 +190,18 @@ module _ {I S : Type 0} (inputs : SourceMeanings I) (m : StationMeanings S) (lin
           },
         )
 
-    done_rests : (ending : Ending) → IsDone ending → EndsServing m Numbered line product product.journal_limit (streams_at inputs m input mid) at_exit journal.gate end state then ending added behind → IsAtRest m line product text at_entry at_exit (max (length image) product.journal_limit)
-    done_rests Done done ends =
+    rests_done : Ends Done → IsAtRest m line product text at_entry at_exit (max (length image) product.journal_limit)
+    rests_done ends =
         let rests = ends.0.all_kept.at_end text records most opens.at_end in
         record { image = rests.image; read = rests.rests.read; settled = rests.rests.settled; short = omega (arith, rests.short, large) }
-    done_rests (ReadFault place) done ends = absurd done
-    done_rests StoreFault done ends = absurd done
-    done_rests SendFault done ends = absurd done
-    done_rests (BadFrame place) done ends = absurd done
-    done_rests (Truncated place) done ends = absurd done
-    done_rests (NotAJournal place) done ends = absurd done
-    done_rests (JournalBad place) done ends = absurd done
-    done_rests (ProductDiffers place) done ends = absurd done
-    done_rests (Full place) done ends = absurd done
 
-    done_state : (ending : Ending) → IsDone ending → EndsServing m Numbered line product product.journal_limit (streams_at inputs m input mid) at_exit journal.gate end state then ending added behind → then ≡ state_after product state (messages_in added)
-    done_state Done done ends = ends.0.is_state numbered
-    done_state (ReadFault place) done ends = absurd done
-    done_state StoreFault done ends = absurd done
-    done_state SendFault done ends = absurd done
-    done_state (BadFrame place) done ends = absurd done
-    done_state (Truncated place) done ends = absurd done
-    done_state (NotAJournal place) done ends = absurd done
-    done_state (JournalBad place) done ends = absurd done
-    done_state (ProductDiffers place) done ends = absurd done
-    done_state (Full place) done ends = absurd done
+    done_rests : (ending : Ending) → IsDone ending → Ends ending → IsAtRest m line product text at_entry at_exit (max (length image) product.journal_limit)
+    done_rests ending done = when_done (λ (e : Ending). Ends e → IsAtRest m line product text at_entry at_exit (max (length image) product.journal_limit)) rests_done ending done
 
-    pub from_opened : (ending : Ending) → AreWithinReads at_entry.input at_exit.input (length added) → m.bytes_read new ≡ m.bytes_read mid → (Numbered → IsDone ending → Published (events_from product state (messages_in added))) → EndsServing m Numbered line product product.journal_limit (streams_at inputs m input mid) at_exit journal.gate end state then ending added behind
+    done_state : (ending : Ending) → IsDone ending → Ends ending → then ≡ state_after product state (messages_in added)
+    done_state ending done = when_done (λ (e : Ending). Ends e → then ≡ state_after product state (messages_in added)) (λ ends. ends.0.is_state numbered) ending done
+
+    pub from_opened : (ending : Ending) → AreWithinReads at_entry.input at_exit.input (length added) → m.bytes_read new ≡ m.bytes_read mid → (Numbered → IsDone ending → Published (events_from product state (messages_in added))) → Ends ending
         → SessionFrom m line product text at_entry at_exit Published then image records kept (bytes_in added ++ behind) ending count
     from_opened ending reads bytes published ends = record {
       right = right;
@@ -327,13 +317,13 @@ no_fewer m Numbered line product limit mid after gate end state then added behin
 no_fewer m Numbered line product limit mid after gate end state then added behind (ProductDiffers place) ends = absurd ends
 no_fewer m Numbered line product limit mid after gate end state then added behind (Full place) ends = omega (arith, ends.0.count)
 
-module _ {I S : Type 0} (inputs : SourceMeanings I) (m : StationMeanings S) (line : LineForm) (Published : List Event → Type 0) (product : ProductLists) (text : List ℕ) (old mid : S) (input : I) (core : State) (right : IsRightProduct product) (silent : SendsNothing m old mid) where
-  -- what opening ensures of an image from which a run can start
-  abbrev pub OpensAs : Result Standing Unopened → Type 0
-  OpensAs result = (image : List ℕ) (records : List Record) → m.is_honest old → m.holds old ≡ Some image → Keeps text product.journal_limit records image → AreGoodRecords product 0 records → AreTrueRecords product [] records → Opens m product text old mid image records core result
+-- what opening ensures of an image from which a run can start
+abbrev pub OpensAs : {S : Type 0} → StationMeanings S → ProductLists → List ℕ → S → S → State → Result Standing Unopened → Type 0
+OpensAs m product text old mid core result = (image : List ℕ) (records : List Record) → m.is_honest old → m.holds old ≡ Some image → Keeps text product.journal_limit records image → AreGoodRecords product 0 records → AreTrueRecords product [] records → Opens m product text old mid image records core result
 
+module _ {I S : Type 0} (inputs : SourceMeanings I) (m : StationMeanings S) (line : LineForm) (Published : List Event → Type 0) (product : ProductLists) (text : List ℕ) (old mid : S) (input : I) (core : State) (right : IsRightProduct product) (silent : SendsNothing m old mid) where
   pub unopened_session : (after : State) (reason : Unopened) (outcome : Outcome) → outcome ≡ outcome_of (ending_without reason) 0 → (reason ≡ unopened.Store → Rose (m.store_faults old) (m.store_faults mid)) → ((reason ≡ unopened.Store → ⊥) → m.store_faults mid ≡ m.store_faults old)
-      → ((image : List ℕ) → m.holds old ≡ Some image → AnswersImage product text image (ending_without reason)) → OpensAs (Err reason) → SessionResult m line product text (streams_at inputs m input old) (streams_at inputs m input mid) Published after outcome
+      → ((image : List ℕ) → m.holds old ≡ Some image → AnswersImage product text image (ending_without reason)) → OpensAs m product text old mid core (Err reason) → SessionResult m line product text (streams_at inputs m input old) (streams_at inputs m input mid) Published after outcome
   unopened_session after reason outcome is store none answers opens =
       let count = count_is outcome (ending_without reason) 0 is in
       record {
@@ -353,7 +343,7 @@ module _ {I S : Type 0} (inputs : SourceMeanings I) (m : StationMeanings S) (lin
             (from_unopened_by inputs m line Published product text old input mid silent.send_faults image startable.records kept core after reason right silent.sent (opens image startable.records honest read startable.keeps startable.good startable.are_true));
       }
 
-  pub opened_session : (journal : Standing) (limit_is : journal.limit ≡ product.journal_limit) (store : m.store_faults mid ≡ m.store_faults old) (answers : (image : List ℕ) → m.holds old ≡ Some image → AnswersOpening product text image (Ok journal)) (opens : OpensAs (Ok journal)) (input' : I) (new : S) (end : ℕ)
+  pub opened_session : (journal : Standing) (limit_is : journal.limit ≡ product.journal_limit) (store : m.store_faults mid ≡ m.store_faults old) (answers : (image : List ℕ) → m.holds old ≡ Some image → AnswersOpening product text image (Ok journal)) (opens : OpensAs m product text old mid core (Ok journal)) (input' : I) (new : S) (end : ℕ)
       (then : State) (ending : Ending) → ServesInput m (AreNumbered core) line product journal.limit (streams_at inputs m input mid) (streams_at inputs m input' new) journal.gate end (state_numbered core) then Published ending → CausedBy ending (streams_at inputs m input mid) (streams_at inputs m input' new) → m.bytes_read new ≡ m.bytes_read mid
       → (outcome : Outcome) (counts : ℕ) → counts ≡ then.desk.messages - core.desk.messages → outcome ≡ outcome_of ending counts → SessionResult m line product text (streams_at inputs m input old) (streams_at inputs m input' new) Published then outcome
   opened_session journal limit_is store answers opens input' new end then ending serves cause bytes outcome counts more is =

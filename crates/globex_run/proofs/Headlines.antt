@@ -28,10 +28,12 @@ use Rattle.globex_run.specs.declared.ending.Ending.{Ending}
 use Rattle.globex_run.specs.declared.ending.Ending.TheVariants.{Done, ReadFault, StoreFault, SendFault, BadFrame, Truncated, NotAJournal, JournalBad, ProductDiffers, Full}
 use Rattle.globex_run.specs.Journals.{bytes_in, length_of_records, records_length, end_of_journal}
 use Rattle.match_journal.specs.Journal.{Record, IsRecord}
+use Rattle.plain_book.proofs.Pairs.{all-front, all-back}
 use Rattle.globex_run.proofs.Folds.{messages_in-append}
 use Rattle.globex_run.proofs.KeptMore.{keeps-frames}
-use Rattle.globex_run.proofs.Additions.{all_front, all_back, first_served, within_served, records_joined, each_alone, records_length-append, one_record}
+use Rattle.globex_run.proofs.Additions.{first_served, within_served, records_joined, each_alone, records_length-append, one_record}
 use Rattle.globex_run.proofs.Told.{outside_of}
+use Rattle.globex_run.proofs.Endings.{status_of}
 
 module _ {P I S : Type 0} (m : StationMeanings S) (p q : SourceAt P) (i j : SourceAt I) (old new : S) (line : LineForm) (Published : List Event → Type 0) (then : State) (outcome : Outcome) where
   abbrev entry : Outside P I S
@@ -39,10 +41,6 @@ module _ {P I S : Type 0} (m : StationMeanings S) (p q : SourceAt P) (i j : Sour
 
   abbrev exit : Outside P I S
   exit = outside_of m q j new
-
-  -- the status of an ending
-  pub status_of : (ending : Ending) → outcome ≡ outcome_of ending outcome.messages → outcome.status ≡ (outcome_of ending outcome.messages).status
-  status_of ending is = ap (λ (o : Outcome). o.status) is
 
   module _ (given : Premises m entry exit outcome.status) (taken : List ℕ) (sends : List (List ℕ) → List ℕ) where
     -- what the session came to from the image of entry
@@ -81,7 +79,7 @@ module _ {P I S : Type 0} (m : StationMeanings S) (p q : SourceAt P) (i j : Sour
         keeps_served : (messages : List (List ℕ)) → messages ≡ messages_in served → (left : List ℕ) → Keeps given.text given.product.journal_limit (given.startable.records ++ served) left → KeepsAt messages left
         keeps_served messages same left keeps =
             keeps-frames given.product from.right given.text given.startable.records given.startable.good given.startable.are_true
-            served (all_front IsWhole served others (subst (λ (l : List Record). AreWhole l) parts from.whole)) left (given.kept ++ messages) keeps
+            served (all-front IsWhole served others (subst (λ (l : List Record). AreWhole l) parts from.whole)) left (given.kept ++ messages) keeps
             (ap (λ (l : List (List ℕ)). given.kept ++ l) same
             ∙ ap (λ (l : List (List ℕ)). l ++ messages_in served) given.startable.are
             ∙ sym (messages_in-append given.startable.records served))
@@ -241,7 +239,7 @@ module _ {P I S : Type 0} (m : StationMeanings S) (p q : SourceAt P) (i j : Sour
           let full = from.ends.1 in
           let frame = full.no_room.frame in
           let long = full.no_room.too_long in
-          let sized = all_back IsRecord given.startable.records from.added full.journal.has.journal.sized in
+          let sized = all-back IsRecord given.startable.records from.added full.journal.has.journal.sized in
           let alone : length_of_records from.added ≤ records_length (messages_in from.added) = each_alone from.added from.whole sized in
           let last : records_length (frame ∷ []) ≡ length frame + 6 = one_record frame in
           record {
@@ -260,12 +258,12 @@ module _ {P I S : Type 0} (m : StationMeanings S) (p q : SourceAt P) (i j : Sour
 
     -- status 12
     pub full : (ending : Ending) → outcome ≡ outcome_of ending outcome.messages → EndsAs entry.streams exit.streams ending outcome.messages taken → From ending → outcome.status ≡ 12 → HasNoRoom m entry exit outcome given taken
-    full Done is ends from twelve = absurd (omega (arith, twelve, status_of Done is))
-    full (ReadFault place) is ends from twelve = absurd (omega (arith, twelve, status_of (ReadFault place) is))
-    full StoreFault is ends from twelve = absurd (omega (arith, twelve, status_of StoreFault is))
-    full SendFault is ends from twelve = absurd (omega (arith, twelve, status_of SendFault is))
-    full (BadFrame place) is ends from twelve = absurd (omega (arith, twelve, status_of (BadFrame place) is))
-    full (Truncated place) is ends from twelve = absurd (omega (arith, twelve, status_of (Truncated place) is))
+    full Done is ends from twelve = absurd (omega (arith, twelve, status_of outcome Done is))
+    full (ReadFault place) is ends from twelve = absurd (omega (arith, twelve, status_of outcome (ReadFault place) is))
+    full StoreFault is ends from twelve = absurd (omega (arith, twelve, status_of outcome StoreFault is))
+    full SendFault is ends from twelve = absurd (omega (arith, twelve, status_of outcome SendFault is))
+    full (BadFrame place) is ends from twelve = absurd (omega (arith, twelve, status_of outcome (BadFrame place) is))
+    full (Truncated place) is ends from twelve = absurd (omega (arith, twelve, status_of outcome (Truncated place) is))
     full (NotAJournal place) is ends from twelve = absurd from.ends
     full (JournalBad place) is ends from twelve = absurd from.ends
     full (ProductDiffers place) is ends from twelve = absurd from.ends

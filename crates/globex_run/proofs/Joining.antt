@@ -16,8 +16,10 @@ use Rattle.order_kinds.specs.State.{State}
 use Rattle.order_kinds.specs.Step.{state_after}
 use Rattle.book_print.specs.Publishers.{LineForm}
 use Rattle.globex_run.specs.Inner.Recording.{lines_from, IsRecordCrash, RestsAtEnd, AllKept, Serves, Served}
-use Rattle.globex_run.proofs.Folds.{messages_in-append, lines_both, state-append}
-use Rattle.globex_run.proofs.Additions.{all_append, length_of_records-append}
+use Rattle.plain_book.proofs.Pairs.{all-append}
+use Rattle.book_recovery.proofs.StatesBehind.{state-append}
+use Rattle.globex_run.proofs.Folds.{messages_in-append, lines_both}
+use Rattle.globex_run.proofs.Additions.{length_of_records-append}
 use Rattle.globex_run.proofs.SentReports.{known_more}
 
 -- the same place, where less was known of it
@@ -78,7 +80,7 @@ module _ {S : Type 0} (m : StationMeanings S) (Numbered : Type 0) (line : LineFo
 
     pub serves_then : Serves m Numbered line product limit b c mid s1 ys → Serves m Numbered line product limit a c gate s (xs ++ ys)
     serves_then then = record {
-      whole = all_append IsWhole xs ys serves.whole then.whole;
+      whole = all-append IsWhole xs ys serves.whole then.whole;
       part = λ numbered. subst (λ (o : Option (List ℕ)). IsKnownPrefix (m.sent c) o) (sent_then numbered ys) (then.part numbered);
       adds = λ text kept most at numbered.
           adds_then m a b c _ _ (λ h left out crash. more numbered text kept most left out crash)

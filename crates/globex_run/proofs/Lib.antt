@@ -14,6 +14,7 @@ mod FromEntry
 mod KeptMore
 mod Reported
 mod Told
+mod Endings
 mod Headlines
 mod RunHeadlines
 mod ReadRecords
