@@ -4,8 +4,9 @@ callgrind, which counts the same in each run.
 
 Serves messages in a folder in memory, once so many and once 10,000 more, and divides what the others took. The streams are made
 messages, with some 10,000, 34,000 and 95,000 orders live; orders of which each trades, with three reports a message and one live
-order; and cancels and replaces with 50,000 orders live. The product is that of the stored run, with room for 100,000 live orders
-and the journal that so many messages want. Each function's own instructions are counted for the part that its crate belongs to; what
+order; and cancels and replaces with 50,000 orders live. Made messages are drilled, run, and recovered from the journal of the
+drill by a run without input. The product is that of the stored run, with room for 100,000 live orders and the journal that so
+many messages want. Each function's own instructions are counted for the part that its crate belongs to; what
 the compiler has put into another function is counted there, and what the C library copies is a part of its own.
 
     ./run-example.sh                                 builds the program
@@ -27,6 +28,7 @@ TRADING_COUNT = 2_000
 LIVE = 50_000
 KEYS = "max_orders = 100000\njournal_limit = 67108864\n"
 FUNCTIONS = 20
+DRILL = ["drill", "--first", "1", "--count"]
 
 PARTS = {
     "making": "order_maker",
@@ -77,10 +79,12 @@ def costs_of(profile):
     return costs
 
 
-def profile_of(program, words, input_bytes):
-    """The instructions of each function of a call over a new journal."""
+def profile_of(program, words, input_bytes, drilled=0):
+    """The instructions of each function of a call over a new journal, or over that of so many drilled messages."""
     with tempfile.TemporaryDirectory(dir=streams.MEMORY_FOLDER) as folder:
         streams.write_product(folder, KEYS)
+        if drilled > 0:
+            subprocess.run([program, *DRILL, str(drilled)], check=True, cwd=folder, capture_output=True)
         profile = os.path.join(folder, "profile")
         call = ["valgrind", "--tool=callgrind", f"--callgrind-out-file={profile}", program, *words]
         subprocess.run(call, check=True, cwd=folder, input=input_bytes, capture_output=True)
@@ -101,16 +105,17 @@ def row(name, live, before, after, with_functions):
 
 
 def made_rows(program, count, with_functions):
-    drill = ["drill", "--first", "1", "--count"]
     with tempfile.TemporaryDirectory(dir=streams.MEMORY_FOLDER) as folder:
         streams.write_product(folder, KEYS)
         first, _ = streams.made(program, folder, count)
         all_of_them, line = streams.made(program, folder, count + MORE)
     live = int(line.rsplit(" ", 1)[1])
-    drilled = [profile_of(program, [*drill, str(count + more)], b"") for more in (0, MORE)]
+    drilled = [profile_of(program, [*DRILL, str(count + more)], b"") for more in (0, MORE)]
     row("drill, made", live, *drilled, with_functions)
     ran = [profile_of(program, ["run"], b"".join(frames)) for frames in (first, all_of_them)]
     row("run, made", live, *ran, with_functions)
+    recovered = [profile_of(program, ["run"], b"", count + more) for more in (0, MORE)]
+    row("recovery, made", live, *recovered, with_functions)
 
 
 def run_row(program, name, live, frames, with_functions):

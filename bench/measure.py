@@ -15,6 +15,7 @@ recovers from the image. The bytes are those that the process read beside its wo
     ./run-example.sh                           builds the program
     bench/measure.py [PROGRAM [DISK_FOLDER]]   the folder is a new one in that one, or in the current one
     bench/measure.py --checkpoint [PROGRAM]    the last part alone
+    bench/measure.py --compare PROGRAM..       the first part alone, of several programs, in turn within each round
 """
 
 import os
@@ -88,13 +89,18 @@ def rates(count, seconds):
     return f"{max(per_second):,.0f} at best, {statistics.median(per_second):,.0f} in the middle, {min(per_second):,.0f} at worst"
 
 
-def measure_in_memory(program, inputs):
+def measure_in_memory(programs):
+    """Prints what each program serves and recovers. In each round they come one after the other."""
+    inputs = [b"".join(streams.mixed(seed, MESSAGES)) for seed in range(1, STREAMS + 1)]
     with new_folder(streams.MEMORY_FOLDER) as folder:
-        rounds = [serve_and_recover(program, folder, inputs) for _ in range(ROUNDS)]
+        rounds = [[serve_and_recover(program, folder, inputs) for program in programs] for _ in range(ROUNDS)]
     total = STREAMS * MESSAGES
-    print(f"{total} messages, {sum(map(len, inputs))} bytes in, {rounds[0][2]} bytes of reports out, journal in {streams.MEMORY_FOLDER}")
-    print(f"messages a second, served: {rates(total, [served for served, _, _ in rounds])}")
-    print(f"messages a second, recovered: {rates(total, [recovered for _, recovered, _ in rounds])}")
+    print(f"{total} messages, {sum(map(len, inputs))} bytes in, {rounds[0][0][2]} bytes of reports out, journal in {streams.MEMORY_FOLDER}")
+    for program, measured in zip(programs, zip(*rounds)):
+        if len(programs) > 1:
+            print(program)
+        print(f"messages a second, served: {rates(total, [served for served, _, _ in measured])}")
+        print(f"messages a second, recovered: {rates(total, [recovered for _, recovered, _ in measured])}")
 
 
 def run_from_file(program, folder, input_file):
@@ -179,14 +185,21 @@ def measure_checkpoints(program):
     measure_restart(program, "each of which trades", traded)
 
 
+def program_at(path):
+    if not os.access(path, os.X_OK):
+        sys.exit(f"there is no program at {path}: ./run-example.sh builds it")
+    return os.path.abspath(path)
+
+
 def main():
-    words = [word for word in sys.argv[1:] if word != "--checkpoint"]
-    program = os.path.abspath(words[0] if words else streams.PROGRAM)
+    words = [word for word in sys.argv[1:] if not word.startswith("--")]
+    if "--compare" in sys.argv[1:]:
+        measure_in_memory([program_at(word) for word in words])
+        return
+    program = program_at(words[0] if words else streams.PROGRAM)
     disk = os.path.abspath(words[1] if len(words) > 1 else os.curdir)
-    if not os.access(program, os.X_OK):
-        sys.exit(f"there is no program at {program}: ./run-example.sh builds it")
     if "--checkpoint" not in sys.argv[1:]:
-        measure_in_memory(program, [b"".join(streams.mixed(seed, MESSAGES)) for seed in range(1, STREAMS + 1)])
+        measure_in_memory([program])
         measure_on_disk(program, disk)
     measure_checkpoints(program)
 
