@@ -7,9 +7,10 @@ use Rattle.match_journal.specs.Journal.{IsJournal, IsRecord, Record, kind_byte, 
 use Rattle.match_journal.specs.Opening.{IsOpened}
 use Rattle.match_journal.specs.Walking.{IsHead}
 use Rattle.match_journal.specs.declared.entry.Entry.{Entry}
-use Rattle.match_journal.specs.declared.limits.TheConstants.{LEAST_LIMIT}
+use Rattle.match_journal.specs.declared.limits.TheConstants.{LEAST_LIMIT, MOST_TEXT}
 use Rattle.match_journal.proofs.Records.{journal_front-push, length-record, all-push}
 use Rattle.match_journal.proofs.Walked.{front-split, all-behind}
+use Rattle.match_journal.proofs.Unique.{front_opened}
 use Rattle.book_recovery.specs.BadPlaces.{BeginsWithRecords}
 
 -- ---- fronts
@@ -33,6 +34,14 @@ opened_begins text limit (x ∷ xs) opened least = record {
   sized = tt;
   in_limit = omega (arith, length-first text, opened.1.few, least);
 }
+
+-- so does what begins with some records
+pub begins_opened : (text : List ℕ) (limit : ℕ) (records : List Record) (image : List ℕ) → length text ≤ MOST_TEXT → BeginsWithRecords text limit records image → IsOpened text image
+begins_opened text limit records image few begins = opened begins.rest begins.is begins.gate_inside
+  where
+    opened : (rest : List ℕ) → image ≡ journal_front text records ++ rest → 1 ≤ length rest → IsOpened text image
+    opened [] is some = absurd (omega (arith, some))
+    opened (gate ∷ behind) is some = front_opened text image records gate behind few is
 
 -- a journal begins with its records
 pub journal_begins : (text : List ℕ) (limit : ℕ) (records : List Record) (image : List ℕ) → IsJournal text limit records image → BeginsWithRecords text limit records image

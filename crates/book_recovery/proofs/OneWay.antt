@@ -11,7 +11,7 @@ use Rattle.match_journal.proofs.Unique.{same_front, one_record, one_walk, one_ke
 use Rattle.product_file.specs.Products.{ProductLists}
 use Rattle.order_kinds.specs.State.{State}
 use Rattle.book_recovery.specs.Records.{from_last_image, before_last_image, image_gate, count_behind, count_behind_all, IsGoodRecord, AreGoodRecords}
-use Rattle.book_recovery.specs.BadPlaces.{BeginsWithRecords, HasBadHeadAt, HasBadPayloadAt, IsBadPlace, HasBadPayloadBehind, HasBadRecordAt}
+use Rattle.book_recovery.specs.BadPlaces.{BeginsWithRecords, AreFirstRecords, HasBadHeadAt, HasBadPayloadAt, IsBadPlace, HasBadPayloadBehind, HasBadRecordAt}
 use Rattle.book_recovery.specs.Recovering.{IsRecovered, Recovers}
 use Rattle.book_recovery.specs.declared.recovery.Recovered.{Recovered}
 use Rattle.book_recovery.specs.declared.recovery.RecoverFault.{RecoverFault}
@@ -119,7 +119,7 @@ one_bad_payload product text limit image at at' a b =
 
 -- ---- one answer
 
-one_place : (product : ProductLists) (text : List ℕ) (limit : ℕ) (image : List ℕ) (at at' : ℕ) → IsBadPlace product text limit image at → IsBadPlace product text limit image at' → at ≡ at'
+pub one_place : (product : ProductLists) (text : List ℕ) (limit : ℕ) (image : List ℕ) (at at' : ℕ) → IsBadPlace product text limit image at → IsBadPlace product text limit image at' → at ≡ at'
 one_place product text limit image at at' (inl a) (inl b) = one_bad_head text limit image at at' a b
 one_place product text limit image at at' (inl a) (inr b) = absurd (no_bad_head text limit _ image at b.heads a)
 one_place product text limit image at at' (inr a) (inl b) = absurd (no_bad_head text limit _ image at' a.heads b)
@@ -164,3 +164,29 @@ no_bad_record product text limit ps image at journal good bad =
     past : (behind : HasBadPayloadBehind product text limit bad.before image) → IsBehind ps (bad.before ++ behind.bad ∷ []) → ⊥
     past behind ([], is) = not_last behind [] (append-nil (bad.before ++ behind.bad ∷ []) ∙ is ∙ append-nil ps)
     past behind (p ∷ more, is) = not_both image limit (length (journal_front text ps)) _ (good_head text limit ps p more image (subst (λ (l : List Record). BeginsWithRecords text limit l image) is behind.begins)) (gate_closed text limit ps image journal)
+
+-- behind the good records before the first bad one no good record follows
+bad_then_good : (product : ProductLists) (text : List ℕ) (limit : ℕ) (image : List ℕ) (at : ℕ) (bad : HasBadRecordAt product text limit image at) (p : Record) (more : List Record) → AreFirstRecords product text limit (bad.before ++ p ∷ more) image → ⊥
+bad_then_good product text limit image at bad p more first =
+    ⊎_elim
+    (λ head. followed text limit image at (record { before = bad.before; begins = bad.first.begins; bad = subst (λ (g : ℕ). IsBadHead image limit g at) bad.place head }) p more first.begins)
+    (λ behind. ⊎_elim
+    (λ t. not_one behind t.0 more (sym (append_assoc bad.before (behind.bad ∷ []) t.0) ∙ sym t.1))
+    (λ t. not_one behind [] (more ++ t.0) (t.1 ∙ append_assoc bad.before (p ∷ more) t.0))
+    (begins_along text limit (bad.before ++ behind.bad ∷ []) (bad.before ++ p ∷ more) image behind.begins first.begins))
+    bad.bad
+  where
+    not_one : (behind : HasBadPayloadBehind product text limit bad.before image) (rest tail : List Record) → bad.before ++ behind.bad ∷ rest ≡ bad.before ++ p ∷ tail → ⊥
+    not_one behind rest tail is =
+        let same : behind.bad ≡ p = cc (append_cancel_left bad.before (behind.bad ∷ rest) (p ∷ tail) is) in
+        behind.not_good (subst (IsGoodRecord product (count_behind_all 0 bad.before)) (sym same) (good_within product 0 bad.before p more first.good))
+
+same_bad_record : (product : ProductLists) (text : List ℕ) (limit : ℕ) (image : List ℕ) (at at' : ℕ) (a : HasBadRecordAt product text limit image at) (b : HasBadRecordAt product text limit image at') → IsBehind a.before b.before → at ≡ at'
+same_bad_record product text limit image at at' a b ([], is) = a.place ∙ ap (λ (l : List Record). length (journal_front text l)) (sym (is ∙ append-nil a.before)) ∙ sym b.place
+same_bad_record product text limit image at at' a b (p ∷ more, is) =
+    absurd (bad_then_good product text limit image at a p more (subst (λ (l : List Record). AreFirstRecords product text limit l image) is b.first))
+
+-- there is one first bad record
+pub one_bad_record : (product : ProductLists) (text : List ℕ) (limit : ℕ) (image : List ℕ) (at at' : ℕ) → HasBadRecordAt product text limit image at → HasBadRecordAt product text limit image at' → at ≡ at'
+one_bad_record product text limit image at at' a b =
+    ⊎_elim (λ t. same_bad_record product text limit image at at' a b t) (λ t. sym (same_bad_record product text limit image at' at b a t)) (begins_along text limit a.before b.before image a.first.begins b.first.begins)

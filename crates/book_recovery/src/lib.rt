@@ -9,7 +9,7 @@ mod replay;
 mod scratch;
 mod true_images;
 
-pub use laws::an_image_is_recovered_one_way;
+pub use laws::{an_image_is_recovered_one_way, one_record_is_the_first_bad_one};
 pub use records::next_record;
 pub use recovery::{RecoverFault, Recovered, recover};
 pub use scratch::Scratch;

@@ -3,7 +3,7 @@ use Rattle.std.proofs.Common.{◌≡◌, ◌≢◌, ◌⊎◌, inl, inr, ⊎_eli
 use Rattle.std.specs.Int.{w32, to_be_bytes}
 use Rattle.std.specs.List.{flat_map, AllByRecursion}
 use Rattle.std.proofs.lemmas.List.{take_at, drop_at, append_cancel_left, append-nil, length-take, get_or-take, get_or-drop}
-use Rattle.match_journal.specs.Journal.{IsJournal, IsRecord, Record, kind_byte, header, open_record}
+use Rattle.match_journal.specs.Journal.{IsJournal, IsRecord, Record, kind_byte, journal_front, header, open_record}
 use Rattle.match_journal.specs.Classes.{HasHeader, HasOpenGate, IsBlank, IsSealed, IsUnfinished, IsForeignAt, HasOtherText, Keeps, first_difference}
 use Rattle.match_journal.specs.Opening.{IsOpened, IsStartFault, Looks}
 use Rattle.match_journal.specs.Walking.{IsHead, Walks}
@@ -152,11 +152,15 @@ headed_opened text image behind last few is =
     let h : HasHeader text image = subst (HasHeader text) (sym is) (has_header text behind 1 last few) in
     (record { opened = ap (λ (l : List ℕ). get_or l 0 0) is; magic = header_magic text image h }, h)
 
+-- so is what goes on behind some records
+pub front_opened : (text image : List ℕ) (records : List Record) (gate : ℕ) (behind : List ℕ) → length text ≤ MOST_TEXT → image ≡ journal_front text records ++ gate ∷ behind → IsOpened text image
+front_opened text image [] gate behind few is = headed_opened text image behind gate few (is ∙ ap (λ (l : List ℕ). 1 ∷ (l ++ gate ∷ behind)) (append-nil (header text)))
+front_opened text image (p ∷ ps) gate behind few is =
+    headed_opened text image (kind_byte p.kind ∷ (((to_be_bytes w32 (length p.payload) ++ p.payload) ++ flat_map open_record ps) ++ gate ∷ behind)) 1 few
+    (is ∙ ap (λ (l : List ℕ). 1 ∷ l) (append_assoc (header text) (open_record p ++ flat_map open_record ps) (gate ∷ behind)))
+
 pub journal_opened : (text : List ℕ) (limit : ℕ) (image : List ℕ) (records : List Record) → length text ≤ MOST_TEXT → IsJournal text limit records image → IsOpened text image
-journal_opened text limit image [] few j = headed_opened text image j.behind j.gate few (j.is ∙ ap (λ (l : List ℕ). 1 ∷ (l ++ j.gate ∷ j.behind)) (append-nil (header text)))
-journal_opened text limit image (p ∷ ps) few j =
-    headed_opened text image (kind_byte p.kind ∷ (((to_be_bytes w32 (length p.payload) ++ p.payload) ++ flat_map open_record ps) ++ j.gate ∷ j.behind)) 1 few
-    (j.is ∙ ap (λ (l : List ℕ). 1 ∷ l) (append_assoc (header text) (open_record p ++ flat_map open_record ps) (j.gate ∷ j.behind)))
+journal_opened text limit image records few j = front_opened text image records j.gate j.behind few j.is
 
 pub not_refused : (product image : List ℕ) (limit : ℕ) (records : List Record) (e : StartFault) → length product ≤ MOST_TEXT → Keeps product limit records image → IsStartFault product image e → (e ≡ fault.Store → ⊥) → ⊥
 not_refused product image limit records e few (inl journal) is told = some_err product image e (journal_opened product limit image records few journal) is told
