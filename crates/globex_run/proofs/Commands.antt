@@ -11,13 +11,14 @@ use Rattle.product_file.specs.Products.{ProductLists, IsRightProduct}
 use Rattle.product_file.specs.ProductTexts.{product_of}
 use Rattle.order_kinds.specs.Balance.{IsBalanced}
 use Rattle.balance_laws.proofs.Streams.{streams-balance}
-use Rattle.match_journal.specs.Classes.{IsForeignAt, HasBadHeader, HasOtherText}
+use Rattle.match_journal.specs.Journal.{Record}
+use Rattle.match_journal.specs.Classes.{IsForeignAt, HasBadHeader, HasOtherText, Keeps}
 use Rattle.match_journal.specs.Opening.{IsOpened}
 use Rattle.match_journal.specs.declared.faults.StartFault.TheVariants as start
 use Rattle.match_journal.proofs.Unique.{not_refused, unfinished_not_opened}
 use Rattle.book_recovery.specs.Kept.{KeepsMessages}
 use Rattle.book_recovery.specs.BadPlaces.{HasBadRecordAt, IsBadPlace}
-use Rattle.book_recovery.proofs.OneWay.{no_bad_place, no_bad_record}
+use Rattle.book_recovery.proofs.OneWay.{no_bad_place, no_bad_record, one_place, one_bad_record}
 use Rattle.book_recovery.proofs.FromLastImage.{good-from-last}
 use Rattle.book_print.specs.Publishers.{LineForm}
 use Rattle.book_print.specs.TallyText.{no_tally}
@@ -30,18 +31,20 @@ use Rattle.journal_print.specs.declared.unprinted.Unprinted.{Unprinted}
 use Rattle.journal_print.specs.declared.unprinted.Unprinted.TheVariants as unprinted
 use Rattle.command_words.specs.declared.command.Command.{Command}
 use Rattle.command_words.specs.declared.command.Command.TheVariants.{Run, Replay, Book, Fills, Ledger, Steps, Drill, Checkpoint}
-use Rattle.globex_run.specs.Outside.{SourceAt, Outside, Streams, IsQuiet, source_at}
+use Rattle.globex_run.specs.Outside.{SourceAt, Outside, Streams, IsQuiet, source_at, streams_at}
 use Rattle.globex_run.specs.Outcomes.{outcome_of}
-use Rattle.globex_run.specs.Words.{IsPrinting}
-use Rattle.globex_run.specs.ProductTexts.{TakesAtMost, IsProductText}
+use Rattle.globex_run.specs.Words.{IsPrinting, OpensJournal, NeverEndsWith}
+use Rattle.globex_run.specs.ProductTexts.{TakesAtMost, IsProductText, ProductPremises}
+use Rattle.globex_run.specs.FullJournals.{IsFull}
+use Rattle.globex_run.specs.Refusals.{HasBadRecordFor, IsRefusal, IsRefused, RefusesExactly, CanStart}
 use Rattle.globex_run.specs.RunResult.{CommandResult, CommandEnded, RunEnded, EndedUnread, first_messages}
 use Rattle.globex_run.specs.Journals.{AnswersImage}
-use Rattle.globex_run.specs.Headline.{Premises, InputPremises, SendsExactlyTheReports, EndsOtherwise, RunLeavesCrashPrefixes, RunBeforeTheFirstSync, KeepsEveryReported, KeepsARecordPerRead, ReadsFew, HasNoRoom, CanBeServed, IsServed}
+use Rattle.globex_run.specs.Headline.{Premises, InputPremises, SendsExactlyTheReports, EndsOtherwise, RunLeavesCrashPrefixes, RunBeforeTheFirstSync, KeepsEveryReported, KeepsARecordPerRead, ReadsFew, CanBeServed, IsServed}
 use Rattle.globex_run.specs.Drills.{made_bytes, KeepsAndSumsUp, DrillEndsOtherwise, DrillLeavesCrashPrefixes, DrillBeforeTheFirstSync, CanBeDrilled}
 use Rattle.globex_run.specs.Checkpoints.{AddsImage, KeepsTheSame, CheckpointLeavesCrashPrefixes, CheckpointBeforeTheFirstSync, HasNoRoomForImage, CanBeCheckpointed}
-use Rattle.globex_run.specs.Prints.{PrintPremises, PrintsAs, CanBePrinted, outcome_printed, outcome_sent}
+use Rattle.globex_run.specs.Prints.{PrintsAs, outcome_printed, outcome_sent}
 use Rattle.globex_run.specs.Inner.Drilling.{DrillResult, DrillsMade, DrillAnswers, outcome_summed}
-use Rattle.globex_run.specs.Inner.Checkpointing.{EndsCheckpoint, CheckpointResult}
+use Rattle.globex_run.specs.Inner.Checkpointing.{EndsCheckpoint, CheckpointResult, IsCheckpointEnding}
 use Rattle.globex_run.specs.Inner.Executing.{Executes, HasCauses, Runs}
 use Rattle.globex_run.specs.declared.outcome.Outcome.{Outcome}
 use Rattle.globex_run.specs.declared.ending.Ending.{Ending}
@@ -52,6 +55,8 @@ use Rattle.globex_run.proofs.FewReads.{drill-reads}
 use Rattle.globex_run.proofs.Drills.{empty_front, drill-all, drill-otherwise, drill-moments, drill-first-sync, drill-full}
 use Rattle.globex_run.proofs.CheckpointHeadlines.{not-among, not-done, adds-image as checkpoint-adds, the-same as checkpoint-keeps, every-moment as checkpoint-moments, first-sync as checkpoint-first-sync, few-read as checkpoint-reads, image-full as checkpoint-full}
 use Rattle.globex_run.proofs.Complete.{served}
+use Rattle.globex_run.proofs.Endings.{when_done}
+use Rattle.globex_run.proofs.Refused.{not-refusal, none-counted, by-ending, by-book, by-events}
 
 -- ---- an image from which a run can start has no fault
 
@@ -80,6 +85,25 @@ module _ (product : ProductLists) (text image : List ℕ) (kept : List (List ℕ
       (λ unfinished. unfinished_not_opened text image unfinished.1.unfinished opened)
       can.keeps
 
+  not-bad-for : (command : Command) (at : ℕ) → IsOpened text image → HasBadRecordFor command product text image at → ⊥
+  not-bad-for Run at opened bad = not-bad at opened bad
+  not-bad-for (Drill first count) at opened bad = not-bad at opened bad
+  not-bad-for Checkpoint at opened bad = not-bad at opened bad
+  not-bad-for Book at opened bad = not-bad at opened bad
+  not-bad-for Replay at opened bad = not-bad-record at opened bad
+  not-bad-for Fills at opened bad = not-bad-record at opened bad
+  not-bad-for Ledger at opened bad = not-bad-record at opened bad
+  not-bad-for Steps at opened bad = absurd bad
+
+  not-refused-by : (command : Command) (status at : ℕ) → IsRefused command product text image status at → ⊥
+  not-refused-by command status at refused = ⊎_elim
+      (λ foreign. not-foreign at foreign.1)
+      (λ others. ⊎_elim
+      (λ bad. ⊎_elim (λ header. not-headless at header) (λ opened. not-bad-for command at opened.0 opened.1) bad.1)
+      (λ other. not-other at other.1)
+      others)
+      refused
+
 -- ---- a product was taken, and its text lent to the command
 
 module _ {P I S : Type 0} (m : StationMeanings S) (p q : SourceAt P) (i j : SourceAt I) (old new : S) (outcome : Outcome) (text lent : List ℕ) (same : lent ≡ text) (product : ProductLists) (took : IsProductText p q text) (gives : product_of text ≡ Ok product) where
@@ -106,7 +130,7 @@ module _ {P I S : Type 0} (m : StationMeanings S) (p q : SourceAt P) (i j : Sour
       (ap (λ (s : Streams I S). s.input.object) streams, ap (λ (s : Streams I S). s.station.object) streams, few-of-product p q text product took gives)
 
   -- what is kept balances
-  pub balances : (command : Command) → Causes command → (given : PrintPremises entry exit outcome.status) → (kept : List (List ℕ)) → IsBalanced given.product kept
+  pub balances : (command : Command) → Causes command → (given : ProductPremises entry exit outcome.status) → (kept : List (List ℕ)) → IsBalanced given.product kept
   balances command causes given kept =
       streams-balance given.product kept
       (told-product p q text lent same product took gives (λ (lists : ProductLists) (bytes : List ℕ). IsRightProduct lists) given.text given.product given.text_known given.gives causes.right)
@@ -148,8 +172,9 @@ module _ {P I S : Type 0} (m : StationMeanings S) (p q : SourceAt P) (i j : Sour
         pub balanced : IsBalanced given.product (given.kept ++ first_messages outcome.messages read.taken)
         balanced = run-balanced m p q i j old new Any ran.then outcome text lent same product took gives ran.session given read
 
-        pub full : outcome.status ≡ 12 → HasNoRoom m entry exit outcome given read.taken
-        full twelve = run-full m p q i j old new Any ran.then outcome text lent same product took gives ran.session given read twelve
+      pub full : (given : ProductPremises entry exit outcome.status) (read : InputPremises i j) → m.is_honest old → (image : List ℕ) (records : List Record) → m.holds old ≡ Some image → Keeps given.text given.product.journal_limit records image → outcome.status ≡ 12
+          → IsFull given.product given.text image records exit.streams.station outcome read.taken
+      full given read honest image records known keeps twelve = run-full m p q i j old new Any ran.then outcome text lent same product took gives ran.session given read honest image records known keeps twelve
 
       pub each-read : (given : Premises m entry exit outcome.status) → KeepsARecordPerRead m entry exit outcome given
       each-read given = run-record-per-read m p q i j old new Any ran.then outcome text lent same product took gives ran.session given
@@ -186,8 +211,12 @@ module _ {P I S : Type 0} (m : StationMeanings S) (p q : SourceAt P) (i j : Sour
         pub drill-few-read : ReadsFew m entry exit outcome given
         drill-few-read other = drill-reads m given.product given.text _ made.end old new outcome made.did given.image given.kept given.honest given.image_known given.startable other
 
-        pub drill-has-no-room : outcome.status ≡ 12 → HasNoRoom m entry exit outcome given (made_bytes given.product first count)
-        drill-has-no-room twelve = drill-full m p q i j old new outcome given first count made.whole made.end made.did twelve
+      pub drill-has-no-room : (given : ProductPremises entry exit outcome.status) → m.is_honest old → (image : List ℕ) (records : List Record) → m.holds old ≡ Some image → Keeps given.text given.product.journal_limit records image → outcome.status ≡ 12
+          → IsFull given.product given.text image records exit.streams.station outcome (made_bytes given.product first count)
+      drill-has-no-room given honest image records known keeps twelve = ⊎_elim
+          (λ none. absurd (given.memory (ap (λ (o : Outcome). o.status) none.0)))
+          (λ made. drill-full m given.product given.text image records first count old new outcome made honest known keeps twelve)
+          (drilled given.text given.product given.text_known given.gives)
 
       -- where there is room and no fault comes, all is kept and summed up
       module _ (can : CanBeDrilled m entry first count) (quiet : IsQuiet entry exit) where
@@ -372,11 +401,11 @@ module _ {P I S : Type 0} (m : StationMeanings S) (p q : SourceAt P) (i j : Sour
       printed-as told lists known are =
           told-product p q text lent same product took gives (λ (l : ProductLists) (bytes : List ℕ). PrintsAs m l bytes entry.streams.station exit.streams.station outcome c) told lists known are (form-of c (did-as c asks))
 
-      pub prints : (given : PrintPremises entry exit outcome.status) → PrintsAs m given.product given.text entry.streams.station exit.streams.station outcome c
+      pub prints : (given : ProductPremises entry exit outcome.status) → PrintsAs m given.product given.text entry.streams.station exit.streams.station outcome c
       prints given = printed-as given.text given.product given.text_known given.gives
 
       -- where a run can start and no fault comes, all is printed
-      module _ (can : CanBePrinted entry c) (quiet : IsQuiet entry exit) where
+      module _ (can : CanStart entry c) (quiet : IsQuiet entry exit) where
         quiet-print : (outcome.status ≢ 5) × (outcome.status ≢ 6)
         quiet-print = no-fault c (causes-as c asks) quiet
 
@@ -497,3 +526,152 @@ module _ {P I S : Type 0} (m : StationMeanings S) (p q : SourceAt P) (i j : Sour
 
       pub told-ended : outcome.status ≢ 1 → CommandResult entry exit outcome c
       told-ended told = inr (inr (record { text = text; taken = took; product = product; gives = gives; ended = ended c (did-as c asks) told }))
+
+      -- ---- what is refused
+
+      abbrev AnswersText : List ℕ → Ending → Type 0
+      AnswersText image ending = AnswersImage product text image ending
+
+      at-image : (image : List ℕ) → entry.streams.station.image ≡ Some image → (ending : Ending) → IfSome entry.streams.station.image (λ image. AnswersText image ending) → AnswersText image ending
+      at-image image known ending told = subst (λ (o : Option (List ℕ)). IfSome o (λ image. AnswersText image ending)) known told
+
+      -- no message of a drill is counted where its journal is refused
+      drill-counts : (first count : ℕ) → DrillsMade m product lent first count old new outcome → IsRefusal outcome.status → outcome.messages ≡ 0
+      drill-counts first count made refusal = elim (eqb_tells made.did.served.status 0) [
+        | inl none ↦ let sums = made.did.sums_up none.1 in absurd (not-summed sums.result sums.outcome_is)
+        | inr other ↦
+            let same : outcome ≡ made.did.served = (made.did.otherwise other.1).1 in
+            ap (λ (o : Outcome). o.messages) same
+            ∙ none-counted {I = MadeStream} {S = S} (streams_at {S = S} maker_meanings m (record { left = made_stream product first count; reads = 0 }) old) (streams_at {S = S} maker_meanings m made.end made.did.mid) made.did.served made.did.session.ending made.did.session.serving.taken made.did.session.is made.did.session.serving.ends (subst (λ (o : Outcome). IsRefusal o.status) same refusal)
+      ]
+        where
+          not-summed : (result : Result (Unit {0}) SendFailed) → outcome ≡ outcome_summed made.did.served.messages result → ⊥
+          not-summed (Ok t) is = not-refusal outcome.status 0 (ap (λ (o : Outcome). o.status) is) (λ e. cc e) (λ e. cc e) (λ e. cc e) refusal
+          not-summed (Err fault) is = not-refusal outcome.status 6 (ap (λ (o : Outcome). o.status) is) (λ e. cc e) (λ e. cc e) (λ e. cc e) refusal
+
+      -- nor of a checkpoint
+      checkpoint-none : CheckpointResult m product lent old new outcome → IsRefusal outcome.status → outcome.messages ≡ 0
+      checkpoint-none did refusal =
+          did.none (λ done. when_done (λ (e : Ending). outcome ≡ outcome_of e outcome.messages → ⊥) (λ is. not-refusal outcome.status 0 (ap (λ (o : Outcome). o.status) is) (λ e. cc e) (λ e. cc e) (λ e. cc e) refusal) did.ending done did.is)
+
+      text-short : length text ≤ 65536
+      text-short = short-text text product gives
+
+      module _ (image : List ℕ) (known : entry.streams.station.image ≡ Some image) where
+        abbrev Exactly : Command → Type 0
+        Exactly x = RefusesExactly x product text image outcome
+
+        -- by what was printed of the book, or of the events
+        formed : (x : Command) → Did x → PrintsAs m product text entry.streams.station exit.streams.station outcome x
+        formed x did = subst (λ (l : List ℕ). PrintsAs m product l entry.streams.station exit.streams.station outcome x) same (form-of x did)
+
+        refuses-by : (x : Command) → OpensJournal x → Did x → outcome.status ≢ 1 → Exactly x
+        refuses-by Run opens did told =
+            let ended = ran-ended did in
+            by-ending Run product text image text-short (one_place product text product.journal_limit image) outcome (λ at bad. bad) (λ at bad. bad)
+            ended.ending ended.is (none-counted _ _ outcome ended.ending ended.serving.taken ended.is ended.serving.ends) (at-image image known ended.ending ended.image)
+        refuses-by (Drill first count) opens drilled told = ⊎_elim
+            (λ none. absurd (told (ap (λ (o : Outcome). o.status) none.0)))
+            (λ made.
+            let ended = drill-ended first count drilled.1 made in
+            by-ending (Drill first count) product text image text-short (one_place product text product.journal_limit image) outcome (λ at bad. bad) (λ at bad. bad)
+            ended.ending ended.is (drill-counts first count made) (at-image image known ended.ending ended.image))
+            drilled.0
+        refuses-by Checkpoint opens did told =
+            let ended = checkpoint-ended did.1 did.0 in
+            by-ending Checkpoint product text image text-short (one_place product text product.journal_limit image) outcome (λ at bad. bad) (λ at bad. bad)
+            ended.ending ended.is (checkpoint-none did.0) (at-image image known ended.ending ended.image)
+        refuses-by Book opens did told =
+            let form = formed Book did in
+            by-book Book product text image text-short (one_place product text product.journal_limit image) outcome (λ at bad. bad) (λ at bad. bad) m old new form.answer form.outcome_is (form.prints image known).prints
+        refuses-by Replay opens did told =
+            let form = formed Replay did in
+            by-events Replay product text image text-short (one_bad_record product text product.journal_limit image) outcome tt (λ at bad. bad) (λ at bad. bad) m old new _ _ form.answer form.outcome_is (form.prints image known)
+        refuses-by Fills opens did told =
+            let form = formed Fills did in
+            by-events Fills product text image text-short (one_bad_record product text product.journal_limit image) outcome tt (λ at bad. bad) (λ at bad. bad) m old new _ _ form.answer form.outcome_is (form.prints image known)
+        refuses-by Ledger opens did told =
+            let form = formed Ledger did in
+            by-events Ledger product text image text-short (one_bad_record product text product.journal_limit image) outcome tt (λ at bad. bad) (λ at bad. bad) m old new _ _ form.answer form.outcome_is (form.prints image known)
+        refuses-by Steps opens did told = absurd opens
+
+        refuses-told : OpensJournal c → outcome.status ≢ 1 → (told : List ℕ) (lists : ProductLists) → p.left ≡ Some told → product_of told ≡ Ok lists → RefusesExactly c lists told image outcome
+        refuses-told opens ended told lists known' are =
+            told-product p q text text refl product took gives (λ (l : ProductLists) (bytes : List ℕ). RefusesExactly c l bytes image outcome) told lists known' are (refuses-by c opens (did-as c asks) ended)
+
+      -- the journal is refused exactly where its image is such
+      pub refuses : OpensJournal c → (given : ProductPremises entry exit outcome.status) → (image : List ℕ) → entry.streams.station.image ≡ Some image → RefusesExactly c given.product given.text image outcome
+      refuses opens given image known = refuses-told image known opens given.memory given.text given.product given.text_known given.gives
+
+      -- it is not where a run can start
+      module _ (can : CanStart entry c) (refusal : IsRefusal outcome.status) where
+        not-started : OpensJournal c → c ≢ Steps → ⊥
+        not-started opens other =
+            let at = can.startable other in
+            let exactly = refuses-told at.0 at.1.0 opens (λ one. not-refusal outcome.status 1 one (λ e. cc e) (λ e. cc e) (λ e. cc e) refusal) can.text can.product can.text_known can.gives in
+            not-refused-by can.product can.text at.0 at.1.1.0 (short-text can.text can.product can.gives) at.1.1.1 c outcome.status outcome.at (exactly.answered refusal).0
+
+        sent-not-refused : (result : Result (Unit {0}) SendFailed) → outcome ≡ outcome_sent result → ⊥
+        sent-not-refused (Ok t) is = not-refusal outcome.status 0 (ap (λ (o : Outcome). o.status) is) (λ e. cc e) (λ e. cc e) (λ e. cc e) refusal
+        sent-not-refused (Err fault) is = not-refusal outcome.status 6 (ap (λ (o : Outcome). o.status) is) (λ e. cc e) (λ e. cc e) (λ e. cc e) refusal
+
+        started-by : (x : Command) → Did x → (OpensJournal x → x ≢ Steps → ⊥) → ⊥
+        started-by Run did not = not tt (λ e. cc e)
+        started-by (Drill first count) did not = not tt (λ e. cc e)
+        started-by Checkpoint did not = not tt (λ e. cc e)
+        started-by Book did not = not tt (λ e. cc e)
+        started-by Replay did not = not tt (λ e. cc e)
+        started-by Fills did not = not tt (λ e. cc e)
+        started-by Ledger did not = not tt (λ e. cc e)
+        started-by Steps did not = sent-not-refused did.form.result did.form.outcome_is
+
+        pub opens-again : ⊥
+        opens-again = started-by c (did-as c asks) not-started
+
+      -- ---- each command has its statuses
+
+      printed-not-full : (answer : Result ℕ Unprinted) → outcome ≡ outcome_printed answer → outcome.status ≡ 12 → ⊥
+      printed-not-full (Ok n) is twelve = omega (arith, twelve, ap (λ (o : Outcome). o.status) is)
+      printed-not-full (Err unprinted.Store) is twelve = omega (arith, twelve, ap (λ (o : Outcome). o.status) is)
+      printed-not-full (Err unprinted.Send) is twelve = omega (arith, twelve, ap (λ (o : Outcome). o.status) is)
+      printed-not-full (Err (unprinted.NotAJournal at)) is twelve = omega (arith, twelve, ap (λ (o : Outcome). o.status) is)
+      printed-not-full (Err (unprinted.Bad at)) is twelve = omega (arith, twelve, ap (λ (o : Outcome). o.status) is)
+      printed-not-full (Err (unprinted.ProductDiffers at)) is twelve = omega (arith, twelve, ap (λ (o : Outcome). o.status) is)
+
+      sent-status : (result : Result (Unit {0}) SendFailed) → outcome ≡ outcome_sent result → (outcome.status ≡ 5) ⊎ (7 ≤ outcome.status) → ⊥
+      sent-status (Ok t) is never = ⊎_elim (λ five. omega (arith, five, ap (λ (o : Outcome). o.status) is)) (λ more. omega (arith, more, ap (λ (o : Outcome). o.status) is)) never
+      sent-status (Err fault) is never = ⊎_elim (λ five. omega (arith, five, ap (λ (o : Outcome). o.status) is)) (λ more. omega (arith, more, ap (λ (o : Outcome). o.status) is)) never
+
+      checkpoint-not-sent : (ending : Ending) → IsCheckpointEnding ending → outcome ≡ outcome_of ending outcome.messages → outcome.status ≡ 6 → ⊥
+      checkpoint-not-sent Done possible is six = omega (arith, six, ap (λ (o : Outcome). o.status) is)
+      checkpoint-not-sent (ReadFault place) possible is six = absurd possible
+      checkpoint-not-sent StoreFault possible is six = omega (arith, six, ap (λ (o : Outcome). o.status) is)
+      checkpoint-not-sent SendFault possible is six = absurd possible
+      checkpoint-not-sent (BadFrame place) possible is six = absurd possible
+      checkpoint-not-sent (Truncated place) possible is six = absurd possible
+      checkpoint-not-sent (NotAJournal place) possible is six = omega (arith, six, ap (λ (o : Outcome). o.status) is)
+      checkpoint-not-sent (JournalBad place) possible is six = omega (arith, six, ap (λ (o : Outcome). o.status) is)
+      checkpoint-not-sent (ProductDiffers place) possible is six = omega (arith, six, ap (λ (o : Outcome). o.status) is)
+      checkpoint-not-sent (Full place) possible is six = omega (arith, six, ap (λ (o : Outcome). o.status) is)
+
+      printing-status : (x : Command) → Causes x → (answer : Result ℕ Unprinted) → outcome ≡ outcome_printed answer → (x ≡ Run → ⊥) → (outcome.status ≡ 7) ⊎ ((outcome.status ≡ 8) ⊎ (outcome.status ≡ 12)) → ⊥
+      printing-status x why answer is other never = ⊎_elim
+          (λ seven. other (why.frames (inl seven)))
+          (λ more. ⊎_elim (λ eight. other (why.frames (inr eight))) (λ twelve. printed-not-full answer is twelve) more)
+          never
+
+      ending-by : (x : Command) → Did x → Causes x → NeverEndsWith x outcome.status → ⊥
+      ending-by Run did why never = never
+      ending-by (Drill first count) did why never = let none : Drill first count ≡ Run = why.frames never in cc none
+      ending-by Checkpoint did why never = ⊎_elim
+          (λ six. checkpoint-not-sent did.0.ending did.0.possible did.0.is six)
+          (λ frames. let none : Checkpoint ≡ Run = why.frames frames in cc none)
+          never
+      ending-by Replay did why never = printing-status Replay why did.form.answer did.form.outcome_is (λ e. cc e) never
+      ending-by Book did why never = printing-status Book why did.form.answer did.form.outcome_is (λ e. cc e) never
+      ending-by Fills did why never = printing-status Fills why did.form.answer did.form.outcome_is (λ e. cc e) never
+      ending-by Ledger did why never = printing-status Ledger why did.form.answer did.form.outcome_is (λ e. cc e) never
+      ending-by Steps did why never = sent-status did.form.result did.form.outcome_is never
+
+      pub never-ends : NeverEndsWith c outcome.status → ⊥
+      never-ends never = ending-by c (did-as c asks) (causes-as c asks) never

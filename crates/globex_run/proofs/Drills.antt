@@ -1,7 +1,7 @@
 -- What a drill keeps, sends and leaves, from what its session and its summary did.
 use Rattle.std.proofs.Common.{◌≡◌, ◌≢◌, ◌⊎◌, inl, inr, ⊎_elim, ℕ, ◌+◌, ◌<◌, ◌≤◌, ◌==◌, Bool, true, cond, List, [], ◌∷◌, ◌++◌, length, take, drop, flat_map, Option, Some, None, Result, Ok, Err, refl, sym, ap, subst, ◌∙◌, length-append, length-drop, append_assoc, arith}
 use Rattle.std.specs.List.{concat}
-use Rattle.std.proofs.lemmas.Bool.Decides.{nat_tests}
+use Rattle.std.proofs.lemmas.Bool.Decides.{nat_tests, eqb_tells}
 use Rattle.std.proofs.lemmas.List.{append-nil, take-append-le, take_all, drop-append-le}
 use Rattle.std.proofs.lemmas.Option.{same_Some}
 use Rattle.gx_base.specs.KnownBytes.{IsPrefix, IsKnownPrefix, known_then}
@@ -20,31 +20,34 @@ use Rattle.order_kinds.specs.State.{State}
 use Rattle.order_kinds.specs.Step.{state_after, events_from}
 use Rattle.plain_book.specs.Book.{live_orders}
 use Rattle.match_journal.specs.Journal.{Record}
-use Rattle.book_recovery.specs.Records.{messages_in, state_kept}
+use Rattle.match_journal.specs.Classes.{Keeps}
+use Rattle.book_recovery.specs.Records.{messages_in, state_kept, from_last_image, count_behind_all}
 use Rattle.book_recovery.specs.Kept.{KeepsMessages}
 use Rattle.order_maker.specs.Stream.{MadeStream, maker_meanings, made_stream}
 use Rattle.book_print.specs.TallyText.{no_tally, tally_line, tally_of}
 use Rattle.book_print.specs.Publishing.{tally_publisher_meanings}
 use Rattle.book_print.specs.declared.publisher.TallyPublisher.{TallyPublisher}
 use Rattle.book_print.specs.declared.tally.TallyEmit.{TallyEmit}
-use Rattle.globex_run.specs.Outside.{SourceAt, Outside, source_at}
+use Rattle.globex_run.specs.Outside.{SourceAt, Outside, source_at, station_at, streams_at}
 use Rattle.globex_run.specs.Outcomes.{outcome_of}
 use Rattle.exec_report.specs.declared.texts.SendFault.{SendFault as SendFailed}
 use Rattle.gx_station.specs.Quiet.{Sends}
 use Rattle.fix_frame.specs.FrameLaws.{frame_least}
 use Rattle.globex_run.specs.Journals.{records_length, end_of_journal}
 use Rattle.globex_run.specs.RunResult.{EndsAs, first_messages}
-use Rattle.globex_run.specs.Headline.{Premises, KeepsNow, KeepsCounted, IsCrashPrefix, HasNoRoom}
+use Rattle.globex_run.specs.Headline.{Premises, KeepsNow, KeepsCounted, IsCrashPrefix}
 use Rattle.globex_run.specs.Drills.{summary, summary_of_all, KeepsAndSumsUp, DrillEndsOtherwise, DrillLeavesCrashPrefixes, DrillBeforeTheFirstSync}
 use Rattle.globex_run.specs.Inner.Recording.{lines_from}
 use Rattle.globex_run.specs.Inner.Sessions.{IsAllServed, SessionFrom}
 use Rattle.globex_run.specs.Inner.Serving.{IsDone, CausedBy}
-use Rattle.globex_run.specs.Inner.Drilling.{DrillResult, SumsUp, outcome_summed}
+use Rattle.globex_run.specs.FullJournals.{IsFull}
+use Rattle.globex_run.specs.Inner.Drilling.{DrillResult, DrillsMade, SumsUp, outcome_summed}
 use Rattle.globex_run.specs.declared.outcome.Outcome.{Outcome}
 use Rattle.globex_run.specs.declared.ending.Ending.{Ending}
 use Rattle.globex_run.specs.declared.ending.Ending.TheVariants.{Done, ReadFault, StoreFault, SendFault, BadFrame, Truncated, NotAJournal, JournalBad, ProductDiffers, Full}
 use Rattle.globex_run.proofs.Headlines as headline
 use Rattle.globex_run.proofs.Complete.{broken_more}
+use Rattle.globex_run.proofs.FullJournals.{session-full}
 use Rattle.globex_run.proofs.Reported.{front-between}
 use Rattle.globex_run.proofs.SentReports.{sends_at_most}
 use Rattle.globex_run.proofs.Told.{outside_of}
@@ -99,7 +102,7 @@ module _ (all taken rest : List ℕ) (whole : rest_of all ≡ []) (parts : all �
   firsts : (messages_of all ≡ messages_of taken ++ messages_of (rest_of taken ++ rest))
   firsts = ap messages_of parts ∙ messages_of-append taken rest
 
-  front-same : (n : ℕ) → n ≤ length (messages_of taken) → take n (messages_of all) ≡ take n (messages_of taken)
+  pub front-same : (n : ℕ) → n ≤ length (messages_of taken) → take n (messages_of all) ≡ take n (messages_of taken)
   front-same n few = ap (λ (l : List (List ℕ)). take n l) firsts ∙ take-append-le n (messages_of taken) (messages_of (rest_of taken ++ rest)) few
 
   pub fewer : length (messages_of taken) ≤ length (messages_of all)
@@ -527,40 +530,56 @@ module _ {P I S : Type 0} (m : StationMeanings S) (p q : SourceAt P) (i j : Sour
     pub drill-first-sync : IsHonestNow m old → DrillBeforeTheFirstSync m entry exit outcome given first count
     drill-first-sync now = headline.first-sync m p q i j old new tally_publisher_meanings.text Counted did.then outcome given stream sums (record { rest = sums []; is = refl }) drill-moments now
 
-    -- the next message has no room
-    pub drill-full : outcome.status ≡ 12 → HasNoRoom m entry exit outcome given stream
-    drill-full twelve = elim either [
-      | inl zero ↦ absurd (no-twelve (sums-up zero).result (sums-up zero).outcome_is)
-      | inr stopped ↦
-          let same = did.otherwise stopped in
-          let no_room = headline.full m p q (source_at maker_meanings at_first) (source_at maker_meanings end) old mid tally_publisher_meanings.text Counted did.then served given-then taken sums did.session.ending did.session.is did.session.serving.ends from (sym (ap (λ (o : Outcome). o.status) same.1) ∙ twelve) in
-          full-same same.0 same.1 no_room
-    ]
-      where
-        no-twelve : (result : Result (Unit {0}) SendFailed) → outcome ≡ outcome_summed served.messages result → ⊥
-        no-twelve (Ok t) is = omega (arith, twelve, ap (λ (o : Outcome). o.status) is)
-        no-twelve (Err fault) is = omega (arith, twelve, ap (λ (o : Outcome). o.status) is)
+-- ---- the next message has no room, or cannot be counted
 
-        full-same : new ≡ mid → outcome ≡ served → HasNoRoom m before after served given-then taken → HasNoRoom m entry exit outcome given stream
-        full-same station is full =
-            let count : outcome.messages ≡ served.messages = ap (λ (o : Outcome). o.messages) is in
-            let at : outcome.at ≡ served.at = ap (λ (o : Outcome). o.at) is in
-            let firsts-are : first_messages served.messages taken ≡ first_messages outcome.messages stream = counted-same few-served ∙ ap (λ (n : ℕ). take n (messages_of stream)) (sym count) in
-            record {
-              place = at ∙ full.place ∙ ap (λ (l : List (List ℕ)). length (concat l)) firsts-are;
-              frame = full.frame;
-              more = full.more ++ end.left;
-              is_frame = full.is_frame;
-              next =
-                  ap (λ (n : ℕ). drop n stream) at
-                  ∙ ap (λ (l : List ℕ). drop served.at l) parts
-                  ∙ drop-append-le served.at taken end.left (shorter served.at taken full.frame full.more (frame_least full.frame full.is_frame) full.next)
-                  ∙ ap (λ (l : List ℕ). l ++ end.left) full.next
-                  ∙ append_assoc full.frame full.more end.left;
-              each_alone = subst (λ (l : List (List ℕ)). given.product.journal_limit < end_of_journal given.text given.startable.records + records_length (l ++ full.frame ∷ [])) firsts-are full.each_alone;
-              records = full.records;
-              image = full.image;
-              image_known = ap m.holds station ∙ full.image_known;
-              journal = full.journal;
-              now = full.now;
-            }
+module _ {S : Type 0} (m : StationMeanings S) (product : ProductLists) (text image : List ℕ) (records : List Record) (first count : ℕ) (old new : S) (outcome : Outcome) (made : DrillsMade m product text first count old new outcome) where
+  abbrev all_made : List ℕ
+  all_made = made_stream product first count
+
+  not-summed : outcome.status ≡ 12 → (result : Result (Unit {0}) SendFailed) → outcome ≡ outcome_summed made.did.served.messages result → ⊥
+  not-summed twelve (Ok t) is = omega (arith, twelve, ap (λ (o : Outcome). o.status) is)
+  not-summed twelve (Err fault) is = omega (arith, twelve, ap (λ (o : Outcome). o.status) is)
+
+  -- what holds of the bytes that its session took holds of all that were made
+  full-of-all : new ≡ made.did.mid → outcome ≡ made.did.served → IsFull product text image records (station_at m made.did.mid) made.did.served made.did.session.serving.taken → IsFull product text image records (station_at m new) outcome all_made
+  full-of-all station is full =
+      let served = made.did.served in
+      let taken = made.did.session.serving.taken in
+      let count-is : outcome.messages ≡ served.messages = ap (λ (o : Outcome). o.messages) is in
+      let at : outcome.at ≡ served.at = ap (λ (o : Outcome). o.at) is in
+      let parts : all_made ≡ taken ++ made.end.left = same_Some all_made (taken ++ made.end.left) made.did.session.serving.took in
+      let firsts-are : first_messages served.messages taken ≡ first_messages outcome.messages all_made =
+      sym (front-same all_made taken made.end.left made.whole parts served.messages made.did.session.serving.some) ∙ ap (λ (n : ℕ). take n (messages_of all_made)) (sym count-is) in
+      record {
+        place = at ∙ full.place ∙ ap (λ (l : List (List ℕ)). length (concat l)) firsts-are;
+        next = full.next;
+        more = full.more ++ made.end.left;
+        is_frame = full.is_frame;
+        follows =
+            ap (λ (n : ℕ). drop n all_made) at
+            ∙ ap (λ (l : List ℕ). drop served.at l) parts
+            ∙ drop-append-le served.at taken made.end.left (shorter served.at taken full.next full.more (frame_least full.next full.is_frame) full.follows)
+            ∙ ap (λ (l : List ℕ). l ++ made.end.left) full.follows
+            ∙ append_assoc full.next full.more made.end.left;
+        why = ⊎_elim
+            (λ no_room. inl record {
+              each_alone = subst (λ (l : List (List ℕ)). product.journal_limit < end_of_journal text records + records_length (l ++ full.next ∷ [])) firsts-are no_room.each_alone;
+              records_now = no_room.records_now;
+              image_now = no_room.image_now;
+              image_known = ap m.holds station ∙ no_room.image_known;
+              journal = no_room.journal;
+              now = no_room.now;
+            })
+            (λ last. inr record { last = ap (λ (n : ℕ). count_behind_all 0 (from_last_image records) + n + 1) count-is ∙ last.last; not_startable = last.not_startable })
+            full.why;
+      }
+
+  pub drill-full : m.is_honest old → m.holds old ≡ Some image → Keeps text product.journal_limit records image → outcome.status ≡ 12 → IsFull product text image records (station_at m new) outcome all_made
+  drill-full honest known keeps twelve = elim (eqb_tells made.did.served.status 0) [
+    | inl none ↦ let sums = made.did.sums_up none.1 in absurd (not-summed twelve sums.result sums.outcome_is)
+    | inr other ↦
+        let same = made.did.otherwise other.1 in
+        full-of-all same.0 same.1
+        (session-full m tally_publisher_meanings.text product made.did.session.right text image records keeps (streams_at {S = S} maker_meanings m (record { left = all_made; reads = 0 }) old) (streams_at {S = S} maker_meanings m made.end made.did.mid) refl made.did.served made.did.session.serving.taken _ made.did.then made.did.session refl honest known
+        (sym (ap (λ (o : Outcome). o.status) same.1) ∙ twelve))
+  ]

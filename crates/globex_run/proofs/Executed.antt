@@ -56,6 +56,7 @@ any-published m line product text before after Published then outcome session = 
         is_state = from.is_state;
         published = λ done. tt;
       };
+  full = session.full;
 }
 
 -- a station that was only sent to

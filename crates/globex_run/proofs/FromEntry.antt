@@ -13,7 +13,7 @@ use Rattle.match_journal.specs.Opening.{IsOpening}
 use Rattle.match_journal.specs.Steps.{HoldsOne}
 use Rattle.match_journal.specs.StepLaws.{adds_then, adds_weaker}
 use Rattle.match_journal.specs.declared.standing.Standing.{Standing}
-use Rattle.book_recovery.specs.Records.{messages_in, state_kept, AreGoodRecords, AreTrueRecords}
+use Rattle.book_recovery.specs.Records.{AreWhole, messages_in, state_kept, AreGoodRecords, AreTrueRecords}
 use Rattle.book_recovery.specs.Kept.{CanBeRecovered}
 use Rattle.match_journal.specs.declared.limits.TheConstants.{MOST_UNFINISHED}
 use Rattle.product_file.specs.declared.limits.TheConstants.{LEAST_JOURNAL}
@@ -29,7 +29,7 @@ use Rattle.globex_run.specs.Journals.{AnswersImage, bytes_in, most_read}
 use Rattle.globex_run.specs.RunResult.{EndsAs}
 use Rattle.globex_run.specs.Inner.Recording.{lines_from, IsRecordCrash, Serves, AllKept, Served}
 use Rattle.globex_run.specs.Inner.Serving.{IsDone, CausedBy, HasNoRoomAt, IsLastCounted, EndsServing, ServesInput}
-use Rattle.globex_run.specs.Inner.Sessions.{ending_without, AnswersOpening, IsRefused, Opens, IsAllServed, EndsSession, SessionFrom, SessionResult, IsAtRest}
+use Rattle.globex_run.specs.Inner.Sessions.{ending_without, AnswersOpening, IsRefused, Opens, RestsBehind, IsFullBehind, IsAllServed, EndsSession, SessionFrom, SessionResult, IsAtRest}
 use Rattle.globex_run.specs.declared.ending.Ending.{Ending}
 use Rattle.globex_run.specs.declared.ending.Ending.TheVariants.{Done, ReadFault, StoreFault, SendFault, BadFrame, Truncated, NotAJournal, JournalBad, ProductDiffers, Full}
 use Rattle.globex_run.specs.declared.outcome.Outcome.{Outcome}
@@ -317,6 +317,17 @@ no_fewer m Numbered line product limit mid after gate end state then added behin
 no_fewer m Numbered line product limit mid after gate end state then added behind (ProductDiffers place) ends = absurd ends
 no_fewer m Numbered line product limit mid after gate end state then added behind (Full place) ends = omega (arith, ends.0.count)
 
+-- a run whose journal was not opened is not full
+never_full : (reason : Unopened) (place : ℕ) → ending_without reason ≡ Full place → ⊥
+never_full unopened.Store place e = cc e
+never_full (unopened.NotAJournal at) place e = cc e
+never_full (unopened.Bad at) place e = cc e
+never_full (unopened.ProductDiffers at) place e = cc e
+
+-- what opening ensures of an image that keeps some records, good or true or not
+abbrev pub RestsAs : {S : Type 0} → StationMeanings S → ProductLists → List ℕ → S → S → State → Standing → Type 0
+RestsAs m product text old mid core journal = (image : List ℕ) (records : List Record) → m.is_honest old → m.holds old ≡ Some image → Keeps text product.journal_limit records image → RestsBehind m product text mid image records core journal
+
 -- what opening ensures of an image from which a run can start
 abbrev pub OpensAs : {S : Type 0} → StationMeanings S → ProductLists → List ℕ → S → S → State → Result Standing Unopened → Type 0
 OpensAs m product text old mid core result = (image : List ℕ) (records : List Record) → m.is_honest old → m.holds old ≡ Some image → Keeps text product.journal_limit records image → AreGoodRecords product 0 records → AreTrueRecords product [] records → Opens m product text old mid image records core result
@@ -341,12 +352,32 @@ module _ {I S : Type 0} (inputs : SourceMeanings I) (m : StationMeanings S) (lin
         from = λ image kept honest read startable.
             subst (λ n. SessionFrom m line product text (streams_at inputs m input old) (streams_at inputs m input mid) Published after image startable.records kept [] (ending_without reason) n) (sym count)
             (from_unopened_by inputs m line Published product text old input mid silent.send_faults image startable.records kept core after reason right silent.sent (opens image startable.records honest read startable.keeps startable.good startable.are_true));
+        full = λ image records honest read keeps place last. absurd (never_full reason place last);
       }
 
-  pub opened_session : (journal : Standing) (limit_is : journal.limit ≡ product.journal_limit) (store : m.store_faults mid ≡ m.store_faults old) (answers : (image : List ℕ) → m.holds old ≡ Some image → AnswersOpening product text image (Ok journal)) (opens : OpensAs m product text old mid core (Ok journal)) (input' : I) (new : S) (end : ℕ)
+  -- the next message has no room, or cannot be counted
+  full_opened : (journal : Standing) (image : List ℕ) (records : List Record) → RestsBehind m product text mid image records core journal → (input' : I) (new : S) (end : ℕ) (then : State) (added : List Record) (behind : List ℕ) → AreWhole added → (count : ℕ) → then.desk.messages ≡ (state_numbered core).desk.messages + count → (place : ℕ)
+      → EndsServing m (AreNumbered core) line product product.journal_limit (streams_at inputs m input mid) (streams_at inputs m input' new) journal.gate end (state_numbered core) then (Full place) added behind
+      → IsFullBehind m line product text (streams_at inputs m input old) (streams_at inputs m input' new) records (bytes_in added ++ behind) place count
+  full_opened journal image records rests input' new end then added behind whole count counted place ends =
+      let last = ends.0.all_kept.at_end text records (max (length image) MOST_UNFINISHED) rests.at_end in
+      record {
+        added = added;
+        behind = behind;
+        are = refl;
+        whole = whole;
+        messages = omega (arith, ends.0.count, counted);
+        place_is = ends.1;
+        end = end;
+        end_is = omega (arith, ends.0.all_kept.grown, rests.at_end.journal.gate_is);
+        journal = record { image = last.image; read = last.rests.read; has = last.journal };
+        why = ⊎_elim (λ long. inl long) (λ most. inr (omega (arith, most.0, counted, rests.count), most.1)) ends.2;
+      }
+
+  pub opened_session : (journal : Standing) (limit_is : journal.limit ≡ product.journal_limit) (store : m.store_faults mid ≡ m.store_faults old) (answers : (image : List ℕ) → m.holds old ≡ Some image → AnswersOpening product text image (Ok journal)) (opens : OpensAs m product text old mid core (Ok journal)) (rests : RestsAs m product text old mid core journal) (input' : I) (new : S) (end : ℕ)
       (then : State) (ending : Ending) → ServesInput m (AreNumbered core) line product journal.limit (streams_at inputs m input mid) (streams_at inputs m input' new) journal.gate end (state_numbered core) then Published ending → CausedBy ending (streams_at inputs m input mid) (streams_at inputs m input' new) → m.bytes_read new ≡ m.bytes_read mid
       → (outcome : Outcome) (counts : ℕ) → counts ≡ then.desk.messages - core.desk.messages → outcome ≡ outcome_of ending counts → SessionResult m line product text (streams_at inputs m input old) (streams_at inputs m input' new) Published then outcome
-  opened_session journal limit_is store answers opens input' new end then ending serves cause bytes outcome counts more is =
+  opened_session journal limit_is store answers opens rests input' new end then ending serves cause bytes outcome counts more is =
       let before = streams_at inputs m input mid in
       let after = streams_at inputs m input' new in
       let Numbered = AreNumbered core in
@@ -368,4 +399,7 @@ module _ {I S : Type 0} (inputs : SourceMeanings I) (m : StationMeanings S) (lin
             let at_start = from_image.is_state in
             from_opened inputs m line Published product text image startable.records kept old right mid core state Numbered at_start.numbered journal from_image silent.sent (at_start.state_is ∙ ap (state_kept product) (sym startable.are)) at_start.count_is input input' new end then served.added served.behind served.serves outcome.messages counted ending served.reads bytes served.published
             served.ends;
+        full = λ image records honest read keeps place last.
+            full_opened journal image records (rests image records honest read keeps) input' new end then served.added served.behind served.serves.whole outcome.messages counted place
+            (subst (λ (e : Ending). EndsServing m Numbered line product product.journal_limit before after journal.gate end state then e served.added served.behind) last served.ends);
       }

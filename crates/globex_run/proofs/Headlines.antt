@@ -1,8 +1,7 @@
 -- What a session keeps of the messages that it took, and what a crash leaves, in messages.
-use Rattle.std.proofs.Common.{◌≡◌, ◌⊎◌, inl, inr, ⊎_elim, ℕ, ◌+◌, ◌<◌, ◌≤◌, List, [], ◌∷◌, ◌++◌, length, take, drop, Option, Some, refl, sym, ap, subst, ◌∙◌, length-append, take-append-drop, arith}
+use Rattle.std.proofs.Common.{◌≡◌, ◌⊎◌, inl, inr, ⊎_elim, ℕ, ◌<◌, ◌≤◌, List, [], ◌++◌, length, take, drop, Option, Some, refl, sym, ap, subst, ◌∙◌, length-append, take-append-drop, arith}
 use Rattle.std.proofs.lemmas.Bool.{cases_lt}
-use Rattle.std.specs.List.{concat}
-use Rattle.std.proofs.lemmas.List.{append-nil, drop_at}
+use Rattle.std.proofs.lemmas.List.{append-nil}
 use Rattle.std.proofs.lemmas.Option.{same_Some}
 use Rattle.gx_base.specs.KnownBytes.{IsPrefix}
 use Rattle.gx_base.specs.declared.event.Event.{Event}
@@ -18,22 +17,18 @@ use Rattle.book_recovery.specs.Records.{IsWhole, AreWhole, messages_in, state_ke
 use Rattle.book_recovery.specs.Kept.{KeepsMessages}
 use Rattle.book_print.specs.Publishers.{LineForm}
 use Rattle.globex_run.specs.Outside.{SourceAt, Outside}
-use Rattle.globex_run.specs.Outcomes.{outcome_of}
-use Rattle.globex_run.specs.RunResult.{EndsAs, first_messages, bytes_at}
-use Rattle.globex_run.specs.Headline.{Premises, KeepsNow, KeepsCounted, IsCrashPrefix, LeavesCrashPrefixes, LeftSinceEntry, IsAsAtEntry, BeforeTheFirstSync, KeepsEverySent, HasSentBehind, HasNoRoom}
+use Rattle.globex_run.specs.RunResult.{first_messages}
+use Rattle.globex_run.specs.Headline.{Premises, KeepsNow, KeepsCounted, IsCrashPrefix, LeavesCrashPrefixes, LeftSinceEntry, IsAsAtEntry, BeforeTheFirstSync, KeepsEverySent, HasSentBehind}
 use Rattle.globex_run.specs.Inner.Recording.{lines_from, IsRecordCrash}
 use Rattle.globex_run.specs.Inner.Sessions.{IsFrontServed, SessionFrom}
 use Rattle.globex_run.specs.declared.outcome.Outcome.{Outcome}
 use Rattle.globex_run.specs.declared.ending.Ending.{Ending}
-use Rattle.globex_run.specs.declared.ending.Ending.TheVariants.{Done, ReadFault, StoreFault, SendFault, BadFrame, Truncated, NotAJournal, JournalBad, ProductDiffers, Full}
-use Rattle.globex_run.specs.Journals.{bytes_in, length_of_records, records_length, end_of_journal}
-use Rattle.match_journal.specs.Journal.{Record, IsRecord}
-use Rattle.plain_book.proofs.Pairs.{all-front, all-back}
+use Rattle.match_journal.specs.Journal.{Record}
+use Rattle.plain_book.proofs.Pairs.{all-front}
 use Rattle.globex_run.proofs.Folds.{messages_in-append}
 use Rattle.globex_run.proofs.KeptMore.{keeps-frames}
-use Rattle.globex_run.proofs.Additions.{first_served, within_served, records_joined, each_alone, records_length-append, one_record}
+use Rattle.globex_run.proofs.Additions.{first_served, within_served}
 use Rattle.globex_run.proofs.Told.{outside_of}
-use Rattle.globex_run.proofs.Endings.{status_of}
 
 module _ {P I S : Type 0} (m : StationMeanings S) (p q : SourceAt P) (i j : SourceAt I) (old new : S) (line : LineForm) (Published : List Event → Type 0) (then : State) (outcome : Outcome) where
   abbrev entry : Outside P I S
@@ -209,62 +204,3 @@ module _ {P I S : Type 0} (m : StationMeanings S) (p q : SourceAt P) (i j : Sour
                 )
               ];
         }
-
-    -- ---- the next message has no room
-
-    module _ (place : ℕ) (is : outcome ≡ outcome_of (Full place) outcome.messages) (ends : EndsAs entry.streams exit.streams (Full place) outcome.messages taken) (from : From (Full place)) where
-      -- the place is that of the ending
-      place_is : outcome.at ≡ place
-      place_is = ap (λ (o : Outcome). o.at) is
-
-      -- the messages counted are those in the records
-      full_counted : counted ≡ messages_in from.added
-      full_counted = first (Full place) from from.added [] (all_parts (Full place) from) outcome.messages from.ends.0.messages
-
-      -- the place is the end of the records' messages
-      added_end : length (bytes_in from.added) ≡ outcome.at
-      added_end = sym (place_is ∙ ends.0 ∙ ap (λ (l : List (List ℕ)). length (concat l)) full_counted ∙ ap (λ (l : List ℕ). length l) (records_joined from.added from.whole))
-
-      -- how far a record for each message would reach
-      in_front : end_of_journal given.text given.startable.records + records_length (counted ++ from.ends.1.no_room.frame ∷ []) ≡ (end_of_journal given.text given.startable.records + records_length (messages_in from.added)) + (length from.ends.1.no_room.frame + 6)
-      in_front =
-          let frame = from.ends.1.no_room.frame in
-          let same : records_length counted ≡ records_length (messages_in from.added) = ap (λ (l : List (List ℕ)). records_length l) full_counted in
-          let last : records_length (frame ∷ []) ≡ length frame + 6 = one_record frame in
-          omega (arith, same, last, records_length-append counted (frame ∷ []))
-
-      -- the next message has no room, so or so
-      no-room : HasNoRoom m entry exit outcome given taken
-      no-room =
-          let full = from.ends.1 in
-          let frame = full.no_room.frame in
-          let long = full.no_room.too_long in
-          let sized = all-back IsRecord given.startable.records from.added full.journal.has.journal.sized in
-          let alone : length_of_records from.added ≤ records_length (messages_in from.added) = each_alone from.added from.whole sized in
-          let last : records_length (frame ∷ []) ≡ length frame + 6 = one_record frame in
-          record {
-            place = place_is ∙ ends.0;
-            frame = frame;
-            more = full.no_room.more;
-            is_frame = full.no_room.is_frame;
-            next = ap (λ (l : List ℕ). bytes_at outcome.at l) from.are ∙ drop_at (bytes_in from.added) from.behind outcome.at added_end ∙ full.no_room.front;
-            each_alone = omega (arith, in_front, alone, long, full.end_is);
-            records = given.startable.records ++ from.added;
-            image = full.journal.image;
-            image_known = full.journal.read;
-            journal = full.journal.has.journal;
-            now = omega (arith, last, long, full.journal.has.gate_is);
-          }
-
-    -- status 12
-    pub full : (ending : Ending) → outcome ≡ outcome_of ending outcome.messages → EndsAs entry.streams exit.streams ending outcome.messages taken → From ending → outcome.status ≡ 12 → HasNoRoom m entry exit outcome given taken
-    full Done is ends from twelve = absurd (omega (arith, twelve, status_of outcome Done is))
-    full (ReadFault place) is ends from twelve = absurd (omega (arith, twelve, status_of outcome (ReadFault place) is))
-    full StoreFault is ends from twelve = absurd (omega (arith, twelve, status_of outcome StoreFault is))
-    full SendFault is ends from twelve = absurd (omega (arith, twelve, status_of outcome SendFault is))
-    full (BadFrame place) is ends from twelve = absurd (omega (arith, twelve, status_of outcome (BadFrame place) is))
-    full (Truncated place) is ends from twelve = absurd (omega (arith, twelve, status_of outcome (Truncated place) is))
-    full (NotAJournal place) is ends from twelve = absurd from.ends
-    full (JournalBad place) is ends from twelve = absurd from.ends
-    full (ProductDiffers place) is ends from twelve = absurd from.ends
-    full (Full place) is ends from twelve = no-room place is ends from

@@ -15,6 +15,7 @@ mod KeptMore
 mod Reported
 mod Told
 mod Endings
+mod FullJournals
 mod Headlines
 mod RunHeadlines
 mod ReadRecords
@@ -26,4 +27,6 @@ mod CheckpointHeadlines
 mod Executed
 mod FewReads
 mod Runs
+mod Refused
 mod Commands
+mod Reopened

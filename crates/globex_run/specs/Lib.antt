@@ -8,4 +8,7 @@ pub mod Headline
 pub mod Drills
 pub mod Checkpoints
 pub mod Prints
+pub mod Refusals
+pub mod FullJournals
+pub mod Reopening
 pub mod Inner

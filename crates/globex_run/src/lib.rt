@@ -11,10 +11,12 @@ mod open;
 mod outcome;
 mod printing;
 mod product_text;
+mod reopening;
 mod run;
 mod serve;
 mod serve_record;
 mod session;
 
 pub use outcome::Outcome;
+pub use reopening::execute_behind_a_crash;
 pub use run::globex;

@@ -11,7 +11,7 @@ ghost use Rattle.order_kinds.specs.Cores.{FitsProduct};
 ghost use Rattle.order_kinds.specs.declared.core_state.TheConstants.{MOST_MESSAGES};
 ghost use Rattle.book_recovery.specs.Records.{AreGoodRecords, AreTrueRecords};
 ghost use Rattle.book_recovery.specs.Recovering.{HasRoomFor};
-ghost use Rattle.globex_run.specs.Inner.Sessions.{AnswersOpening, IsRefused, Opens};
+ghost use Rattle.globex_run.specs.Inner.Sessions.{AnswersOpening, IsRefused, Opens, RestsBehind};
 
 use crate::ending::Ending;
 use book_recovery::{RecoverFault, Scratch, recover};
@@ -73,6 +73,7 @@ pub fn open_journal<B: Book, S: Station>(
     ensures stays { (image : List ℕ) → S.meanings.holds station.old ≡ Some image → IsRefused result → KeepsImage S.meanings station.old station.new }
     ensures opens { (image : List ℕ) (records : List Record) → S.meanings.is_honest station.old → S.meanings.holds station.old ≡ Some image → Keeps text.now product.now.journal_limit records image → AreGoodRecords product.now 0 records → AreTrueRecords product.now [] records
         → Opens S.meanings product.now text.now station.old station.new image records core.new result }
+    ensures rests { (image : List ℕ) (records : List Record) → S.meanings.is_honest station.old → S.meanings.holds station.old ≡ Some image → Keeps text.now product.now.journal_limit records image → IfOk result (λ journal. RestsBehind S.meanings product.now text.now station.new image records core.new journal) }
 {
     let mut journal = match Journal::start(station, text, product.journal_limit()) {
         Ok(journal) => journal,

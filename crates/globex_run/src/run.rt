@@ -3,19 +3,23 @@ ghost use Rattle.std.specs.Prelude.{◌≡◌, ◌≢◌, ◌⊎◌, ℕ, ◌++�
 ghost use Rattle.gx_station.specs.Counts.{Rose};
 ghost use Rattle.gx_station.specs.Honest.{KeepsImage};
 ghost use Rattle.order_kinds.specs.Balance.{IsBalanced};
+ghost use Rattle.match_journal.specs.Journal.{Record};
+ghost use Rattle.match_journal.specs.Classes.{Keeps};
 ghost use Rattle.book_recovery.specs.Kept.{HasKept};
 ghost use Rattle.journal_print.specs.Reading.{ReadsAndSends};
 ghost use Rattle.command_words.specs.declared.command.Command.{Command};
 ghost use Rattle.command_words.specs.declared.command.Command.TheVariants as command;
-ghost use Rattle.globex_run.specs.Words.{AsksFor, AsksForNone, IsWriting, IsPrinting};
+ghost use Rattle.globex_run.specs.Words.{AsksFor, AsksForNone, IsWriting, IsPrinting, OpensJournal, NeverEndsWith};
 ghost use Rattle.globex_run.specs.Outside.{source_at, outside_at, IsQuiet};
 ghost use Rattle.globex_run.specs.Outcomes.{is_outcome};
-ghost use Rattle.globex_run.specs.ProductTexts.{TakesAtMost};
+ghost use Rattle.globex_run.specs.ProductTexts.{TakesAtMost, ProductPremises};
 ghost use Rattle.globex_run.specs.RunResult.{CommandResult, first_messages};
-ghost use Rattle.globex_run.specs.Headline.{Premises, InputPremises, SendsExactlyTheReports, EndsOtherwise, RunLeavesCrashPrefixes, RunBeforeTheFirstSync, KeepsEveryReported, KeepsARecordPerRead, ReadsFew, HasNoRoom, CanBeServed, IsServed};
+ghost use Rattle.globex_run.specs.Headline.{Premises, InputPremises, SendsExactlyTheReports, EndsOtherwise, RunLeavesCrashPrefixes, RunBeforeTheFirstSync, KeepsEveryReported, KeepsARecordPerRead, ReadsFew, CanBeServed, IsServed};
 ghost use Rattle.globex_run.specs.Drills.{made_bytes, KeepsAndSumsUp, DrillEndsOtherwise, DrillLeavesCrashPrefixes, DrillBeforeTheFirstSync, CanBeDrilled};
 ghost use Rattle.globex_run.specs.Checkpoints.{AddsImage, KeepsTheSame, CheckpointLeavesCrashPrefixes, CheckpointBeforeTheFirstSync, HasNoRoomForImage, CanBeCheckpointed};
-ghost use Rattle.globex_run.specs.Prints.{PrintPremises, PrintsAs, CanBePrinted};
+ghost use Rattle.globex_run.specs.Prints.{PrintsAs};
+ghost use Rattle.globex_run.specs.Refusals.{IsRefusal, RefusesExactly, CanStart};
+ghost use Rattle.globex_run.specs.FullJournals.{IsFull};
 ghost use Rattle.globex_run.specs.Inner.Statuses.{outcome_without, outcome_of_words};
 
 use crate::buffers::Buffers;
@@ -95,7 +99,8 @@ pub fn globex<P: Source, I: Source, S: Station>(
     // The quantities in the reports of all messages that are kept, the earlier ones and those of this call, add up.
     ensures balanced { let before = outside_at P.meanings I.meanings S.meanings product.old input.old station.old in let after = outside_at P.meanings I.meanings S.meanings product.new input.new station.new in AsksFor words.now command.Run → (given : Premises S.meanings before after result.status) → (read : InputPremises before.streams.input after.streams.input) → IsBalanced given.product (given.kept ++ first_messages result.messages read.taken) }
 
-    ensures full { let before = outside_at P.meanings I.meanings S.meanings product.old input.old station.old in let after = outside_at P.meanings I.meanings S.meanings product.new input.new station.new in AsksFor words.now command.Run → (given : Premises S.meanings before after result.status) → (read : InputPremises before.streams.input after.streams.input) → result.status ≡ 12 → HasNoRoom S.meanings before after result given read.taken }
+    // The journal is full only where the next message has no room in it, or cannot be counted: whatever records it keeps at entry.
+    ensures full { let before = outside_at P.meanings I.meanings S.meanings product.old input.old station.old in let after = outside_at P.meanings I.meanings S.meanings product.new input.new station.new in AsksFor words.now command.Run → (given : ProductPremises before after result.status) (read : InputPremises before.streams.input after.streams.input) → S.meanings.is_honest station.old → (image : List ℕ) (records : List Record) → before.streams.station.image ≡ Some image → Keeps given.text given.product.journal_limit records image → result.status ≡ 12 → IsFull given.product given.text image records after.streams.station result read.taken }
 
     // A good run succeeds: where memory is given, no fault comes, and there is room, the input is served to its end.
     ensures all_served { let before = outside_at P.meanings I.meanings S.meanings product.old input.old station.old in let after = outside_at P.meanings I.meanings S.meanings product.new input.new station.new in AsksFor words.now command.Run → (can : CanBeServed S.meanings before) → IsQuiet before after → (result.status ≡ 1) ⊎ IsServed can.bytes result.status }
@@ -107,7 +112,7 @@ pub fn globex<P: Source, I: Source, S: Station>(
     ensures drill_at_every_moment { let before = outside_at P.meanings I.meanings S.meanings product.old input.old station.old in let after = outside_at P.meanings I.meanings S.meanings product.new input.new station.new in (first count : ℕ) → AsksFor words.now (command.Drill first count) → (given : Premises S.meanings before after result.status) → DrillLeavesCrashPrefixes S.meanings before after result given first count }
     ensures drill_before_the_first_sync { let before = outside_at P.meanings I.meanings S.meanings product.old input.old station.old in let after = outside_at P.meanings I.meanings S.meanings product.new input.new station.new in (first count : ℕ) → AsksFor words.now (command.Drill first count) → (given : Premises S.meanings before after result.status) → DrillBeforeTheFirstSync S.meanings before after result given first count }
     ensures drill_few_bytes { let before = outside_at P.meanings I.meanings S.meanings product.old input.old station.old in let after = outside_at P.meanings I.meanings S.meanings product.new input.new station.new in (first count : ℕ) → AsksFor words.now (command.Drill first count) → (given : Premises S.meanings before after result.status) → ReadsFew S.meanings before after result given }
-    ensures drill_full { let before = outside_at P.meanings I.meanings S.meanings product.old input.old station.old in let after = outside_at P.meanings I.meanings S.meanings product.new input.new station.new in (first count : ℕ) → AsksFor words.now (command.Drill first count) → (given : Premises S.meanings before after result.status) → result.status ≡ 12 → HasNoRoom S.meanings before after result given (made_bytes given.product first count) }
+    ensures drill_full { let before = outside_at P.meanings I.meanings S.meanings product.old input.old station.old in let after = outside_at P.meanings I.meanings S.meanings product.new input.new station.new in (first count : ℕ) → AsksFor words.now (command.Drill first count) → (given : ProductPremises before after result.status) → S.meanings.is_honest station.old → (image : List ℕ) (records : List Record) → before.streams.station.image ≡ Some image → Keeps given.text given.product.journal_limit records image → result.status ≡ 12 → IsFull given.product given.text image records after.streams.station result (made_bytes given.product first count) }
     ensures all_drilled { let before = outside_at P.meanings I.meanings S.meanings product.old input.old station.old in let after = outside_at P.meanings I.meanings S.meanings product.new input.new station.new in (first count : ℕ) → AsksFor words.now (command.Drill first count) → CanBeDrilled S.meanings before first count → IsQuiet before after → (result.status ≡ 1) ⊎ (result.status ≡ 0) }
 
     // `checkpoint`: one record is added, the image of the state after the messages kept, and nothing is sent. The crash clauses are
@@ -123,12 +128,12 @@ pub fn globex<P: Source, I: Source, S: Station>(
     ensures checkpoint_counts { AsksFor words.now command.Checkpoint → result.status ≢ 0 → result.messages ≡ 0 }
 
     // `replay`, `fills`, `ledger`, `book` and `steps`: what each prints, whatever the answer, and that it only reads.
-    ensures prints { let before = outside_at P.meanings I.meanings S.meanings product.old input.old station.old in let after = outside_at P.meanings I.meanings S.meanings product.new input.new station.new in (asked : Command) → AsksFor words.now asked → (given : PrintPremises before after result.status) → PrintsAs S.meanings given.product given.text before.streams.station after.streams.station result asked }
+    ensures prints { let before = outside_at P.meanings I.meanings S.meanings product.old input.old station.old in let after = outside_at P.meanings I.meanings S.meanings product.new input.new station.new in (asked : Command) → AsksFor words.now asked → (given : ProductPremises before after result.status) → PrintsAs S.meanings given.product given.text before.streams.station after.streams.station result asked }
     ensures only_reads { (asked : Command) → AsksFor words.now asked → IsPrinting asked → ReadsAndSends S.meanings station.old station.new }
-    ensures all_printed { let before = outside_at P.meanings I.meanings S.meanings product.old input.old station.old in let after = outside_at P.meanings I.meanings S.meanings product.new input.new station.new in (asked : Command) → AsksFor words.now asked → IsPrinting asked → CanBePrinted before asked → IsQuiet before after → (result.status ≡ 1) ⊎ (result.status ≡ 0) }
+    ensures all_printed { let before = outside_at P.meanings I.meanings S.meanings product.old input.old station.old in let after = outside_at P.meanings I.meanings S.meanings product.new input.new station.new in (asked : Command) → AsksFor words.now asked → IsPrinting asked → CanStart before asked → IsQuiet before after → (result.status ≡ 1) ⊎ (result.status ≡ 0) }
 
     // What is kept balances, whatever the messages are: those that `replay` and `ledger` read.
-    ensures kept_balanced { let before = outside_at P.meanings I.meanings S.meanings product.old input.old station.old in let after = outside_at P.meanings I.meanings S.meanings product.new input.new station.new in (given : PrintPremises before after result.status) → (image : List ℕ) → before.streams.station.image ≡ Some image → (kept : List (List ℕ)) → HasKept given.product given.text kept image → IsBalanced given.product kept }
+    ensures kept_balanced { let before = outside_at P.meanings I.meanings S.meanings product.old input.old station.old in let after = outside_at P.meanings I.meanings S.meanings product.new input.new station.new in (given : ProductPremises before after result.status) → (image : List ℕ) → before.streams.station.image ≡ Some image → (kept : List (List ℕ)) → HasKept given.product given.text kept image → IsBalanced given.product kept }
 
     // Each command: what it took from the product's source, and `run` from the input, and why it ended there, for all statuses but 1.
     // It says what the image of entry is at 9, 10 and 11 of `run`, `drill` and `checkpoint`, and at 12 of `run` what follows.
@@ -142,9 +147,16 @@ pub fn globex<P: Source, I: Source, S: Station>(
     ensures bad_words { result.status ≡ 2 → (product.new ≡ product.old) × (input.new ≡ input.old) × (station.new ≡ station.old) }
     ensures bad_product { result.status ≡ 3 → (input.new ≡ input.old) × (station.new ≡ station.old) }
 
-    // A journal that `run`, `drill` or `checkpoint` refuses stays as it is, and nothing is sent.
-    ensures refused { (asked : Command) → AsksFor words.now asked → IsWriting asked → (result.status ≡ 9) ⊎ ((result.status ≡ 10) ⊎ (result.status ≡ 11)) → S.meanings.sent station.new ≡ S.meanings.sent station.old }
-    ensures stays { (image : List ℕ) (asked : Command) → AsksFor words.now asked → IsWriting asked → S.meanings.holds station.old ≡ Some image → (result.status ≡ 9) ⊎ ((result.status ≡ 10) ⊎ (result.status ≡ 11)) → KeepsImage S.meanings station.old station.new }
+    // 9, 10 and 11 come exactly where the image of entry is such, whatever the command. What is refused stays as it is, and `run`,
+    // `drill` and `checkpoint` send nothing then. An image from which a run can start is refused by no command: so what a crash leaves
+    // can be opened again.
+    ensures refuses { let before = outside_at P.meanings I.meanings S.meanings product.old input.old station.old in let after = outside_at P.meanings I.meanings S.meanings product.new input.new station.new in (asked : Command) → AsksFor words.now asked → OpensJournal asked → (given : ProductPremises before after result.status) → (image : List ℕ) → before.streams.station.image ≡ Some image → RefusesExactly asked given.product given.text image result }
+    ensures opens_again { let before = outside_at P.meanings I.meanings S.meanings product.old input.old station.old in let after = outside_at P.meanings I.meanings S.meanings product.new input.new station.new in (asked : Command) → AsksFor words.now asked → CanStart before asked → IsRefusal result.status → ⊥ }
+    ensures refused { (asked : Command) → AsksFor words.now asked → IsWriting asked → IsRefusal result.status → S.meanings.sent station.new ≡ S.meanings.sent station.old }
+    ensures stays { (image : List ℕ) (asked : Command) → AsksFor words.now asked → IsWriting asked → S.meanings.holds station.old ≡ Some image → IsRefusal result.status → KeepsImage S.meanings station.old station.new }
+
+    // Each command has its statuses.
+    ensures statuses { (asked : Command) → AsksFor words.now asked → NeverEndsWith asked result.status → ⊥ }
 
     // A fault of the outside is answered only where its count rose, and else no count does.
     ensures read_fault { result.status ≡ 4 → Rose (P.meanings.faults product.old) (P.meanings.faults product.new) ⊎ (AsksFor words.now command.Run × Rose (I.meanings.faults input.old) (I.meanings.faults input.new)) }

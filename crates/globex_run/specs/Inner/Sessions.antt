@@ -12,7 +12,7 @@ use Rattle.match_journal.specs.Opening.{IsOpening}
 use Rattle.match_journal.specs.Steps.{HoldsOne}
 use Rattle.match_journal.specs.declared.limits.TheConstants.{MOST_UNFINISHED}
 use Rattle.match_journal.specs.declared.standing.Standing.{Standing}
-use Rattle.book_recovery.specs.Records.{AreWhole, messages_in, state_kept}
+use Rattle.book_recovery.specs.Records.{AreWhole, messages_in, state_kept, from_last_image, count_behind_all}
 use Rattle.book_recovery.specs.Kept.{KeepsMessages, CanBeRecovered}
 use Rattle.book_recovery.specs.Recovering.{IsStateAfter}
 use Rattle.product_file.specs.Products.{ProductLists, IsRightProduct}
@@ -25,7 +25,7 @@ use Rattle.globex_run.specs.Outcomes.{outcome_of}
 use Rattle.globex_run.specs.Journals.{AnswersImage, bytes_in, length_of_records, most_read}
 use Rattle.globex_run.specs.RunResult.{ServingResult}
 use Rattle.globex_run.specs.Inner.Recording.{lines_from, IsRecordCrash, RestsAtEnd}
-use Rattle.globex_run.specs.Inner.Serving.{CausedBy, IsDone, HasNoRoomAt}
+use Rattle.globex_run.specs.Inner.Serving.{CausedBy, IsDone, HasNoRoomAt, IsLastCounted}
 use Rattle.globex_run.specs.declared.outcome.Outcome.{Outcome}
 use Rattle.globex_run.specs.declared.ending.Ending.{Ending}
 use Rattle.globex_run.specs.declared.ending.Ending.TheVariants as ending
@@ -64,6 +64,12 @@ module _ {S : Type 0} (m : StationMeanings S) (product : ProductLists) (text : L
     pub at_end : IfOk result (λ journal. RestsAtEnd m text product.journal_limit records journal.gate (max (length image) MOST_UNFINISHED) new)
     pub is_state : IfOk result (λ journal. IsStateAfter product (messages_in records) state)
     pub bytes : IfOk result (λ journal. ReadsAtMost (most_read records) (m.bytes_read old) (m.bytes_read new))
+
+  -- The journal of an image that keeps these records was opened, good or true or not: nothing is pending behind them, and those from the
+  -- last book image on are counted.
+  pub record RestsBehind (new : S) (image : List ℕ) (records : List Record) (state : State) (journal : Standing) : Type 0 where
+    pub at_end : RestsAtEnd m text product.journal_limit records journal.gate (max (length image) MOST_UNFINISHED) new
+    pub count : state.desk.messages ≡ count_behind_all 0 (from_last_image records)
 
 -- ---- a session, from its opening on
 
@@ -135,6 +141,24 @@ module _ {I S : Type 0} (m : StationMeanings S) (line : LineForm) (product : Pro
     pub is_state : IsDone ending → then ≡ state_after product (state_kept product kept) (messages_in added)
     pub published : IsDone ending → Published (events_from product (state_kept product kept) (messages_in added))
 
+  -- Behind an image that keeps these records, good or true or not, some were added, and the next message has no room behind them, or
+  -- cannot be counted.
+  pub record IsFullBehind (records : List Record) (taken : List ℕ) (place count : ℕ) : Type 0 where
+    pub added : List Record
+    pub behind : List ℕ
+    pub are : taken ≡ bytes_in added ++ behind
+    pub whole : AreWhole added
+    pub messages : count ≡ length (messages_in added)
+    pub place_is : place ≡ length (bytes_in added)
+    pub end : ℕ
+    pub end_is : end ≡ length (journal_front text records) + length_of_records added
+    pub journal : HoldsOne m (IsJournalTo text product.journal_limit (records ++ added) end) after.station.object
+    pub why : HasNoRoomAt product.journal_limit end behind ⊎ IsLastCounted (count_behind_all 0 (from_last_image records) + count) behind
+
+  -- the ending is that of a full journal, at this place
+  abbrev pub IsFullAt : ℕ → Ending → Type 0
+  IsFullAt place last = last ≡ ending.Full place
+
   -- the journal was opened, and the input served until an ending
   pub record SessionResult (Published : List Event → Type 0) (then : State) (outcome : Outcome) : Type 0 where
     pub right : IsRightProduct product
@@ -145,3 +169,5 @@ module _ {I S : Type 0} (m : StationMeanings S) (line : LineForm) (product : Pro
     pub serving : ServingResult before after ending outcome.messages
     pub from : (image : List ℕ) (kept : List (List ℕ)) → m.is_honest before.station.object → before.station.image ≡ Some image → (startable : KeepsMessages product text kept image)
         → SessionFrom Published then image startable.records kept serving.taken ending outcome.messages
+    pub full : (image : List ℕ) (records : List Record) → m.is_honest before.station.object → before.station.image ≡ Some image → Keeps text product.journal_limit records image → (place : ℕ) → IsFullAt place ending
+        → IsFullBehind records serving.taken place outcome.messages

@@ -3,7 +3,7 @@ use Rattle.std.proofs.lemmas.Option.{same_Some}
 use Rattle.globex_run.specs.Outside.{source_at}
 use Rattle.globex_run.specs.Words.{IsWriting}
 use Rattle.globex_run.proofs.Runs.{short-text, few-of-product, memory-without}
-use Rattle.globex_run.proofs.Commands.{no-memory, balances, exactly, otherwise, every-moment, first-sync, every-message, balanced, full, each-read, few-read, all-served, sums-up, drill-ends, drill-every-moment, drill-before-sync, drill-few-read, drill-has-no-room, all-drilled, adds-image, keeps-the-same, checkpoint-every-moment, checkpoint-before-sync, checkpoint-few-read, image-full, all-checkpointed, checkpoint-sends-nothing, checkpoint-counts, reads-only, input-untouched, prints, all-printed, told-ended}
+use Rattle.globex_run.proofs.Commands.{no-memory, balances, exactly, otherwise, every-moment, first-sync, every-message, balanced, full, each-read, few-read, all-served, sums-up, drill-ends, drill-every-moment, drill-before-sync, drill-few-read, drill-has-no-room, all-drilled, adds-image, keeps-the-same, checkpoint-every-moment, checkpoint-before-sync, checkpoint-few-read, image-full, all-checkpointed, checkpoint-sends-nothing, checkpoint-counts, reads-only, input-untouched, prints, all-printed, told-ended, refuses, opens-again, never-ends}
 use Rattle.globex_run.proofs.run.globex.Goals as goal
 
 pub returns-in-Err-take_product-clause-all_served : goal.returns-in-Err-take_product-clause-all_served
@@ -75,9 +75,9 @@ returns-clause-few_bytes g c asks given =
     c.args.station.now c.execute.new.station c.execute.result _ _ c.deref.ensures.value c.in-Ok-take_product.taken.product c.in-Ok-take_product.ensures.0 c.in-Ok-take_product.ensures.1 _ _ c.in-Ok.ensures.given c.execute.ensures.executes c.execute.ensures.causes asks given
 
 pub returns-clause-full : goal.returns-clause-full
-returns-clause-full g c asks given read twelve =
+returns-clause-full g c asks given read honest image records known keeps twelve =
     full g.S.Station.meanings (source_at g.P.Source.meanings c.args.product.now) (source_at g.P.Source.meanings c.take_product.new.source) (source_at g.I.Source.meanings c.args.input.now) (source_at g.I.Source.meanings c.execute.new.input)
-    c.args.station.now c.execute.new.station c.execute.result _ _ c.deref.ensures.value c.in-Ok-take_product.taken.product c.in-Ok-take_product.ensures.0 c.in-Ok-take_product.ensures.1 _ _ c.in-Ok.ensures.given c.execute.ensures.executes c.execute.ensures.causes asks given read twelve
+    c.args.station.now c.execute.new.station c.execute.result _ _ c.deref.ensures.value c.in-Ok-take_product.taken.product c.in-Ok-take_product.ensures.0 c.in-Ok-take_product.ensures.1 _ _ c.in-Ok.ensures.given c.execute.ensures.executes c.execute.ensures.causes asks given read honest image records known keeps twelve
 
 pub returns-clause-all_served : goal.returns-clause-all_served
 returns-clause-all_served g c asks can quiet =
@@ -110,9 +110,9 @@ returns-clause-drill_few_bytes g c first count asks given =
     c.args.station.now c.execute.new.station c.execute.result _ _ c.deref.ensures.value c.in-Ok-take_product.taken.product c.in-Ok-take_product.ensures.0 c.in-Ok-take_product.ensures.1 _ _ c.in-Ok.ensures.given c.execute.ensures.executes c.execute.ensures.causes first count asks given
 
 pub returns-clause-drill_full : goal.returns-clause-drill_full
-returns-clause-drill_full g c first count asks given twelve =
+returns-clause-drill_full g c first count asks given honest image records known keeps twelve =
     drill-has-no-room g.S.Station.meanings (source_at g.P.Source.meanings c.args.product.now) (source_at g.P.Source.meanings c.take_product.new.source) (source_at g.I.Source.meanings c.args.input.now) (source_at g.I.Source.meanings c.execute.new.input)
-    c.args.station.now c.execute.new.station c.execute.result _ _ c.deref.ensures.value c.in-Ok-take_product.taken.product c.in-Ok-take_product.ensures.0 c.in-Ok-take_product.ensures.1 _ _ c.in-Ok.ensures.given c.execute.ensures.executes c.execute.ensures.causes first count asks given twelve
+    c.args.station.now c.execute.new.station c.execute.result _ _ c.deref.ensures.value c.in-Ok-take_product.taken.product c.in-Ok-take_product.ensures.0 c.in-Ok-take_product.ensures.1 _ _ c.in-Ok.ensures.given c.execute.ensures.executes c.execute.ensures.causes first count asks given honest image records known keeps twelve
 
 pub returns-clause-all_drilled : goal.returns-clause-all_drilled
 returns-clause-all_drilled g c first count asks can quiet =
@@ -202,3 +202,18 @@ returns-clause-untouched_input g c asked asks other =
 pub returns-clause-stays : goal.returns-clause-stays
 returns-clause-stays g c image asked asks writing read refused =
     c.execute.ensures.stays image (subst IsWriting (same_Some asked _ (sym asks ∙ c.in-Ok.ensures.given)) writing) read refused
+
+pub returns-clause-refuses : goal.returns-clause-refuses
+returns-clause-refuses g c asked asks opens given image known =
+    refuses g.S.Station.meanings (source_at g.P.Source.meanings c.args.product.now) (source_at g.P.Source.meanings c.take_product.new.source) (source_at g.I.Source.meanings c.args.input.now) (source_at g.I.Source.meanings c.execute.new.input)
+    c.args.station.now c.execute.new.station c.execute.result _ _ c.deref.ensures.value c.in-Ok-take_product.taken.product c.in-Ok-take_product.ensures.0 c.in-Ok-take_product.ensures.1 _ _ c.in-Ok.ensures.given c.execute.ensures.executes c.execute.ensures.causes asked asks opens given image known
+
+pub returns-clause-opens_again : goal.returns-clause-opens_again
+returns-clause-opens_again g c asked asks can refusal =
+    opens-again g.S.Station.meanings (source_at g.P.Source.meanings c.args.product.now) (source_at g.P.Source.meanings c.take_product.new.source) (source_at g.I.Source.meanings c.args.input.now) (source_at g.I.Source.meanings c.execute.new.input)
+    c.args.station.now c.execute.new.station c.execute.result _ _ c.deref.ensures.value c.in-Ok-take_product.taken.product c.in-Ok-take_product.ensures.0 c.in-Ok-take_product.ensures.1 _ _ c.in-Ok.ensures.given c.execute.ensures.executes c.execute.ensures.causes asked asks can refusal
+
+pub returns-clause-statuses : goal.returns-clause-statuses
+returns-clause-statuses g c asked asks never =
+    never-ends g.S.Station.meanings (source_at g.P.Source.meanings c.args.product.now) (source_at g.P.Source.meanings c.take_product.new.source) (source_at g.I.Source.meanings c.args.input.now) (source_at g.I.Source.meanings c.execute.new.input)
+    c.args.station.now c.execute.new.station c.execute.result _ _ c.deref.ensures.value c.in-Ok-take_product.taken.product c.in-Ok-take_product.ensures.0 c.in-Ok-take_product.ensures.1 _ _ c.in-Ok.ensures.given c.execute.ensures.executes c.execute.ensures.causes asked asks never

@@ -19,5 +19,5 @@ pub returns-clause-session : goal.returns-clause-session
 returns-clause-session g c =
     let count : c.messages.result - c.messages-earlier.result ≡ c.serve-ending.new.core.desk.messages - c.open_journal.new.core.desk.messages = omega (arith, c.messages.ensures.count, c.messages-earlier.ensures.count) in
     opened_session g.I.Source.meanings g.S.Station.meanings g.P.Publisher.meanings.text (λ (events : List Event). c.serve-ending.new.publisher ≡ g.P.Publisher.meanings.after c.args.publisher.now events) c.args.product.now c.args.text.now c.args.station.now c.open_journal.new.station c.args.input.now c.open_journal.new.core c.limits.ensures c.open_journal.ensures.silent
-    c.in-Ok.journal c.in-Ok.ensures.limit (c.in-Ok.ensures.none (λ is. cc is)) c.in-Ok.ensures.answers c.in-Ok.ensures.opens c.serve-ending.new.input c.serve-ending.new.station c.serve-ending.new.journal.gate (state_numbered c.serve-ending.new.core) c.serve-ending.result
+    c.in-Ok.journal c.in-Ok.ensures.limit (c.in-Ok.ensures.none (λ is. cc is)) c.in-Ok.ensures.answers c.in-Ok.ensures.opens c.in-Ok.ensures.rests c.serve-ending.new.input c.serve-ending.new.station c.serve-ending.new.journal.gate (state_numbered c.serve-ending.new.core) c.serve-ending.result
     c.serve-ending.ensures.serves c.serve-ending.ensures.cause c.serve-ending.ensures.bytes_read c.outcome-2.result _ count c.outcome-2.ensures
