@@ -2,6 +2,7 @@
 mod checkpoints;
 mod endings;
 mod images;
+mod prefixes;
 
 use globex_run::Outcome;
 use gx_station::{MemSource, MemStation};

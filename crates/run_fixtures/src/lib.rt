@@ -1,8 +1,12 @@
 //! What the crates of tests share of whole runs.
 #![tactic(auto)]
 
+mod example;
 mod fixtures;
 
+pub use example::{
+    ACCEPTED, DUPLICATE, FILLED, ORDER, SECOND_ACCEPTED, SECOND_FILLED, SECOND_ORDER,
+};
 pub use fixtures::{
     PRODUCT, ROOM, bytes_of, ended, frames_of, join, push_frame, run, run_over, station_over,
     words_of,

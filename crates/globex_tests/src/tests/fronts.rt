@@ -1,5 +1,6 @@
 //! Inputs that end within their first frame, and inputs that no frame begins with.
-use run_fixtures::{PRODUCT, bytes_of, ended, frames_of, run};
+use fix_frame::{Framer, Next, ROOM};
+use run_fixtures::{ORDER, PRODUCT, bytes_of, ended, frames_of, run};
 use std::process::Abort;
 use std::test::Fail;
 
@@ -24,7 +25,21 @@ const FRONTS: [(&str, u8); 17] = [
     ("8=FIX.4.2|9=3|abc", 7),
 ];
 
-/// Looks for this status at the first of these bytes, with nothing sent.
+/// What a framer that takes these bytes alone answers first.
+fn first_answer(rt: &(impl Abort + AllocGlobal), bytes: &[u8]) -> Result<Next, Fail> {
+    let mut framer = Framer::new(rt.alloc())?;
+    assert!(rt; bytes.len() <= ROOM);
+    assert_eq!(rt; framer.feed(bytes), bytes.len());
+    Ok(framer.next())
+}
+
+/// The first bytes of some.
+fn prefix_of<'a>(rt: &impl Abort, bytes: &'a [u8], count: usize) -> &'a [u8] {
+    assert!(rt; count <= bytes.len());
+    &bytes[..count]
+}
+
+/// Looks for this status at the first of these bytes, with nothing sent, and for the framer's answer to it.
 fn expect_front(
     rt: &(impl Abort + AllocGlobal),
     name: &str,
@@ -34,6 +49,12 @@ fn expect_front(
     let (got, station) = run(rt.alloc(), "run", PRODUCT, bytes, Vec::new(rt.alloc()))?;
     assert_eq!(rt; got, ended(status, 0, 0), "{name}");
     assert_eq!(rt; station.output(), b"".as_slice(), "{name}");
+    let answer = if status == 8 {
+        Next::More
+    } else {
+        Next::Bad(0)
+    };
+    assert_eq!(rt; first_answer(rt, bytes)?, answer, "{name}");
     Ok(())
 }
 
@@ -43,6 +64,18 @@ fn fronts(rt: HostRuntime) -> Result<(), Fail> {
         let bytes = bytes_of(rt.alloc(), text)?;
         expect_front(&rt, text, bytes.as_slice(), status)?;
     }
+    Ok(())
+}
+
+#[test]
+fn prefixes_of_a_frame(rt: HostRuntime) -> Result<(), Fail> {
+    let order = bytes_of(rt.alloc(), ORDER)?;
+    assert_eq!(rt; order.len(), 111);
+    for count in 0..111 {
+        let answer = first_answer(&rt, prefix_of(&rt, order.as_slice(), count))?;
+        assert_eq!(rt; answer, Next::More, "{count} bytes");
+    }
+    assert_eq!(rt; first_answer(&rt, order.as_slice())?, Next::Frame(0, 111));
     Ok(())
 }
 

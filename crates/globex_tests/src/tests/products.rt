@@ -1,6 +1,7 @@
 //! Products that are refused, before the input is read: by which rule, and with which text.
+use gx_station::MemSource;
 use product_file::read_product;
-use run_fixtures::{PRODUCT, ended, run};
+use run_fixtures::{PRODUCT, ended, run_over, station_over};
 use std::alloc::{AllocError, Global};
 use std::process::Abort;
 use std::test::Fail;
@@ -15,7 +16,7 @@ const F: &str = r#"algorithm = "F""#;
 /// first rule that it breaks, and what the fault says.
 type Refused = (&'static str, &'static str, &'static str, u8, &'static str);
 
-const REFUSED: [Refused; 18] = [
+const REFUSED: [Refused; 17] = [
     (
         r#"firms = ["AAA"#,
         TICK,
@@ -86,13 +87,6 @@ const REFUSED: [Refused; 18] = [
     (
         FIRMS,
         TICK,
-        "algorithm = \"K\"\nsteps = [\"LEVELING\", \"PRORATA\", \"FIFO\"]",
-        9,
-        "the steps are faulty: LEVELING stands before PRORATA",
-    ),
-    (
-        FIRMS,
-        TICK,
         "algorithm = \"T\"\nlmm = [{ firm = \"AAA\", percent = 60 }, { firm = \"BBB\", percent = 41 }]",
         9,
         "the steps are faulty: 101 is no percentage from 1 to 100",
@@ -130,15 +124,19 @@ fn file(alloc: Global, firms: &str, tick: &str, algorithm: &str) -> Result<Strin
 /// Looks for status 3 with this number, and for a fault that says this.
 fn expect_refused(
     rt: &(impl Abort + AllocGlobal),
-    text: &str,
+    text: &[u8],
     number: u8,
     says: &str,
 ) -> Result<(), Fail> {
     let alloc = rt.alloc();
-    let (got, station) = run(alloc, "run", text, &[], Vec::new(alloc))?;
+    let none = Vec::new(alloc);
+    let mut product = MemSource::new(alloc, text.to_vec(alloc)?, Vec::new(alloc), none)?;
+    let mut input = MemSource::new(alloc, Vec::new(alloc), Vec::new(alloc), Vec::new(alloc))?;
+    let mut station = station_over(alloc, b"", Vec::new(alloc))?;
+    let got = run_over(alloc, "run", &mut product, &mut input, &mut station)?;
     assert_eq!(rt; got, ended(3, u64::from(number), 0), "{says}");
     assert_eq!(rt; station.calls(), 0, "{says}");
-    let fault = read_product(alloc, text.as_bytes()).err().ok_or("faulty")?;
+    let fault = read_product(alloc, text).err().ok_or("faulty")?;
     let shown = format!(in alloc; "{fault}")?;
     assert_eq!(rt; shown.as_str(), says);
     Ok(())
@@ -146,20 +144,60 @@ fn expect_refused(
 
 #[test]
 fn refused_products(rt: HostRuntime) -> Result<(), Fail> {
-    expect_refused(&rt, "", 3, "`exchange` is missing")?;
-    expect_refused(&rt, "=", 2, "the product file is no TOML document")?;
+    expect_refused(&rt, b"", 3, "`exchange` is missing")?;
+    expect_refused(&rt, b"=", 2, "the product file is no TOML document")?;
     for (firms, tick, algorithm, number, says) in REFUSED {
         let text = file(rt.alloc(), firms, tick, algorithm)?;
-        expect_refused(&rt, text.as_str(), number, says)?;
+        expect_refused(&rt, text.as_bytes(), number, says)?;
     }
-    let mut text = String::from_str(rt.alloc(), PRODUCT)?;
+    Ok(())
+}
+
+/// A text of the usual product file, the one that stands there instead, the number of the rule, and what the fault says.
+const CHANGED: [(&str, &str, u8, &str); 5] = [
+    ("tick = 1", "tick = \"1\"", 4, "`tick` is of another type"),
+    (
+        "decimals = 2",
+        "decimals = 9",
+        5,
+        "`decimals` is out of range",
+    ),
+    ("\"DDD\"", "\"UNKNOWN\"", 5, "`firms` is out of range"),
+    (
+        "algorithm = \"F\"",
+        "algorithm = \"T\"\nlmm = [{ firm = \"AAA\", percent = 60 }, { firm = \"BBB\", percent = 60 }]",
+        9,
+        "the steps are faulty: 120 is no percentage from 1 to 100",
+    ),
+    (
+        "algorithm = \"F\"",
+        "algorithm = \"K\"\nsteps = [\"LEVELING\", \"PRORATA\", \"FIFO\"]",
+        9,
+        "the steps are faulty: LEVELING stands before PRORATA",
+    ),
+];
+
+#[test]
+fn products_with_one_change(rt: HostRuntime) -> Result<(), Fail> {
+    for (old, new, number, says) in CHANGED {
+        let text = PRODUCT.replace(rt.alloc(), old, new)?;
+        expect_refused(&rt, text.as_bytes(), number, says)?;
+    }
+    Ok(())
+}
+
+/// A product file with a byte that no text has at its front, and one that is a byte too long.
+#[test]
+fn products_that_are_no_texts(rt: HostRuntime) -> Result<(), Fail> {
+    let alloc = rt.alloc();
+    let mut no_text = b"\xFF".to_vec(alloc)?;
+    no_text.extend_from_slice(PRODUCT.as_bytes())?;
+    let says = "the product file is no TOML document";
+    expect_refused(&rt, no_text.as_slice(), 2, says)?;
+    let mut long = PRODUCT.as_bytes().to_vec(alloc)?;
     for _ in PRODUCT.len()..65_537 {
-        text.push('#')?;
+        long.push(b'#')?;
     }
-    expect_refused(
-        &rt,
-        text.as_str(),
-        1,
-        "the product file has more than 65536 bytes",
-    )
+    let says = "the product file has more than 65536 bytes";
+    expect_refused(&rt, long.as_slice(), 1, says)
 }

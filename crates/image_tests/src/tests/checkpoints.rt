@@ -10,7 +10,7 @@ use std::process::Abort;
 use std::test::Fail;
 
 /// A gate and the head of an image of 667 bytes.
-const IMAGE_HEAD: &[u8] = b"\x01C\x00\x00\x02\x9B";
+pub(super) const IMAGE_HEAD: &[u8] = b"\x01C\x00\x00\x02\x9B";
 
 #[test]
 fn checkpoint_byte_for_byte(rt: HostRuntime) -> Result<(), Fail> {

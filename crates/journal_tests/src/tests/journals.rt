@@ -1,12 +1,10 @@
-//! Runs over journals: byte for byte, after a crash at each call, where one is full, bad, or of another product, and over a file.
-ghost use Rattle.std.specs.Prelude.{◌≤◌, length};
-
-use super::printed::execute;
-use super::{ACCEPTED, DUPLICATE, FILLED, ORDER, SECOND_ACCEPTED, SECOND_FILLED, SECOND_ORDER};
-use globex_run::{Outcome, globex};
+//! Runs over journals: byte for byte, after a crash at each call, where one is full, and over a file.
+use super::{BOTH, ONE, ORDERS, REPORTS, execute, image_of, journal_of, run_from};
+use globex_run::globex;
 use gx_station::{FileStation, MemSource, MemStation};
 use run_fixtures::{
-    PRODUCT, ROOM, ended, frames_of, join, push_frame, run, run_over, station_over,
+    ACCEPTED, DUPLICATE, FILLED, ORDER, PRODUCT, SECOND_ACCEPTED, SECOND_FILLED, SECOND_ORDER,
+    ended, frames_of, join, push_frame, run, run_over,
 };
 use std::alloc::{AllocError, Global};
 use std::fs;
@@ -14,58 +12,9 @@ use std::fs::OpenOptions;
 use std::process::Abort;
 use std::test::Fail;
 
-/// What stands in a journal of the product before its text.
-const HEADER: &[u8] = b"\x01GXJOURN1\x00\x00\x00\x88";
-
 /// A report that refuses the first order once both orders are kept.
 const THIRD_REFUSAL: &str =
     "35=8|34=3|49=GX|52=20240102-09:30:00|56=AAA|37=0|11=a1|17=5|20=0|150=8|39=8|103=6|55=ESZ4|54=2|38=10|40=2|59=0|151=0|14=0|6=0|60=20240102-09:30:00|58=DUPLICATE|9003=10|";
-
-/// The parts, one behind the other.
-fn image_of(alloc: Global, parts: &[&[u8]]) -> Result<Vec<u8>, AllocError> {
-    let mut bytes = Vec::new(alloc);
-    for part in parts {
-        bytes.extend_from_slice(part)?;
-    }
-    Ok(bytes)
-}
-
-/// A journal of the product with these records, each with its head, and a closed gate.
-pub(super) fn journal_of(alloc: Global, records: &[&[u8]]) -> Result<Vec<u8>, AllocError> {
-    let records = image_of(alloc, records)?;
-    image_of(
-        alloc,
-        &[HEADER, PRODUCT.as_bytes(), records.as_slice(), b"\x00"],
-    )
-}
-
-/// Runs over this image and this input, of which the first read gives so many bytes, and the next one all others.
-fn run_from(
-    rt: &(impl Abort + AllocGlobal),
-    image: &[u8],
-    input: &[u8],
-    first: usize,
-) -> Result<(Outcome, MemStation), Fail> {
-    let alloc = rt.alloc();
-    let text = PRODUCT.as_bytes().to_vec(alloc)?;
-    let mut product = MemSource::new(alloc, text, Vec::new(alloc), Vec::new(alloc))?;
-    assert!(rt; first >= 1);
-    let pieces = vec![in alloc; first]?;
-    let mut source = MemSource::new(alloc, input.to_vec(alloc)?, pieces, Vec::new(alloc))?;
-    assert!(rt; image.len() <= ROOM);
-    let mut station = station_over(alloc, image, Vec::new(alloc))?;
-    let outcome = run_over(alloc, "run", &mut product, &mut source, &mut station)?;
-    Ok((outcome, station))
-}
-
-/// The reports of both orders.
-const REPORTS: [&str; 4] = [ACCEPTED, SECOND_ACCEPTED, FILLED, SECOND_FILLED];
-
-/// How many bytes the two orders have together.
-const BOTH: usize = 221;
-
-/// How many bytes the first of them has.
-const ONE: usize = 111;
 
 /// What one read gives shares a record. The reports are the same, and so is what `replay` prints.
 #[test]
@@ -76,7 +25,7 @@ fn journals_byte_for_byte(rt: HostRuntime) -> Result<(), Fail> {
     let empty = journal_of(alloc, &[])?;
     assert_eq!(rt; empty.len(), 150);
     assert_eq!(rt; station.image(), empty.as_slice());
-    let orders = join(alloc, &[ORDER, SECOND_ORDER])?;
+    let orders = join(alloc, &ORDERS)?;
     let first = join(alloc, &[ORDER])?;
     let second = join(alloc, &[SECOND_ORDER])?;
     let reports = join(alloc, &REPORTS)?;
@@ -122,7 +71,7 @@ fn expect_kept(rt: &(impl Abort + AllocGlobal), image: &[u8], kept: u64) -> Resu
 #[test]
 fn crash_at_each_call(rt: HostRuntime) -> Result<(), Fail> {
     let alloc = rt.alloc();
-    let orders = join(alloc, &[ORDER, SECOND_ORDER])?;
+    let orders = join(alloc, &ORDERS)?;
     let second_order = join(alloc, &[SECOND_ORDER])?;
     let others = join(alloc, &[SECOND_ACCEPTED, FILLED, SECOND_FILLED])?;
     for (size, calls, second_gate) in [(ONE, 21, 19), (BOTH, 16, 14)] {
@@ -232,7 +181,7 @@ fn journal_limit(rt: HostRuntime) -> Result<(), Fail> {
         let text = LIMITED_PRODUCT.as_bytes().to_vec(alloc)?;
         let mut product = MemSource::new(alloc, text, Vec::new(alloc), Vec::new(alloc))?;
         let mut bytes = heartbeats(alloc, last)?;
-        bytes.extend_from_slice(join(alloc, &[ORDER, SECOND_ORDER])?.as_slice())?;
+        bytes.extend_from_slice(join(alloc, &ORDERS)?.as_slice())?;
         let mut input = MemSource::new(alloc, bytes, Vec::new(alloc), Vec::new(alloc))?;
         let none = Vec::new(alloc);
         let mut station = MemStation::new(alloc, Vec::new(alloc), 140_000, 1_000, 1_000, none)?;
@@ -259,53 +208,6 @@ fn longest_record(rt: HostRuntime) -> Result<(), Fail> {
         assert_eq!(rt; got, ended(0, 0, 4));
         assert_eq!(rt; station.output(), join(alloc, &[ACCEPTED])?.as_slice());
         assert_eq!(rt; station.image().len(), length);
-    }
-    Ok(())
-}
-
-/// Images that are refused: they stay as they are, and nothing is sent.
-#[test]
-fn refused_journals(rt: HostRuntime) -> Result<(), Fail> {
-    let alloc = rt.alloc();
-    let order = join(alloc, &[ORDER])?;
-    let other = PRODUCT.replace(alloc, "protection = 2", "protection = 3")?;
-    let other_journal = image_of(alloc, &[HEADER, other.as_bytes(), b"\x00"])?;
-    let long_record = journal_of(alloc, &[b"\x01M\x00\x00\x00\x64"])?;
-    let no_frame = journal_of(alloc, &[b"\x01M\x00\x00\x00\x05hello"])?;
-    let whole = order.as_slice();
-    assert!(rt; whole.len() >= 110);
-    let cut_frame = journal_of(alloc, &[b"\x01M\x00\x00\x00\x6E", &whole[..110]])?;
-    let good_and_bad: [&[u8]; 3] = [
-        b"\x01M\x00\x00\x00\x6F",
-        order.as_slice(),
-        b"\x01C\x00\x00\x00\x01x",
-    ];
-    let good_and_bad = journal_of(alloc, &good_and_bad)?;
-    // A bad head is answered before a bad payload in front of it.
-    let two_bad = journal_of(
-        alloc,
-        &[b"\x01M\x00\x00\x00\x05hello", b"\x01M\x00\x00\x20\x01"],
-    )?;
-    let bad_header = image_of(
-        alloc,
-        &[b"\x01GXJOURN1\x00\x01\x00\x01", PRODUCT.as_bytes(), b"\x00"],
-    )?;
-    let rows: [(&[u8], Outcome); 9] = [
-        (b"hello", ended(9, 0, 0)),
-        (b"\x01GXJOURN2", ended(9, 8, 0)),
-        (bad_header.as_slice(), ended(10, 9, 0)),
-        (other_journal.as_slice(), ended(11, 131, 0)),
-        (long_record.as_slice(), ended(10, 149, 0)),
-        (no_frame.as_slice(), ended(10, 149, 0)),
-        (cut_frame.as_slice(), ended(10, 149, 0)),
-        (good_and_bad.as_slice(), ended(10, 266, 0)),
-        (two_bad.as_slice(), ended(10, 160, 0)),
-    ];
-    for (image, outcome) in rows {
-        let (got, station) = run_from(&rt, image, order.as_slice(), BOTH)?;
-        assert_eq!(rt; got, outcome);
-        assert_eq!(rt; station.image(), image);
-        assert_eq!(rt; station.output(), b"".as_slice());
     }
     Ok(())
 }
@@ -344,7 +246,7 @@ fn runs_over_a_file(rt: HostRuntime) -> Result<(), Fail> {
         assert_eq!(rt; out.as_slice(), join(alloc, reports)?.as_slice());
     }
     let kept = fs::read(&rt, path)?;
-    let orders = join(alloc, &[ORDER, SECOND_ORDER])?;
+    let orders = join(alloc, &ORDERS)?;
     let (_, station) = run_from(&rt, b"", orders.as_slice(), ONE)?;
     assert_eq!(rt; kept.as_slice(), station.image());
     fs::remove_file(&rt, path)?;

@@ -1,6 +1,5 @@
 //! Journals in memory: two messages in one record, images that are opened or refused, and what failed calls leave.
-use super::journals::journal_of;
-use super::{ORDER, SECOND_ORDER};
+use super::{ORDERS, journal_of};
 use gx_station::Station;
 use match_journal::{AppendFault, Entry, EntryKind, Journal, StartFault};
 use run_fixtures::{PRODUCT, ROOM, join, station_over};
@@ -15,7 +14,7 @@ fn two_messages_in_one_record(rt: HostRuntime) -> Result<(), Fail> {
     let started = Journal::start(&mut station, PRODUCT.as_bytes(), LIMIT);
     let mut journal = started.expect(&rt, "a journal");
     assert_eq!(rt; journal.next_entry(&mut station), Ok(None));
-    let both = join(alloc, &[ORDER, SECOND_ORDER])?;
+    let both = join(alloc, &ORDERS)?;
     assert_eq!(rt; both.len(), 221);
     assert!(rt; journal.at_end());
     let added = journal.append(&mut station, EntryKind::Frames, both.as_slice());

@@ -1,25 +1,9 @@
 //! What the commands print of the stored example and of made messages.
-use super::{ACCEPTED, FILLED, ORDER, SECOND_ACCEPTED, SECOND_FILLED, SECOND_ORDER};
-use globex_run::Outcome;
-use gx_station::{MemSource, MemStation};
-use run_fixtures::{PRODUCT, ended, join, run_over, station_over};
-use std::alloc::{AllocError, Global};
+use super::{ORDERS, REPORTS, execute};
+use gx_station::MemStation;
+use run_fixtures::{ended, join, station_over};
 use std::process::Abort;
 use std::test::Fail;
-
-/// Executes the command of these words over the product and this input.
-pub(super) fn execute(
-    alloc: Global,
-    line: &str,
-    input: &[&str],
-    station: &mut MemStation,
-) -> Result<Outcome, AllocError> {
-    let text = PRODUCT.as_bytes().to_vec(alloc)?;
-    let mut product = MemSource::new(alloc, text, Vec::new(alloc), Vec::new(alloc))?;
-    let input = join(alloc, input)?;
-    let mut input = MemSource::new(alloc, input, Vec::new(alloc), Vec::new(alloc))?;
-    run_over(alloc, line, &mut product, &mut input, station)
-}
 
 /// A command: its words, the frames that are read, the messages that the outcome counts, and what is sent.
 type Step = (
@@ -44,8 +28,6 @@ fn expect_steps(rt: &(impl Abort + AllocGlobal), steps: &[Step]) -> Result<(), F
     Ok(())
 }
 
-const REPORTS: &[&str] = &[ACCEPTED, SECOND_ACCEPTED, FILLED, SECOND_FILLED];
-
 #[test]
 fn printed_forms(rt: HostRuntime) -> Result<(), Fail> {
     expect_steps(
@@ -59,7 +41,7 @@ fn printed_forms(rt: HostRuntime) -> Result<(), Fail> {
                 0,
                 &["total entered 0 filled 0 open 0 cancelled 0\n"],
             ),
-            ("run", &[ORDER, SECOND_ORDER], 2, REPORTS),
+            ("run", &ORDERS, 2, &REPORTS),
             (
                 "book",
                 &[],
@@ -88,7 +70,7 @@ fn printed_forms(rt: HostRuntime) -> Result<(), Fail> {
                 ],
             ),
             ("steps", &[], 0, &["ESZ4 F FIFO\n"]),
-            ("replay", &[], 2, REPORTS),
+            ("replay", &[], 2, &REPORTS),
         ],
     )
 }
@@ -130,12 +112,12 @@ fn replay_after_a_failed_send(rt: HostRuntime) -> Result<(), Fail> {
     let alloc = rt.alloc();
     let fail = vec![in alloc; 16]?;
     let mut station = station_over(alloc, b"", fail)?;
-    let got = execute(alloc, "run", &[ORDER, SECOND_ORDER], &mut station)?;
+    let got = execute(alloc, "run", &ORDERS, &mut station)?;
     assert_eq!(rt; got, ended(6, 0, 2));
     assert!(rt; station.output().is_empty());
     let got = execute(alloc, "replay", &[], &mut station)?;
     assert_eq!(rt; got, ended(0, 0, 2));
-    let sent = join(alloc, REPORTS)?;
+    let sent = join(alloc, &REPORTS)?;
     assert_eq!(rt; station.output(), sent.as_slice());
     Ok(())
 }

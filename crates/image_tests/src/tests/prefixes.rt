@@ -1,0 +1,72 @@
+//! A journal with two orders and a book image, cut at each place.
+use super::checkpoints::IMAGE_HEAD;
+use super::images::{ONE_ORDER, one_order_image};
+use super::{closed, execute, front_of};
+use globex_run::Outcome;
+use run_fixtures::{PRODUCT, ROOM, ended, frames_of, station_over};
+use std::process::Abort;
+use std::test::Fail;
+
+/// Over these first bytes of the journal a run of no messages ends so. Of at most one byte it makes a new journal, and all others
+/// it leaves as they are.
+fn expect_prefix(
+    rt: &(impl Abort + AllocGlobal),
+    journal: &[u8],
+    length: usize,
+    outcome: Outcome,
+) -> Result<(), Fail> {
+    let alloc = rt.alloc();
+    let image = front_of(rt, journal, length)?;
+    assert!(rt; image.len() <= ROOM);
+    let mut station = station_over(alloc, image.as_slice(), Vec::new(alloc))?;
+    let got = execute(alloc, PRODUCT, "run", &[], &mut station)?;
+    assert_eq!(rt; got, outcome, "{length} bytes");
+    assert!(rt; station.output().is_empty());
+    let left = if length > 1 {
+        image
+    } else {
+        closed(alloc, &[front_of(rt, journal, 149)?.as_slice()])?
+    };
+    assert_eq!(rt; station.image(), left.as_slice());
+    Ok(())
+}
+
+/// The least and the greatest of some lengths, the status, and the place: nothing tells what the bytes are, the name of a journal
+/// is cut, the product is cut, the record of the orders is, that of the image is, and nothing is.
+const PREFIXES: [(usize, usize, u8, u64); 12] = [
+    (0, 1, 0, 0),
+    (2, 2, 9, 2),
+    (3, 3, 9, 3),
+    (4, 4, 9, 4),
+    (5, 5, 9, 5),
+    (6, 6, 9, 6),
+    (7, 7, 9, 7),
+    (8, 8, 9, 8),
+    (9, 149, 10, 9),
+    (150, 376, 10, 149),
+    (377, 1_049, 10, 376),
+    (1_050, 1_050, 0, 0),
+];
+
+#[test]
+fn prefixes_of_a_journal(rt: HostRuntime) -> Result<(), Fail> {
+    let alloc = rt.alloc();
+    let orders = frames_of(alloc, &ONE_ORDER)?;
+    let payload = one_order_image(&rt);
+    let parts: [&[u8]; 6] = [
+        b"\x01GXJOURN1\x00\x00\x00\x88",
+        PRODUCT.as_bytes(),
+        b"\x01M\x00\x00\x00\xDD",
+        orders.as_slice(),
+        IMAGE_HEAD,
+        payload.as_slice(),
+    ];
+    let journal = closed(alloc, &parts)?;
+    assert_eq!(rt; journal.len(), 1_050);
+    for (least, greatest, status, at) in PREFIXES {
+        for length in least..=greatest {
+            expect_prefix(&rt, journal.as_slice(), length, ended(status, at, 0))?;
+        }
+    }
+    Ok(())
+}
