@@ -1,4 +1,5 @@
 use Rattle.std.proofs.Common.{ap, ◌∙◌, ◌≡◌, [], map, string_bytes, sym, subst, IfErr, IfOk, None, Some}
+use Rattle.std.specs.Option.{ok_or}
 use Rattle.clap.specs.Faults.{fault_of, is_simple_and_free}
 use Rattle.clap.specs.Kinds.{HasKind}
 use Rattle.clap.specs.Matches.{found_of}
@@ -37,12 +38,16 @@ is_given c =
     (c.in_ok-matches.ensures.matches (ap is_simple app ∙ is_simple_too)).0 ∙ ap (λ (a : App). matches_of a words) app in
     taken words (rows_of (found_of c.in_ok-matches.matches)) none rows ∙ sym c.found_command.ensures
 
+-- what is returned is what was found, or a refusal
+found_or_refused : (c : goal.Joined-matches) → c.ok_or.result ≡ ok_or c.found_command.result Refused
+found_or_refused c = c.ok_or.ensures.value
+
 pub returns-clause-given : goal.returns-clause-given
 returns-clause-given c =
     let words = map string_bytes c.args.words.now in
-    subst (λ r. IfOk r (λ command. command_of words ≡ Some command)) (sym c.ok_or.ensures.value) (given_by words c.found_command.result (is_given c))
+    subst (λ r. IfOk r (λ command. command_of words ≡ Some command)) (sym (found_or_refused c)) (given_by words c.found_command.result (is_given c))
 
 pub returns-clause-refused : goal.returns-clause-refused
 returns-clause-refused c =
     let words = map string_bytes c.args.words.now in
-    subst (λ r. IfErr r (λ fault. fault ≡ Refused → command_of words ≡ None)) (sym c.ok_or.ensures.value) (refused_by words c.found_command.result (is_given c))
+    subst (λ r. IfErr r (λ fault. fault ≡ Refused → command_of words ≡ None)) (sym (found_or_refused c)) (refused_by words c.found_command.result (is_given c))
