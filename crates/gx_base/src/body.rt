@@ -3,18 +3,18 @@
 ghost use Rattle.std.specs.Prelude.{◌≡◌, ◌+◌, ◌*◌, ◌≤◌, ◌++◌, ◌==◌, if◌then◌else◌, Some, None, codes, decimal, length, take};
 ghost use Rattle.std.specs.Option.{option_copied};
 ghost use Rattle.gx_base.specs.Frames.{field};
-ghost use Rattle.gx_base.specs.Line.{field_if, cause_text, number_text, cancel_id, cancelled_id, line_head, id_fields, report_fields, price_fields, order_fields, order_front, state_fields, trade_fields, refused_fields, wanted_fields, nothing_fields, fault_fields, request_fields, change_fields, session_fields, body_of};
+ghost use Rattle.gx_base.specs.Line.{field_if, addressee, instrument_name, cause_text, number_text, cancel_id, cancelled_id, line_head, id_fields, report_fields, price_fields, order_fields, order_front, state_fields, trade_fields, refused_fields, wanted_fields, nothing_fields, fault_fields, request_fields, change_fields, session_fields, body_of};
 
 use crate::event::{Cause, ChangeFault, Event, Head, NewFault, NewRefused};
-use crate::fields::{LONGEST_FIELD, field, number, price};
+use crate::fields::{LONGEST_FIELD, field, name, number, price, time, word};
 use crate::id::ShortId;
 use crate::limits::{LONGEST_VALUE, MOST_DECIMALS};
 use crate::names::Names;
 use crate::order::{Kind, Order};
 use crate::price::Price;
 use crate::values::{
-    addressee, change_reason, change_status, change_text, fault_text, fill_status, kind_text,
-    life_text, listed, reject_reason, response_text, rule_text, side_text, step_text,
+    change_reason, change_status, change_text, decimals_of, fault_text, fill_status, kind_text,
+    life_text, reject_reason, response_text, rule_text, side_text, step_text,
 };
 
 /// The ids in the report of an order.
@@ -54,7 +54,7 @@ pub(crate) fn write_body(into: &mut [u8], at: usize, event: &Event, names: &Name
         } => {
             let status = fill_status(order.leaves);
             let at = order_front(into, at, names, head, order, own_id(order), status);
-            let decimals = listed(names, order.instrument).decimals;
+            let decimals = decimals_of(names, order.instrument);
             let at = trade_fields(into, at, *lots, *price, decimals);
             let at = state_fields(into, at, head, order);
             let at = field(into, at, b"9001=", step_text(*step));
@@ -135,13 +135,38 @@ fn line_head(into: &mut [u8], at: usize, names: &Names, message_type: &[u8], hea
     ensures fields { take result into.new ≡ take at into.old ++ line_head names.now message_type.now head.now }
     ensures short { result ≤ at + 5 * LONGEST_FIELD }
 {
-    let exchange = names.exchange();
-    let firm = addressee(names, head.firm);
     let at = field(into, at, b"35=", message_type);
     let at = number(into, at, b"34=", head.line);
-    let at = field(into, at, b"49=", exchange.bytes());
-    let at = field(into, at, b"52=", head.time.bytes());
-    field(into, at, b"56=", firm.bytes())
+    let at = name(into, at, b"49=", names.exchange_name());
+    let at = time(into, at, b"52=", &head.time);
+    addressee_field(into, at, names, head.firm)
+}
+
+/// The name of the addressee, `UNKNOWN` where it is not known or not listed.
+fn addressee_field(into: &mut [u8], at: usize, names: &Names, firm: Option<u8>) -> usize
+    requires { at + LONGEST_FIELD ≤ length into.old }
+    ensures field { take result into.new ≡ take at into.old ++ field "56" (addressee names.now firm) }
+    ensures short { result ≤ at + LONGEST_FIELD }
+{
+    match firm {
+        Some(firm) if (firm as usize) < names.firm_count() => {
+            name(into, at, b"56=", names.firm_name(firm))
+        }
+        _ => word(into, at, b"56=", b"UNKNOWN"),
+    }
+}
+
+/// The name of an instrument, `UNKNOWN` where it is not listed.
+fn instrument_field(into: &mut [u8], at: usize, names: &Names, instrument: u8) -> usize
+    requires { at + LONGEST_FIELD ≤ length into.old }
+    ensures field { take result into.new ≡ take at into.old ++ field "55" (instrument_name names.now instrument) }
+    ensures short { result ≤ at + LONGEST_FIELD }
+{
+    if (instrument as usize) < names.instrument_count() {
+        name(into, at, b"55=", &names.listed_lent(instrument).name)
+    } else {
+        word(into, at, b"55=", b"UNKNOWN")
+    }
 }
 
 /// An execution report of an order up to what was ordered.
@@ -172,7 +197,7 @@ fn id_fields(into: &mut [u8], at: usize, order_number: u64, ids: Ids<'_>) -> usi
     ensures short { result ≤ at + 3 * LONGEST_FIELD }
 {
     let at = number(into, at, b"37=", order_number);
-    let at = field(into, at, b"11=", ids.id.bytes());
+    let at = name(into, at, b"11=", ids.id);
     old_field(into, at, ids.old)
 }
 
@@ -183,7 +208,7 @@ fn old_field(into: &mut [u8], at: usize, old: Option<&ShortId>) -> usize
     ensures short { result ≤ at + LONGEST_FIELD }
 {
     match old {
-        Some(old) => field(into, at, b"41=", old.bytes()),
+        Some(old) => name(into, at, b"41=", old),
         None => at,
     }
 }
@@ -232,12 +257,11 @@ fn order_fields(into: &mut [u8], at: usize, names: &Names, order: &Order) -> usi
     ensures fields { take result into.new ≡ take at into.old ++ order_fields names.now order.now }
     ensures short { result ≤ at + 7 * LONGEST_FIELD }
 {
-    let instrument = listed(names, order.instrument);
-    let at = field(into, at, b"55=", instrument.name.bytes());
+    let at = instrument_field(into, at, names, order.instrument);
     let at = field(into, at, b"54=", side_text(order.side));
     let at = number(into, at, b"38=", u64::from(order.quantity));
     let at = field(into, at, b"40=", kind_text(order.kind));
-    let at = price_fields(into, at, order, instrument.decimals);
+    let at = price_fields(into, at, order, decimals_of(names, order.instrument));
     field(into, at, b"59=", life_text(order.life))
 }
 
@@ -278,7 +302,7 @@ fn state_fields(into: &mut [u8], at: usize, head: &Head, order: &Order) -> usize
     let at = number(into, at, b"151=", u64::from(order.leaves));
     let at = number(into, at, b"14=", u64::from(order.filled));
     let at = field(into, at, b"6=", b"0");
-    field(into, at, b"60=", head.time.bytes())
+    time(into, at, b"60=", &head.time)
 }
 
 /// Why an order is cancelled, in our own words, where the client did not ask for it.
@@ -321,7 +345,7 @@ fn wanted_fields(into: &mut [u8], at: usize, order: &NewRefused) -> usize
     ensures fields { take result into.new ≡ take at into.old ++ wanted_fields order.now }
     ensures short { result ≤ at + 5 * LONGEST_FIELD }
 {
-    let at = field(into, at, b"55=", order.symbol.bytes());
+    let at = name(into, at, b"55=", &order.symbol);
     let at = field(into, at, b"54=", side_text(order.side));
     let at = number(into, at, b"38=", u64::from(order.quantity));
     let at = field(into, at, b"40=", kind_text(order.kind));
@@ -337,7 +361,7 @@ fn nothing_fields(into: &mut [u8], at: usize, head: &Head) -> usize
     let at = field(into, at, b"151=", b"0");
     let at = field(into, at, b"14=", b"0");
     let at = field(into, at, b"6=", b"0");
-    field(into, at, b"60=", head.time.bytes())
+    time(into, at, b"60=", &head.time)
 }
 
 /// Why a new order is refused, and how much of it ends with that.
@@ -363,8 +387,8 @@ fn request_fields(
     ensures short { result ≤ at + 3 * LONGEST_FIELD }
 {
     let at = number_field(into, at, order_number);
-    let at = field(into, at, b"11=", id.bytes());
-    field(into, at, b"41=", old.bytes())
+    let at = name(into, at, b"11=", id);
+    name(into, at, b"41=", old)
 }
 
 /// The number of an order, or `NONE` where there is none.
@@ -397,7 +421,7 @@ fn change_fields(
     let at = field(into, at, b"434=", response_text(replace));
     let at = field(into, at, b"102=", change_reason(fault));
     let at = field(into, at, b"58=", change_text(fault));
-    field(into, at, b"60=", head.time.bytes())
+    time(into, at, b"60=", &head.time)
 }
 
 /// Which message is rejected, at which tag where it is one, and why.

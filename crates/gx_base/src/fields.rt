@@ -6,8 +6,10 @@ ghost use Rattle.gx_base.specs.Numbers.{price_text};
 
 use crate::bytes::{append, append_few};
 use crate::decimal::append_number;
+use crate::id::ShortId;
 use crate::limits::{LONGEST_LINE, LONGEST_VALUE, MOST_DECIMALS, SOH};
 use crate::price::{Price, append_price};
+use crate::stamp::Stamp;
 use crate::trailer::{checksum, trailer_with};
 
 /// How many bytes a tag has at most, with its `=`.
@@ -61,6 +63,46 @@ pub fn price(into: &mut [u8], at: usize, tag: &[u8], price: Price, decimals: u8)
 {
     let end = append_few(into, at, tag);
     let end = append_price(into, end, price, decimals);
+    append_few(into, end, &[SOH])
+}
+
+/// Writes a field whose value is a name, as `field` does; what stands behind it is left open.
+#[inline]
+pub(crate) fn name(into: &mut [u8], at: usize, tag: &[u8], name: &ShortId) -> usize
+    requires room { at + LONGEST_FIELD ≤ length into.old }
+    requires tag { length tag.now ≤ LONGEST_TAG }
+    ensures field { take result into.new ≡ take at into.old ++ (tag.now ++ name.now ++ SOH ∷ []) }
+    ensures short { result ≤ at + LONGEST_FIELD }
+{
+    let end = append_few(into, at, tag);
+    let end = name.append_to(into, end);
+    append_few(into, end, &[SOH])
+}
+
+/// Writes a field whose value is a time, as `name` does.
+#[inline]
+pub(crate) fn time(into: &mut [u8], at: usize, tag: &[u8], time: &Stamp) -> usize
+    requires room { at + LONGEST_FIELD ≤ length into.old }
+    requires tag { length tag.now ≤ LONGEST_TAG }
+    ensures field { take result into.new ≡ take at into.old ++ (tag.now ++ time.now ++ SOH ∷ []) }
+    ensures short { result ≤ at + LONGEST_FIELD }
+{
+    let end = append_few(into, at, tag);
+    let end = time.append_to(into, end);
+    append_few(into, end, &[SOH])
+}
+
+/// Writes a field whose value is a constant, as `name` does, byte by byte: the compiler makes a few stores of that.
+#[inline]
+pub(crate) fn word(into: &mut [u8], at: usize, tag: &[u8], word: &[u8]) -> usize
+    requires room { at + LONGEST_FIELD ≤ length into.old }
+    requires tag { length tag.now ≤ LONGEST_TAG }
+    requires word { length word.now ≤ LONGEST_VALUE }
+    ensures field { take result into.new ≡ take at into.old ++ (tag.now ++ word.now ++ SOH ∷ []) }
+    ensures short { result ≤ at + LONGEST_FIELD }
+{
+    let end = append_few(into, at, tag);
+    let end = append_few(into, end, word);
     append_few(into, end, &[SOH])
 }
 

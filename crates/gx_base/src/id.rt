@@ -1,5 +1,5 @@
 //! Names: firms, instruments, the exchange, and the ids that clients give their orders.
-ghost use Rattle.std.specs.Prelude.{◌≡◌, SomeIff, IsTrue, codes};
+ghost use Rattle.std.specs.Prelude.{◌≡◌, ◌+◌, ◌≤◌, ◌++◌, SomeIff, IsTrue, codes, length, take};
 ghost use Rattle.std.specs.List.{list_all};
 ghost use Rattle.gx_base.specs.Texts.{is_name, is_name_byte};
 
@@ -49,6 +49,16 @@ impl ShortId {
         ensures name { IsTrue (is_name result.now) }
     {
         self.text.bytes()
+    }
+
+    /// Writes the bytes of the name behind the first `at` of `into`, as those of its text are.
+    #[inline]
+    pub(crate) fn append_to(&self, into: &mut [u8], at: usize) -> usize
+        requires { at + LONGEST_NAME ≤ length into.old }
+        ensures bytes { take result into.new ≡ take at into.old ++ self.now }
+        ensures short { result ≤ at + LONGEST_NAME }
+    {
+        self.text.append_to(into, at)
     }
 }
 

@@ -65,6 +65,13 @@ impl Names {
         self.exchange
     }
 
+    /// Lends the exchange's name.
+    pub(crate) fn exchange_name(&self) -> &ShortId
+        ensures { result.now ≡ self.now.exchange }
+    {
+        &self.exchange
+    }
+
     /// How many firms are listed, at most `MOST_FIRMS`.
     pub fn firm_count(&self) -> usize
         ensures count { result ≡ length self.now.firms }
@@ -89,6 +96,14 @@ impl Names {
         self.firms[number as usize]
     }
 
+    /// Lends the name of the firm with this number, which is below `firm_count`.
+    pub(crate) fn firm_name(&self, number: u8) -> &ShortId
+        requires { number < length self.now.firms }
+        ensures { slice_get self.now.firms number ≡ Some result.now }
+    {
+        &self.firms[number as usize]
+    }
+
     /// The instrument with this number, which is below `instrument_count`. Its prices have at most
     /// `MOST_DECIMALS` decimals.
     pub fn listed(&self, number: u8) -> Listed
@@ -97,6 +112,15 @@ impl Names {
         ensures decimals { result.decimals ≤ MOST_DECIMALS }
     {
         self.instruments[number as usize]
+    }
+
+    /// Lends the instrument with this number, which is below `instrument_count`, as `listed` copies it.
+    pub(crate) fn listed_lent(&self, number: u8) -> &Listed
+        requires { number < length self.now.instruments }
+        ensures listed { slice_get self.now.instruments number ≡ Some result.now }
+        ensures decimals { result.now.decimals ≤ MOST_DECIMALS }
+    {
+        &self.instruments[number as usize]
     }
 
     /// The number of the firm with this name. `None` exactly where no firm has it.

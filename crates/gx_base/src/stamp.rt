@@ -1,16 +1,19 @@
 //! Times as messages write them.
-ghost use Rattle.std.specs.Prelude.{◌≡◌, ◌+◌, ◌≤◌, SomeIff, IsTrue, length, codes};
+ghost use Rattle.std.specs.Prelude.{◌≡◌, ◌+◌, ◌≤◌, ◌++◌, SomeIff, IsTrue, length, take, codes};
 ghost use Rattle.gx_base.specs.Texts.{is_time_text, is_time_of_seconds, has_two_digits, is_stamp};
 
 use crate::digits::are_digits;
 use crate::text::Text;
 use std::marker::Model;
 
+/// How many bytes a time has at most.
+pub(crate) const LONGEST_STAMP: usize = 21;
+
 /// A time of a message, as its text: `YYYYMMDD-HH:MM:SS`, with or without `.` and three digits (the UTC timestamp of
 /// FIX 4.2), or `00000000-00:00:00` for none. Contracts see it as this text.
 #[derive(Clone, Copy, Debug, PartialEq, Eq)]
 pub struct Stamp {
-    text: Text<21>,
+    text: Text<LONGEST_STAMP>,
 }
 
 impl Model for Stamp {
@@ -58,6 +61,16 @@ impl Stamp {
         ensures stamp { IsTrue (is_stamp result.now) }
     {
         self.text.bytes()
+    }
+
+    /// Writes the text behind the first `at` bytes of `into`, as `Text` does.
+    #[inline]
+    pub(crate) fn append_to(&self, into: &mut [u8], at: usize) -> usize
+        requires { at + LONGEST_STAMP ≤ length into.old }
+        ensures bytes { take result into.new ≡ take at into.old ++ self.now }
+        ensures short { result ≤ at + LONGEST_STAMP }
+    {
+        self.text.append_to(into, at)
     }
 }
 

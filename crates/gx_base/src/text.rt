@@ -1,6 +1,7 @@
 //! Short texts in fixed room, which can be copied.
-ghost use Rattle.std.specs.Prelude.{◌≡◌, ◌≤◌, length};
+ghost use Rattle.std.specs.Prelude.{◌≡◌, ◌+◌, ◌≤◌, ◌++◌, length, take};
 
+use crate::bytes::append_few;
 use std::marker::Model;
 
 /// At most `N` bytes. Contracts see it as these bytes.
@@ -45,5 +46,19 @@ impl<const N: usize> Text<N> {
         ensures { result.now ≡ self.now }
     {
         &self.bytes[..self.len]
+    }
+
+    /// Writes the bytes behind the first `at` of `into`, and answers where they end. It copies all of its room, whose length
+    /// the compiler knows, so what stands in the `N` bytes behind `at` is left open.
+    #[inline]
+    pub(crate) fn append_to(&self, into: &mut [u8], at: usize) -> usize
+        requires { at + N ≤ length into.old }
+        ensures bytes { take result into.new ≡ take at into.old ++ self.now }
+        ensures end { result ≡ at + length self.now }
+        ensures short { result ≤ at + N }
+    {
+        let room = self.bytes;
+        append_few(into, at, &room);
+        at + self.len
     }
 }

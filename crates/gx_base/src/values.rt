@@ -31,6 +31,18 @@ pub fn listed(names: &Names, instrument: u8) -> Listed
     }
 }
 
+/// How many decimals the prices of an instrument have, 0 where it is not listed.
+pub(crate) fn decimals_of(names: &Names, instrument: u8) -> u8
+    ensures decimals { result ≡ decimals_of names.now instrument }
+    ensures few { result ≤ MOST_DECIMALS }
+{
+    if (instrument as usize) < names.instrument_count() {
+        names.listed_lent(instrument).decimals
+    } else {
+        0
+    }
+}
+
 /// The value of tag 54 in FIX 4.2.
 pub fn side_text(side: Side) -> &'static [u8]
     ensures text { result.now ≡ side_text side }
