@@ -1,9 +1,9 @@
 -- The head of a frame, written into the gap before the body, and the frame that this makes.
 use Rattle.std.proofs.Common.{◌≡◌, ℕ, ◌+◌, ◌-◌, ◌^◌, ◌<◌, ◌≤◌, List, ◌++◌, length, take, drop, decimal, sym, ◌∙◌, ap, length-append, length-drop, arith}
-use Rattle.std.proofs.lemmas.List.{drop_at, drop-drop, drop-take, length-take-le}
+use Rattle.std.proofs.lemmas.List.{drop_at, drop-drop, drop-take, length-take-le, take-take}
 use Rattle.std.proofs.lemmas.List.Edits.{take-paste}
 use Rattle.std.proofs.lemmas.Fmt.{length-decimal-le}
-use Rattle.std.proofs.Math.Seq.{take-add, paste}
+use Rattle.std.proofs.Math.Seq.{take-add, take-append-add, paste}
 use Rattle.gx_base.specs.Frames.{frame_of}
 use Rattle.gx_base.specs.declared.fields.TheConstants.{GAP}
 
@@ -59,3 +59,12 @@ framed old new body whole end room fits is whole_is =
     whole_is
     ∙ ap (λ n. frame_of (decimal n) (drop GAP (take end new))) count
     ∙ ap (λ (l : List ℕ). frame_of (decimal (length body)) l) rest
+
+-- of what was written behind `at`, the first bytes
+pub front_of : (at len end : ℕ) (old new room : List ℕ) → at ≤ length old → at + len ≤ end → take end new ≡ take at old ++ room → take (at + len) new ≡ take at old ++ take len room
+front_of at len end old new room fits within is =
+    let before : List ℕ = take at old in
+    sym (take-take (at + len) end new within)
+    ∙ ap (take (at + len)) is
+    ∙ ap (λ k. take (k + len) (before ++ room)) (sym (length-take-le at old fits))
+    ∙ take-append-add before room len

@@ -69,6 +69,15 @@ fn append_pair(into: &mut [u8], at: usize, n: u64) -> usize
     ensures behind { drop result into.new ≡ drop result into.old }
     ensures end { result ≡ at + 2 }
 {
+    append_few(into, at, &pair(n))
+}
+
+/// Both digits of a number below 100, the first of which may be 0.
+#[inline]
+pub(crate) fn pair(n: u64) -> [u8; 2]
+    requires { n < 100 }
+    ensures { result ≡ (48 + n / 10) ∷ (48 + n % 10) ∷ [] }
+{
     let place = n as usize * 2;
-    append_few(into, at, &[PAIRS[place], PAIRS[place + 1]])
+    [PAIRS[place], PAIRS[place + 1]]
 }

@@ -1,7 +1,7 @@
 //! Fields in a row, and the frame round them. Each call writes behind the first `at` bytes of the room that it is lent,
 //! and answers where what it wrote ends.
 ghost use Rattle.std.specs.Prelude.{◌≡◌, ◌+◌, ◌-◌, ◌<◌, ◌≤◌, [], ◌∷◌, ◌++◌, length, take, drop, decimal};
-ghost use Rattle.gx_base.specs.Frames.{head_of, trailer_of, frame_of};
+ghost use Rattle.gx_base.specs.Frames.{head_of, checksum_of, trailer_of, frame_of};
 ghost use Rattle.gx_base.specs.Numbers.{price_text};
 
 use crate::bytes::{append, append_few};
@@ -20,6 +20,9 @@ pub const LONGEST_FIELD: usize = LONGEST_TAG + LONGEST_VALUE + 1;
 
 /// Room before a body for its head, whose length has at most three digits.
 pub const GAP: usize = 16;
+
+/// How many bytes the compiler sums at a time.
+const BLOCK: usize = 32;
 
 /// Writes a field: its tag and `=`, its value, and SOH. Answers where it ends, at most `LONGEST_FIELD` bytes further.
 #[inline]
@@ -92,13 +95,15 @@ pub(crate) fn time(into: &mut [u8], at: usize, tag: &[u8], time: &Stamp) -> usiz
     append_few(into, end, &[SOH])
 }
 
-/// Writes a field whose value is a constant, as `name` does, byte by byte: the compiler makes a few stores of that.
+/// Writes a field whose value is a constant, as `field` does, byte by byte: the compiler makes a few stores of that.
 #[inline]
 pub(crate) fn word(into: &mut [u8], at: usize, tag: &[u8], word: &[u8]) -> usize
     requires room { at + LONGEST_FIELD ≤ length into.old }
     requires tag { length tag.now ≤ LONGEST_TAG }
     requires word { length word.now ≤ LONGEST_VALUE }
     ensures field { take result into.new ≡ take at into.old ++ (tag.now ++ word.now ++ SOH ∷ []) }
+    ensures behind { drop result into.new ≡ drop result into.old }
+    ensures end { result ≡ at + length tag.now + length word.now + 1 }
     ensures short { result ≤ at + LONGEST_FIELD }
 {
     let end = append_few(into, at, tag);
@@ -145,16 +150,27 @@ fn head_fields(into: &mut [u8], count: usize) -> usize
     ensures behind { drop result into.new ≡ drop result into.old }
     ensures short { result ≤ GAP }
 {
-    let at = field(into, 0, b"8=", b"FIX.4.2");
+    let at = word(into, 0, b"8=", b"FIX.4.2");
     number(into, at, b"9=", count as u64)
 }
 
 /// Writes the trailer of the first `end` bytes behind them.
 fn put_trailer(into: &mut [u8], end: usize) -> usize
-    requires { end + LONGEST_FIELD ≤ length into.old }
+    requires { end + BLOCK ≤ length into.old }
     ensures trailer { take result into.new ≡ take end into.old ++ trailer_of (take end into.old) }
     ensures short { result ≤ end + LONGEST_FIELD }
 {
-    let trailer = trailer_with(checksum(&into[..end]));
-    append(into, end, &trailer)
+    let trailer = trailer_with(checksum_before(into, end));
+    append_few(into, end, &trailer)
+}
+
+/// The checksum of the first `end` bytes. The block behind them is filled with zeros, so that whole blocks are summed.
+fn checksum_before(into: &mut [u8], end: usize) -> u8
+    requires { end + BLOCK ≤ length into.old }
+    ensures sum { result ≡ checksum_of (take end into.old) }
+    ensures before { take end into.new ≡ take end into.old }
+{
+    append_few(into, end, &[0; BLOCK]);
+    let whole = (end + BLOCK - 1) / BLOCK * BLOCK;
+    checksum(&into[..whole])
 }

@@ -1,5 +1,5 @@
 //! Prices in units, and their texts.
-ghost use Rattle.std.specs.Prelude.{◌≡◌, ◌+◌, ◌-◌, ◌≤◌, ◌++◌, ◌&&◌, nat_le, min, IsTrue, length, take, drop, replicate};
+ghost use Rattle.std.specs.Prelude.{◌≡◌, ◌+◌, ◌-◌, ◌^◌, ◌≤◌, ◌++◌, ◌&&◌, nat_le, min, IsTrue, length, take, drop, replicate};
 ghost use Rattle.std.specs.Str.Parse.{digits_value};
 ghost use Rattle.gx_base.specs.Numbers.{are_digits, are_zeros, has_minus, signed_units, unsigned_text, fraction_text, price_of, price_text};
 
@@ -12,6 +12,19 @@ use thiserror::Error;
 
 /// How many bytes a price has at most in a message (our own rule, within the float format of FIX 4.2).
 const LONGEST_PRICE: usize = 32;
+
+/// 10 to the power of each number of decimals, which a price is divided by in each report.
+static POWERS_OF_TEN: [u64; MOST_DECIMALS as usize + 1] = [
+    1,
+    10,
+    100,
+    1_000,
+    10_000,
+    100_000,
+    1_000_000,
+    10_000_000,
+    100_000_000,
+];
 
 /// A price in units, which are 10 to the power of minus the instrument's decimals.
 #[derive(Clone, Copy, Debug, PartialEq, Eq)]
@@ -110,8 +123,9 @@ fn with_sign(units: u64, negative: bool) -> i64
     if negative { -units } else { units }
 }
 
-/// Writes a price as `append_price` does, into the front of `into`, and answers how many bytes that takes; what stands
-/// behind them is left open.
+/// Writes a price with exactly `decimals` digits behind the point, at most `MOST_DECIMALS`, into the front of `into`, and
+/// answers how many bytes that takes; what stands behind them is left open. There is at least one digit before the point,
+/// and no point where `decimals` is 0. It takes every `i64`, also those that `read_price` refuses.
 pub fn write_price(price: Price, decimals: u8, into: &mut [u8; LONGEST_VALUE]) -> usize
     requires { decimals ≤ MOST_DECIMALS }
     ensures text { take result into.new ≡ price_text price decimals }
@@ -121,9 +135,7 @@ pub fn write_price(price: Price, decimals: u8, into: &mut [u8; LONGEST_VALUE]) -
     append_price(into, 0, price, decimals)
 }
 
-/// Writes a price with exactly `decimals` digits behind the point, at most `MOST_DECIMALS`, behind the first `at` bytes of
-/// `into`, and answers where it ends. There is at least one digit before the point, and no point where `decimals` is 0. It
-/// takes every `i64`, also those that `read_price` refuses.
+/// Writes a price as `write_price` does, but behind the first `at` bytes of `into`, and answers where it ends.
 pub(crate) fn append_price(into: &mut [u8], at: usize, price: Price, decimals: u8) -> usize
     requires few { decimals ≤ MOST_DECIMALS }
     requires room { at + LONGEST_VALUE ≤ length into.old }
@@ -134,8 +146,17 @@ pub(crate) fn append_price(into: &mut [u8], at: usize, price: Price, decimals: u
     let units = price.0.unsigned_abs();
     let sign: &[u8] = if price.0 < 0 { b"-" } else { b"" };
     let end = append(into, at, sign);
-    let end = append_number(into, end, units / 10u64.pow(decimals as u32));
+    let end = append_number(into, end, units / power_of_ten(decimals));
     append_fraction(into, end, units, decimals)
+}
+
+/// How many units there are in one, with so many decimals.
+#[inline]
+fn power_of_ten(decimals: u8) -> u64
+    requires { decimals ≤ MOST_DECIMALS }
+    ensures { result ≡ 10 ^ decimals }
+{
+    POWERS_OF_TEN[decimals as usize]
 }
 
 /// Writes a point and the last `decimals` digits of a number behind the first `end` bytes of `into`, or nothing where

@@ -2,6 +2,7 @@
 ghost use Rattle.std.specs.Prelude.{◌≡◌};
 ghost use Rattle.gx_base.specs.Frames.{checksum_of, trailer_with};
 
+use crate::decimal::pair;
 use crate::limits::SOH;
 
 /// How many bytes a trailer has: the tag 10 and `=`, three digits, and SOH (FIX 4.2).
@@ -23,7 +24,6 @@ pub fn trailer_with(checksum: u8) -> [u8; TRAILER_LENGTH]
     ensures { result ≡ trailer_with checksum }
 {
     let hundreds = b'0' + checksum / 100;
-    let tens = b'0' + checksum / 10 % 10;
-    let ones = b'0' + checksum % 10;
-    [b'1', b'0', b'=', hundreds, tens, ones, SOH]
+    let rest = pair(u64::from(checksum % 100));
+    [b'1', b'0', b'=', hundreds, rest[0], rest[1], SOH]
 }

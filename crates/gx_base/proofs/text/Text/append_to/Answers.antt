@@ -1,16 +1,6 @@
-use Rattle.std.proofs.Common.{◌≡◌, ℕ, ◌+◌, ◌≤◌, List, ◌++◌, length, take, sym, ◌∙◌, ap, arith}
-use Rattle.std.proofs.lemmas.List.{length-take-le, take-take}
-use Rattle.std.proofs.Math.Seq.{take-append-add}
+use Rattle.std.proofs.Common.{◌++◌, ℕ, List, take, ◌∙◌, ap, arith}
+use Rattle.gx_base.proofs.Framing.{front_of}
 use Rattle.gx_base.proofs.text.Text.append_to.Goals as goal
-
--- of what was written behind `at`, the first bytes
-front_of : (at len end : ℕ) (old new room : List ℕ) → at ≤ length old → at + len ≤ end → take end new ≡ take at old ++ room → take (at + len) new ≡ take at old ++ take len room
-front_of at len end old new room fits within is =
-    let before : List ℕ = take at old in
-    sym (take-take (at + len) end new within)
-    ∙ ap (take (at + len)) is
-    ∙ ap (λ k. take (k + len) (before ++ room)) (sym (length-take-le at old fits))
-    ∙ take-append-add before room len
 
 pub returns-clause-bytes : goal.returns-clause-bytes
 returns-clause-bytes g c =
