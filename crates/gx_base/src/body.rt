@@ -3,9 +3,9 @@
 ghost use Rattle.std.specs.Prelude.{◌≡◌, ◌+◌, ◌*◌, ◌≤◌, ◌++◌, ◌==◌, if◌then◌else◌, Some, None, codes, decimal, length, take};
 ghost use Rattle.std.specs.Option.{option_copied};
 ghost use Rattle.gx_base.specs.Frames.{field};
-ghost use Rattle.gx_base.specs.Line.{field_if, addressee, instrument_name, cause_text, number_text, cancel_id, cancelled_id, line_head, id_fields, report_fields, price_fields, order_fields, order_front, state_fields, trade_fields, refused_fields, wanted_fields, nothing_fields, fault_fields, request_fields, change_fields, session_fields, body_of};
+ghost use Rattle.gx_base.specs.Line.{field_if, addressee, instrument_name, step_text, cause_text, number_text, cancel_id, cancelled_id, line_head, id_fields, report_fields, price_fields, order_fields, order_front, state_fields, trade_fields, refused_fields, wanted_fields, nothing_fields, fault_fields, request_fields, change_fields, session_fields, body_of};
 
-use crate::event::{Cause, ChangeFault, Event, Head, NewFault, NewRefused};
+use crate::event::{Cause, ChangeFault, Event, Head, NewFault, NewRefused, StepName};
 use crate::fields::{LONGEST_FIELD, field, name, number, price, time, word};
 use crate::id::ShortId;
 use crate::limits::{LONGEST_VALUE, MOST_DECIMALS};
@@ -14,7 +14,7 @@ use crate::order::{Kind, Order};
 use crate::price::Price;
 use crate::values::{
     change_reason, change_status, change_text, decimals_of, fault_text, fill_status, kind_text,
-    life_text, reject_reason, response_text, rule_text, side_text, step_text,
+    life_text, reject_reason, response_text, rule_text, side_text,
 };
 
 /// The ids in the report of an order.
@@ -34,12 +34,12 @@ pub(crate) fn write_body(into: &mut [u8], at: usize, event: &Event, names: &Name
 {
     match event {
         Event::Accepted { head, order } => {
-            let at = order_front(into, at, names, head, order, own_id(order), b"0");
+            let at = own_front(into, at, names, head, order, b"0");
             let at = state_fields(into, at, head, order);
             field(into, at, b"9003=", b"0")
         }
         Event::Triggered { head, order } => {
-            let at = order_front(into, at, names, head, order, own_id(order), b"0");
+            let at = own_front(into, at, names, head, order, b"0");
             let at = state_fields(into, at, head, order);
             let at = field(into, at, b"58=", b"TRIGGERED");
             field(into, at, b"9003=", b"0")
@@ -52,12 +52,11 @@ pub(crate) fn write_body(into: &mut [u8], at: usize, event: &Event, names: &Name
             step,
             trade,
         } => {
-            let status = fill_status(order.leaves);
-            let at = order_front(into, at, names, head, order, own_id(order), status);
+            let at = own_front(into, at, names, head, order, fill_status(order.leaves));
             let decimals = decimals_of(names, order.instrument);
             let at = trade_fields(into, at, *lots, *price, decimals);
             let at = state_fields(into, at, head, order);
-            let at = field(into, at, b"9001=", step_text(*step));
+            let at = step_field(into, at, *step);
             let at = number(into, at, b"9002=", *trade);
             field(into, at, b"9003=", b"0")
         }
@@ -68,15 +67,7 @@ pub(crate) fn write_body(into: &mut [u8], at: usize, event: &Event, names: &Name
             by,
             cause,
         } => {
-            let at = order_front(
-                into,
-                at,
-                names,
-                head,
-                order,
-                cancel_ids(order, by.as_ref()),
-                b"4",
-            );
+            let at = cancelled_front(into, at, names, head, order, by);
             let at = state_fields(into, at, head, order);
             let at = cause_field(into, at, *cause);
             number(into, at, b"9003=", u64::from(*gone))
@@ -87,11 +78,7 @@ pub(crate) fn write_body(into: &mut [u8], at: usize, event: &Event, names: &Name
             old,
             ..
         } => {
-            let ids = Ids {
-                id: &order.id,
-                old: Some(old),
-            };
-            let at = order_front(into, at, names, head, order, ids, b"5");
+            let at = replaced_front(into, at, names, head, order, old);
             let at = state_fields(into, at, head, order);
             field(into, at, b"9003=", b"0")
         }
@@ -188,6 +175,60 @@ fn order_front(
     let at = id_fields(into, at, order.number, ids);
     let at = report_fields(into, at, head, status);
     order_fields(into, at, names, order)
+}
+
+/// The front of a report of an order under its own id.
+fn own_front(
+    into: &mut [u8],
+    at: usize,
+    names: &Names,
+    head: &Head,
+    order: &Order,
+    status: &[u8],
+) -> usize
+    requires room { at + 19 * LONGEST_FIELD ≤ length into.old }
+    requires short_status { length status.now ≤ LONGEST_VALUE }
+    ensures fields { take result into.new ≡ take at into.old ++ order_front names.now head.now order.now order.now.id None status.now }
+    ensures short { result ≤ at + 19 * LONGEST_FIELD }
+{
+    order_front(into, at, names, head, order, own_id(order), status)
+}
+
+/// The front of a report that an order is cancelled, under the id of the cancel where one asked for it.
+fn cancelled_front(
+    into: &mut [u8],
+    at: usize,
+    names: &Names,
+    head: &Head,
+    order: &Order,
+    by: &Option<ShortId>,
+) -> usize
+    requires { at + 19 * LONGEST_FIELD ≤ length into.old }
+    ensures fields { take result into.new ≡ take at into.old ++ order_front names.now head.now order.now (cancel_id order.now by.now) (cancelled_id order.now by.now) (codes "4") }
+    ensures short { result ≤ at + 19 * LONGEST_FIELD }
+{
+    let ids = cancel_ids(order, by.as_ref());
+    order_front(into, at, names, head, order, ids, b"4")
+}
+
+/// The front of a report that an order is replaced, in the place of its old id.
+fn replaced_front(
+    into: &mut [u8],
+    at: usize,
+    names: &Names,
+    head: &Head,
+    order: &Order,
+    old: &ShortId,
+) -> usize
+    requires { at + 19 * LONGEST_FIELD ≤ length into.old }
+    ensures fields { take result into.new ≡ take at into.old ++ order_front names.now head.now order.now order.now.id (Some old.now) (codes "5") }
+    ensures short { result ≤ at + 19 * LONGEST_FIELD }
+{
+    let ids = Ids {
+        id: &order.id,
+        old: Some(old),
+    };
+    order_front(into, at, names, head, order, ids, b"5")
 }
 
 /// Which order, under which id, and in the place of which id.
@@ -303,6 +344,22 @@ fn state_fields(into: &mut [u8], at: usize, head: &Head, order: &Order) -> usize
     let at = number(into, at, b"14=", u64::from(order.filled));
     let at = field(into, at, b"6=", b"0");
     time(into, at, b"60=", &head.time)
+}
+
+/// The step that gave a fill, each a constant of its own: a few stores in place of a copy of unknown length.
+fn step_field(into: &mut [u8], at: usize, step: StepName) -> usize
+    requires { at + LONGEST_FIELD ≤ length into.old }
+    ensures field { take result into.new ≡ take at into.old ++ field "9001" (step_text step) }
+    ensures short { result ≤ at + LONGEST_FIELD }
+{
+    match step {
+        StepName::Top => word(into, at, b"9001=", b"TOP"),
+        StepName::Lmm => word(into, at, b"9001=", b"LMM"),
+        StepName::Split => word(into, at, b"9001=", b"SPLIT"),
+        StepName::ProRata => word(into, at, b"9001=", b"PRORATA"),
+        StepName::Leveling => word(into, at, b"9001=", b"LEVELING"),
+        StepName::Fifo => word(into, at, b"9001=", b"FIFO"),
+    }
 }
 
 /// Why an order is cancelled, in our own words, where the client did not ask for it.
