@@ -24,8 +24,7 @@ pub(crate) fn append_number(into: &mut [u8], at: usize, n: u64) -> usize
     }
     if n < 100_000_000 {
         let end = append_short(into, at, n / 10_000);
-        let end = append_pair(into, end, n % 10_000 / 100);
-        return append_pair(into, end, n % 100);
+        return append_both_pairs(into, end, n % 10_000);
     }
     append(into, at, Buffer::new().format(n).as_bytes())
 }
@@ -42,8 +41,31 @@ fn append_short(into: &mut [u8], at: usize, n: u64) -> usize
     if n < 100 {
         return append_first(into, at, n);
     }
-    let end = append_first(into, at, n / 100);
-    append_pair(into, end, n % 100)
+    let hundreds = hundredth(n);
+    let end = append_first(into, at, hundreds);
+    append_pair(into, end, n - hundreds * 100)
+}
+
+/// Writes all four digits of a number below 10,000, the first of which may be 0.
+#[inline]
+fn append_both_pairs(into: &mut [u8], at: usize, n: u64) -> usize
+    requires { (n < 10000) × (at + 4 ≤ length into.old) }
+    ensures digits { take result into.new ≡ take at into.old ++ (48 + n / 100 / 10) ∷ (48 + n / 100 % 10) ∷ (48 + n % 100 / 10) ∷ (48 + n % 10) ∷ [] }
+    ensures behind { drop result into.new ≡ drop result into.old }
+    ensures end { result ≡ at + 4 }
+{
+    let hundreds = hundredth(n);
+    let end = append_pair(into, at, hundreds);
+    append_pair(into, end, n - hundreds * 100)
+}
+
+/// A hundredth of a number below 10,000: a product and a shift, which take less than a quotient.
+#[inline]
+fn hundredth(n: u64) -> u64
+    requires { n < 10000 }
+    ensures { result ≡ n / 100 }
+{
+    n * 5_243 >> 19
 }
 
 /// Writes the digits of a number of one or two, as `append_number` does.
@@ -63,7 +85,7 @@ fn append_first(into: &mut [u8], at: usize, n: u64) -> usize
 
 /// Writes both digits of a number below 100, the first of which may be 0.
 #[inline]
-fn append_pair(into: &mut [u8], at: usize, n: u64) -> usize
+pub(crate) fn append_pair(into: &mut [u8], at: usize, n: u64) -> usize
     requires { (n < 100) × (at + 2 ≤ length into.old) }
     ensures digits { take result into.new ≡ take at into.old ++ (48 + n / 10) ∷ (48 + n % 10) ∷ [] }
     ensures behind { drop result into.new ≡ drop result into.old }

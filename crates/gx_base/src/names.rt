@@ -144,25 +144,12 @@ impl Names {
 fn find_name(names: &[ShortId], bytes: &[u8]) -> Option<usize>
     ensures { result ≡ position (λ name. bytes_eq name bytes.now) names.now }
 {
-    names.iter().position(|name| has_bytes(name, bytes))
+    names.iter().position(|name| name.bytes() == bytes)
 }
 
 /// The index of the first of these instruments whose name has these bytes.
 fn find_listed(listed: &[Listed], bytes: &[u8]) -> Option<usize>
     ensures { result ≡ position (λ l. bytes_eq l.name bytes.now) listed.now }
 {
-    listed.iter().position(|l| has_bytes(&l.name, bytes))
-}
-
-/// Whether a name has these bytes. Most names differ in length or in the first byte, which costs less than a comparison of
-/// all.
-#[inline]
-fn has_bytes(name: &ShortId, bytes: &[u8]) -> bool
-    ensures { result ≡ bytes_eq name.now bytes.now }
-{
-    let name = name.bytes();
-    if bytes.is_empty() || name[0] != bytes[0] {
-        return false;
-    }
-    name == bytes
+    listed.iter().position(|l| l.name.bytes() == bytes)
 }

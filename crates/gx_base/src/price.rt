@@ -4,7 +4,7 @@ ghost use Rattle.std.specs.Str.Parse.{digits_value};
 ghost use Rattle.gx_base.specs.Numbers.{are_digits, are_zeros, has_minus, signed_units, unsigned_text, fraction_text, price_of, price_text};
 
 use crate::bytes::{append, split_at_byte};
-use crate::decimal::append_number;
+use crate::decimal::{append_number, append_pair};
 use crate::digits::{CEILING, are_digits, are_zeros, read_on, write_fixed_digits};
 use crate::limits::{LONGEST_VALUE, MOST_DECIMALS, MOST_PRICE_UNITS};
 use std::cmp;
@@ -160,7 +160,7 @@ fn power_of_ten(decimals: u8) -> u64
 }
 
 /// Writes a point and the last `decimals` digits of a number behind the first `end` bytes of `into`, or nothing where
-/// `decimals` is 0. Answers where they end.
+/// `decimals` is 0. Answers where they end. Two are the most common.
 #[inline]
 fn append_fraction(into: &mut [u8], end: usize, units: u64, decimals: u8) -> usize
     requires few { decimals ≤ MOST_DECIMALS }
@@ -172,6 +172,9 @@ fn append_fraction(into: &mut [u8], end: usize, units: u64, decimals: u8) -> usi
         return end;
     }
     let start = append(into, end, b".");
+    if decimals == 2 {
+        return append_pair(into, start, units % 100);
+    }
     let end = start + decimals as usize;
     write_fixed_digits(units, &mut into[start..end]);
     end

@@ -1,4 +1,4 @@
-use Rattle.std.proofs.Common.{◌≡◌, ◌/◌, ◌%◌, ◌++◌, ℕ, List, decimal, take, sym, ap, ◌∙◌, append_assoc, arith}
+use Rattle.std.proofs.Common.{◌≡◌, ◌+◌, ◌/◌, ◌%◌, [], ◌∷◌, ◌++◌, ℕ, List, decimal, take, sym, ap, ◌∙◌, append_assoc, arith}
 use Rattle.itoa.proofs.Decimal.{pair, decimal_four, length_four}
 use Rattle.gx_base.proofs.Framing.{same_further}
 use Rattle.gx_base.proofs.decimal.append_number.Goals as goal
@@ -8,22 +8,19 @@ returns-then-n-lt100000000-clause-digits c =
     let n = c.args.n in
     let before = take c.args.at c.args.into.now in
     let front = decimal (n / 10000) in
-    let third = pair (n % 10000 / 100) in
-    let last = pair (n % 100) in
-    let same : n % 100 ≡ n % 10000 % 100 = omega arith in
-    c.append_pair.ensures.digits
-    ∙ ap (λ (xs : List ℕ). xs ++ last) (c.append_pair-end.ensures.digits ∙ ap (λ (xs : List ℕ). xs ++ third) c.append_short-end.ensures.digits)
-    ∙ append_assoc (before ++ front) third last
-    ∙ append_assoc before front (third ++ last)
-    ∙ ap (λ k. before ++ (front ++ (third ++ pair k))) same
+    let behind = pair (n % 10000 / 100) ++ (48 + n % 10000 % 100 / 10) ∷ (48 + n % 10000 % 10) ∷ [] in
+    let rest : n % 10000 % 10 ≡ n % 10000 % 100 % 10 = omega arith in
+    c.append_both_pairs.ensures.digits
+    ∙ ap (λ (xs : List ℕ). xs ++ behind) c.append_short-end.ensures.digits
+    ∙ append_assoc before front behind
+    ∙ ap (λ k. before ++ (front ++ (pair (n % 10000 / 100) ++ (48 + n % 10000 % 100 / 10) ∷ (48 + k) ∷ []))) rest
     ∙ ap (λ (xs : List ℕ). before ++ xs) (sym (decimal_four n (omega arith) (omega arith)))
 
 pub returns-then-n-lt100000000-clause-behind : goal.returns-then-n-lt100000000-clause-behind
 returns-then-n-lt100000000-clause-behind c =
-    c.append_pair.ensures.behind
-    ∙ same_further c.append_pair-end.result c.append_pair.result c.append_pair-end.new.into c.append_short-end.new.into (omega arith) c.append_pair-end.ensures.behind
-    ∙ same_further c.append_short-end.result c.append_pair.result c.append_short-end.new.into c.args.into.now (omega arith) c.append_short-end.ensures.behind
+    c.append_both_pairs.ensures.behind
+    ∙ same_further c.append_short-end.result c.append_both_pairs.result c.append_short-end.new.into c.args.into.now (omega arith) c.append_short-end.ensures.behind
 
 pub returns-then-n-lt100000000-clause-end : goal.returns-then-n-lt100000000-clause-end
 returns-then-n-lt100000000-clause-end c =
-    omega (arith, c.append_pair.ensures.end, c.append_pair-end.ensures.end, c.append_short-end.ensures.end, length_four c.args.n (omega arith) (omega arith))
+    omega (arith, c.append_both_pairs.ensures.end, c.append_short-end.ensures.end, length_four c.args.n (omega arith) (omega arith))
