@@ -36,13 +36,13 @@ pub(crate) fn write_body(into: &mut [u8], at: usize, event: &Event, names: &Name
         Event::Accepted { head, order } => {
             let at = own_front(into, at, names, head, order, b"0");
             let at = state_fields(into, at, head, order);
-            field(into, at, b"9003=", b"0")
+            word(into, at, b"9003=", b"0")
         }
         Event::Triggered { head, order } => {
             let at = own_front(into, at, names, head, order, b"0");
             let at = state_fields(into, at, head, order);
-            let at = field(into, at, b"58=", b"TRIGGERED");
-            field(into, at, b"9003=", b"0")
+            let at = word(into, at, b"58=", b"TRIGGERED");
+            word(into, at, b"9003=", b"0")
         }
         Event::Fill {
             head,
@@ -58,7 +58,7 @@ pub(crate) fn write_body(into: &mut [u8], at: usize, event: &Event, names: &Name
             let at = state_fields(into, at, head, order);
             let at = step_field(into, at, *step);
             let at = number(into, at, b"9002=", *trade);
-            field(into, at, b"9003=", b"0")
+            word(into, at, b"9003=", b"0")
         }
         Event::Cancelled {
             head,
@@ -80,7 +80,7 @@ pub(crate) fn write_body(into: &mut [u8], at: usize, event: &Event, names: &Name
         } => {
             let at = replaced_front(into, at, names, head, order, old);
             let at = state_fields(into, at, head, order);
-            field(into, at, b"9003=", b"0")
+            word(into, at, b"9003=", b"0")
         }
         Event::RefusedNew { head, order, fault } => {
             let at = line_head(into, at, names, b"8", head);
@@ -287,7 +287,7 @@ fn report_fields(into: &mut [u8], at: usize, head: &Head, status: &[u8]) -> usiz
     ensures short { result ≤ at + 4 * LONGEST_FIELD }
 {
     let at = number(into, at, b"17=", head.report);
-    let at = field(into, at, b"20=", b"0");
+    let at = word(into, at, b"20=", b"0");
     let at = field(into, at, b"150=", status);
     field(into, at, b"39=", status)
 }
@@ -342,11 +342,11 @@ fn state_fields(into: &mut [u8], at: usize, head: &Head, order: &Order) -> usize
 {
     let at = number(into, at, b"151=", u64::from(order.leaves));
     let at = number(into, at, b"14=", u64::from(order.filled));
-    let at = field(into, at, b"6=", b"0");
+    let at = word(into, at, b"6=", b"0");
     time(into, at, b"60=", &head.time)
 }
 
-/// The step that gave a fill, each a constant of its own: a few stores in place of a copy of unknown length.
+/// The step that gave a fill. Each is a constant here, which takes a few stores and no copy of unknown length.
 fn step_field(into: &mut [u8], at: usize, step: StepName) -> usize
     requires { at + LONGEST_FIELD ≤ length into.old }
     ensures field { take result into.new ≡ take at into.old ++ field "9001" (step_text step) }
@@ -370,8 +370,8 @@ fn cause_field(into: &mut [u8], at: usize, cause: Cause) -> usize
 {
     match cause {
         Cause::Asked => at,
-        Cause::Fak => field(into, at, b"58=", b"FAK"),
-        Cause::MinQty => field(into, at, b"58=", b"MINQTY NOT MET"),
+        Cause::Fak => word(into, at, b"58=", b"FAK"),
+        Cause::MinQty => word(into, at, b"58=", b"MINQTY NOT MET"),
     }
 }
 
@@ -415,9 +415,9 @@ fn nothing_fields(into: &mut [u8], at: usize, head: &Head) -> usize
     ensures fields { take result into.new ≡ take at into.old ++ nothing_fields head.now }
     ensures short { result ≤ at + 4 * LONGEST_FIELD }
 {
-    let at = field(into, at, b"151=", b"0");
-    let at = field(into, at, b"14=", b"0");
-    let at = field(into, at, b"6=", b"0");
+    let at = word(into, at, b"151=", b"0");
+    let at = word(into, at, b"14=", b"0");
+    let at = word(into, at, b"6=", b"0");
     time(into, at, b"60=", &head.time)
 }
 
@@ -455,7 +455,7 @@ fn number_field(into: &mut [u8], at: usize, order_number: u64) -> usize
     ensures short { result ≤ at + LONGEST_FIELD }
 {
     if order_number == 0 {
-        field(into, at, b"37=", b"NONE")
+        word(into, at, b"37=", b"NONE")
     } else {
         number(into, at, b"37=", order_number)
     }

@@ -21,7 +21,7 @@ pub const LONGEST_FIELD: usize = LONGEST_TAG + LONGEST_VALUE + 1;
 /// Room before a body for its head, whose length has at most three digits.
 pub const GAP: usize = 16;
 
-/// How many bytes the compiler sums at a time.
+/// How many bytes of a line are summed at a time.
 const BLOCK: usize = 32;
 
 /// Writes a field: its tag and `=`, its value, and SOH. Answers where it ends, at most `LONGEST_FIELD` bytes further.

@@ -51,7 +51,8 @@ impl ShortId {
         self.text.bytes()
     }
 
-    /// Writes the bytes of the name behind the first `at` of `into`, as those of its text are.
+    /// Writes the bytes of the name behind the first `at` of `into`, and answers where they end; what stands behind them is
+    /// left open.
     #[inline]
     pub(crate) fn append_to(&self, into: &mut [u8], at: usize) -> usize
         requires { at + LONGEST_NAME ≤ length into.old }

@@ -160,7 +160,7 @@ fn power_of_ten(decimals: u8) -> u64
 }
 
 /// Writes a point and the last `decimals` digits of a number behind the first `end` bytes of `into`, or nothing where
-/// `decimals` is 0. Answers where they end. Two are the most common.
+/// `decimals` is 0. Answers where they end. Two digits, which most instruments have, are written at once.
 #[inline]
 fn append_fraction(into: &mut [u8], end: usize, units: u64, decimals: u8) -> usize
     requires few { decimals ≤ MOST_DECIMALS }
