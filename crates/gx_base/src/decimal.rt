@@ -24,7 +24,7 @@ pub(crate) fn append_number(into: &mut [u8], at: usize, n: u64) -> usize
     }
     if n < 100_000_000 {
         let end = append_short(into, at, n / 10_000);
-        return append_both_pairs(into, end, n % 10_000);
+        return append_four(into, end, n % 10_000);
     }
     append(into, at, Buffer::new().format(n).as_bytes())
 }
@@ -48,7 +48,7 @@ fn append_short(into: &mut [u8], at: usize, n: u64) -> usize
 
 /// Writes all four digits of a number below 10,000, the first of which may be 0.
 #[inline]
-fn append_both_pairs(into: &mut [u8], at: usize, n: u64) -> usize
+fn append_four(into: &mut [u8], at: usize, n: u64) -> usize
     requires { (n < 10000) × (at + 4 ≤ length into.old) }
     ensures digits { take result into.new ≡ take at into.old ++ (48 + n / 100 / 10) ∷ (48 + n / 100 % 10) ∷ (48 + n % 100 / 10) ∷ (48 + n % 10) ∷ [] }
     ensures behind { drop result into.new ≡ drop result into.old }

@@ -10,7 +10,7 @@ returns-then-n-lt100000000-clause-digits c =
     let front = decimal (n / 10000) in
     let behind = pair (n % 10000 / 100) ++ (48 + n % 10000 % 100 / 10) ∷ (48 + n % 10000 % 10) ∷ [] in
     let rest : n % 10000 % 10 ≡ n % 10000 % 100 % 10 = omega arith in
-    c.append_both_pairs.ensures.digits
+    c.append_four.ensures.digits
     ∙ ap (λ (xs : List ℕ). xs ++ behind) c.append_short-end.ensures.digits
     ∙ append_assoc before front behind
     ∙ ap (λ k. before ++ (front ++ (pair (n % 10000 / 100) ++ (48 + n % 10000 % 100 / 10) ∷ (48 + k) ∷ []))) rest
@@ -18,9 +18,9 @@ returns-then-n-lt100000000-clause-digits c =
 
 pub returns-then-n-lt100000000-clause-behind : goal.returns-then-n-lt100000000-clause-behind
 returns-then-n-lt100000000-clause-behind c =
-    c.append_both_pairs.ensures.behind
-    ∙ same_further c.append_short-end.result c.append_both_pairs.result c.append_short-end.new.into c.args.into.now (omega arith) c.append_short-end.ensures.behind
+    c.append_four.ensures.behind
+    ∙ same_further c.append_short-end.result c.append_four.result c.append_short-end.new.into c.args.into.now (omega arith) c.append_short-end.ensures.behind
 
 pub returns-then-n-lt100000000-clause-end : goal.returns-then-n-lt100000000-clause-end
 returns-then-n-lt100000000-clause-end c =
-    omega (arith, c.append_both_pairs.ensures.end, c.append_short-end.ensures.end, length_four c.args.n (omega arith) (omega arith))
+    omega (arith, c.append_four.ensures.end, c.append_short-end.ensures.end, length_four c.args.n (omega arith) (omega arith))

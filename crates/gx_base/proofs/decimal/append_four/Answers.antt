@@ -1,6 +1,6 @@
 use Rattle.std.proofs.Common.{◌≡◌, ◌+◌, ◌/◌, ◌%◌, ◌-◌, ◌*◌, ◌∷◌, ◌++◌, [], ℕ, List, take, ap, ap₂, ◌∙◌, append_assoc, arith}
 use Rattle.gx_base.proofs.Framing.{same_further}
-use Rattle.gx_base.proofs.decimal.append_both_pairs.Goals as goal
+use Rattle.gx_base.proofs.decimal.append_four.Goals as goal
 
 pub returns-clause-digits : goal.returns-clause-digits
 returns-clause-digits c =
