@@ -1,4 +1,5 @@
 -- What the private functions of this crate promise each other. A reader need not believe any of it: the calls of the table
 -- speak only of the file beside this one.
-pub mod Cells
-pub mod Homes
+pub mod Buckets
+pub mod Trees
+pub mod Ways

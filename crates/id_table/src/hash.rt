@@ -1,12 +1,14 @@
-//! Where the search for an id begins.
-ghost use Rattle.std.specs.Prelude.{◌≡◌, ◌*◌, ◌≤◌};
-ghost use Rattle.id_table.specs.Inner.Homes.{hash_of, home_of};
+//! The bucket of an id.
+ghost use Rattle.std.specs.Prelude.{◌≡◌, ◌≤◌};
+ghost use Rattle.id_table.specs.Ids.{key};
+ghost use Rattle.id_table.specs.Inner.Ways.{hash_of, home_of};
 
 use gx_base::ShortId;
 use std::hash::{FoldHasher, Hasher};
 
+#[inline]
 fn hash_of(firm: u8, id: &ShortId) -> u64
-    ensures { result ≡ hash_of firm id.now }
+    ensures { result ≡ hash_of (key firm id.now) }
 {
     let mut hasher = FoldHasher::default();
     hasher.write_u8(firm);
@@ -14,11 +16,12 @@ fn hash_of(firm: u8, id: &ShortId) -> u64
     hasher.finish()
 }
 
-/// The cell at which the search for an id begins: one of the first `2 * capacity`, by the hash as a part of all hashes.
+/// The bucket of an id: one of `capacity + 1`, by the hash as a part of all hashes.
+#[inline]
 pub(crate) fn home_of(capacity: u32, firm: u8, id: &ShortId) -> usize
-    ensures value { result ≡ home_of capacity firm id.now }
-    ensures within { result ≤ 2 * capacity }
+    ensures value { result ≡ home_of capacity (key firm id.now) }
+    ensures within { result ≤ capacity }
 {
     let part = hash_of(firm, id) >> 33;
-    ((part * (2 * u64::from(capacity))) >> 31) as usize
+    ((part * (u64::from(capacity) + 1)) >> 31) as usize
 }

@@ -1,8 +1,10 @@
 //! The slots of live orders, by the firm and the id that the firm gave the order.
 #![tactic(auto)]
 
-mod cells;
+mod buckets;
 mod hash;
 mod table;
+mod tree;
+mod way;
 
 pub use table::IdTable;

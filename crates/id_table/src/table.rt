@@ -4,7 +4,8 @@ ghost use Rattle.std.specs.FinMap as map;
 ghost use Rattle.gx_base.specs.declared.order.Slot.{Slot as SlotValue};
 ghost use Rattle.id_table.specs.Ids.{key, empty_ids, with_slots};
 
-use crate::cells::{Entry, empty_cells, put, rename, slot_in, take};
+use crate::buckets::{empty_buckets, find_id, put_node, spare_nodes, take_node};
+use crate::tree::{Entry, Node, Tree};
 use gx_base::{ShortId, Slot};
 use std::alloc::{AllocError, Global};
 use std::marker::Model;
@@ -13,7 +14,9 @@ use std::marker::Model;
 /// map, with that number.
 #[derive(Drop)]
 pub struct IdTable {
-    cells: Vec<Option<Entry>>,
+    buckets: Vec<Tree>,
+    /// The nodes that stand in no bucket.
+    spare: Vec<Box<Node>>,
     capacity: u32,
     live: u32,
 }
@@ -25,11 +28,12 @@ impl Model for IdTable {
 
     ghost coded = { ids_code };
 
-    ghost use Rattle.id_table.specs.Inner.Cells.{slots_of, IsKept};
+    ghost use Rattle.std.specs.Prelude.{vec_len, vec_capacity};
+    ghost use Rattle.id_table.specs.Inner.Buckets.{slots_of, IsKept};
 
-    ghost view = { λ t. record { capacity = t.capacity; slots = slots_of t.cells.items } };
+    ghost view = { λ t. record { capacity = t.capacity; slots = slots_of t.buckets.items } };
 
-    ghost invariant = { λ t. IsKept t.capacity t.live t.cells.items };
+    ghost invariant = { λ t. IsKept t.capacity t.live t.buckets.items (vec_len t.spare) (vec_capacity t.spare) };
 }
 
 impl IdTable {
@@ -39,7 +43,8 @@ impl IdTable {
         ensures { IfOk result (λ t. t ≡ empty_ids capacity) }
     {
         Ok(IdTable {
-            cells: empty_cells(alloc, capacity)?,
+            buckets: empty_buckets(alloc, capacity as usize + 1)?,
+            spare: spare_nodes(alloc, capacity as usize)?,
             capacity,
             live: 0,
         })
@@ -64,7 +69,7 @@ impl IdTable {
     pub fn find(&self, firm: u8, id: &ShortId) -> Option<Slot>
         ensures { result ≡ map.get self.now.slots (key firm id.now) }
     {
-        slot_in(&self.cells, self.capacity, firm, id)
+        find_id(&self.buckets, self.capacity, firm, id)
     }
 
     /// Gives an id that is not here a slot.
@@ -73,8 +78,15 @@ impl IdTable {
         requires absent { map.get self.old.slots (key firm id) ≡ None }
         ensures { self.new ≡ with_slots (map.insert self.old.slots (key firm id) slot) self.old }
     {
-        put(&mut self.cells, self.capacity, Entry { firm, id, slot });
-        self.live += 1;
+        if let Some(mut node) = self.spare.pop() {
+            *node = Node {
+                entry: Entry { firm, slot, id },
+                low: Tree::Empty,
+                high: Tree::Empty,
+            };
+            put_node(&mut self.buckets, self.capacity, node);
+            self.live += 1;
+        }
     }
 
     /// Takes an id out.
@@ -82,8 +94,10 @@ impl IdTable {
         requires { map.get self.old.slots (key firm id.now) ≢ None }
         ensures { self.new ≡ with_slots (map.remove self.old.slots (key firm id.now)) self.old }
     {
-        take(&mut self.cells, self.capacity, firm, id);
-        self.live -= 1;
+        if let Some(node) = take_node(&mut self.buckets, self.capacity, firm, id) {
+            self.spare.push_reserved(node);
+            self.live -= 1;
+        }
     }
 
     /// Gives the slot of an id to another id of the same firm, which is not here.
@@ -93,6 +107,9 @@ impl IdTable {
         ensures { (slot : SlotValue) → map.get self.old.slots (key firm old.now) ≡ Some slot
             → self.new ≡ with_slots (map.insert (map.remove self.old.slots (key firm old.now)) (key firm new) slot) self.old }
     {
-        rename(&mut self.cells, self.capacity, firm, old, new);
+        if let Some(mut node) = take_node(&mut self.buckets, self.capacity, firm, old) {
+            node.entry.id = new;
+            put_node(&mut self.buckets, self.capacity, node);
+        }
     }
 }
