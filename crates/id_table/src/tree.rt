@@ -3,7 +3,7 @@
 ghost use Rattle.std.specs.Prelude.{◌≡◌, ℕ, None, Some, MatchOption};
 ghost use Rattle.id_table.specs.Ids.{key};
 ghost use Rattle.id_table.specs.declared.tree.Tree.TheVariants.{Empty, Fork};
-ghost use Rattle.id_table.specs.Inner.Trees.{key_of, is_same, slot_of, root_of, IsOrdered, IsOrderedNode, IsLeaf, IsTaken, IsTakenBelow, Adds, Removes};
+ghost use Rattle.id_table.specs.Inner.Trees.{key_of, is_same, slot_of, root_of, IsOrdered, IsOrderedNode, IsLeaf, IsTaken, IsTakenBelow, Becomes};
 
 use crate::way::{is_high, next_depth};
 use gx_base::{ShortId, Slot};
@@ -64,7 +64,7 @@ pub(crate) fn put(tree: &mut Tree, depth: u8, node: Box<Node>)
     requires leaf { IsLeaf node.value }
     requires absent { slot_of tree.old (key_of node.value.entry) ≡ None }
     ensures ordered { IsOrdered depth tree.new }
-    ensures slots { Adds (key_of node.value.entry) node.value.entry.slot (slot_of tree.old) (slot_of tree.new) }
+    ensures slots { Becomes (key_of node.value.entry) (Some node.value.entry.slot) (slot_of tree.old) (slot_of tree.new) }
 {
     match tree {
         Tree::Empty => *tree = Tree::Fork(node),
@@ -140,7 +140,7 @@ fn take_root(tree: &mut Tree) -> Option<Box<Node>>
 pub(crate) fn take(tree: &mut Tree, depth: u8, firm: u8, id: &ShortId) -> Option<Box<Node>>
     requires { IsOrdered depth tree.old }
     ensures ordered { IsOrdered depth tree.new }
-    ensures removes { Removes (key firm id.now) (slot_of tree.old) (slot_of tree.new) }
+    ensures removes { Becomes (key firm id.now) None (slot_of tree.old) (slot_of tree.new) }
     ensures node { MatchOption result (slot_of tree.old (key firm id.now) ≡ None) (λ n. IsLeaf n.value × (key_of n.value.entry ≡ key firm id.now) × (slot_of tree.old (key firm id.now) ≡ Some n.value.entry.slot)) }
 {
     match tree {

@@ -32,5 +32,5 @@ pub record IsTable (capacity : ℕ) (buckets : List Tree) : Type 0 where
 pub record IsKept (capacity live : ℕ) (buckets : List Tree) (spare room : ℕ) : Type 0 where
   pub table : IsTable capacity buckets
   pub size : map.len (slots_of buckets) ≡ live
-  pub spare : spare + live ≡ capacity
-  pub room : capacity ≤ room
+  pub few : spare + live ≡ capacity
+  pub wide : capacity ≤ room

@@ -36,8 +36,8 @@ slot_of (Fork' p e low high) q = shown_at (key_of e) e.slot (slot_of low q) (slo
 pub record IsNode (depth : ℕ) (k : List ℕ) (low high : List ℕ → Option Slot) : Type 0 where
   pub once_low : low k ≡ None
   pub once_high : high k ≡ None
-  pub low : (q : List ℕ) → is_high depth q ≡ true → low q ≡ None
-  pub high : (q : List ℕ) → is_high depth q ≡ false → high q ≡ None
+  pub low_side : (q : List ℕ) → is_high depth q ≡ true → low q ≡ None
+  pub high_side : (q : List ℕ) → is_high depth q ≡ false → high q ≡ None
 
 -- each node of a tree whose root is at this depth is such a node
 abbrev pub IsOrdered : ℕ → Tree → Type 0
@@ -56,13 +56,9 @@ slot_below n q = shown_at (key_of n.entry) n.entry.slot (slot_of n.low q) (slot_
 abbrev pub IsOrderedNode : ℕ → Node → Type 0
 IsOrderedNode depth n = IsNode depth (key_of n.entry) (slot_of n.low) (slot_of n.high) × IsOrdered (next_depth depth) n.low × IsOrdered (next_depth depth) n.high
 
--- the key k has the slot s then, and the others are as before
-pub record Adds (k : List ℕ) (s : Slot) (old new : List ℕ → Option Slot) : Type 0 where
-  pub shown : (q : List ℕ) → new q ≡ cond (is_same q k) (Some s) (old q)
-
--- the key k is absent then, and the others are as before
-pub record Removes (k : List ℕ) (old new : List ℕ → Option Slot) : Type 0 where
-  pub shown : (q : List ℕ) → new q ≡ cond (is_same q k) None (old q)
+-- what is shown of the key k becomes r, and of the others it stays
+pub record Becomes (k : List ℕ) (r : Option Slot) (old new : List ℕ → Option Slot) : Type 0 where
+  pub shown : (q : List ℕ) → new q ≡ cond (is_same q k) r (old q)
 
 -- a node with nothing below it
 pub record IsLeaf (n : Node) : Type 0 where
@@ -73,11 +69,11 @@ pub record IsLeaf (n : Node) : Type 0 where
 pub record IsTaken (depth : ℕ) (n : Node) (old new : Tree) : Type 0 where
   pub ordered : IsOrdered depth new
   pub was : slot_of old (key_of n.entry) ≡ Some n.entry.slot
-  pub removes : Removes (key_of n.entry) (slot_of old) (slot_of new)
+  pub removes : Becomes (key_of n.entry) None (slot_of old) (slot_of new)
 
 -- the node n is out of what is below the node old, which is at this depth
 pub record IsTakenBelow (depth : ℕ) (n old new : Node) : Type 0 where
   pub ordered : IsOrderedNode depth new
   pub other : is_same (key_of n.entry) (key_of old.entry) ≡ false
   pub was : slot_below old (key_of n.entry) ≡ Some n.entry.slot
-  pub removes : Removes (key_of n.entry) (slot_below old) (slot_below new)
+  pub removes : Becomes (key_of n.entry) None (slot_below old) (slot_below new)

@@ -1,0 +1,11 @@
+use Rattle.std.proofs.Common.{◌≡◌, ℕ, ◌/◌, ◌%◌, ◌^◌, ◌==◌, List, get_or, ap, ◌∙◌}
+use Rattle.std.specs.Prelude.{reverse}
+use Rattle.id_table.specs.Ids.{key}
+use Rattle.id_table.specs.Inner.Ways.{is_high}
+use Rattle.id_table.proofs.way.is_high.Goals as goal
+
+pub returns : goal.returns
+unfolding is_high
+returns c =
+    ap (λ (byte : ℕ). byte / 2 ^ (c.args.depth % 8) % 2 == 1)
+      (c.byte_from_end-byte.ensures ∙ ap (λ (back : ℕ). get_or (reverse (key c.args.firm c.args.id.now)) back 0) c.from.ensures)
