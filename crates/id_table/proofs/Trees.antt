@@ -1,0 +1,131 @@
+-- Trees: what a change on one side of the root makes of a tree, and what taking out the root does.
+use Rattle.std.proofs.Common.{◌≡◌, ◌≢◌, ℕ, Bool, true, false, cond, List, Option, Some, None, Box, MatchOption, refl, sym, ap, subst, ◌∙◌}
+use Rattle.std.specs.declared.alloc.Global.{Global}
+use Rattle.std.specs.Option.{option_or}
+use Rattle.gx_base.specs.declared.order.Slot.{Slot}
+use Rattle.id_table.specs.declared.tree.Entry.{Entry}
+use Rattle.id_table.specs.declared.tree.Node.{Node}
+use Rattle.id_table.specs.declared.tree.Tree.{Tree}
+use Rattle.id_table.specs.declared.tree.Tree.TheVariants.{Empty, Fork, Fork'}
+use Rattle.id_table.specs.Inner.Ways.{is_high, next_depth}
+use Rattle.id_table.specs.Inner.Trees.{key_of, is_same, shown_at, slot_of, slot_below, root_of, IsNode, IsOrdered, IsOrderedNode, IsLeaf, IsTaken, IsTakenBelow, Becomes}
+use Rattle.id_table.proofs.Keys.{same_key-itself}
+use Rattle.id_table.proofs.Nodes.{some_none, by_test, picked, passed, on_high, on_low, absent_differs, high_differs, low_differs, high_way, low_way, change_high, change_low, root_node, root_taken}
+
+-- ---- the node at the root
+
+pub record HasRoot (tree : Tree) (n : Node) : Type 0 where
+  pub shown : slot_of tree ≡ slot_below n
+  pub ordered : (depth : ℕ) → IsOrdered depth tree → IsOrderedNode depth n
+  pub root : root_of tree ≡ Some n.entry
+
+pub has_root : (tree : Tree) (b : Box Node Global) (n : Node) → tree ≡ Fork b → n ≡ b.value → HasRoot tree n
+has_root tree b n is value = subst (λ (x : Tree). HasRoot x n) (sym is) (subst (HasRoot (Fork b)) (sym value) (record { shown = refl; ordered = λ depth o. o; root = refl }))
+
+node_of : Tree → Node → Node
+unfolding node_of
+node_of Empty o = o
+node_of (Fork' p e low high) o = record { entry = e; low = low; high = high }
+
+same_node : (b : Box Node Global) (m : Box Node Global) → Fork b ≡ Fork m → b.value ≡ m.value
+unfolding node_of
+same_node b m e = ap (λ (x : Tree). node_of x b.value) e
+
+-- a key that is absent is not the root's
+pub absent_root : (depth : ℕ) (tree : Tree) (n : Node) → HasRoot tree n → IsOrdered depth tree → (k : List ℕ) → slot_of tree k ≡ None → is_same k (key_of n.entry) ≡ false
+absent_root depth tree n root ordered k absent =
+    absent_differs depth (key_of n.entry) n.entry.slot (slot_of n.low) (slot_of n.high) (root.ordered depth ordered).0 k (sym (ap (λ (f : List ℕ → Option Slot). f k) root.shown) ∙ absent)
+
+-- ---- a change on one side
+
+-- the tree becomes one with this root and these sides
+pub record IsChanged (depth : ℕ) (k : List ℕ) (r : Option Slot) (tree : Tree) (e : Entry) (low high : Tree) : Type 0 where
+  pub ordered : IsNode depth (key_of e) (slot_of low) (slot_of high) × IsOrdered (next_depth depth) low × IsOrdered (next_depth depth) high
+  pub becomes : Becomes k r (slot_of tree) (λ q. shown_at (key_of e) e.slot (slot_of low q) (slot_of high q) q)
+
+module _ (depth : ℕ) (tree : Tree) (n : Node) (root : HasRoot tree n) (ordered : IsOrdered depth tree) (k : List ℕ) (r : Option Slot) (other : is_same k (key_of n.entry) ≡ false) (below : ℕ) (next : below ≡ next_depth depth) where
+  pub changed_high : (high' : Tree) → is_high depth k ≡ true → IsOrdered below high' → Becomes k r (slot_of n.high) (slot_of high') → IsChanged depth k r tree n.entry n.low high'
+  changed_high high' way o b =
+      let was = root.ordered depth ordered in
+      let s = change_high depth (key_of n.entry) n.entry.slot (slot_of n.low) (slot_of n.high) was.0 k r other (slot_of high') way b in
+      record { ordered = (s.node, was.1, subst (λ (d : ℕ). IsOrdered d high') next o); becomes = subst (λ (f : List ℕ → Option Slot). Becomes k r f (λ q. shown_at (key_of n.entry) n.entry.slot (slot_of n.low q) (slot_of high' q) q)) (sym root.shown) s.becomes }
+
+  pub changed_low : (low' : Tree) → is_high depth k ≡ false → IsOrdered below low' → Becomes k r (slot_of n.low) (slot_of low') → IsChanged depth k r tree n.entry low' n.high
+  changed_low low' way o b =
+      let was = root.ordered depth ordered in
+      let s = change_low depth (key_of n.entry) n.entry.slot (slot_of n.low) (slot_of n.high) was.0 k r other (slot_of low') way b in
+      record { ordered = (s.node, subst (λ (d : ℕ). IsOrdered d low') next o, was.2); becomes = subst (λ (f : List ℕ → Option Slot). Becomes k r f (λ q. shown_at (key_of n.entry) n.entry.slot (slot_of low' q) (slot_of n.high q) q)) (sym root.shown) s.becomes }
+
+-- ---- leaves
+
+-- a leaf is taken from one side
+pub below_high : (depth : ℕ) (o m : Node) (high' : Tree) → IsOrderedNode depth o → IsTaken (next_depth depth) m o.high high' → IsTakenBelow depth m o (record { entry = o.entry; low = o.low; high = high' })
+below_high depth o m high' was t =
+    let other = high_differs depth (key_of o.entry) o.entry.slot (slot_of o.low) (slot_of o.high) was.0 (key_of m.entry) m.entry.slot t.was in
+    let way = high_way depth (key_of o.entry) o.entry.slot (slot_of o.low) (slot_of o.high) was.0 (key_of m.entry) m.entry.slot t.was in
+    let s = change_high depth (key_of o.entry) o.entry.slot (slot_of o.low) (slot_of o.high) was.0 (key_of m.entry) None other (slot_of high') way t.removes in
+    record { ordered = (s.node, was.1, t.ordered); other = other; was = on_high depth (key_of o.entry) o.entry.slot (slot_of o.low) (slot_of o.high) was.0 (key_of m.entry) other way ∙ t.was; removes = s.becomes }
+
+pub below_low : (depth : ℕ) (o m : Node) (low' : Tree) → IsOrderedNode depth o → IsTaken (next_depth depth) m o.low low' → IsTakenBelow depth m o (record { entry = o.entry; low = low'; high = o.high })
+below_low depth o m low' was t =
+    let other = low_differs depth (key_of o.entry) o.entry.slot (slot_of o.low) (slot_of o.high) was.0 (key_of m.entry) m.entry.slot t.was in
+    let way = low_way depth (key_of o.entry) o.entry.slot (slot_of o.low) (slot_of o.high) was.0 (key_of m.entry) m.entry.slot t.was in
+    let s = change_low depth (key_of o.entry) o.entry.slot (slot_of o.low) (slot_of o.high) was.0 (key_of m.entry) None other (slot_of low') way t.removes in
+    record { ordered = (s.node, t.ordered, was.2); other = other; was = on_low depth (key_of o.entry) o.entry.slot (slot_of o.low) (slot_of o.high) was.0 (key_of m.entry) other way ∙ t.was; removes = s.becomes }
+
+-- the first side is not empty
+pub from_low : (o : Node) (low' : Tree) (r : Option (Box Node Global)) → r ≢ None
+  → MatchOption r ((o.low ≡ Empty) × (low' ≡ Empty)) (λ n. IsLeaf n.value × ((depth : ℕ) → IsOrdered depth o.low → IsTaken depth n.value o.low low'))
+  → MatchOption r (IsLeaf o × IsLeaf (record { entry = o.entry; low = low'; high = o.high })) (λ n. IsLeaf n.value × ((depth : ℕ) → IsOrderedNode depth o → IsTakenBelow depth n.value o (record { entry = o.entry; low = low'; high = o.high })))
+from_low o low' None some h = absurd (some refl)
+from_low o low' (Some b) some h = (h.0, λ depth was. below_low depth o b.value low' was (h.1 (next_depth depth) was.1))
+
+-- it is, and so stays as it is
+pub from_high : (o : Node) (low' high' : Tree) (r : Option (Box Node Global)) → (o.low ≡ Empty) × (low' ≡ Empty)
+  → MatchOption r ((o.high ≡ Empty) × (high' ≡ Empty)) (λ n. IsLeaf n.value × ((depth : ℕ) → IsOrdered depth o.high → IsTaken depth n.value o.high high'))
+  → MatchOption r (IsLeaf o × IsLeaf (record { entry = o.entry; low = low'; high = high' })) (λ n. IsLeaf n.value × ((depth : ℕ) → IsOrderedNode depth o → IsTakenBelow depth n.value o (record { entry = o.entry; low = low'; high = high' })))
+from_high o low' high' None empty h = (record { low = empty.0; high = h.0 }, record { low = empty.1; high = h.1 })
+from_high o low' high' (Some b) empty h =
+    (h.0, λ depth was. subst (λ (x : Tree). IsTakenBelow depth b.value o (record { entry = o.entry; low = x; high = high' })) (empty.0 ∙ sym empty.1) (below_high depth o b.value high' was (h.1 (next_depth depth) was.2)))
+
+-- ---- roots
+
+-- the root is the last node
+only_root : (depth : ℕ) (tree : Tree) (o m : Node) → HasRoot tree o → IsLeaf o → m.entry ≡ o.entry → IsTaken depth m tree Empty
+only_root depth tree o m root leaf same = subst (λ (e : Entry). IsTaken depth (record { entry = e; low = m.low; high = m.high }) tree Empty) (sym same) (record {
+  ordered = tt;
+  was = ap (λ (f : List ℕ → Option Slot). f (key_of o.entry)) root.shown ∙ picked (is_same (key_of o.entry) (key_of o.entry)) (Some o.entry.slot) (option_or (slot_of o.low (key_of o.entry)) (slot_of o.high (key_of o.entry))) (same_key-itself (key_of o.entry));
+  removes = record { shown = λ q. gone q (is_same q (key_of o.entry)) ∙ ap (λ (f : List ℕ → Option Slot). cond (is_same q (key_of o.entry)) None (f q)) (sym root.shown) };
+})
+  where
+    gone : (q : List ℕ) (b : Bool) → None ≡ cond b None (cond b (Some o.entry.slot) (option_or (slot_of o.low q) (slot_of o.high q)))
+    gone q true = refl
+    gone q false = λ i. sym (ap (λ (x : Tree). slot_of x q) leaf.low) i
+
+-- nothing is below the root n, which was o
+pub all_taken : (tree : Tree) (b : Box Node Global) (new : Tree) (o : Node) (r : Option (Box Node Global)) → HasRoot tree o → b.value.entry ≡ o.entry → IsLeaf o × IsLeaf b.value → new ≡ Empty
+  → MatchOption r (Fork b ≡ Empty) (λ m. Fork b ≡ Fork m)
+  → MatchOption r ((tree ≡ Empty) × (new ≡ Empty)) (λ m. IsLeaf m.value × (root_of tree ≡ Some m.value.entry) × ((depth : ℕ) → IsOrdered depth tree → IsTaken depth m.value tree new))
+all_taken tree b new o None root same leaf empty h = absurd (let e : ◌≡◌ {A = Option Entry} (Some b.value.entry) None = ap root_of h in cc)
+all_taken tree b new o (Some m) root same leaf empty h =
+    let v = same_node b m h in
+    let e : m.value.entry ≡ o.entry = sym (ap (λ (x : Node). x.entry) v) ∙ same in
+    (subst IsLeaf v leaf.1, root.root ∙ ap Some (sym e), λ depth was. subst (IsTaken depth m.value tree) (sym empty) (only_root depth tree o m.value root leaf.0 e))
+
+-- the leaf m is taken from below the root o, which becomes n, and takes its place
+pub record IsRootTaken (depth : ℕ) (tree : Tree) (o m n : Node) : Type 0 where
+  pub ordered : IsNode depth (key_of m.entry) (slot_of n.low) (slot_of n.high) × IsOrdered (next_depth depth) n.low × IsOrdered (next_depth depth) n.high
+  pub was : slot_of tree (key_of o.entry) ≡ Some o.entry.slot
+  pub removes : Becomes (key_of o.entry) None (slot_of tree) (λ q. shown_at (key_of m.entry) m.entry.slot (slot_of n.low q) (slot_of n.high q) q)
+
+pub root_out : (depth : ℕ) (tree : Tree) (o m n : Node) → HasRoot tree o → n.entry ≡ o.entry → IsTakenBelow depth m o n → IsRootTaken depth tree o m n
+root_out depth tree o m n root same t = record {
+  ordered = (root_node depth (key_of n.entry) n.entry.slot (key_of m.entry) m.entry.slot (slot_below o) (slot_of n.low) (slot_of n.high) t.ordered.0 other t.was t.removes, t.ordered.1, t.ordered.2);
+  was = ap (λ (f : List ℕ → Option Slot). f (key_of o.entry)) root.shown ∙ picked (is_same (key_of o.entry) (key_of o.entry)) (Some o.entry.slot) (option_or (slot_of o.low (key_of o.entry)) (slot_of o.high (key_of o.entry))) (same_key-itself (key_of o.entry));
+  removes = subst (λ (e : Entry). Becomes (key_of e) None (slot_of tree) (λ q. shown_at (key_of m.entry) m.entry.slot (slot_of n.low q) (slot_of n.high q) q)) same (
+    subst (λ (f : List ℕ → Option Slot). Becomes (key_of n.entry) None f (λ q. shown_at (key_of m.entry) m.entry.slot (slot_of n.low q) (slot_of n.high q) q)) (sym root.shown) (
+    root_taken depth (key_of n.entry) n.entry.slot (key_of m.entry) m.entry.slot (slot_below o) (slot_of n.low) (slot_of n.high) t.ordered.0 other t.was t.removes));
+}
+  where
+    other : is_same (key_of m.entry) (key_of n.entry) ≡ false
+    other = subst (λ (e : Entry). is_same (key_of m.entry) (key_of e) ≡ false) (sym same) t.other
