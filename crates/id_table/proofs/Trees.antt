@@ -22,13 +22,11 @@ pub record HasRoot (tree : Tree) (n : Node) : Type 0 where
 pub has_root : (tree : Tree) (b : Box Node Global) (n : Node) → tree ≡ Fork b → n ≡ b.value → HasRoot tree n
 has_root tree b n is value = subst (λ (x : Tree). HasRoot x n) (sym is) (subst (HasRoot (Fork b)) (sym value) (record { shown = refl; ordered = λ depth o. o; root = refl }))
 
-node_of : Tree → Node → Node
-unfolding node_of
+abbrev node_of : Tree → Node → Node
 node_of Empty o = o
 node_of (Fork' p e low high) o = record { entry = e; low = low; high = high }
 
 same_node : (b : Box Node Global) (m : Box Node Global) → Fork b ≡ Fork m → b.value ≡ m.value
-unfolding node_of
 same_node b m e = ap (λ (x : Tree). node_of x b.value) e
 
 -- a key that is absent is not the root's
@@ -100,7 +98,7 @@ only_root depth tree o m root leaf same = subst (λ (e : Entry). IsTaken depth (
   where
     gone : (q : List ℕ) (b : Bool) → None ≡ cond b None (cond b (Some o.entry.slot) (option_or (slot_of o.low q) (slot_of o.high q)))
     gone q true = refl
-    gone q false = λ i. sym (ap (λ (x : Tree). slot_of x q) leaf.low) i
+    gone q false = sym (λ i. option_or (slot_of (leaf.low i) q) (slot_of (leaf.high i) q))
 
 -- nothing is below the root n, which was o
 pub all_taken : (tree : Tree) (b : Box Node Global) (new : Tree) (o : Node) (r : Option (Box Node Global)) → HasRoot tree o → b.value.entry ≡ o.entry → IsLeaf o × IsLeaf b.value → new ≡ Empty
@@ -111,6 +109,19 @@ all_taken tree b new o (Some m) root same leaf empty h =
     let v = same_node b m h in
     let e : m.value.entry ≡ o.entry = sym (ap (λ (x : Node). x.entry) v) ∙ same in
     (subst IsLeaf v leaf.1, root.root ∙ ap Some (sym e), λ depth was. subst (IsTaken depth m.value tree) (sym empty) (only_root depth tree o m.value root leaf.0 e))
+
+-- the same, where it does not matter which node it was
+pub leaf_taken : (tree new : Tree) (r : Option (Box Node Global)) → new ≡ Empty
+  → MatchOption r ((tree ≡ Empty) × (new ≡ Empty)) (λ m. IsLeaf m.value × (root_of tree ≡ Some m.value.entry) × ((depth : ℕ) → IsOrdered depth tree → IsTaken depth m.value tree new))
+  → MatchOption r ((tree ≡ Empty) × (new ≡ Empty)) (λ m. IsLeaf m.value × ((depth : ℕ) → IsOrdered depth tree → IsTaken depth m.value tree new))
+leaf_taken tree new None empty h = h
+leaf_taken tree new (Some m) empty h = (h.0, h.2)
+
+pub root_alone : (tree new : Tree) (r : Option (Box Node Global)) → new ≡ Empty
+  → MatchOption r ((tree ≡ Empty) × (new ≡ Empty)) (λ m. IsLeaf m.value × (root_of tree ≡ Some m.value.entry) × ((depth : ℕ) → IsOrdered depth tree → IsTaken depth m.value tree new))
+  → MatchOption r (tree ≡ Empty) (λ m. IsLeaf m.value × (root_of tree ≡ Some m.value.entry) × ((depth : ℕ) → IsOrdered depth tree → IsTaken depth m.value tree new))
+root_alone tree new None empty h = h.0
+root_alone tree new (Some m) empty h = h
 
 -- the leaf m is taken from below the root o, which becomes n, and takes its place
 pub record IsRootTaken (depth : ℕ) (tree : Tree) (o m n : Node) : Type 0 where

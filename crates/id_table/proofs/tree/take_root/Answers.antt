@@ -1,0 +1,23 @@
+use Rattle.std.proofs.Common.{◌≡◌, ℕ, None, Some, Option, List, sym, ap, subst, ◌∙◌}
+use Rattle.std.specs.Box.{with_value}
+use Rattle.id_table.specs.declared.tree.Node.{Node}
+use Rattle.id_table.specs.declared.tree.Tree.{Tree}
+use Rattle.id_table.specs.declared.tree.Tree.TheVariants.{Empty, Fork}
+use Rattle.id_table.specs.Inner.Trees.{key_of, slot_of, IsOrdered, IsLeaf, IsTaken, IsTakenBelow, Becomes, root_of}
+use Rattle.id_table.proofs.Trees.{has_root, all_taken, root_alone, root_out, IsRootTaken}
+use Rattle.id_table.proofs.tree.take_root.Goals as goal
+
+pub returns-in-Some : goal.returns-in-Some
+returns-in-Some c =
+    let root = has_root c.args.tree.now c.in-Fork.node c.deref_mut.result.now c.in-Fork.is c.deref_mut.ensures.value in
+    let a = c.in-Some.ensures.leaf in
+    let b = c.swap.ensures in
+    let d = c.deref_mut-in-Some.ensures.value in
+    let d' = c.deref_mut-in-Some-2.ensures.value in
+    ?
+
+pub returns-in_default : goal.returns-in_default
+returns-in_default c =
+    let root = has_root c.args.tree.now c.in-Fork.node c.deref_mut.result.now c.in-Fork.is c.deref_mut.ensures.value in
+    root_alone c.args.tree.now c.take_all.new.tree c.take_all.result c.take_all.ensures.empty
+      (all_taken c.args.tree.now (with_value c.in-Fork.node c.take_below.new.node) c.take_all.new.tree c.deref_mut.result.now c.take_all.result root c.take_below.ensures.entry c.in_default.ensures.leaf c.take_all.ensures.empty c.take_all.ensures.root)
