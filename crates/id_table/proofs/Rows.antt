@@ -1,5 +1,5 @@
 -- Rows of buckets: what they show of a key, and what a write to one bucket makes of it.
-use Rattle.std.proofs.Common.{◌≡◌, ◌≢◌, ℕ, ◌+◌, ◌<◌, Bool, true, false, cond, List, [], ◌∷◌, ◌++◌, length, set, Option, Some, None, refl, sym, ap, subst, ◌∙◌, arith, inl, inr}
+use Rattle.std.proofs.Common.{◌≡◌, ◌≢◌, ℕ, ◌+◌, ◌<◌, ◌≤◌, Bool, true, false, cond, List, [], ◌∷◌, ◌++◌, length, set, get_or, Option, Some, None, refl, sym, ap, subst, ◌∙◌, arith, inl, inr}
 use Prim.Native.Nat.{zero, suc}
 use Rattle.std.specs.Option.{option_or}
 use Rattle.std.specs.Ordering.{nat_cmp}
@@ -7,7 +7,7 @@ use Rattle.std.specs.Cmp.Lexicographic.{slice_cmp, nat_list_cmp_total}
 use Rattle.std.specs.FinMap as map
 use Rattle.std.specs.FinMap.{find, get-from_entries, get-insert, get-remove, same_map, slice_cmp-IsAntisymmetric, nat_cmp-IsAntisymmetric}
 use Rattle.std.proofs.lemmas.Bool.{cases_eq}
-use Rattle.std.proofs.lemmas.List.{length-set, get_or-set_same, get_or-set_other}
+use Rattle.std.proofs.lemmas.List.{length-set, get_or-set_same, get_or-set_other, get_or_default}
 use Rattle.gx_base.specs.declared.order.Slot.{Slot}
 use Rattle.id_table.specs.declared.tree.Tree.{Tree}
 use Rattle.id_table.specs.declared.tree.Tree.TheVariants.{Empty, Fork'}
@@ -95,15 +95,32 @@ module _ (capacity : ℕ) (buckets : List Tree) (table : IsTable capacity bucket
           | inr ne ↦ ap (λ (x : Tree). slot_of x q) (other (home_of capacity q) ne) ∙ sym (passed (is_same q k) r (slot_of (bucket_at buckets (home_of capacity q)) q) (apart q ne))
         ]
 
+-- the row new shows r of the key k, and of the others what the row showed before
+pub record IsWritten (capacity : ℕ) (buckets new : List Tree) (k : List ℕ) (r : Option Slot) : Type 0 where
+  pub table : IsTable capacity new
+  pub got : (q : List ℕ) → map.get (slots_of new) q ≡ cond (is_same q k) r (map.get (slots_of buckets) q)
+
+module _ (capacity : ℕ) (buckets : List Tree) (table : IsTable capacity buckets) (k : List ℕ) (h : ℕ) (home : h ≡ home_of capacity k) (within : h ≤ capacity) (d : Tree) where
+  lt : h < length buckets
+  lt = omega (arith, table.long)
+
+  -- what a read at the home gives
+  pub read_is : map.get (slots_of buckets) k ≡ slot_of (get_or buckets h d) k
+  read_is = get_is capacity buckets table k ∙ ap (λ (t : Tree). slot_of t k) (sym (get_or_default buckets h d Empty lt ∙ ap (bucket_at buckets) home))
+
+  pub written_is : (r : Option Slot) (t : Tree) → IsOrdered 0 t → Becomes k r (slot_of (get_or buckets h d)) (slot_of t) → IsWritten capacity buckets (set buckets h t) k r
+  written_is r t ordered b =
+      let b' : Becomes k r (slot_of (bucket_at buckets (home_of capacity k))) (slot_of t) = subst (λ (x : Tree). Becomes k r (slot_of x) (slot_of t)) (get_or_default buckets h d Empty lt ∙ ap (bucket_at buckets) home) b in
+      let lt' : home_of capacity k < length buckets = subst (λ (i : ℕ). i < length buckets) home lt in
+      subst (λ (i : ℕ). IsWritten capacity buckets (set buckets i t) k r) (sym home) (record {
+        table = table_written capacity buckets table k r t lt' ordered b';
+        got = λ q. get_is capacity _ (table_written capacity buckets table k r t lt' ordered b') q ∙ found_written capacity buckets table k r t lt' ordered b' q
+          ∙ ap (cond (is_same q k) r) (sym (get_is capacity buckets table q));
+      })
+
 -- two rows with the same look-ups are one map
-module _ (capacity : ℕ) (buckets : List Tree) (table : IsTable capacity buckets) (k : List ℕ) (t : Tree) (lt : home_of capacity k < length buckets) (ordered : IsOrdered 0 t) where
-  get_written : (r : Option Slot) (b : Becomes k r (slot_of (bucket_at buckets (home_of capacity k))) (slot_of t)) (q : List ℕ) → map.get (slots_of (set buckets (home_of capacity k) t)) q ≡ cond (is_same q k) r (map.get (slots_of buckets) q)
-  get_written r b q =
-      get_is capacity _ (table_written capacity buckets table k r t lt ordered b) q ∙ found_written capacity buckets table k r t lt ordered b q
-      ∙ ap (cond (is_same q k) r) (sym (get_is capacity buckets table q))
+pub inserted : (capacity : ℕ) (buckets new : List Tree) (k : List ℕ) (s : Slot) → IsWritten capacity buckets new k (Some s) → slots_of new ≡ map.insert (slots_of buckets) k s
+inserted capacity buckets new k s w = same_map nat_list_cmp_total (slice_cmp-IsAntisymmetric nat_cmp-IsAntisymmetric) _ _ (λ q. w.got q ∙ sym (get-insert nat_list_cmp_total (slots_of buckets) k s q))
 
-  pub inserted : (s : Slot) → Becomes k (Some s) (slot_of (bucket_at buckets (home_of capacity k))) (slot_of t) → slots_of (set buckets (home_of capacity k) t) ≡ map.insert (slots_of buckets) k s
-  inserted s b = same_map nat_list_cmp_total (slice_cmp-IsAntisymmetric nat_cmp-IsAntisymmetric) _ _ (λ q. get_written (Some s) b q ∙ sym (get-insert nat_list_cmp_total (slots_of buckets) k s q))
-
-  pub removed : Becomes k None (slot_of (bucket_at buckets (home_of capacity k))) (slot_of t) → slots_of (set buckets (home_of capacity k) t) ≡ map.remove (slots_of buckets) k
-  removed b = same_map nat_list_cmp_total (slice_cmp-IsAntisymmetric nat_cmp-IsAntisymmetric) _ _ (λ q. get_written None b q ∙ sym (get-remove nat_list_cmp_total (slots_of buckets) k q))
+pub removed : (capacity : ℕ) (buckets new : List Tree) (k : List ℕ) → IsWritten capacity buckets new k None → slots_of new ≡ map.remove (slots_of buckets) k
+removed capacity buckets new k w = same_map nat_list_cmp_total (slice_cmp-IsAntisymmetric nat_cmp-IsAntisymmetric) _ _ (λ q. w.got q ∙ sym (get-remove nat_list_cmp_total (slots_of buckets) k q))

@@ -1,5 +1,5 @@
 -- Trees: what a change on one side of the root makes of a tree, and what taking out the root does.
-use Rattle.std.proofs.Common.{◌≡◌, ◌≢◌, ℕ, Bool, true, false, cond, List, Option, Some, None, Box, MatchOption, refl, sym, ap, subst, ◌∙◌}
+use Rattle.std.proofs.Common.{◌≡◌, ◌≢◌, ℕ, Bool, true, false, cond, List, Option, Some, None, Box, MatchOption, unwrap_or, refl, sym, ap, subst, ◌∙◌}
 use Rattle.std.specs.declared.alloc.Global.{Global}
 use Rattle.std.specs.Option.{option_or}
 use Rattle.gx_base.specs.declared.order.Slot.{Slot}
@@ -9,7 +9,7 @@ use Rattle.id_table.specs.declared.tree.Tree.{Tree}
 use Rattle.id_table.specs.declared.tree.Tree.TheVariants.{Empty, Fork, Fork'}
 use Rattle.id_table.specs.Inner.Ways.{is_high, next_depth}
 use Rattle.id_table.specs.Inner.Trees.{key_of, is_same, shown_at, slot_of, slot_below, root_of, IsNode, IsOrdered, IsOrderedNode, IsLeaf, IsTaken, IsTakenBelow, Becomes}
-use Rattle.id_table.proofs.Keys.{same_key-itself}
+use Rattle.id_table.proofs.Keys.{same_key-true, same_key-itself}
 use Rattle.id_table.proofs.Nodes.{some_none, by_test, picked, passed, on_high, on_low, absent_differs, high_differs, low_differs, high_way, low_way, change_high, change_low, root_node, root_taken}
 
 -- ---- the node at the root
@@ -140,3 +140,70 @@ root_out depth tree o m n root same t = record {
   where
     other : is_same (key_of m.entry) (key_of n.entry) ≡ false
     other = subst (λ (e : Entry). is_same (key_of m.entry) (key_of e) ≡ false) (sym same) t.other
+
+-- what the root m in its place gives back: b is the box of the root, and y the entry that comes out
+abbrev pub IsRootOut : Tree → Box Node Global → Node → Node → Entry → Entry → Type 0
+IsRootOut tree b kept out x y =
+    IsLeaf (record { entry = y; low = out.low; high = out.high }) × (root_of tree ≡ Some y)
+    × ((depth : ℕ) → IsOrdered depth tree → IsTaken depth (record { entry = y; low = out.low; high = out.high }) tree (Fork (record { ptr = b.ptr; alloc = b.alloc; value = record { entry = x; low = kept.low; high = kept.high } })))
+
+root_swapped : (tree : Tree) (b : Box Node Global) (o m n : Node) → HasRoot tree o → n.entry ≡ o.entry → IsLeaf m → ((depth : ℕ) → IsOrderedNode depth o → IsTakenBelow depth m o n) → IsRootOut tree b n m m.entry o.entry
+root_swapped tree b o m n root same leaf taken = (
+  record { low = leaf.low; high = leaf.high },
+  root.root,
+  λ depth was. let r = root_out depth tree o m n root same (taken depth (root.ordered depth was)) in record { ordered = r.ordered; was = r.was; removes = r.removes },
+)
+
+pub root_swapped_at : (tree : Tree) (b : Box Node Global) (o m n kept out : Node) (x y : Entry) → HasRoot tree o → n.entry ≡ o.entry → IsLeaf m × ((depth : ℕ) → IsOrderedNode depth o → IsTakenBelow depth m o n)
+  → kept ≡ n → out ≡ m → x ≡ out.entry → y ≡ kept.entry → IsRootOut tree b kept out x y
+root_swapped_at tree b o m n kept out x y root same taken a1 a2 ex ey =
+    let ex' : x ≡ m.entry = ex ∙ ap (λ (d : Node). d.entry) a2 in
+    let ey' : y ≡ o.entry = ey ∙ ap (λ (d : Node). d.entry) a1 ∙ same in
+    subst (λ (d : Node). IsRootOut tree b d out x y) (sym a1) (
+    subst (λ (d : Node). IsRootOut tree b n d x y) (sym a2) (
+    subst (λ (e : Entry). IsRootOut tree b n m e y) (sym ex') (
+    subst (λ (e : Entry). IsRootOut tree b n m m.entry e) (sym ey') (root_swapped tree b o m n root same taken.0 taken.1))))
+
+-- ---- what is shown of a key at the root and behind it
+
+module _ (depth : ℕ) (tree : Tree) (n : Node) (root : HasRoot tree n) (q : List ℕ) where
+  shown_here : slot_of tree q ≡ slot_below n q
+  shown_here = ap (λ (f : List ℕ → Option Slot). f q) root.shown
+
+  pub seen_root : is_same q (key_of n.entry) ≡ true → slot_of tree q ≡ Some n.entry.slot
+  seen_root same = shown_here ∙ picked (is_same q (key_of n.entry)) (Some n.entry.slot) (option_or (slot_of n.low q) (slot_of n.high q)) same
+
+  module _ (ordered : IsOrdered depth tree) (other : is_same q (key_of n.entry) ≡ false) where
+    pub seen_high : is_high depth q ≡ true → slot_of tree q ≡ slot_of n.high q
+    seen_high way = shown_here ∙ on_high depth (key_of n.entry) n.entry.slot (slot_of n.low) (slot_of n.high) (root.ordered depth ordered).0 q other way
+
+    pub seen_low : is_high depth q ≡ false → slot_of tree q ≡ slot_of n.low q
+    seen_low way = shown_here ∙ on_low depth (key_of n.entry) n.entry.slot (slot_of n.low) (slot_of n.high) (root.ordered depth ordered).0 q other way
+
+-- ---- what take gives
+
+-- the node of the key q is out, with the slot that was shown of it
+abbrev pub IsOutcome : List ℕ → Option Slot → Option (Box Node Global) → Type 0
+IsOutcome q was r = MatchOption r (was ≡ None) (λ n. IsLeaf n.value × (key_of n.value.entry ≡ q) × (was ≡ Some n.value.entry.slot))
+
+pub outcome_at : (q : List ℕ) (a b : Option Slot) (r : Option (Box Node Global)) → a ≡ b → IsOutcome q b r → IsOutcome q a r
+outcome_at q a b r e h = subst (λ (x : Option Slot). IsOutcome q x r) (sym e) h
+
+pub record IsRootGone (depth : ℕ) (q : List ℕ) (tree new : Tree) (r : Option (Box Node Global)) : Type 0 where
+  pub ordered : IsOrdered depth new
+  pub removes : Becomes q None (slot_of tree) (slot_of new)
+  pub outcome : IsOutcome q (slot_of tree q) r
+
+pub root_gone : (depth : ℕ) (tree new : Tree) (n : Node) (q : List ℕ) (r : Option (Box Node Global)) → HasRoot tree n → IsOrdered depth tree → is_same q (key_of n.entry) ≡ true
+  → MatchOption r (tree ≡ Empty) (λ m. IsLeaf m.value × (root_of tree ≡ Some m.value.entry) × ((depth : ℕ) → IsOrdered depth tree → IsTaken depth m.value tree new))
+  → IsRootGone depth q tree new r
+root_gone depth tree new n q None root ordered same h = absurd (let e : ◌≡◌ {A = Option Entry} (Some n.entry) None = sym root.root ∙ ap root_of h in cc)
+root_gone depth tree new n q (Some m) root ordered same h =
+    let t = h.2 depth ordered in
+    let e : m.value.entry ≡ n.entry = ap (λ (o : Option Entry). unwrap_or o n.entry) (sym h.1 ∙ root.root) in
+    let k : key_of m.value.entry ≡ q = ap key_of e ∙ sym (same_key-true q (key_of n.entry) same) in
+    record {
+      ordered = t.ordered;
+      removes = subst (λ (x : List ℕ). Becomes x None (slot_of tree) (slot_of new)) k t.removes;
+      outcome = (h.0, k, subst (λ (x : List ℕ). slot_of tree x ≡ Some m.value.entry.slot) k t.was);
+    }

@@ -4,17 +4,14 @@ use Rattle.id_table.specs.declared.tree.Node.{Node}
 use Rattle.id_table.specs.declared.tree.Tree.{Tree}
 use Rattle.id_table.specs.declared.tree.Tree.TheVariants.{Empty, Fork}
 use Rattle.id_table.specs.Inner.Trees.{key_of, slot_of, IsOrdered, IsLeaf, IsTaken, IsTakenBelow, Becomes, root_of}
-use Rattle.id_table.proofs.Trees.{has_root, all_taken, root_alone, root_out, IsRootTaken}
+use Rattle.id_table.proofs.Trees.{has_root, all_taken, root_alone, root_swapped_at}
 use Rattle.id_table.proofs.tree.take_root.Goals as goal
 
 pub returns-in-Some : goal.returns-in-Some
 returns-in-Some c =
     let root = has_root c.args.tree.now c.in-Fork.node c.deref_mut.result.now c.in-Fork.is c.deref_mut.ensures.value in
-    let a = c.in-Some.ensures.leaf in
-    let b = c.swap.ensures in
-    let d = c.deref_mut-in-Some.ensures.value in
-    let d' = c.deref_mut-in-Some-2.ensures.value in
-    ?
+    root_swapped_at c.args.tree.now c.in-Fork.node c.deref_mut.result.now c.in-Some.leaf.value c.take_below.new.node c.deref_mut-in-Some.result.now c.deref_mut-in-Some-2.result.now c.swap.new.x c.swap.new.y
+      root c.in-Some.ensures.entry c.in-Some.ensures.leaf c.deref_mut-in-Some.ensures.value c.deref_mut-in-Some-2.ensures.value c.swap.ensures.x_after c.swap.ensures.y_after
 
 pub returns-in_default : goal.returns-in_default
 returns-in_default c =
