@@ -17,6 +17,9 @@ use Rattle.id_table.specs.Inner.Buckets.{bucket_at, filled, slots_of, IsTable, I
 pub given_back : (buckets old : List Tree) (len : ℕ) → length buckets ≡ len → take len (buckets ++ old) ≡ buckets
 given_back buckets old len long = ap (λ (n : ℕ). take n (buckets ++ old)) (sym long) ∙ take-append_seam buckets old
 
+pub kept_back : (capacity live : ℕ) (buckets old : List Tree) (len spare room : ℕ) → length buckets ≡ len → IsKept capacity live buckets spare room → IsKept capacity live (take len (buckets ++ old)) spare room
+kept_back capacity live buckets old len spare room long kept = subst (λ (x : List Tree). IsKept capacity live x spare room) (sym (given_back buckets old len long)) kept
+
 -- ---- an empty table
 
 filled_none : (n : ℕ) → filled (replicate n Empty) ≡ []
@@ -46,8 +49,8 @@ kept_new capacity buckets spare room empty count wide = subst (λ (x : List Tree
 -- ---- a call
 
 pub kept_insert : (capacity live : ℕ) (buckets new : List Tree) (spare room spare' room' : ℕ) (k : List ℕ) (s : Slot)
-  → IsKept capacity live buckets spare room → IsTable capacity new → slots_of new ≡ map.insert (slots_of buckets) k s → map.get (slots_of buckets) k ≡ None → spare' + 1 ≡ spare → room' ≡ room
-  → IsKept capacity (live + 1) new spare' room'
+    → IsKept capacity live buckets spare room → IsTable capacity new → slots_of new ≡ map.insert (slots_of buckets) k s → map.get (slots_of buckets) k ≡ None → spare' + 1 ≡ spare → room' ≡ room
+    → IsKept capacity (live + 1) new spare' room'
 kept_insert capacity live buckets new spare room spare' room' k s kept table is absent one same = record {
   table = table;
   size = ap map.len is ∙ len-insert nat_list_cmp_total (slots_of buckets) k s ∙ ap (λ (o : Option Slot). cond (is_some o) (map.len (slots_of buckets)) (map.len (slots_of buckets) + 1)) absent ∙ ap (λ (n : ℕ). n + 1) kept.size;
@@ -60,12 +63,18 @@ fewer : (m n : ℕ) (o : Option Slot) → o ≢ None → n ≡ cond (is_some o) 
 fewer m n None some e = absurd (some refl)
 fewer m n (Some s) some e = e
 
+some_in : (m : map.FinMap (slice_cmp nat_cmp) Slot) (k : List ℕ) → map.get m k ≢ None → 0 < map.len m
+some_in m k some = ?
+
+pub some_live : (capacity live : ℕ) (buckets : List Tree) (spare room : ℕ) (k : List ℕ) → IsKept capacity live buckets spare room → map.get (slots_of buckets) k ≢ None → 0 < live
+some_live capacity live buckets spare room k kept some = subst (λ (n : ℕ). 0 < n) kept.size (some_in (slots_of buckets) k some)
+
 pub kept_remove : (capacity live : ℕ) (buckets new : List Tree) (spare room spare' room' : ℕ) (k : List ℕ)
-  → IsKept capacity live buckets spare room → IsTable capacity new → slots_of new ≡ map.remove (slots_of buckets) k → map.get (slots_of buckets) k ≢ None → spare' ≡ spare + 1 → room' ≡ room → 0 < live
-  → IsKept capacity (live - 1) new spare' room'
-kept_remove capacity live buckets new spare room spare' room' k kept table is some one same there = record {
+    → IsKept capacity live buckets spare room → IsTable capacity new → slots_of new ≡ map.remove (slots_of buckets) k → map.get (slots_of buckets) k ≢ None → spare' ≡ spare + 1 → room' ≡ room
+    → IsKept capacity (live - 1) new spare' room'
+kept_remove capacity live buckets new spare room spare' room' k kept table is some one same = record {
   table = table;
   size = fewer (map.len (slots_of buckets)) _ (map.get (slots_of buckets) k) some (ap map.len is ∙ len-remove nat_list_cmp_total (slots_of buckets) k) ∙ ap (λ (n : ℕ). n - 1) kept.size;
-  few = omega (arith, kept.few, one);
+  few = let there = some_live capacity live buckets spare room k kept some in omega (arith, there, kept.few, one);
   wide = omega (arith, kept.wide, same);
 }

@@ -88,6 +88,7 @@ module _ (depth : ℕ) (k : List ℕ) (s : Slot) (low high : List ℕ → Option
     where
       apart : (q : List ℕ) → is_high depth q ≡ false → is_same q n ≡ false
       apart q w = differ q n (λ e. true_false (is_high depth q) (ap (is_high depth) e ∙ way) w)
+
       still : IsNode depth k low high'
       still = record {
         once_low = node.once_low;
@@ -95,18 +96,20 @@ module _ (depth : ℕ) (k : List ℕ) (s : Slot) (low high : List ℕ → Option
         low_side = node.low_side;
         high_side = λ q w. kept b q (apart q w) ∙ node.high_side q w;
       }
+
       shown : (q : List ℕ) → shown_at k s (low q) (high' q) q ≡ cond (is_same q n) r (shown_at k s (low q) (high q) q)
       shown q =
           by_test (is_same q n) (shown_at k s (low q) (high' q) q ≡ cond (is_same q n) r (shown_at k s (low q) (high q) q))
-            (λ t. subst (λ (x : List ℕ). shown_at k s (low x) (high' x) x ≡ r) (sym (same_key-true q n t)) (on_high depth k s low high' still n other way ∙ now b)
-              ∙ sym (picked (is_same q n) r (shown_at k s (low q) (high q) q) t))
-            (λ f. ap (λ (o : Option Slot). shown_at k s (low q) o q) (kept b q f) ∙ sym (passed (is_same q n) r (shown_at k s (low q) (high q) q) f))
+          (λ t. subst (λ (x : List ℕ). shown_at k s (low x) (high' x) x ≡ r) (sym (same_key-true q n t)) (on_high depth k s low high' still n other way ∙ now b)
+          ∙ sym (picked (is_same q n) r (shown_at k s (low q) (high q) q) t))
+          (λ f. ap (λ (o : Option Slot). shown_at k s (low q) o q) (kept b q f) ∙ sym (passed (is_same q n) r (shown_at k s (low q) (high q) q) f))
 
   pub change_low : (low' : List ℕ → Option Slot) → is_high depth n ≡ false → Becomes n r low low' → StaysNode depth k s n r low high low' high
   change_low low' way b = record { node = still; becomes = record { shown = shown } }
     where
       apart : (q : List ℕ) → is_high depth q ≡ true → is_same q n ≡ false
       apart q w = differ q n (λ e. true_false (is_high depth q) w (ap (is_high depth) e ∙ way))
+
       still : IsNode depth k low' high
       still = record {
         once_low = kept b k (differ k n (λ e. differ_not n k other (sym e))) ∙ node.once_low;
@@ -114,12 +117,13 @@ module _ (depth : ℕ) (k : List ℕ) (s : Slot) (low high : List ℕ → Option
         low_side = λ q w. kept b q (apart q w) ∙ node.low_side q w;
         high_side = node.high_side;
       }
+
       shown : (q : List ℕ) → shown_at k s (low' q) (high q) q ≡ cond (is_same q n) r (shown_at k s (low q) (high q) q)
       shown q =
           by_test (is_same q n) (shown_at k s (low' q) (high q) q ≡ cond (is_same q n) r (shown_at k s (low q) (high q) q))
-            (λ t. subst (λ (x : List ℕ). shown_at k s (low' x) (high x) x ≡ r) (sym (same_key-true q n t)) (on_low depth k s low' high still n other way ∙ now b)
-              ∙ sym (picked (is_same q n) r (shown_at k s (low q) (high q) q) t))
-            (λ f. ap (λ (o : Option Slot). shown_at k s o (high q) q) (kept b q f) ∙ sym (passed (is_same q n) r (shown_at k s (low q) (high q) q) f))
+          (λ t. subst (λ (x : List ℕ). shown_at k s (low' x) (high x) x ≡ r) (sym (same_key-true q n t)) (on_low depth k s low' high still n other way ∙ now b)
+          ∙ sym (picked (is_same q n) r (shown_at k s (low q) (high q) q) t))
+          (λ f. ap (λ (o : Option Slot). shown_at k s o (high q) q) (kept b q f) ∙ sym (passed (is_same q n) r (shown_at k s (low q) (high q) q) f))
 
 -- the key n, with the slot t, is taken from below the node, and takes the place of the node's own key k
 module _ (depth : ℕ) (k : List ℕ) (s : Slot) (n : List ℕ) (t : Slot) (old low high : List ℕ → Option Slot) (node : IsNode depth k low high) (other : is_same n k ≡ false) (was : old n ≡ Some t) (taken : Becomes n None old (λ q. shown_at k s (low q) (high q) q)) where
@@ -131,14 +135,14 @@ module _ (depth : ℕ) (k : List ℕ) (s : Slot) (n : List ℕ) (t : Slot) (old 
   pub root_taken : Becomes k None old (λ q. shown_at n t (low q) (high q) q)
   root_taken = record {
     shown = λ q. by_test (is_same q n) (shown_at n t (low q) (high q) q ≡ cond (is_same q k) None (old q))
-      (λ e. picked (is_same q n) (Some t) (option_or (low q) (high q)) e ∙ sym was ∙ ap old (sym (same_key-true q n e))
+        (λ e. picked (is_same q n) (Some t) (option_or (low q) (high q)) e ∙ sym was ∙ ap old (sym (same_key-true q n e))
         ∙ sym (passed (is_same q k) None (old q) (subst (λ (x : List ℕ). is_same x k ≡ false) (sym (same_key-true q n e)) other)))
-      (λ f. passed (is_same q n) (Some t) (option_or (low q) (high q)) f ∙ rest q f);
+        (λ f. passed (is_same q n) (Some t) (option_or (low q) (high q)) f ∙ rest q f);
   }
     where
       rest : (q : List ℕ) → is_same q n ≡ false → option_or (low q) (high q) ≡ cond (is_same q k) None (old q)
       rest q f =
           by_test (is_same q k) (option_or (low q) (high q) ≡ cond (is_same q k) None (old q))
-            (λ e. subst (λ (x : List ℕ). option_or (low x) (high x) ≡ None) (sym (same_key-true q k e)) (ap (λ (o : Option Slot). option_or o (high k)) node.once_low ∙ node.once_high)
-              ∙ sym (picked (is_same q k) None (old q) e))
-            (λ g. sym (passed (is_same q k) (Some s) (option_or (low q) (high q)) g) ∙ kept taken q f ∙ sym (passed (is_same q k) None (old q) g))
+          (λ e. subst (λ (x : List ℕ). option_or (low x) (high x) ≡ None) (sym (same_key-true q k e)) (ap (λ (o : Option Slot). option_or o (high k)) node.once_low ∙ node.once_high)
+          ∙ sym (picked (is_same q k) None (old q) e))
+          (λ g. sym (passed (is_same q k) (Some s) (option_or (low q) (high q)) g) ∙ kept taken q f ∙ sym (passed (is_same q k) None (old q) g))

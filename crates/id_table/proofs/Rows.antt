@@ -115,7 +115,7 @@ module _ (capacity : ℕ) (buckets : List Tree) (table : IsTable capacity bucket
       subst (λ (i : ℕ). IsWritten capacity buckets (set buckets i t) k r) (sym home) (record {
         table = table_written capacity buckets table k r t lt' ordered b';
         got = λ q. get_is capacity _ (table_written capacity buckets table k r t lt' ordered b') q ∙ found_written capacity buckets table k r t lt' ordered b' q
-          ∙ ap (cond (is_same q k) r) (sym (get_is capacity buckets table q));
+            ∙ ap (cond (is_same q k) r) (sym (get_is capacity buckets table q));
       })
 
 -- two rows with the same look-ups are one map

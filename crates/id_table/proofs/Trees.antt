@@ -73,15 +73,15 @@ below_low depth o m low' was t =
 
 -- the first side is not empty
 pub from_low : (o : Node) (low' : Tree) (r : Option (Box Node Global)) → r ≢ None
-  → MatchOption r ((o.low ≡ Empty) × (low' ≡ Empty)) (λ n. IsLeaf n.value × ((depth : ℕ) → IsOrdered depth o.low → IsTaken depth n.value o.low low'))
-  → MatchOption r (IsLeaf o × IsLeaf (record { entry = o.entry; low = low'; high = o.high })) (λ n. IsLeaf n.value × ((depth : ℕ) → IsOrderedNode depth o → IsTakenBelow depth n.value o (record { entry = o.entry; low = low'; high = o.high })))
+    → MatchOption r ((o.low ≡ Empty) × (low' ≡ Empty)) (λ n. IsLeaf n.value × ((depth : ℕ) → IsOrdered depth o.low → IsTaken depth n.value o.low low'))
+    → MatchOption r (IsLeaf o × IsLeaf (record { entry = o.entry; low = low'; high = o.high })) (λ n. IsLeaf n.value × ((depth : ℕ) → IsOrderedNode depth o → IsTakenBelow depth n.value o (record { entry = o.entry; low = low'; high = o.high })))
 from_low o low' None some h = absurd (some refl)
 from_low o low' (Some b) some h = (h.0, λ depth was. below_low depth o b.value low' was (h.1 (next_depth depth) was.1))
 
 -- it is, and so stays as it is
 pub from_high : (o : Node) (low' high' : Tree) (r : Option (Box Node Global)) → (o.low ≡ Empty) × (low' ≡ Empty)
-  → MatchOption r ((o.high ≡ Empty) × (high' ≡ Empty)) (λ n. IsLeaf n.value × ((depth : ℕ) → IsOrdered depth o.high → IsTaken depth n.value o.high high'))
-  → MatchOption r (IsLeaf o × IsLeaf (record { entry = o.entry; low = low'; high = high' })) (λ n. IsLeaf n.value × ((depth : ℕ) → IsOrderedNode depth o → IsTakenBelow depth n.value o (record { entry = o.entry; low = low'; high = high' })))
+    → MatchOption r ((o.high ≡ Empty) × (high' ≡ Empty)) (λ n. IsLeaf n.value × ((depth : ℕ) → IsOrdered depth o.high → IsTaken depth n.value o.high high'))
+    → MatchOption r (IsLeaf o × IsLeaf (record { entry = o.entry; low = low'; high = high' })) (λ n. IsLeaf n.value × ((depth : ℕ) → IsOrderedNode depth o → IsTakenBelow depth n.value o (record { entry = o.entry; low = low'; high = high' })))
 from_high o low' high' None empty h = (record { low = empty.0; high = h.0 }, record { low = empty.1; high = h.1 })
 from_high o low' high' (Some b) empty h =
     (h.0, λ depth was. subst (λ (x : Tree). IsTakenBelow depth b.value o (record { entry = o.entry; low = x; high = high' })) (empty.0 ∙ sym empty.1) (below_high depth o b.value high' was (h.1 (next_depth depth) was.2)))
@@ -102,8 +102,8 @@ only_root depth tree o m root leaf same = subst (λ (e : Entry). IsTaken depth (
 
 -- nothing is below the root n, which was o
 pub all_taken : (tree : Tree) (b : Box Node Global) (new : Tree) (o : Node) (r : Option (Box Node Global)) → HasRoot tree o → b.value.entry ≡ o.entry → IsLeaf o × IsLeaf b.value → new ≡ Empty
-  → MatchOption r (Fork b ≡ Empty) (λ m. Fork b ≡ Fork m)
-  → MatchOption r ((tree ≡ Empty) × (new ≡ Empty)) (λ m. IsLeaf m.value × (root_of tree ≡ Some m.value.entry) × ((depth : ℕ) → IsOrdered depth tree → IsTaken depth m.value tree new))
+    → MatchOption r (Fork b ≡ Empty) (λ m. Fork b ≡ Fork m)
+    → MatchOption r ((tree ≡ Empty) × (new ≡ Empty)) (λ m. IsLeaf m.value × (root_of tree ≡ Some m.value.entry) × ((depth : ℕ) → IsOrdered depth tree → IsTaken depth m.value tree new))
 all_taken tree b new o None root same leaf empty h = absurd (let e : ◌≡◌ {A = Option Entry} (Some b.value.entry) None = ap root_of h in cc)
 all_taken tree b new o (Some m) root same leaf empty h =
     let v = same_node b m h in
@@ -112,14 +112,14 @@ all_taken tree b new o (Some m) root same leaf empty h =
 
 -- the same, where it does not matter which node it was
 pub leaf_taken : (tree new : Tree) (r : Option (Box Node Global)) → new ≡ Empty
-  → MatchOption r ((tree ≡ Empty) × (new ≡ Empty)) (λ m. IsLeaf m.value × (root_of tree ≡ Some m.value.entry) × ((depth : ℕ) → IsOrdered depth tree → IsTaken depth m.value tree new))
-  → MatchOption r ((tree ≡ Empty) × (new ≡ Empty)) (λ m. IsLeaf m.value × ((depth : ℕ) → IsOrdered depth tree → IsTaken depth m.value tree new))
+    → MatchOption r ((tree ≡ Empty) × (new ≡ Empty)) (λ m. IsLeaf m.value × (root_of tree ≡ Some m.value.entry) × ((depth : ℕ) → IsOrdered depth tree → IsTaken depth m.value tree new))
+    → MatchOption r ((tree ≡ Empty) × (new ≡ Empty)) (λ m. IsLeaf m.value × ((depth : ℕ) → IsOrdered depth tree → IsTaken depth m.value tree new))
 leaf_taken tree new None empty h = h
 leaf_taken tree new (Some m) empty h = (h.0, h.2)
 
 pub root_alone : (tree new : Tree) (r : Option (Box Node Global)) → new ≡ Empty
-  → MatchOption r ((tree ≡ Empty) × (new ≡ Empty)) (λ m. IsLeaf m.value × (root_of tree ≡ Some m.value.entry) × ((depth : ℕ) → IsOrdered depth tree → IsTaken depth m.value tree new))
-  → MatchOption r (tree ≡ Empty) (λ m. IsLeaf m.value × (root_of tree ≡ Some m.value.entry) × ((depth : ℕ) → IsOrdered depth tree → IsTaken depth m.value tree new))
+    → MatchOption r ((tree ≡ Empty) × (new ≡ Empty)) (λ m. IsLeaf m.value × (root_of tree ≡ Some m.value.entry) × ((depth : ℕ) → IsOrdered depth tree → IsTaken depth m.value tree new))
+    → MatchOption r (tree ≡ Empty) (λ m. IsLeaf m.value × (root_of tree ≡ Some m.value.entry) × ((depth : ℕ) → IsOrdered depth tree → IsTaken depth m.value tree new))
 root_alone tree new None empty h = h.0
 root_alone tree new (Some m) empty h = h
 
@@ -134,8 +134,8 @@ root_out depth tree o m n root same t = record {
   ordered = (root_node depth (key_of n.entry) n.entry.slot (key_of m.entry) m.entry.slot (slot_below o) (slot_of n.low) (slot_of n.high) t.ordered.0 other t.was t.removes, t.ordered.1, t.ordered.2);
   was = ap (λ (f : List ℕ → Option Slot). f (key_of o.entry)) root.shown ∙ picked (is_same (key_of o.entry) (key_of o.entry)) (Some o.entry.slot) (option_or (slot_of o.low (key_of o.entry)) (slot_of o.high (key_of o.entry))) (same_key-itself (key_of o.entry));
   removes = subst (λ (e : Entry). Becomes (key_of e) None (slot_of tree) (λ q. shown_at (key_of m.entry) m.entry.slot (slot_of n.low q) (slot_of n.high q) q)) same (
-    subst (λ (f : List ℕ → Option Slot). Becomes (key_of n.entry) None f (λ q. shown_at (key_of m.entry) m.entry.slot (slot_of n.low q) (slot_of n.high q) q)) (sym root.shown) (
-    root_taken depth (key_of n.entry) n.entry.slot (key_of m.entry) m.entry.slot (slot_below o) (slot_of n.low) (slot_of n.high) t.ordered.0 other t.was t.removes));
+      subst (λ (f : List ℕ → Option Slot). Becomes (key_of n.entry) None f (λ q. shown_at (key_of m.entry) m.entry.slot (slot_of n.low q) (slot_of n.high q) q)) (sym root.shown) (
+      root_taken depth (key_of n.entry) n.entry.slot (key_of m.entry) m.entry.slot (slot_below o) (slot_of n.low) (slot_of n.high) t.ordered.0 other t.was t.removes));
 }
   where
     other : is_same (key_of m.entry) (key_of n.entry) ≡ false
@@ -155,7 +155,7 @@ root_swapped tree b o m n root same leaf taken = (
 )
 
 pub root_swapped_at : (tree : Tree) (b : Box Node Global) (o m n kept out : Node) (x y : Entry) → HasRoot tree o → n.entry ≡ o.entry → IsLeaf m × ((depth : ℕ) → IsOrderedNode depth o → IsTakenBelow depth m o n)
-  → kept ≡ n → out ≡ m → x ≡ out.entry → y ≡ kept.entry → IsRootOut tree b kept out x y
+    → kept ≡ n → out ≡ m → x ≡ out.entry → y ≡ kept.entry → IsRootOut tree b kept out x y
 root_swapped_at tree b o m n kept out x y root same taken a1 a2 ex ey =
     let ex' : x ≡ m.entry = ex ∙ ap (λ (d : Node). d.entry) a2 in
     let ey' : y ≡ o.entry = ey ∙ ap (λ (d : Node). d.entry) a1 ∙ same in
@@ -195,8 +195,8 @@ pub record IsRootGone (depth : ℕ) (q : List ℕ) (tree new : Tree) (r : Option
   pub outcome : IsOutcome q (slot_of tree q) r
 
 pub root_gone : (depth : ℕ) (tree new : Tree) (n : Node) (q : List ℕ) (r : Option (Box Node Global)) → HasRoot tree n → IsOrdered depth tree → is_same q (key_of n.entry) ≡ true
-  → MatchOption r (tree ≡ Empty) (λ m. IsLeaf m.value × (root_of tree ≡ Some m.value.entry) × ((depth : ℕ) → IsOrdered depth tree → IsTaken depth m.value tree new))
-  → IsRootGone depth q tree new r
+    → MatchOption r (tree ≡ Empty) (λ m. IsLeaf m.value × (root_of tree ≡ Some m.value.entry) × ((depth : ℕ) → IsOrdered depth tree → IsTaken depth m.value tree new))
+    → IsRootGone depth q tree new r
 root_gone depth tree new n q None root ordered same h = absurd (let e : ◌≡◌ {A = Option Entry} (Some n.entry) None = sym root.root ∙ ap root_of h in cc)
 root_gone depth tree new n q (Some m) root ordered same h =
     let t = h.2 depth ordered in

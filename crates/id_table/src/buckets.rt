@@ -1,6 +1,7 @@
 //! The row of buckets, each with the tree of the ids whose hash leads there.
-ghost use Rattle.std.specs.Prelude.{◌≡◌, ◌≤◌, None, Some, IfOk, MatchOption, replicate, vec_len, vec_capacity};
+ghost use Rattle.std.specs.Prelude.{◌≡◌, ◌≢◌, ◌≤◌, None, Some, IfOk, MatchOption, replicate, vec_len, vec_capacity};
 ghost use Rattle.std.specs.FinMap as map;
+ghost use Rattle.gx_base.specs.declared.order.Slot.{Slot as SlotValue};
 ghost use Rattle.id_table.specs.Ids.{key};
 ghost use Rattle.id_table.specs.declared.tree.Tree.TheVariants.{Empty};
 ghost use Rattle.id_table.specs.Inner.Trees.{key_of, IsLeaf};
@@ -79,4 +80,25 @@ pub(crate) fn take_node(
 {
     let home = home_of(capacity, firm, id);
     take(&mut buckets[home], 0, firm, id)
+}
+
+/// Gives the slot of an id to another id of the same firm, which no bucket has.
+pub(crate) fn rename_node(
+    buckets: &mut [Tree],
+    capacity: u32,
+    firm: u8,
+    old: &ShortId,
+    new: ShortId,
+)
+    requires table { IsTable capacity buckets.old }
+    requires present { map.get (slots_of buckets.old) (key firm old.now) ≢ None }
+    requires absent { map.get (slots_of buckets.old) (key firm new) ≡ None }
+    ensures table { IsTable capacity buckets.new }
+    ensures slots { (slot : SlotValue) → map.get (slots_of buckets.old) (key firm old.now) ≡ Some slot → slots_of buckets.new ≡ map.insert (map.remove (slots_of buckets.old) (key firm old.now)) (key firm new) slot }
+    ensures count { map.len (slots_of buckets.new) ≡ map.len (slots_of buckets.old) }
+{
+    if let Some(mut node) = take_node(buckets, capacity, firm, old) {
+        node.entry.id = new;
+        put_node(buckets, capacity, node);
+    }
 }

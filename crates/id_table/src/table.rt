@@ -4,7 +4,7 @@ ghost use Rattle.std.specs.FinMap as map;
 ghost use Rattle.gx_base.specs.declared.order.Slot.{Slot as SlotValue};
 ghost use Rattle.id_table.specs.Ids.{key, empty_ids, with_slots};
 
-use crate::buckets::{empty_buckets, find_id, put_node, spare_nodes, take_node};
+use crate::buckets::{empty_buckets, find_id, put_node, rename_node, spare_nodes, take_node};
 use crate::tree::{Entry, Node, Tree};
 use gx_base::{ShortId, Slot};
 use std::alloc::{AllocError, Global};
@@ -107,9 +107,6 @@ impl IdTable {
         ensures { (slot : SlotValue) → map.get self.old.slots (key firm old.now) ≡ Some slot
             → self.new ≡ with_slots (map.insert (map.remove self.old.slots (key firm old.now)) (key firm new) slot) self.old }
     {
-        if let Some(mut node) = take_node(&mut self.buckets, self.capacity, firm, old) {
-            node.entry.id = new;
-            put_node(&mut self.buckets, self.capacity, node);
-        }
+        rename_node(&mut self.buckets, self.capacity, firm, old, new);
     }
 }

@@ -15,7 +15,7 @@ written : (c : goal.After-put) → IsWritten c.args.capacity c.args.buckets.now 
 written c =
     let home : c.home_of-home.result ≡ home_of c.args.capacity (key_of c.args.node.value.entry) = c.home_of-home.ensures.value ∙ (λ i. home_of c.args.capacity (key (c.deref.ensures i).entry.firm (c.deref-2.ensures i).entry.id)) in
     written_is c.args.capacity c.args.buckets.now c.requires.table (key_of c.args.node.value.entry) c.home_of-home.result home c.home_of-home.ensures.within c.index-buckets-home.result
-      (Some c.args.node.value.entry.slot) c.put.new.tree c.put.ensures.ordered c.put.ensures.slots
+    (Some c.args.node.value.entry.slot) c.put.new.tree c.put.ensures.ordered c.put.ensures.slots
 
 pub returns : goal.returns
 returns c = let w = written c in record { table = w.table; slots = inserted c.args.capacity c.args.buckets.now _ (key_of c.args.node.value.entry) c.args.node.value.entry.slot w }

@@ -8,7 +8,7 @@ pub returns : goal.returns
 returns c =
     let q = key c.args.firm c.args.id.now in
     let w = written_is c.args.capacity c.args.buckets.now c.requires q c.home_of-home.result c.home_of-home.ensures.value c.home_of-home.ensures.within c.index-buckets-home.result
-      None c.take.new.tree c.take.ensures.ordered c.take.ensures.removes in
+    None c.take.new.tree c.take.ensures.ordered c.take.ensures.removes in
     record {
       table = w.table;
       slots = removed c.args.capacity c.args.buckets.now _ q w;

@@ -15,4 +15,4 @@ pub take_leaf-returns-in_default : goal.take_leaf-returns-in_default
 take_leaf-returns-in_default t c =
     let root = has_root c.args.tree.now c.in-Fork.node c.deref_mut.result.now c.in-Fork.is c.deref_mut.ensures.value in
     leaf_taken c.args.tree.now c.take_all.new.tree c.take_all.result c.take_all.ensures.empty
-      (all_taken c.args.tree.now (with_value c.in-Fork.node c.take_below.new.node) c.take_all.new.tree c.deref_mut.result.now c.take_all.result root c.take_below.ensures.entry c.in_default.ensures.leaf c.take_all.ensures.empty c.take_all.ensures.root)
+    (all_taken c.args.tree.now (with_value c.in-Fork.node c.take_below.new.node) c.take_all.new.tree c.deref_mut.result.now c.take_all.result root c.take_below.ensures.entry c.in_default.ensures.leaf c.take_all.ensures.empty c.take_all.ensures.root)

@@ -12,8 +12,8 @@ high : (t : _) (c : goal.After-tree-then-is_high-1 t) → IsChanged c.args.depth
 high t c =
     let root = has_root c.args.tree.now c.in-Fork.above c.deref_mut.result.now c.in-Fork.is c.deref_mut.ensures.value in
     changed_high c.args.depth c.args.tree.now c.deref_mut.result.now root c.requires.ordered (key_of c.args.node.value.entry) _
-      (absent_root c.args.depth c.args.tree.now c.deref_mut.result.now root c.requires.ordered (key_of c.args.node.value.entry) c.requires.absent)
-      c.next_depth.result c.next_depth.ensures c.put.new.tree (sym (λ i. is_high c.args.depth (key (c.deref.ensures i).entry.firm (c.deref-in-Fork.ensures i).entry.id)) ∙ sym c.is_high.ensures ∙ c.if-is_high.true) c.put.ensures.ordered c.put.ensures.slots
+    (absent_root c.args.depth c.args.tree.now c.deref_mut.result.now root c.requires.ordered (key_of c.args.node.value.entry) c.requires.absent)
+    c.next_depth.result c.next_depth.ensures c.put.new.tree (sym (λ i. is_high c.args.depth (key (c.deref.ensures i).entry.firm (c.deref-in-Fork.ensures i).entry.id)) ∙ sym c.is_high.ensures ∙ c.if-is_high.true) c.put.ensures.ordered c.put.ensures.slots
 
 pub returns-then-is_high-clause-ordered : goal.returns-then-is_high-clause-ordered
 returns-then-is_high-clause-ordered t c = (high t c).ordered
@@ -25,8 +25,8 @@ low : (t : _) (c : goal.After-tree-else-is_high-1 t) → IsChanged c.args.depth 
 low t c =
     let root = has_root c.args.tree.now c.in-Fork.above c.deref_mut-else-is_high.result.now c.in-Fork.is c.deref_mut-else-is_high.ensures.value in
     changed_low c.args.depth c.args.tree.now c.deref_mut-else-is_high.result.now root c.requires.ordered (key_of c.args.node.value.entry) _
-      (absent_root c.args.depth c.args.tree.now c.deref_mut-else-is_high.result.now root c.requires.ordered (key_of c.args.node.value.entry) c.requires.absent)
-      c.next_depth-else-is_high.result c.next_depth-else-is_high.ensures c.put-else-is_high.new.tree (sym (λ i. is_high c.args.depth (key (c.deref.ensures i).entry.firm (c.deref-in-Fork.ensures i).entry.id)) ∙ sym c.is_high.ensures ∙ c.if-is_high.false) c.put-else-is_high.ensures.ordered c.put-else-is_high.ensures.slots
+    (absent_root c.args.depth c.args.tree.now c.deref_mut-else-is_high.result.now root c.requires.ordered (key_of c.args.node.value.entry) c.requires.absent)
+    c.next_depth-else-is_high.result c.next_depth-else-is_high.ensures c.put-else-is_high.new.tree (sym (λ i. is_high c.args.depth (key (c.deref.ensures i).entry.firm (c.deref-in-Fork.ensures i).entry.id)) ∙ sym c.is_high.ensures ∙ c.if-is_high.false) c.put-else-is_high.ensures.ordered c.put-else-is_high.ensures.slots
 
 pub returns-else-is_high-clause-ordered : goal.returns-else-is_high-clause-ordered
 returns-else-is_high-clause-ordered t c = (low t c).ordered
