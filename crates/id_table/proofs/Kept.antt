@@ -4,14 +4,16 @@ use Prim.Native.Nat.{zero, suc}
 use Rattle.std.specs.Cmp.Lexicographic.{slice_cmp, nat_list_cmp_total}
 use Rattle.std.specs.Ordering.{nat_cmp}
 use Rattle.std.specs.FinMap as map
-use Rattle.std.specs.FinMap.{len-empty, len-insert, len-remove}
+use Rattle.std.specs.FinMap.{find, get-entries, get-remove, len-entries, len-empty, len-insert, len-remove}
 use Rattle.std.proofs.Math.Seq.{take-append_seam}
 use Rattle.std.proofs.lemmas.List.{length-replicate}
 use Rattle.gx_base.specs.declared.order.Slot.{Slot}
 use Rattle.id_table.specs.declared.tree.Tree.{Tree}
 use Rattle.id_table.specs.declared.tree.Tree.TheVariants.{Empty}
-use Rattle.id_table.specs.Inner.Trees.{slot_of, IsOrdered}
+use Rattle.id_table.specs.Ids.{Slots}
+use Rattle.id_table.specs.Inner.Trees.{is_same, slot_of, IsOrdered}
 use Rattle.id_table.specs.Inner.Buckets.{bucket_at, filled, slots_of, IsTable, IsKept}
+use Rattle.id_table.proofs.Nodes.{by_test, picked, passed}
 
 -- a row that was lent whole and came back
 pub given_back : (buckets old : List Tree) (len : ℕ) → length buckets ≡ len → take len (buckets ++ old) ≡ buckets
@@ -63,8 +65,12 @@ fewer : (m n : ℕ) (o : Option Slot) → o ≢ None → n ≡ cond (is_some o) 
 fewer m n None some e = absurd (some refl)
 fewer m n (Some s) some e = e
 
-some_in : (m : map.FinMap (slice_cmp nat_cmp) Slot) (k : List ℕ) → map.get m k ≢ None → 0 < map.len m
-some_in m k some = ?
+some_found : (es : List (List ℕ × Slot)) (k : List ℕ) → find (slice_cmp nat_cmp) k es ≢ None → 0 < length es
+some_found [] k some = absurd (some refl)
+some_found (e ∷ es) k some = omega arith
+
+some_in : (m : Slots) (k : List ℕ) → map.get m k ≢ None → 0 < map.len m
+some_in m k some = subst (λ (n : ℕ). 0 < n) (sym (len-entries m)) (some_found (map.entries m) k (λ e. some (get-entries m k ∙ e)))
 
 pub some_live : (capacity live : ℕ) (buckets : List Tree) (spare room : ℕ) (k : List ℕ) → IsKept capacity live buckets spare room → map.get (slots_of buckets) k ≢ None → 0 < live
 some_live capacity live buckets spare room k kept some = subst (λ (n : ℕ). 0 < n) kept.size (some_in (slots_of buckets) k some)
@@ -78,3 +84,19 @@ kept_remove capacity live buckets new spare room spare' room' k kept table is so
   few = let there = some_live capacity live buckets spare room k kept some in omega (arith, there, kept.few, one);
   wide = omega (arith, kept.wide, same);
 }
+
+-- an id that is absent is so without another one
+pub absent_without : (m : Slots) (k q : List ℕ) → map.get m q ≡ None → map.get (map.remove m k) q ≡ None
+absent_without m k q absent =
+    get-remove nat_list_cmp_total m k q
+    ∙ by_test (is_same q k) (cond (is_same q k) None (map.get m q) ≡ None) (λ t. picked (is_same q k) None (map.get m q) t) (λ f. passed (is_same q k) None (map.get m q) f ∙ absent)
+
+-- a renamed id counts once
+pub len_renamed : (m : Slots) (k q : List ℕ) (s : Slot) → map.get m k ≢ None → map.get m q ≡ None → map.len (map.insert (map.remove m k) q s) ≡ map.len m
+len_renamed m k q s some absent =
+    let there = some_in m k some in
+    let one : map.len (map.remove m k) ≡ map.len m - 1 = fewer (map.len m) _ (map.get m k) some (len-remove nat_list_cmp_total m k) in
+    let more : map.len (map.insert (map.remove m k) q s) ≡ map.len (map.remove m k) + 1 =
+    len-insert nat_list_cmp_total (map.remove m k) q s
+    ∙ ap (λ (o : Option Slot). cond (is_some o) (map.len (map.remove m k)) (map.len (map.remove m k) + 1)) (absent_without m k q absent) in
+    omega (arith, there, one, more)

@@ -1,5 +1,5 @@
 -- When an entry has a firm and an id.
-use Rattle.std.proofs.Common.{◌≡◌, ◌≢◌, ℕ, Bool, true, false, List, ◌∷◌, bytes_eq, refl, sym, ap, ◌∙◌}
+use Rattle.std.proofs.Common.{◌≡◌, ℕ, List, ◌∷◌, bytes_eq, sym, ap, ◌∙◌}
 use Rattle.std.proofs.lemmas.Slice.Eq.{bytes_eq-Decides}
 use Rattle.id_table.specs.Inner.Trees.{is_same}
 use Rattle.id_table.proofs.Keys.{same_key-itself}

@@ -1,5 +1,5 @@
 -- Rows of buckets: what they show of a key, and what a write to one bucket makes of it.
-use Rattle.std.proofs.Common.{◌≡◌, ◌≢◌, ℕ, ◌+◌, ◌<◌, ◌≤◌, Bool, true, false, cond, List, [], ◌∷◌, ◌++◌, length, set, get_or, Option, Some, None, refl, sym, ap, subst, ◌∙◌, arith, inl, inr}
+use Rattle.std.proofs.Common.{◌≡◌, ◌≢◌, ℕ, ◌<◌, ◌≤◌, Bool, true, false, cond, List, [], ◌∷◌, ◌++◌, length, set, get_or, Option, Some, None, refl, sym, ap, subst, ◌∙◌, arith, inl, inr}
 use Prim.Native.Nat.{zero, suc}
 use Rattle.std.specs.Option.{option_or}
 use Rattle.std.specs.Ordering.{nat_cmp}
@@ -11,12 +11,10 @@ use Rattle.std.proofs.lemmas.List.{length-set, get_or-set_same, get_or-set_other
 use Rattle.gx_base.specs.declared.order.Slot.{Slot}
 use Rattle.id_table.specs.declared.tree.Tree.{Tree}
 use Rattle.id_table.specs.declared.tree.Tree.TheVariants.{Empty, Fork'}
-use Rattle.id_table.specs.Ids.{Slots}
 use Rattle.id_table.specs.Inner.Ways.{home_of}
-use Rattle.id_table.specs.Inner.Trees.{is_same, key_of, shown_at, entries_of, slot_of, IsOrdered, Becomes}
+use Rattle.id_table.specs.Inner.Trees.{is_same, key_of, entries_of, slot_of, IsOrdered, Becomes}
 use Rattle.id_table.specs.Inner.Buckets.{bucket_at, filled, slots_of, IsTable}
-use Rattle.id_table.proofs.Keys.{same_key-true}
-use Rattle.id_table.proofs.Nodes.{or_none, by_test, differ, picked, passed}
+use Rattle.id_table.proofs.Nodes.{or_none, differ, passed}
 
 -- ---- what a search through all entries finds
 

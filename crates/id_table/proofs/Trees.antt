@@ -10,7 +10,7 @@ use Rattle.id_table.specs.declared.tree.Tree.TheVariants.{Empty, Fork, Fork'}
 use Rattle.id_table.specs.Inner.Ways.{is_high, next_depth}
 use Rattle.id_table.specs.Inner.Trees.{key_of, is_same, shown_at, slot_of, slot_below, root_of, IsNode, IsOrdered, IsOrderedNode, IsLeaf, IsTaken, IsTakenBelow, Becomes}
 use Rattle.id_table.proofs.Keys.{same_key-true, same_key-itself}
-use Rattle.id_table.proofs.Nodes.{some_none, by_test, picked, passed, on_high, on_low, absent_differs, high_differs, low_differs, high_way, low_way, change_high, change_low, root_node, root_taken}
+use Rattle.id_table.proofs.Nodes.{picked, on_high, on_low, absent_differs, high_differs, low_differs, high_way, low_way, change_high, change_low, root_node, root_taken}
 
 -- ---- the node at the root
 

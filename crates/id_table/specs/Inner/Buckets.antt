@@ -1,5 +1,5 @@
 -- The row of buckets of a table, and what is true of it at every moment.
-use Rattle.std.specs.Prelude.{◌≡◌, ◌≢◌, ℕ, ◌+◌, ◌≤◌, List, [], ◌∷◌, ◌++◌, length, slice_index_or, Option, None}
+use Rattle.std.specs.Prelude.{◌≡◌, ◌≢◌, ℕ, ◌+◌, ◌≤◌, List, [], ◌∷◌, ◌++◌, length, slice_index_or, None}
 use Rattle.std.specs.FinMap as map
 use Rattle.gx_base.specs.declared.order.Slot.{Slot}
 use Rattle.id_table.specs.declared.tree.Tree.{Tree}

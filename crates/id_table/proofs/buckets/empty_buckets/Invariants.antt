@@ -1,4 +1,4 @@
-use Rattle.std.proofs.Common.{◌≡◌, ◌≤◌, ◌+◌, replicate, vec_capacity}
+use Rattle.std.proofs.Common.{◌≡◌, ◌≤◌, replicate, vec_capacity}
 use Rattle.id_table.specs.declared.tree.Tree.TheVariants.{Empty}
 use Rattle.id_table.proofs.buckets.empty_buckets.Given as goal
 

@@ -1,4 +1,4 @@
-use Rattle.std.proofs.Common.{◌≡◌, ℕ, Some, set, sym, ap, ◌∙◌}
+use Rattle.std.proofs.Common.{◌≡◌, Some, set, sym, ◌∙◌}
 use Rattle.id_table.specs.Ids.{key}
 use Rattle.id_table.specs.Inner.Ways.{home_of}
 use Rattle.id_table.specs.Inner.Trees.{key_of}

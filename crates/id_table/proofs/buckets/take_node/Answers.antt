@@ -1,4 +1,4 @@
-use Rattle.std.proofs.Common.{◌≡◌, ℕ, None, set, sym, ap, ◌∙◌}
+use Rattle.std.proofs.Common.{None}
 use Rattle.id_table.specs.Ids.{key}
 use Rattle.id_table.proofs.Rows.{read_is, written_is, removed}
 use Rattle.id_table.proofs.Trees.{outcome_at}

@@ -1,7 +1,4 @@
-use Rattle.std.proofs.Common.{◌≡◌, None, Some}
 use Rattle.std.specs.Box.{with_value}
-use Rattle.id_table.specs.declared.tree.Tree.TheVariants.{Empty, Fork}
-use Rattle.id_table.specs.Inner.Trees.{key_of, slot_of, IsOrdered, IsLeaf, IsTaken, IsTakenBelow, Becomes}
 use Rattle.id_table.proofs.Trees.{from_low, from_high, has_root, all_taken, leaf_taken}
 use Rattle.id_table.proofs.tree.+leaf.Goals as goal
 

@@ -1,10 +1,7 @@
-use Rattle.std.proofs.Common.{◌≡◌, true, false, None, Some, Option, sym, ap, subst, ◌∙◌}
-use Rattle.id_table.specs.declared.tree.Node.{Node}
-use Rattle.id_table.specs.declared.tree.Tree.{Tree}
+use Rattle.std.proofs.Common.{Some, sym, ◌∙◌}
 use Rattle.id_table.specs.Ids.{key}
 use Rattle.id_table.specs.Inner.Ways.{is_high}
-use Rattle.id_table.specs.Inner.Trees.{key_of, slot_of, is_same, root_of}
-use Rattle.id_table.proofs.Nodes.{absent_differs}
+use Rattle.id_table.specs.Inner.Trees.{key_of}
 use Rattle.id_table.proofs.Trees.{has_root, changed_high, changed_low, IsChanged, absent_root}
 use Rattle.id_table.proofs.tree.+put.Goals as goal
 

@@ -1,10 +1,10 @@
-use Rattle.std.proofs.Common.{◌≡◌, true, false, None, refl, sym, ap, subst, ◌∙◌}
+use Rattle.std.proofs.Common.{None, refl, sym, ap, subst, ◌∙◌}
 use Rattle.id_table.specs.declared.tree.Node.{Node}
 use Rattle.id_table.specs.declared.tree.Tree.{Tree}
 use Rattle.id_table.specs.declared.tree.Tree.TheVariants.{Fork}
 use Rattle.id_table.specs.Ids.{key}
 use Rattle.id_table.specs.Inner.Trees.{key_of, is_same, IsOrdered}
-use Rattle.id_table.proofs.Trees.{has_root, root_gone, changed_high, changed_low, seen_high, seen_low, outcome_at, IsRootGone, IsChanged}
+use Rattle.id_table.proofs.Trees.{has_root, root_gone, changed_high, changed_low, IsRootGone}
 use Rattle.id_table.proofs.tree.+take.Goals as goal
 
 gone : (t : _) (c : goal.After-take_root t) → IsRootGone c.args.depth (key c.args.firm c.args.id.now) c.args.tree.now c.take_root.new.tree c.take_root.result

@@ -1,5 +1,5 @@
-use Rattle.std.proofs.Common.{◌≡◌, ℕ, List, ◌∷◌, bytes_eq, sym, ap, ◌∙◌}
-use Rattle.id_table.specs.Inner.Trees.{is_same, key_of}
+use Rattle.std.proofs.Common.{ℕ, bytes_eq, sym, ap, ◌∙◌}
+use Rattle.id_table.specs.Inner.Trees.{is_same}
 use Rattle.id_table.specs.Ids.{key}
 use Rattle.id_table.proofs.Named.{same_ids}
 use Rattle.id_table.proofs.tree.is_named.Goals as goal

@@ -1,9 +1,4 @@
-use Rattle.std.proofs.Common.{◌≡◌, ℕ, None, Some, Option, List, sym, ap, subst, ◌∙◌}
 use Rattle.std.specs.Box.{with_value}
-use Rattle.id_table.specs.declared.tree.Node.{Node}
-use Rattle.id_table.specs.declared.tree.Tree.{Tree}
-use Rattle.id_table.specs.declared.tree.Tree.TheVariants.{Empty, Fork}
-use Rattle.id_table.specs.Inner.Trees.{key_of, slot_of, IsOrdered, IsLeaf, IsTaken, IsTakenBelow, Becomes, root_of}
 use Rattle.id_table.proofs.Trees.{has_root, all_taken, root_alone, root_swapped_at}
 use Rattle.id_table.proofs.tree.take_root.Goals as goal
 

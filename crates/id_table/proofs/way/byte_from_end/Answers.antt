@@ -1,7 +1,7 @@
-use Rattle.std.proofs.Common.{◌≡◌, ◌+◌, ◌-◌, ◌<◌, ◌≤◌, ℕ, List, [], ◌∷◌, length, get_or, arith, sym, ap, ◌∙◌, subst}
-use Prim.Native.Nat.{zero, suc}
+use Rattle.std.proofs.Common.{◌≡◌, ◌-◌, ◌<◌, ℕ, List, ◌∷◌, length, get_or, arith, sym, ap, ◌∙◌, subst}
+use Prim.Native.Nat.{suc}
 use Rattle.std.specs.Prelude.{reverse}
-use Rattle.std.proofs.lemmas.List.{get_or-reverse, get_or_past, length-reverse}
+use Rattle.std.proofs.lemmas.List.{get_or-reverse}
 use Rattle.id_table.proofs.way.byte_from_end.Goals as goal
 
 -- the bytes of the id stand in front

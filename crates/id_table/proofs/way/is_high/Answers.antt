@@ -1,4 +1,4 @@
-use Rattle.std.proofs.Common.{◌≡◌, ℕ, ◌/◌, ◌%◌, ◌^◌, ◌==◌, List, get_or, ap, ◌∙◌}
+use Rattle.std.proofs.Common.{ℕ, ◌/◌, ◌%◌, ◌^◌, ◌==◌, get_or, ap, ◌∙◌}
 use Rattle.std.specs.Prelude.{reverse}
 use Rattle.id_table.specs.Ids.{key}
 use Rattle.id_table.specs.Inner.Ways.{is_high}

@@ -1,4 +1,4 @@
-use Rattle.std.proofs.Common.{◌+◌, sym, subst, ap, ◌∙◌}
+use Rattle.std.proofs.Common.{◌+◌, ap, ◌∙◌}
 use Rattle.id_table.specs.Ids.{Slots}
 use Rattle.id_table.specs.Inner.Buckets.{slots_of}
 use Rattle.id_table.proofs.Kept.{kept_new, none_is}

@@ -1,4 +1,4 @@
-use Rattle.std.proofs.Common.{◌≡◌, ◌<◌, List, None, sym, ap, subst, ◌∙◌, vec_len, vec_capacity, arith}
+use Rattle.std.proofs.Common.{◌≡◌, ◌<◌, List, None, sym, ap, ◌∙◌, vec_len, vec_capacity, arith}
 use Rattle.std.specs.FinMap as map
 use Rattle.id_table.specs.declared.tree.Tree.{Tree}
 use Rattle.id_table.specs.Ids.{Ids, key}
