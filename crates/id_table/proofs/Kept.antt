@@ -1,5 +1,5 @@
 -- Tables: what holds of the fields after each call.
-use Rattle.std.proofs.Common.{◌≡◌, ◌≢◌, ℕ, ◌+◌, ◌-◌, ◌<◌, ◌≤◌, cond, List, [], ◌∷◌, ◌++◌, length, take, replicate, Option, Some, None, is_some, refl, sym, ap, subst, ◌∙◌, arith}
+use Rattle.std.proofs.Common.{◌≡◌, ◌≢◌, ℕ, ◌+◌, ◌-◌, ◌*◌, ◌<◌, ◌≤◌, cond, List, [], ◌∷◌, ◌++◌, length, take, replicate, Option, Some, None, is_some, refl, sym, ap, subst, ◌∙◌, arith}
 use Prim.Native.Nat.{zero, suc}
 use Rattle.std.specs.Cmp.Lexicographic.{slice_cmp, nat_list_cmp_total}
 use Rattle.std.specs.Ordering.{nat_cmp}
@@ -36,14 +36,14 @@ all_empty zero i = refl
 all_empty (suc n) zero = refl
 all_empty (suc n) (suc i) = all_empty n i
 
-pub kept_new : (capacity : ℕ) (buckets : List Tree) (spare room : ℕ) → buckets ≡ replicate (capacity + 1) Empty → spare ≡ capacity → capacity ≤ room → IsKept capacity 0 buckets spare room
+pub kept_new : (capacity : ℕ) (buckets : List Tree) (spare room : ℕ) → buckets ≡ replicate (2 * capacity + 1) Empty → spare ≡ capacity → capacity ≤ room → IsKept capacity 0 buckets spare room
 kept_new capacity buckets spare room empty count wide = subst (λ (x : List Tree). IsKept capacity 0 x spare room) (sym empty) (record {
   table = record {
-    long = length-replicate (capacity + 1) Empty;
-    ordered = λ i. subst (IsOrdered 0) (sym (all_empty (capacity + 1) i)) tt;
-    homed = λ i q ne. ap (λ (t : Tree). slot_of t q) (all_empty (capacity + 1) i);
+    long = length-replicate (2 * capacity + 1) Empty;
+    ordered = λ i. subst (IsOrdered 0) (sym (all_empty (2 * capacity + 1) i)) tt;
+    homed = λ i q ne. ap (λ (t : Tree). slot_of t q) (all_empty (2 * capacity + 1) i);
   };
-  size = ap map.len (none_is (capacity + 1)) ∙ len-empty (slice_cmp nat_cmp) Slot;
+  size = ap map.len (none_is (2 * capacity + 1)) ∙ len-empty (slice_cmp nat_cmp) Slot;
   few = omega (arith, count);
   wide = wide;
 })

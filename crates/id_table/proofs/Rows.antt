@@ -1,5 +1,5 @@
 -- Rows of buckets: what they show of a key, and what a write to one bucket makes of it.
-use Rattle.std.proofs.Common.{◌≡◌, ◌≢◌, ℕ, ◌<◌, ◌≤◌, Bool, true, false, cond, List, [], ◌∷◌, ◌++◌, length, set, get_or, Option, Some, None, refl, sym, ap, subst, ◌∙◌, arith, inl, inr}
+use Rattle.std.proofs.Common.{◌≡◌, ◌≢◌, ℕ, ◌*◌, ◌<◌, ◌≤◌, Bool, true, false, cond, List, [], ◌∷◌, ◌++◌, length, set, get_or, Option, Some, None, refl, sym, ap, subst, ◌∙◌, arith, inl, inr}
 use Prim.Native.Nat.{zero, suc}
 use Rattle.std.specs.Option.{option_or}
 use Rattle.std.specs.Ordering.{nat_cmp}
@@ -98,7 +98,7 @@ pub record IsWritten (capacity : ℕ) (buckets new : List Tree) (k : List ℕ) (
   pub table : IsTable capacity new
   pub got : (q : List ℕ) → map.get (slots_of new) q ≡ cond (is_same q k) r (map.get (slots_of buckets) q)
 
-module _ (capacity : ℕ) (buckets : List Tree) (table : IsTable capacity buckets) (k : List ℕ) (h : ℕ) (home : h ≡ home_of capacity k) (within : h ≤ capacity) (d : Tree) where
+module _ (capacity : ℕ) (buckets : List Tree) (table : IsTable capacity buckets) (k : List ℕ) (h : ℕ) (home : h ≡ home_of capacity k) (within : h ≤ 2 * capacity) (d : Tree) where
   lt : h < length buckets
   lt = omega (arith, table.long)
 

@@ -1,5 +1,5 @@
 //! The bucket of an id.
-ghost use Rattle.std.specs.Prelude.{◌≡◌, ◌≤◌};
+ghost use Rattle.std.specs.Prelude.{◌≡◌, ◌*◌, ◌≤◌};
 ghost use Rattle.id_table.specs.Ids.{key};
 ghost use Rattle.id_table.specs.Inner.Ways.{hash_of, home_of};
 
@@ -16,12 +16,12 @@ fn hash_of(firm: u8, id: &ShortId) -> u64
     hasher.finish()
 }
 
-/// The bucket of an id: one of `capacity + 1`, by the hash as a part of all hashes.
+/// The bucket of an id: one of `2 * capacity + 1`, by the hash as a part of all hashes.
 #[inline]
 pub(crate) fn home_of(capacity: u32, firm: u8, id: &ShortId) -> usize
     ensures value { result ≡ home_of capacity (key firm id.now) }
-    ensures within { result ≤ capacity }
+    ensures within { result ≤ 2 * capacity }
 {
     let part = hash_of(firm, id) >> 33;
-    ((part * (u64::from(capacity) + 1)) >> 31) as usize
+    ((part * (2 * u64::from(capacity) + 1)) >> 31) as usize
 }

@@ -43,7 +43,7 @@ impl IdTable {
         ensures { IfOk result (λ t. t ≡ empty_ids capacity) }
     {
         Ok(IdTable {
-            buckets: empty_buckets(alloc, capacity as usize + 1)?,
+            buckets: empty_buckets(alloc, 2 * capacity as usize + 1)?,
             spare: spare_nodes(alloc, capacity as usize)?,
             capacity,
             live: 0,

@@ -1,5 +1,5 @@
 -- The row of buckets of a table, and what is true of it at every moment.
-use Rattle.std.specs.Prelude.{◌≡◌, ◌≢◌, ℕ, ◌+◌, ◌≤◌, List, [], ◌∷◌, ◌++◌, length, slice_index_or, None}
+use Rattle.std.specs.Prelude.{◌≡◌, ◌≢◌, ℕ, ◌+◌, ◌*◌, ◌≤◌, List, [], ◌∷◌, ◌++◌, length, slice_index_or, None}
 use Rattle.std.specs.FinMap as map
 use Rattle.gx_base.specs.declared.order.Slot.{Slot}
 use Rattle.id_table.specs.declared.tree.Tree.{Tree}
@@ -23,7 +23,7 @@ slots_of buckets = map.from_entries (filled buckets)
 
 -- the buckets of a table for so many ids
 pub record IsTable (capacity : ℕ) (buckets : List Tree) : Type 0 where
-  pub long : length buckets ≡ capacity + 1
+  pub long : length buckets ≡ 2 * capacity + 1
   pub ordered : (i : ℕ) → IsOrdered 0 (bucket_at buckets i)
   -- each key is in no other bucket than its home
   pub homed : (i : ℕ) (q : List ℕ) → i ≢ home_of capacity q → slot_of (bucket_at buckets i) q ≡ None

@@ -7,9 +7,9 @@ unfoldable pub hash_of : List ℕ → ℕ
 hash_of [] = 0
 hash_of (firm ∷ id) = folding.finish (folding.write (folding.write folding.initial (firm ∷ [])) id)
 
--- one of capacity + 1 buckets
+-- one of 2 * capacity + 1 buckets
 unfoldable pub home_of : ℕ → List ℕ → ℕ
-home_of capacity k = hash_of k / 2 ^ 33 * (capacity + 1) / 2 ^ 31
+home_of capacity k = hash_of k / 2 ^ 33 * (2 * capacity + 1) / 2 ^ 31
 
 -- the bit of the key at a depth is 1: its bytes are taken from the last one on, and their bits from the lowest one on
 unfoldable pub is_high : ℕ → List ℕ → Bool
