@@ -1,0 +1,11 @@
+use Rattle.std.proofs.Common.{List, ap, ◌∙◌}
+use Rattle.std.specs.FinMap as map
+use Rattle.id_table.specs.declared.tree.Tree.{Tree}
+use Rattle.id_table.specs.Ids.{Ids, key}
+use Rattle.id_table.specs.Inner.Buckets.{slots_of}
+use Rattle.id_table.proofs.table.IdTable.find.Goals as goal
+
+pub returns : goal.returns
+returns c =
+    let k = key c.args.firm c.args.id.now in
+    c.find_id.ensures ∙ ap (λ (b : List Tree). map.get (slots_of b) k) c.deref.ensures.value ∙ ap (λ (t : Ids). map.get t.slots k) c.self.view_is
