@@ -1,5 +1,6 @@
-//! Trees of ids. Each node has one id. An id below it stands on the side that its bit at the depth of the node says, so the
-//! way of an id depends on the id alone, and no way is longer than an id has bits, but for ids with equal bits.
+//! Trees of ids. Each node has one id. An id below it stands on the side that its bit at the depth of the node says, so all
+//! ids below a node have the way to it in common. A way is no longer than a key has bits, but for the few keys whose bits are
+//! all the same: a firm that chooses its ids so that they meet makes a search long, but not longer than that.
 ghost use Rattle.std.specs.Prelude.{◌≡◌, ℕ, None, Some, MatchOption};
 ghost use Rattle.id_table.specs.Ids.{key};
 ghost use Rattle.id_table.specs.declared.tree.Tree.TheVariants.{Empty, Fork};
