@@ -35,6 +35,48 @@ fn id_of(alloc: Global, number: u32) -> Result<ShortId, Fail> {
     Ok(ShortId::new(text.as_bytes()).ok_or("no id")?)
 }
 
+/// Three ids come, the first one leaves, and the second one takes its name.
+fn first_of_three_leaves(
+    rt: &(impl Abort + AllocGlobal),
+    x: ShortId,
+    y: ShortId,
+    z: ShortId,
+) -> Result<(), Fail> {
+    let mut table = IdTable::new(rt.alloc(), 3)?;
+    assert!(rt; table.len() < table.capacity() && table.find(0, &x).is_none());
+    table.insert(0, x, Slot(1));
+    assert!(rt; table.len() < table.capacity() && table.find(0, &y).is_none());
+    table.insert(0, y, Slot(2));
+    assert!(rt; table.len() < table.capacity() && table.find(0, &z).is_none());
+    table.insert(0, z, Slot(3));
+    assert_eq!(rt; table.find(0, &x), Some(Slot(1)));
+    table.remove(0, &x);
+    assert_eq!(rt; table.find(0, &y), Some(Slot(2)));
+    assert_eq!(rt; table.find(0, &z), Some(Slot(3)));
+    assert!(rt; table.find(0, &y).is_some() && table.find(0, &x).is_none());
+    table.rename(0, &y, x);
+    assert_eq!(rt; table.find(0, &x), Some(Slot(2)));
+    assert_eq!(rt; table.find(0, &y), None);
+    assert_eq!(rt; table.find(0, &z), Some(Slot(3)));
+    Ok(())
+}
+
+/// Each three of sixteen ids, in each order. A table for three has few buckets, so some of them meet in one, where the first
+/// stands above the two others, on one side or on both.
+#[test]
+fn ids_that_meet(rt: HostRuntime) -> Result<(), Fail> {
+    for three in 0..4096 {
+        let (a, b, c) = (three % 16, three / 16 % 16, three / 256);
+        if a != b && b != c && c != a {
+            let x = id_of(rt.alloc(), a)?;
+            let y = id_of(rt.alloc(), b)?;
+            let z = id_of(rt.alloc(), c)?;
+            first_of_three_leaves(&rt, x, y, z)?;
+        }
+    }
+    Ok(())
+}
+
 #[test]
 fn table_beside_a_map(rt: HostRuntime) -> Result<(), Fail> {
     let mut pair = Pair {
