@@ -1,7 +1,6 @@
 -- The values of the fields so far, and the faults in their form.
-use Rattle.std.proofs.Common.{◌≡◌, ℕ, ◌≤◌, Bool, true, false, not, cond, ◌&&◌, ◌==◌, List, [], ◌∷◌, length, map, Option, Some, None, Err, refl, sym, ap, ◌∙◌}
+use Rattle.std.proofs.Common.{◌≡◌, ℕ, ◌≤◌, Bool, true, false, not, cond, ◌&&◌, ◌==◌, List, [], ◌∷◌, length, map, Option, Some, None, Ok, Err, refl, sym, ap, ◌∙◌}
 use Rattle.std.specs.Prelude.{find, option_map}
-use Rattle.std.specs.Bool.{then_some}
 use Rattle.std.specs.List.{before_first, after_first, list_all}
 use Rattle.std.specs.Option.{option_or}
 use Rattle.std.proofs.lemmas.Bool.{cond-true}
@@ -69,18 +68,18 @@ all_noted fields = noted_all-by_tag (λ tag. None) fields
 
 -- ---- the pass over the fields
 
--- the tag of the first field with an empty value
-abbrev pub empty_tag : List Field → Option ℕ
-empty_tag fields = option_map (λ (f : Field). f.tag) (first_empty fields)
-
--- what is known where this rest is still to be read
-pub record IsNotedTo (bytes rest : List ℕ) (values : Values) (without_value : Option ℕ) : Type 0 where
+-- what is known where this rest is still to be read, and no field before it is without a value
+pub record IsNotedTo (bytes rest : List ℕ) (values : Values) : Type 0 where
   pub tags : list_all has_tag (texts_of bytes) ≡ list_all has_tag (texts_of rest)
-  pub empty : option_or without_value (empty_tag (fields_of rest)) ≡ empty_tag (fields_of bytes)
+  pub empty : first_empty (fields_of bytes) ≡ first_empty (fields_of rest)
   pub noting : noted_all values (fields_of rest) ≡ values_of (fields_of bytes)
 
-pub none_read : (bytes : List ℕ) → IsNotedTo bytes bytes (values_of []) None
+pub none_read : (bytes : List ℕ) → IsNotedTo bytes bytes (values_of [])
 none_read bytes = record { tags = refl; empty = refl; noting = all_noted (fields_of bytes) }
+
+-- the first field of some bytes, as the code reads it
+abbrev pub first_of : List ℕ → Option Field
+first_of bytes = cond (has_tag (before_first is_soh bytes)) (Some (field_of (before_first is_soh bytes))) None
 
 field_is : (text : List ℕ) (b : Bool) (field : Field) → Some field ≡ cond b (Some (field_of text)) None → (b ≡ true) × (field ≡ field_of text)
 field_is text true field e = (refl, cc)
@@ -90,33 +89,80 @@ no_field : (text : List ℕ) (b : Bool) → None ≡ cond b (Some (field_of text
 no_field text true e = cc
 no_field text false e = refl
 
-first_without : (without_value : Option ℕ) (empty : Bool) (field : Field) (later : Option Field) → option_or (option_or without_value (then_some empty field.tag)) (option_map (λ (f : Field). f.tag) later) ≡ option_or without_value (option_map (λ (f : Field). f.tag) (cond empty (Some field) later))
-first_without None true field later = refl
-first_without None false field later = refl
-first_without (Some tag) true field later = refl
-first_without (Some tag) false field later = refl
+-- some bytes begin with a field
+record IsFirst (bytes : List ℕ) (field : Field) : Type 0 where
+  tags : list_all has_tag (texts_of bytes) ≡ list_all has_tag (texts_of (after_first is_soh bytes))
+  fields : fields_of bytes ≡ field ∷ fields_of (after_first is_soh bytes)
 
--- one field more
-pub one_read : (bytes rest : List ℕ) (values : Values) (without_value : Option ℕ) (field : Field) → 1 ≤ length rest → Some field ≡ cond (has_tag (before_first is_soh rest)) (Some (field_of (before_first is_soh rest))) None → IsNotedTo bytes rest values without_value → IsNotedTo bytes (after_first is_soh rest) (noted values field) (option_or without_value (then_some (length field.value == 0) field.tag))
-one_read bytes rest values without_value field some read so_far =
-    let text = before_first is_soh rest in
-    let behind = after_first is_soh rest in
-    let split : texts_of rest ≡ text ∷ texts_of behind = texts-first rest some in
+is_first : (bytes : List ℕ) (field : Field) → 1 ≤ length bytes → Some field ≡ first_of bytes → IsFirst bytes field
+is_first bytes field some read =
+    let text = before_first is_soh bytes in
+    let behind = after_first is_soh bytes in
+    let split : texts_of bytes ≡ text ∷ texts_of behind = texts-first bytes some in
     let is = field_is text (has_tag text) field read in
-    let fields : field ∷ fields_of behind ≡ fields_of rest = ap (λ (f : Field). f ∷ fields_of behind) is.1 ∙ sym (ap (map field_of) split) in
     record {
-      tags = so_far.tags ∙ ap (list_all has_tag) split ∙ ap (λ (b : Bool). b && list_all has_tag (texts_of behind)) is.0;
-      empty = first_without without_value (length field.value == 0) field (first_empty (fields_of behind)) ∙ ap (λ (fs : List Field). option_or without_value (empty_tag fs)) fields ∙ so_far.empty;
-      noting = ap (noted_all values) fields ∙ so_far.noting;
+      tags = ap (list_all has_tag) split ∙ ap (λ (b : Bool). b && list_all has_tag (texts_of behind)) is.0;
+      fields = ap (map field_of) split ∙ ap (λ (f : Field). f ∷ fields_of behind) (sym is.1);
+    }
+
+-- the first one without a value, by whether it is this one
+empty_first : (empty : Bool) (field : Field) (later : List Field) → (length field.value == 0) ≡ empty → first_empty (field ∷ later) ≡ cond empty (Some field) (first_empty later)
+empty_first empty field later is = ap (λ (b : Bool). cond b (Some field) (first_empty later)) is
+
+-- one field more, which has a value
+pub one_read : (bytes rest : List ℕ) (values : Values) (field : Field) → 1 ≤ length rest → Some field ≡ first_of rest → (length field.value == 0) ≡ false → IsNotedTo bytes rest values → IsNotedTo bytes (after_first is_soh rest) (noted values field)
+one_read bytes rest values field some read valued so_far =
+    let first = is_first rest field some read in
+    let later = fields_of (after_first is_soh rest) in
+    record {
+      tags = so_far.tags ∙ first.tags;
+      empty = so_far.empty ∙ ap first_empty first.fields ∙ empty_first false field later valued;
+      noting = ap (noted_all values) (sym first.fields) ∙ so_far.noting;
     }
 
 -- ---- how it ends
 
+tags_first : (bytes : List ℕ) → 1 ≤ length bytes → None ≡ first_of bytes → list_all has_tag (texts_of bytes) ≡ false
+tags_first bytes some read =
+    let text = before_first is_soh bytes in
+    let behind = after_first is_soh bytes in
+    ap (list_all has_tag) (texts-first bytes some) ∙ ap (λ (b : Bool). b && list_all has_tag (texts_of behind)) (no_field text (has_tag text) read)
+
+without_tags : (bytes : List ℕ) → list_all has_tag (texts_of bytes) ≡ false → Err (fault 2 0 0) ≡ well_formed_values bytes
+without_tags bytes bad = sym (cond-true (not (list_all has_tag (texts_of bytes))) (Err (fault 2 0 0)) (no_value_in (first_empty (fields_of bytes)) (fields_of bytes)) (ap not bad))
+
 -- a text with no tag
-pub stops_there : (bytes rest : List ℕ) (values : Values) (without_value : Option ℕ) → 1 ≤ length rest → None ≡ cond (has_tag (before_first is_soh rest)) (Some (field_of (before_first is_soh rest))) None → IsNotedTo bytes rest values without_value → Err (fault 2 0 0) ≡ well_formed_values bytes
-stops_there bytes rest values without_value some read so_far =
-    let text = before_first is_soh rest in
-    let behind = after_first is_soh rest in
-    let split : texts_of rest ≡ text ∷ texts_of behind = texts-first rest some in
-    let bad : list_all has_tag (texts_of bytes) ≡ false = so_far.tags ∙ ap (list_all has_tag) split ∙ ap (λ (b : Bool). b && list_all has_tag (texts_of behind)) (no_field text (has_tag text) read) in
-    sym (cond-true (not (list_all has_tag (texts_of bytes))) (Err (fault 2 0 0)) (no_value_in (first_empty (fields_of bytes)) (fields_of bytes)) (ap not bad))
+pub stops_there : (bytes rest : List ℕ) (values : Values) → 1 ≤ length rest → None ≡ first_of rest → IsNotedTo bytes rest values → Err (fault 2 0 0) ≡ well_formed_values bytes
+stops_there bytes rest values some read so_far = without_tags bytes (so_far.tags ∙ tags_first rest some read)
+
+-- a field with no value, which later ones with no tag come before
+by_tags : (tags : Bool) (fields : List Field) (field : Field) → Err (cond tags (fault 3 4 field.tag) (fault 2 0 0)) ≡ cond (not tags) (Err (fault 2 0 0)) (no_value_in (Some field) fields)
+by_tags true fields field = refl
+by_tags false fields field = refl
+
+pub empty_there : (bytes rest : List ℕ) (values : Values) (field : Field) → 1 ≤ length rest → Some field ≡ first_of rest → (length field.value == 0) ≡ true → IsNotedTo bytes rest values → Err (cond (list_all has_tag (texts_of (after_first is_soh rest))) (fault 3 4 field.tag) (fault 2 0 0)) ≡ well_formed_values bytes
+empty_there bytes rest values field some read empty so_far =
+    let first = is_first rest field some read in
+    let later = fields_of (after_first is_soh rest) in
+    let tags = so_far.tags ∙ first.tags in
+    let it : first_empty (fields_of bytes) ≡ Some field = so_far.empty ∙ ap first_empty first.fields ∙ empty_first true field later empty in
+    by_tags (list_all has_tag (texts_of (after_first is_soh rest))) (fields_of bytes) field
+    ∙ sym (ap (λ (b : Bool). cond (not b) (Err (fault 2 0 0)) (no_value_in (Some field) (fields_of bytes))) tags)
+    ∙ sym (ap (λ (o : Option Field). cond (not (list_all has_tag (texts_of bytes))) (Err (fault 2 0 0)) (no_value_in o (fields_of bytes))) it)
+
+-- no field is left
+none_left : (tags : Bool) (empty : Option Field) (fields : List Field) → tags ≡ true → empty ≡ None → Ok (values_of fields) ≡ cond (not tags) (Err (fault 2 0 0)) (no_value_in empty fields)
+none_left true None fields a b = refl
+none_left true (Some f) fields a b = cc
+none_left false empty fields a b = cc
+
+pub all_read : (bytes : List ℕ) (values : Values) → IsNotedTo bytes [] values → Ok values ≡ well_formed_values bytes
+all_read bytes values so_far = ap Ok so_far.noting ∙ none_left (list_all has_tag (texts_of bytes)) (first_empty (fields_of bytes)) (fields_of bytes) so_far.tags so_far.empty
+
+-- ---- the tags alone
+
+pub one_tagged : (bytes rest : List ℕ) (field : Field) → 1 ≤ length rest → Some field ≡ first_of rest → list_all has_tag (texts_of bytes) ≡ list_all has_tag (texts_of rest) → list_all has_tag (texts_of bytes) ≡ list_all has_tag (texts_of (after_first is_soh rest))
+one_tagged bytes rest field some read so_far = so_far ∙ (is_first rest field some read).tags
+
+pub one_untagged : (bytes rest : List ℕ) → 1 ≤ length rest → None ≡ first_of rest → list_all has_tag (texts_of bytes) ≡ list_all has_tag (texts_of rest) → list_all has_tag (texts_of bytes) ≡ false
+one_untagged bytes rest some read so_far = so_far ∙ tags_first rest some read

@@ -1,14 +1,15 @@
--- A text that begins with a tag of two digits.
+-- Bytes that begin with a tag of two digits.
 use Rattle.std.proofs.Common.{◌≡◌, ℕ, ◌+◌, ◌-◌, ◌*◌, ◌≤◌, false, true, List, [], ◌∷◌, length, take, drop, Option, Some, None, refl, sym, ap, ◌∙◌, arith}
 use Rattle.std.specs.Prelude.{slice_index, if◌then◌else◌}
-use Rattle.std.specs.List.{position_or_len, list_any}
+use Rattle.std.specs.List.{position_or_len, list_any, before_first, after_first}
 use Rattle.std.specs.Char.{digit_value}
 use Rattle.std.specs.Str.Parse.{digits_value}
 use Rattle.std.proofs.lemmas.Bool.{cond-true}
 use Rattle.std.proofs.lemmas.Bool.Decides.{nat_tests}
 use Rattle.std.proofs.lemmas.List.{take_all}
-use Rattle.fix_request.specs.Fields.{Field, is_equals_sign, is_tag, has_tag, field_of}
+use Rattle.fix_request.specs.Fields.{Field, is_soh, is_equals_sign, is_tag, has_tag, field_of}
 use Rattle.fix_request.specs.Inner.Views.{has_tag_of_two_digits}
+use Rattle.fix_request.proofs.Splits.{before-more, after-more}
 
 -- what the test says of the first three bytes
 record AreTagBytes (a b c : ℕ) : Type 0 where
@@ -55,16 +56,35 @@ field_there a b c rest are =
     let tagged : ℕ → Field = λ tag. record { tag = tag; value = rest } in
     ap split (first_at a b c rest are) ∙ ap tagged (number_there a b c are)
 
-pub read_there :
-    (text : List ℕ) → has_tag_of_two_digits text ≡ true
-    → Some (record { tag = (slice_index text 0 - 48) * 10 + (slice_index text 1 - 48); value = take (length text - 3) (drop 3 text) })
-    ≡ (if has_tag text then Some (field_of text) else None)
+-- neither of them ends the field
+not_soh : (a : ℕ) → 48 ≤ a → is_soh a ≡ false
+not_soh a high = grind (arith, nat_tests)
+
+pub record AreThere (bytes : List ℕ) : Type 0 where
+  pub field :
+      Some (record { tag = (slice_index bytes 0 - 48) * 10 + (slice_index bytes 1 - 48); value = before_first is_soh (take (length bytes - 3) (drop 3 bytes)) })
+      ≡ (if has_tag (before_first is_soh bytes) then Some (field_of (before_first is_soh bytes)) else None)
+  pub behind : after_first is_soh (take (length bytes - 3) (drop 3 bytes)) ≡ after_first is_soh bytes
+
+-- the first field, and what stands behind it
+pub read_there : (bytes : List ℕ) → has_tag_of_two_digits bytes ≡ true → AreThere bytes
 read_there [] h = cc
 read_there (a ∷ []) h = cc
 read_there (a ∷ b ∷ []) h = cc
 read_there (a ∷ b ∷ c ∷ rest) h =
     let are = tag_bytes a b c rest h in
-    let text : List ℕ = a ∷ b ∷ c ∷ rest in
-    let whole : take (length text - 3) rest ≡ rest = take_all (length text - 3) rest (omega arith) in
-    let valued : List ℕ → Option Field = λ value. Some (record { tag = (a - 48) * 10 + (b - 48); value = value }) in
-    ap valued whole ∙ ap Some (sym (field_there a b c rest are)) ∙ sym (cond-true (has_tag text) (Some (field_of text)) None (has_there a b c rest are))
+    let bytes : List ℕ = a ∷ b ∷ c ∷ rest in
+    let value = before_first is_soh rest in
+    let a_other = not_soh a (omega arith) in
+    let b_other = not_soh b are.second.0 in
+    let c_other = not_soh c (omega arith) in
+    let whole : take (length bytes - 3) rest ≡ rest = take_all (length bytes - 3) rest (omega arith) in
+    let text : before_first is_soh bytes ≡ a ∷ b ∷ c ∷ value =
+    before-more a (b ∷ c ∷ rest) a_other ∙ ap (λ (t : List ℕ). a ∷ t) (before-more b (c ∷ rest) b_other) ∙ ap (λ (t : List ℕ). a ∷ b ∷ t) (before-more c rest c_other) in
+    let valued : List ℕ → Option Field = λ r. Some (record { tag = (a - 48) * 10 + (b - 48); value = before_first is_soh r }) in
+    let read : List ℕ → Option Field = λ t. if has_tag t then Some (field_of t) else None in
+    let there : Some (field_of (a ∷ b ∷ c ∷ value)) ≡ read (a ∷ b ∷ c ∷ value) = sym (cond-true (has_tag (a ∷ b ∷ c ∷ value)) (Some (field_of (a ∷ b ∷ c ∷ value))) None (has_there a b c value are)) in
+    record {
+      field = ap valued whole ∙ ap Some (sym (field_there a b c value are)) ∙ there ∙ ap read (sym text);
+      behind = ap (after_first is_soh) whole ∙ sym (after-more a (b ∷ c ∷ rest) a_other ∙ after-more b (c ∷ rest) b_other ∙ after-more c rest c_other);
+    }

@@ -17,9 +17,8 @@ use Rattle.fix_request.specs.Inner.Values.{Values}
 use Rattle.fix_request.specs.Faults.{fault}
 use Rattle.fix_request.specs.Inner.Rules.{where_passes, needed, needed_where, formed, listed}
 use Rattle.fix_request.specs.MessageTable.{known_if_some, named_of}
-use Rattle.fix_request.specs.Inner.Orders.{side_of, kind_of, life_of, symbol_tag, symbol_text, has_price, has_trigger, quantity_or_zero, price_if_read, OrderTexts, order_texts, order_forms, new_of, cancel_of, replace_of}
+use Rattle.fix_request.specs.Inner.Orders.{side_of, kind_of, life_of, symbol_tag, symbol_text, has_price, has_trigger, quantity_or_zero, price_if_read, OrderTexts, order_texts, OrderForms, order_forms, new_of, cancel_of, replace_of}
 use Rattle.fix_request.specs.ValidRequests.{IsValidSender, IsListed, IsWithinLimit, HasPricesOf, IsValidNew, IsValidReplace}
-use Rattle.fix_request.specs.declared.forms.OrderForms.{OrderForms}
 use Rattle.fix_request.specs.declared.request.Sender.{Sender}
 use Rattle.fix_request.specs.declared.request.Px.{Px}
 use Rattle.fix_request.specs.declared.request.NewOrder.{NewOrder}

@@ -1,52 +1,17 @@
 //! The forms of values (rule 9).
-ghost use Rattle.std.specs.Prelude.{◌≡◌, ◌<◌, length, Some, None, IfSome, if◌then◌else◌};
-ghost use Rattle.std.specs.Option.{option_copied};
-ghost use Rattle.gx_base.specs.Line.{decimals_of};
-ghost use Rattle.gx_base.specs.Numbers.{quantity_of, is_price_text, price_of};
+ghost use Rattle.std.specs.Prelude.{◌≡◌, Some, None, if◌then◌else◌};
+ghost use Rattle.gx_base.specs.Numbers.{quantity_of, is_price_text};
 ghost use Rattle.gx_base.specs.Texts.{is_name};
 ghost use Rattle.fix_request.specs.Inner.Rules.{where_passes, formed};
 ghost use Rattle.fix_request.specs.MessageTable.{named_of};
-ghost use Rattle.fix_request.specs.Inner.Orders.{quantity_or_zero, price_in, price_if_read, px_of, order_forms};
+ghost use Rattle.fix_request.specs.Inner.Orders.{quantity_or_zero, price_in, price_if_read, px_of};
 ghost use Rattle.fix_request.specs.ValidRequests.{IsListed};
-ghost use Rattle.fix_request.specs.Inner.Views.{order_view};
+ghost use Rattle.fix_request.specs.Inner.Views.{if_not_empty};
 
 use crate::fault::Fault;
 use crate::request::{Named, Px};
 use crate::tags;
-use crate::texts::OrderTexts;
 use gx_base::{Names, Price, PriceFault, ShortId, read_price, read_quantity};
-
-/// What the texts that a new order and a replace have in common give, once each has its form.
-#[derive(Clone, Copy, Debug)]
-pub struct OrderForms {
-    pub symbol: ShortId,
-    pub named: Named,
-    /// In lots.
-    pub quantity: u32,
-    /// `None` where it is out of range.
-    pub price: Option<Px>,
-    /// The same of the stop price.
-    pub trigger: Option<Px>,
-}
-
-/// What the texts of an order give. An `Err` is the first of them that does not have its form.
-#[tactic(auto, unfolding(crate::specs::Inner::Orders::order_forms))]
-pub fn order_forms(names: &Names, symbol_tag: u32, texts: &OrderTexts) -> Result<OrderForms, Fault>
-    ensures { result ≡ order_forms names.now symbol_tag (order_view texts.now) }
-{
-    let symbol = read_name(symbol_tag, texts.symbol)?;
-    let named = find_named(names, &symbol);
-    let quantity = read_lots(tags::QUANTITY, texts.quantity)?;
-    let price = read_px_if_there(names, named, tags::PRICE, texts.price)?;
-    let trigger = read_px_if_there(names, named, tags::TRIGGER, texts.trigger)?;
-    Ok(OrderForms {
-        symbol,
-        named,
-        quantity,
-        price,
-        trigger,
-    })
-}
 
 /// The name that a text is.
 #[inline]
@@ -61,7 +26,7 @@ pub fn read_name(tag: u32, text: &[u8]) -> Result<ShortId, Fault>
 
 /// The instrument of this name.
 #[inline]
-fn find_named(names: &Names, symbol: &ShortId) -> Named
+pub fn find_named(names: &Names, symbol: &ShortId) -> Named
     ensures named { result ≡ named_of names.now symbol.now }
     ensures listed { IsListed names.now result }
 {
@@ -73,7 +38,7 @@ fn find_named(names: &Names, symbol: &ShortId) -> Named
 
 /// The number of a quantity text.
 #[inline]
-fn read_lots(tag: u32, text: &[u8]) -> Result<u32, Fault>
+pub fn read_lots(tag: u32, text: &[u8]) -> Result<u32, Fault>
     ensures { result ≡ formed tag (quantity_of text.now) }
 {
     match read_quantity(text) {
@@ -82,32 +47,33 @@ fn read_lots(tag: u32, text: &[u8]) -> Result<u32, Fault>
     }
 }
 
-/// The number of a quantity text, 0 where there is none.
+/// The number of a quantity text, 0 where it is empty.
 #[inline]
-pub fn read_lots_or_zero(tag: u32, text: Option<&[u8]>) -> Result<u32, Fault>
-    ensures { result ≡ quantity_or_zero tag (option_copied text.entry) }
+pub fn read_lots_or_zero(tag: u32, text: &[u8]) -> Result<u32, Fault>
+    ensures { result ≡ quantity_or_zero tag (if_not_empty text.now) }
 {
-    match text {
-        Some(text) => read_lots(tag, text),
-        None => Ok(0),
+    if text.is_empty() {
+        return Ok(0);
     }
+    read_lots(tag, text)
 }
 
-/// The price of a text, `Absent` where there is none.
+/// The price of a text, `Absent` where it is not read.
 #[inline]
-fn read_px_if_there(
+pub fn read_px_where(
+    is_read: bool,
     names: &Names,
     named: Named,
     tag: u32,
-    text: Option<&[u8]>,
+    text: &[u8],
 ) -> Result<Option<Px>, Fault>
     requires { IsListed names.now named }
-    ensures { result ≡ price_if_read names.now named tag (option_copied text.entry) }
+    ensures { result ≡ price_if_read names.now named tag (if is_read then Some text.now else None) }
 {
-    match text {
-        Some(text) => read_px(names, named, tag, text),
-        None => Ok(Some(Px::Absent)),
+    if !is_read {
+        return Ok(Some(Px::Absent));
     }
+    read_px(names, named, tag, text)
 }
 
 /// The price of a text in the decimals of this instrument. Where there is no instrument only the format is tried. `None`

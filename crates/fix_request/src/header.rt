@@ -19,10 +19,10 @@ use gx_base::{Names, Stamp};
 pub fn read_firm(names: &Names, values: &Values) -> Result<u8, Fault>
     ensures { result ≡ firm_of names.now (values_view values.now) }
 {
-    let Some(text) = values.sender else {
+    if values.sender.is_empty() {
         return Err(Fault::missing(4, tags::SENDER));
-    };
-    match names.find_firm(text) {
+    }
+    match names.find_firm(values.sender) {
         Some(firm) => Ok(firm),
         None => Err(Fault::comp_id(4, tags::SENDER)),
     }
@@ -34,10 +34,10 @@ pub fn read_firm(names: &Names, values: &Values) -> Result<u8, Fault>
 pub fn check_target(names: &Names, values: &Values) -> Result<(), Fault>
     ensures { result ≡ target_of names.now (values_view values.now) }
 {
-    let Some(text) = values.target else {
+    if values.target.is_empty() {
         return Err(Fault::missing(5, tags::TARGET));
-    };
-    if names.exchange().bytes() != text {
+    }
+    if names.exchange().bytes() != values.target {
         return Err(Fault::comp_id(5, tags::TARGET));
     }
     Ok(())
@@ -49,10 +49,10 @@ pub fn check_target(names: &Names, values: &Values) -> Result<(), Fault>
 pub fn read_sequence(values: &Values) -> Result<u32, Fault>
     ensures { result ≡ sequence_of (values_view values.now) }
 {
-    let Some(text) = values.sequence else {
+    if values.sequence.is_empty() {
         return Err(Fault::missing(6, tags::SEQUENCE));
-    };
-    match read_sequence_number(text) {
+    }
+    match read_sequence_number(values.sequence) {
         Some(number) => Ok(number),
         None => Err(Fault::ill_formed(6, tags::SEQUENCE)),
     }
@@ -64,10 +64,10 @@ pub fn read_sequence(values: &Values) -> Result<u32, Fault>
 pub fn read_time(values: &Values) -> Result<Stamp, Fault>
     ensures { result ≡ time_of (values_view values.now) }
 {
-    match values.time {
-        Some(text) => read_stamp(text),
-        None => Err(Fault::missing(6, tags::TIME)),
+    if values.time.is_empty() {
+        return Err(Fault::missing(6, tags::TIME));
     }
+    read_stamp(values.time)
 }
 
 /// The time that a text is.

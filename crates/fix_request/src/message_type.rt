@@ -24,7 +24,10 @@ pub enum MessageType {
 pub fn read_type(values: &Values) -> Result<MessageType, Fault>
     ensures { result ≡ type_of (values_view values.now) }
 {
-    match values.message_type.and_then(message_type_of) {
+    if values.message_type.is_empty() {
+        return Err(Fault::message_type(7));
+    }
+    match message_type_of(values.message_type) {
         Some(message_type) => Ok(message_type),
         None => Err(Fault::message_type(7)),
     }

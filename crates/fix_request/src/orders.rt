@@ -5,12 +5,14 @@ ghost use Rattle.fix_request.specs.Inner.Requests.{or_refused_by_content};
 ghost use Rattle.fix_request.specs.Inner.Rules.{result_map};
 ghost use Rattle.fix_request.specs.Inner.Views.{values_view};
 
-use crate::forms::{order_forms, read_lots_or_zero, read_name};
+use crate::forms::{find_named, read_lots, read_lots_or_zero, read_name, read_px_where};
 use crate::lists::{in_range, read_kind, read_life, read_side};
 use crate::refusal::refused;
 use crate::request::{CancelOrder, NewOrder, ReplaceOrder, Request, Sender};
 use crate::tags;
-use crate::texts::{needed, order_texts, symbol_tag};
+use crate::texts::{
+    check_needed, check_order_texts, has_price, has_trigger, symbol_tag, symbol_text,
+};
 use crate::values::Values;
 use gx_base::Names;
 
@@ -26,30 +28,52 @@ macro_rules! or_refuse {
 }
 
 /// The new order of these values, or the refusal by the first of their faults.
-#[tactic(auto, unfolding(crate::specs::Inner::Orders::new_of))]
+#[tactic(auto, unfolding(crate::specs::Inner::Orders::new_of, crate::specs::Inner::Orders::order_texts, crate::specs::Inner::Orders::order_forms))]
 pub fn read_new(names: &Names, sender: &Sender, values: &Values) -> Request
     ensures { result ≡ or_refused_by_content sender.now (result_map Request.New (new_of names.now sender.now (values_view values.now))) }
 {
-    let id_text = or_refuse!(sender, needed(tags::ID, values.id));
-    let texts = or_refuse!(sender, order_texts(values));
+    or_refuse!(sender, check_needed(tags::ID, values.id));
+    or_refuse!(sender, check_order_texts(values));
 
-    let id = or_refuse!(sender, read_name(tags::ID, id_text));
-    let forms = or_refuse!(sender, order_forms(names, symbol_tag(values), &texts));
+    let id = or_refuse!(sender, read_name(tags::ID, values.id));
+    let symbol = or_refuse!(sender, read_name(symbol_tag(values), symbol_text(values)));
+    let named = find_named(names, &symbol);
+    let quantity = or_refuse!(sender, read_lots(tags::QUANTITY, values.quantity));
+    let price = or_refuse!(
+        sender,
+        read_px_where(
+            has_price(values.kind),
+            names,
+            named,
+            tags::PRICE,
+            values.price
+        )
+    );
+    let trigger = or_refuse!(
+        sender,
+        read_px_where(
+            has_trigger(values.kind),
+            names,
+            named,
+            tags::TRIGGER,
+            values.trigger
+        )
+    );
     let min = or_refuse!(sender, read_lots_or_zero(tags::MIN, values.min));
     let show = or_refuse!(sender, read_lots_or_zero(tags::SHOW, values.show));
 
-    let side = or_refuse!(sender, read_side(texts.side));
-    let kind = or_refuse!(sender, read_kind(texts.kind));
+    let side = or_refuse!(sender, read_side(values.side));
+    let kind = or_refuse!(sender, read_kind(values.kind));
     let life = or_refuse!(sender, read_life(values.life));
-    let price = or_refuse!(sender, in_range(tags::PRICE, forms.price));
-    let trigger = or_refuse!(sender, in_range(tags::TRIGGER, forms.trigger));
+    let price = or_refuse!(sender, in_range(tags::PRICE, price));
+    let trigger = or_refuse!(sender, in_range(tags::TRIGGER, trigger));
     Request::New(NewOrder {
         sender: *sender,
         id,
-        symbol: forms.symbol,
-        named: forms.named,
+        symbol,
+        named,
         side,
-        quantity: forms.quantity,
+        quantity,
         kind,
         price,
         trigger,
@@ -64,11 +88,11 @@ pub fn read_new(names: &Names, sender: &Sender, values: &Values) -> Request
 pub fn read_cancel(sender: &Sender, values: &Values) -> Request
     ensures { result ≡ or_refused_by_content sender.now (result_map Request.Cancel (cancel_of sender.now (values_view values.now))) }
 {
-    let id_text = or_refuse!(sender, needed(tags::ID, values.id));
-    let old_text = or_refuse!(sender, needed(tags::OLD, values.old));
+    or_refuse!(sender, check_needed(tags::ID, values.id));
+    or_refuse!(sender, check_needed(tags::OLD, values.old));
 
-    let id = or_refuse!(sender, read_name(tags::ID, id_text));
-    let old = or_refuse!(sender, read_name(tags::OLD, old_text));
+    let id = or_refuse!(sender, read_name(tags::ID, values.id));
+    let old = or_refuse!(sender, read_name(tags::OLD, values.old));
     Request::Cancel(CancelOrder {
         sender: *sender,
         id,
@@ -77,29 +101,51 @@ pub fn read_cancel(sender: &Sender, values: &Values) -> Request
 }
 
 /// The replace of these values, or the refusal by the first of their faults.
-#[tactic(auto, unfolding(crate::specs::Inner::Orders::replace_of))]
+#[tactic(auto, unfolding(crate::specs::Inner::Orders::replace_of, crate::specs::Inner::Orders::order_texts, crate::specs::Inner::Orders::order_forms))]
 pub fn read_replace(names: &Names, sender: &Sender, values: &Values) -> Request
     ensures { result ≡ or_refused_by_content sender.now (result_map Request.Replace (replace_of names.now sender.now (values_view values.now))) }
 {
-    let id_text = or_refuse!(sender, needed(tags::ID, values.id));
-    let old_text = or_refuse!(sender, needed(tags::OLD, values.old));
-    let texts = or_refuse!(sender, order_texts(values));
+    or_refuse!(sender, check_needed(tags::ID, values.id));
+    or_refuse!(sender, check_needed(tags::OLD, values.old));
+    or_refuse!(sender, check_order_texts(values));
 
-    let id = or_refuse!(sender, read_name(tags::ID, id_text));
-    let old = or_refuse!(sender, read_name(tags::OLD, old_text));
-    let forms = or_refuse!(sender, order_forms(names, symbol_tag(values), &texts));
+    let id = or_refuse!(sender, read_name(tags::ID, values.id));
+    let old = or_refuse!(sender, read_name(tags::OLD, values.old));
+    let symbol = or_refuse!(sender, read_name(symbol_tag(values), symbol_text(values)));
+    let named = find_named(names, &symbol);
+    let quantity = or_refuse!(sender, read_lots(tags::QUANTITY, values.quantity));
+    let price = or_refuse!(
+        sender,
+        read_px_where(
+            has_price(values.kind),
+            names,
+            named,
+            tags::PRICE,
+            values.price
+        )
+    );
+    let trigger = or_refuse!(
+        sender,
+        read_px_where(
+            has_trigger(values.kind),
+            names,
+            named,
+            tags::TRIGGER,
+            values.trigger
+        )
+    );
 
-    let side = or_refuse!(sender, read_side(texts.side));
-    let kind = or_refuse!(sender, read_kind(texts.kind));
-    let price = or_refuse!(sender, in_range(tags::PRICE, forms.price));
-    let trigger = or_refuse!(sender, in_range(tags::TRIGGER, forms.trigger));
+    let side = or_refuse!(sender, read_side(values.side));
+    let kind = or_refuse!(sender, read_kind(values.kind));
+    let price = or_refuse!(sender, in_range(tags::PRICE, price));
+    let trigger = or_refuse!(sender, in_range(tags::TRIGGER, trigger));
     Request::Replace(ReplaceOrder {
         sender: *sender,
         id,
         old,
-        named: forms.named,
+        named,
         side,
-        quantity: forms.quantity,
+        quantity,
         kind,
         price,
         trigger,

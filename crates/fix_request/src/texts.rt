@@ -1,78 +1,52 @@
 //! The texts of needed tags (rule 8).
 ghost use Rattle.std.specs.Prelude.{◌≡◌};
-ghost use Rattle.std.specs.Option.{option_copied};
 ghost use Rattle.fix_request.specs.Inner.Rules.{result_map, needed, needed_where};
-ghost use Rattle.fix_request.specs.Inner.Orders.{has_price, has_trigger, symbol_tag, symbol_text, order_texts};
-ghost use Rattle.fix_request.specs.Inner.Views.{values_view, order_view};
+ghost use Rattle.fix_request.specs.Inner.Orders.{has_price, has_trigger, symbol_tag, order_texts};
+ghost use Rattle.fix_request.specs.Inner.Views.{values_view, if_not_empty, symbol_view, order_view, if_read};
 
 use crate::fault::Fault;
 use crate::tags;
 use crate::values::Values;
 
-/// The texts that a new order and a replace have in common, of which each that is needed is there.
-#[derive(Clone, Copy, Debug)]
-pub struct OrderTexts<'a> {
-    pub symbol: &'a [u8],
-    pub side: &'a [u8],
-    pub quantity: &'a [u8],
-    pub kind: &'a [u8],
-    /// `None` where an order of this kind has none.
-    pub price: Option<&'a [u8]>,
-    /// The same of the stop price.
-    pub trigger: Option<&'a [u8]>,
-}
-
-/// The texts of an order. An `Err` is the first needed tag that is missing.
+/// Tries whether the texts are there that a new order and a replace both need. An `Err` is the first needed tag that is missing.
 #[tactic(auto, unfolding(crate::specs::Inner::Orders::order_texts))]
-pub fn order_texts<'a>(values: &Values<'a>) -> Result<OrderTexts<'a>, Fault>
-    ensures { result_map order_view result ≡ order_texts (values_view values.now) }
+#[inline]
+pub fn check_order_texts(values: &Values) -> Result<(), Fault>
+    ensures { result_map (λ _. order_view values.now) result ≡ order_texts (values_view values.now) }
 {
-    let symbol = needed(tags::SYMBOL, symbol_text(values))?;
-    let side = needed(tags::SIDE, values.side)?;
-    let quantity = needed(tags::QUANTITY, values.quantity)?;
-    let kind = needed(tags::KIND, values.kind)?;
-    let price = needed_where(has_price(kind), tags::PRICE, values.price)?;
-    let trigger = needed_where(has_trigger(kind), tags::TRIGGER, values.trigger)?;
-    Ok(OrderTexts {
-        symbol,
-        side,
-        quantity,
-        kind,
-        price,
-        trigger,
-    })
+    check_needed(tags::SYMBOL, symbol_text(values))?;
+    check_needed(tags::SIDE, values.side)?;
+    check_needed(tags::QUANTITY, values.quantity)?;
+    check_needed(tags::KIND, values.kind)?;
+    check_needed_where(has_price(values.kind), tags::PRICE, values.price)?;
+    check_needed_where(has_trigger(values.kind), tags::TRIGGER, values.trigger)
 }
 
-/// The value of a needed tag.
+/// Tries whether a needed tag has a value.
 #[inline]
-pub fn needed<'a>(tag: u32, value: Option<&'a [u8]>) -> Result<&'a [u8], Fault>
-    ensures { result_map (λ x. x.now) result ≡ needed tag (option_copied value.entry) }
+pub fn check_needed(tag: u32, text: &[u8]) -> Result<(), Fault>
+    ensures { result_map (λ _. text.now) result ≡ needed tag (if_not_empty text.now) }
 {
-    match value {
-        Some(text) => Ok(text),
-        None => Err(Fault::missing(8, tag)),
+    if text.is_empty() {
+        return Err(Fault::missing(8, tag));
     }
+    Ok(())
 }
 
-/// The value of a tag that is needed where this holds, and is else not read.
+/// The same of a tag that is needed where this holds, and is else not read.
 #[inline]
-fn needed_where<'a>(
-    is_needed: bool,
-    tag: u32,
-    value: Option<&'a [u8]>,
-) -> Result<Option<&'a [u8]>, Fault>
-    ensures { result_map option_copied result ≡ needed_where is_needed tag (option_copied value.entry) }
+fn check_needed_where(is_needed: bool, tag: u32, text: &[u8]) -> Result<(), Fault>
+    ensures { result_map (λ _. if_read is_needed text.now) result ≡ needed_where is_needed tag (if_not_empty text.now) }
 {
     if !is_needed {
-        return Ok(None);
+        return Ok(());
     }
-    let text = needed(tag, value)?;
-    Ok(Some(text))
+    check_needed(tag, text)
 }
 
 /// Whether an order of this kind has a limit.
 #[inline]
-fn has_price(kind: &[u8]) -> bool
+pub fn has_price(kind: &[u8]) -> bool
     ensures { result ≡ has_price kind.now }
 {
     kind == b"2".as_slice() || kind == b"4".as_slice()
@@ -80,7 +54,7 @@ fn has_price(kind: &[u8]) -> bool
 
 /// Whether an order of this kind has a stop price.
 #[inline]
-fn has_trigger(kind: &[u8]) -> bool
+pub fn has_trigger(kind: &[u8]) -> bool
     ensures { result ≡ has_trigger kind.now }
 {
     kind == b"4".as_slice()
@@ -88,13 +62,13 @@ fn has_trigger(kind: &[u8]) -> bool
 
 /// The value of 107 where there is one, else of 55.
 #[inline]
-fn symbol_text<'a>(values: &Values<'a>) -> Option<&'a [u8]>
-    ensures { option_copied result ≡ symbol_text (values_view values.now) }
+pub fn symbol_text<'a>(values: &Values<'a>) -> &'a [u8]
+    ensures { result.now ≡ symbol_view values.now }
 {
-    match values.description {
-        Some(text) => Some(text),
-        None => values.symbol,
+    if values.description.is_empty() {
+        return values.symbol;
     }
+    values.description
 }
 
 /// The tag that the symbol is read from.
@@ -102,8 +76,8 @@ fn symbol_text<'a>(values: &Values<'a>) -> Option<&'a [u8]>
 pub fn symbol_tag(values: &Values) -> u32
     ensures { result ≡ symbol_tag (values_view values.now) }
 {
-    match values.description {
-        Some(_) => tags::DESCRIPTION,
-        None => tags::SYMBOL,
+    if values.description.is_empty() {
+        return tags::SYMBOL;
     }
+    tags::DESCRIPTION
 }

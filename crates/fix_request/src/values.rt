@@ -1,57 +1,60 @@
 //! The values of the tags that rules name.
-ghost use Rattle.std.specs.Prelude.{◌≡◌, [], Some};
-ghost use Rattle.std.specs.Option.{option_copied, option_or};
+ghost use Rattle.std.specs.Prelude.{◌≡◌, ◌≤◌, [], Some, length, if◌then◌else◌};
+ghost use Rattle.std.specs.List.{list_all};
+ghost use Rattle.std.specs.Option.{option_or};
+ghost use Rattle.fix_request.specs.Faults.{fault};
+ghost use Rattle.fix_request.specs.Fields.{texts_of, has_tag};
 ghost use Rattle.fix_request.specs.Inner.Values.{values_of};
 ghost use Rattle.fix_request.specs.Inner.Rules.{result_map};
 ghost use Rattle.fix_request.specs.Inner.Requests.{checked_values, well_formed_values};
-ghost use Rattle.fix_request.specs.Inner.Views.{values_view, noted};
+ghost use Rattle.fix_request.specs.Inner.Views.{values_view, if_not_empty, noted};
 
 use crate::fault::Fault;
-use crate::fields::read_field;
-use gx_base::{SOH, split_at_byte};
+use crate::fields::first_field;
 
-/// The values of the tags that rules name, each that of the first field with its tag.
+/// The values of the tags that rules name, each that of the first field with its tag, and empty where there is none: no field
+/// of a message that is read on has an empty value.
 #[derive(Clone, Copy, Debug)]
 pub struct Values<'a> {
     /// 35.
-    pub message_type: Option<&'a [u8]>,
+    pub message_type: &'a [u8],
     /// 49.
-    pub sender: Option<&'a [u8]>,
+    pub sender: &'a [u8],
     /// 56.
-    pub target: Option<&'a [u8]>,
+    pub target: &'a [u8],
     /// 34.
-    pub sequence: Option<&'a [u8]>,
+    pub sequence: &'a [u8],
     /// 52.
-    pub time: Option<&'a [u8]>,
+    pub time: &'a [u8],
     /// 11.
-    pub id: Option<&'a [u8]>,
+    pub id: &'a [u8],
     /// 41.
-    pub old: Option<&'a [u8]>,
+    pub old: &'a [u8],
     /// 55.
-    pub symbol: Option<&'a [u8]>,
+    pub symbol: &'a [u8],
     /// 107.
-    pub description: Option<&'a [u8]>,
+    pub description: &'a [u8],
     /// 54.
-    pub side: Option<&'a [u8]>,
+    pub side: &'a [u8],
     /// 38.
-    pub quantity: Option<&'a [u8]>,
+    pub quantity: &'a [u8],
     /// 40.
-    pub kind: Option<&'a [u8]>,
+    pub kind: &'a [u8],
     /// 44.
-    pub price: Option<&'a [u8]>,
+    pub price: &'a [u8],
     /// 99.
-    pub trigger: Option<&'a [u8]>,
+    pub trigger: &'a [u8],
     /// 59.
-    pub life: Option<&'a [u8]>,
+    pub life: &'a [u8],
     /// 110.
-    pub min: Option<&'a [u8]>,
+    pub min: &'a [u8],
     /// 210.
-    pub show: Option<&'a [u8]>,
+    pub show: &'a [u8],
 }
 
 /// Notes the values of a body, where none is noted yet, in one pass. An `Err` is the first of these faults: the body does
 /// not begin with `35=`; a field has no tag; a field has an empty value.
-#[inline]
+#[inline(never)] // Else each value is kept in two or three places of the stack.
 pub fn read_values<'a>(body: &'a [u8], values: &mut Values<'a>) -> Result<(), Fault>
     requires { values_view values.now ≡ values_of [] }
     ensures { result_map (λ _. values_view values.exit.now) result ≡ checked_values body.now }
@@ -69,21 +72,47 @@ fn read_fields<'a>(bytes: &'a [u8], values: &mut Values<'a>) -> Result<(), Fault
     requires { values_view values.now ≡ values_of [] }
     ensures { result_map (λ _. values_view values.exit.now) result ≡ well_formed_values bytes.now }
 {
-    let mut without_value = None;
     let mut rest = bytes;
     while !rest.is_empty() {
-        let (text, behind) = split_at_byte(rest, SOH);
-        let Some(field) = read_field(text) else {
+        let field = first_field(rest);
+        if !field.has_tag {
             return Err(Fault::bad_tag());
-        };
-        without_value = without_value.or(field.value.is_empty().then_some(field.tag));
+        }
+        if field.value.is_empty() {
+            return Err(fault_of_empty(field.tag, field.behind));
+        }
         note(values, field.tag, field.value);
-        rest = behind;
+        rest = field.behind;
     }
-    match without_value {
-        Some(tag) => Err(Fault::no_value(tag)),
-        None => Ok(()),
+    Ok(())
+}
+
+/// The fault of fields of which the one with this tag is the first without a value, and is followed by these: one of them may
+/// have no tag, which comes first.
+#[cold]
+fn fault_of_empty(tag: u32, behind: &[u8]) -> Fault
+    ensures { result ≡ (if list_all has_tag (texts_of behind.now) then fault 3 4 tag else fault 2 0 0) }
+{
+    if have_tags(behind) {
+        Fault::no_value(tag)
+    } else {
+        Fault::bad_tag()
     }
+}
+
+/// Whether each of some fields has a tag.
+fn have_tags(bytes: &[u8]) -> bool
+    ensures { result ≡ list_all has_tag (texts_of bytes.now) }
+{
+    let mut rest = bytes;
+    while !rest.is_empty() {
+        let field = first_field(rest);
+        if !field.has_tag {
+            return false;
+        }
+        rest = field.behind;
+    }
+    true
 }
 
 /// No value yet.
@@ -93,23 +122,23 @@ pub fn no_values<'a>() -> Values<'a>
     ensures { values_view result ≡ values_of [] }
 {
     Values {
-        message_type: None,
-        sender: None,
-        target: None,
-        sequence: None,
-        time: None,
-        id: None,
-        old: None,
-        symbol: None,
-        description: None,
-        side: None,
-        quantity: None,
-        kind: None,
-        price: None,
-        trigger: None,
-        life: None,
-        min: None,
-        show: None,
+        message_type: &[],
+        sender: &[],
+        target: &[],
+        sequence: &[],
+        time: &[],
+        id: &[],
+        old: &[],
+        symbol: &[],
+        description: &[],
+        side: &[],
+        quantity: &[],
+        kind: &[],
+        price: &[],
+        trigger: &[],
+        life: &[],
+        min: &[],
+        show: &[],
     }
 }
 
@@ -117,6 +146,7 @@ pub fn no_values<'a>() -> Values<'a>
 #[tactic(auto, unfolding(crate::specs::Inner::Views::noted))]
 #[inline]
 fn note<'a>(values: &mut Values<'a>, tag: u32, value: &'a [u8])
+    requires { 1 ≤ length value.now }
     ensures { values_view values.exit.now ≡ noted (values_view values.entry.now) (record { tag = tag; value = value.entry.now }) }
 {
     match tag {
@@ -143,10 +173,11 @@ fn note<'a>(values: &mut Values<'a>, tag: u32, value: &'a [u8])
 
 /// Notes a value, unless one is noted already.
 #[inline]
-fn note_first<'a>(noted: &mut Option<&'a [u8]>, value: &'a [u8])
-    ensures { option_copied noted.exit.now ≡ option_or (option_copied noted.entry.now) (Some value.entry.now) }
+fn note_first<'a>(noted: &mut &'a [u8], value: &'a [u8])
+    requires { 1 ≤ length value.now }
+    ensures { if_not_empty noted.exit.now.now ≡ option_or (if_not_empty noted.entry.now.now) (Some value.entry.now) }
 {
-    if noted.is_none() {
-        *noted = Some(value);
+    if noted.is_empty() {
+        *noted = value;
     }
 }

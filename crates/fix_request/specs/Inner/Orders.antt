@@ -25,7 +25,6 @@ use Rattle.fix_request.specs.declared.request.Named.TheVariants.{Known, Unknown}
 use Rattle.fix_request.specs.declared.request.NewOrder.{NewOrder}
 use Rattle.fix_request.specs.declared.request.CancelOrder.{CancelOrder}
 use Rattle.fix_request.specs.declared.request.ReplaceOrder.{ReplaceOrder}
-use Rattle.fix_request.specs.declared.forms.OrderForms.{OrderForms}
 
 -- ---- values in lists
 
@@ -112,6 +111,14 @@ order_texts values = do
   price ← needed_where (has_price kind) 44 values.price
   trigger ← needed_where (has_trigger kind) 99 values.trigger
   Ok (record { symbol = symbol; side = side; quantity = quantity; kind = kind; price = price; trigger = trigger })
+
+-- what these texts give, once each has its form: a price is none where it is out of range
+pub record OrderForms : Type 0 where
+  pub symbol : List ℕ
+  pub named : Named
+  pub quantity : ℕ
+  pub price : Option Px
+  pub trigger : Option Px
 
 -- rule 9: symbol, 38, 44, 99
 unfoldable pub order_forms : NameLists → ℕ → OrderTexts → Result OrderForms Fault
