@@ -1,7 +1,7 @@
 -- The values of the fields so far, and the faults in their form.
-use Rattle.std.proofs.Common.{◌≡◌, ℕ, ◌≤◌, Bool, true, false, not, cond, ◌&&◌, ◌==◌, List, [], ◌∷◌, length, map, Option, Some, None, Ok, Err, refl, sym, ap, ◌∙◌}
-use Rattle.std.specs.Prelude.{find, option_map}
-use Rattle.std.specs.List.{before_first, after_first, list_all}
+use Rattle.std.proofs.Common.{◌≡◌, ℕ, suc, ◌+◌, ◌≤◌, Bool, true, false, not, cond, ◌&&◌, ◌==◌, List, [], ◌∷◌, length, map, Option, Some, None, Result, Ok, Err, refl, sym, ap, subst, ◌∙◌, arith, length-drop}
+use Rattle.std.specs.Prelude.{MatchResult, ⊤, find, is_some, option_map}
+use Rattle.std.specs.List.{position_or_len, before_first, after_first, list_all}
 use Rattle.std.specs.Option.{option_or}
 use Rattle.std.proofs.lemmas.Bool.{cond-true}
 use Rattle.fix_request.specs.Fields.{is_soh, texts_of, has_tag, Field, field_of, fields_of, value_of}
@@ -9,7 +9,10 @@ use Rattle.fix_request.specs.Inner.Values.{Values, values_of}
 use Rattle.fix_request.specs.SessionRules.{first_empty}
 use Rattle.fix_request.specs.Inner.Requests.{no_value_in, well_formed_values}
 use Rattle.fix_request.specs.Faults.{fault}
-use Rattle.fix_request.specs.Inner.Views.{noted_value, noted}
+use Rattle.fix_request.specs.Inner.Views.{field_view}
+use Rattle.fix_request.specs.declared.fault.Fault.{Fault}
+use Rattle.fix_request.specs.declared.fields.Field.{Field as FieldSlices}
+use Rattle.fix_request.specs.Inner.Noting.{first_of, noted_value, noted, empty_fault, field_noted}
 use Rattle.fix_request.proofs.Splits.{texts-first}
 
 -- ---- the values
@@ -77,10 +80,6 @@ pub record IsNotedTo (bytes rest : List ℕ) (values : Values) : Type 0 where
 pub none_read : (bytes : List ℕ) → IsNotedTo bytes bytes (values_of [])
 none_read bytes = record { tags = refl; empty = refl; noting = all_noted (fields_of bytes) }
 
--- the first field of some bytes, as the code reads it
-abbrev pub first_of : List ℕ → Option Field
-first_of bytes = cond (has_tag (before_first is_soh bytes)) (Some (field_of (before_first is_soh bytes))) None
-
 field_is : (text : List ℕ) (b : Bool) (field : Field) → Some field ≡ cond b (Some (field_of text)) None → (b ≡ true) × (field ≡ field_of text)
 field_is text true field e = (refl, cc)
 field_is text false field e = cc
@@ -140,7 +139,7 @@ by_tags : (tags : Bool) (fields : List Field) (field : Field) → Err (cond tags
 by_tags true fields field = refl
 by_tags false fields field = refl
 
-pub empty_there : (bytes rest : List ℕ) (values : Values) (field : Field) → 1 ≤ length rest → Some field ≡ first_of rest → (length field.value == 0) ≡ true → IsNotedTo bytes rest values → Err (cond (list_all has_tag (texts_of (after_first is_soh rest))) (fault 3 4 field.tag) (fault 2 0 0)) ≡ well_formed_values bytes
+pub empty_there : (bytes rest : List ℕ) (values : Values) (field : Field) → 1 ≤ length rest → Some field ≡ first_of rest → (length field.value == 0) ≡ true → IsNotedTo bytes rest values → Err (empty_fault field.tag (after_first is_soh rest)) ≡ well_formed_values bytes
 empty_there bytes rest values field some read empty so_far =
     let first = is_first rest field some read in
     let later = fields_of (after_first is_soh rest) in
@@ -159,10 +158,64 @@ none_left false empty fields a b = cc
 pub all_read : (bytes : List ℕ) (values : Values) → IsNotedTo bytes [] values → Ok values ≡ well_formed_values bytes
 all_read bytes values so_far = ap Ok so_far.noting ∙ none_left (list_all has_tag (texts_of bytes)) (first_empty (fields_of bytes)) (fields_of bytes) so_far.tags so_far.empty
 
+-- ---- any field
+
+abbrev Read : Type 0
+Read = Result (List ℕ × Values) Fault
+
+-- what it gives is right, by whether it has a tag and whether it has a value
+abbrev Goes : List ℕ → Read → Type 0
+Goes bytes r = MatchResult r (λ on. IsNotedTo bytes on.0 on.1) (λ f. Err f ≡ well_formed_values bytes)
+
+goes_on : (bytes rest : List ℕ) (values : Values) (tagged empty : Bool) → 1 ≤ length rest → has_tag (before_first is_soh rest) ≡ tagged → (length (field_of (before_first is_soh rest)).value == 0) ≡ empty → IsNotedTo bytes rest values → Goes bytes (cond (not tagged) (Err (fault 2 0 0)) (cond empty (Err (empty_fault (field_of (before_first is_soh rest)).tag (after_first is_soh rest))) (Ok (after_first is_soh rest, noted values (field_of (before_first is_soh rest))))))
+goes_on bytes rest values false empty some has is so_far =
+    let text = before_first is_soh rest in
+    stops_there bytes rest values some (sym (ap (λ (b : Bool). cond b (Some (field_of text)) None) has)) so_far
+goes_on bytes rest values true true some has is so_far =
+    let text = before_first is_soh rest in
+    empty_there bytes rest values (field_of text) some (sym (ap (λ (b : Bool). cond b (Some (field_of text)) None) has)) is so_far
+goes_on bytes rest values true false some has is so_far =
+    let text = before_first is_soh rest in
+    one_read bytes rest values (field_of text) some (sym (ap (λ (b : Bool). cond b (Some (field_of text)) None) has)) is so_far
+
+pub any_read : (bytes rest : List ℕ) (values : Values) (r : Read) → 1 ≤ length rest → r ≡ field_noted values rest → IsNotedTo bytes rest values → Goes bytes r
+any_read bytes rest values r some read so_far =
+    let text = before_first is_soh rest in
+    subst (Goes bytes) (sym read) (goes_on bytes rest values (has_tag text) (length (field_of text).value == 0) some refl refl so_far)
+
+-- what stands behind is shorter
+abbrev Shortens : List ℕ → Read → Type 0
+Shortens bytes r = MatchResult r (λ on. suc (length on.0) ≤ length bytes) (λ f. ⊤)
+
+shortens : (rest : List ℕ) (values : Values) (tagged empty : Bool) → 1 ≤ length rest → Shortens rest (cond (not tagged) (Err (fault 2 0 0)) (cond empty (Err (empty_fault (field_of (before_first is_soh rest)).tag (after_first is_soh rest))) (Ok (after_first is_soh rest, noted values (field_of (before_first is_soh rest))))))
+shortens rest values false empty some = tt
+shortens rest values true true some = tt
+shortens rest values true false some = omega (arith, length-drop (position_or_len is_soh rest + 1) rest)
+
+pub shorter : (rest : List ℕ) (values : Values) (r : Read) → 1 ≤ length rest → r ≡ field_noted values rest → Shortens rest r
+shorter rest values r some read =
+    subst (Shortens rest) (sym read) (shortens rest values (has_tag (before_first is_soh rest)) (length (field_of (before_first is_soh rest)).value == 0) some)
+
 -- ---- the tags alone
 
-pub one_tagged : (bytes rest : List ℕ) (field : Field) → 1 ≤ length rest → Some field ≡ first_of rest → list_all has_tag (texts_of bytes) ≡ list_all has_tag (texts_of rest) → list_all has_tag (texts_of bytes) ≡ list_all has_tag (texts_of (after_first is_soh rest))
-one_tagged bytes rest field some read so_far = so_far ∙ (is_first rest field some read).tags
+some_first : (text : List ℕ) (b : Bool) (o : Option Field) → o ≡ cond b (Some (field_of text)) None → is_some o ≡ b
+some_first text true o e = ap is_some e
+some_first text false o e = ap is_some e
 
-pub one_untagged : (bytes rest : List ℕ) → 1 ≤ length rest → None ≡ first_of rest → list_all has_tag (texts_of bytes) ≡ list_all has_tag (texts_of rest) → list_all has_tag (texts_of bytes) ≡ false
-one_untagged bytes rest some read so_far = so_far ∙ tags_first rest some read
+tags_on : (bytes : List ℕ) (o : Option Field) → 1 ≤ length bytes → o ≡ first_of bytes → list_all has_tag (texts_of bytes) ≡ (is_some o && list_all has_tag (texts_of (after_first is_soh bytes)))
+tags_on bytes o some read =
+    let text = before_first is_soh bytes in
+    let behind = after_first is_soh bytes in
+    ap (list_all has_tag) (texts-first bytes some) ∙ ap (λ (b : Bool). b && list_all has_tag (texts_of behind)) (sym (some_first text (has_tag text) o read))
+
+pub viewed : (o : Option FieldSlices) → is_some (option_map field_view o) ≡ is_some o
+viewed None = refl
+viewed (Some field) = refl
+
+pub tagged_on : (bytes rest : List ℕ) (o : Option Field) → 1 ≤ length rest → o ≡ first_of rest → is_some o ≡ true → list_all has_tag (texts_of bytes) ≡ list_all has_tag (texts_of rest) → list_all has_tag (texts_of bytes) ≡ list_all has_tag (texts_of (after_first is_soh rest))
+tagged_on bytes rest o some read is so_far =
+    so_far ∙ tags_on rest o some read ∙ ap (λ (b : Bool). b && list_all has_tag (texts_of (after_first is_soh rest))) is
+
+pub untagged_there : (bytes rest : List ℕ) (o : Option Field) → 1 ≤ length rest → o ≡ first_of rest → is_some o ≡ false → list_all has_tag (texts_of bytes) ≡ list_all has_tag (texts_of rest) → false ≡ list_all has_tag (texts_of bytes)
+untagged_there bytes rest o some read is so_far =
+    sym (so_far ∙ tags_on rest o some read ∙ ap (λ (b : Bool). b && list_all has_tag (texts_of (after_first is_soh rest))) is)

@@ -4,4 +4,5 @@ pub mod Values
 pub mod Rules
 pub mod Orders
 pub mod Requests
+pub mod Noting
 pub mod Views

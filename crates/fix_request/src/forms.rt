@@ -8,6 +8,7 @@ ghost use Rattle.fix_request.specs.Inner.Orders.{quantity_or_zero, price_in, pri
 ghost use Rattle.fix_request.specs.ValidRequests.{IsListed};
 ghost use Rattle.fix_request.specs.Inner.Views.{if_not_empty};
 
+use crate::digits::read_number;
 use crate::fault::Fault;
 use crate::request::{Named, Px};
 use crate::tags;
@@ -41,6 +42,10 @@ pub fn find_named(names: &Names, symbol: &ShortId) -> Named
 pub fn read_lots(tag: u32, text: &[u8]) -> Result<u32, Fault>
     ensures { result ≡ formed tag (quantity_of text.now) }
 {
+    // Most quantities have no point, and need no search.
+    if let Some(quantity) = read_number(text) {
+        return Ok(quantity);
+    }
     match read_quantity(text) {
         Some(quantity) => Ok(quantity),
         None => Err(Fault::ill_formed(9, tag)),

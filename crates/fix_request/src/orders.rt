@@ -7,7 +7,7 @@ ghost use Rattle.fix_request.specs.Inner.Views.{values_view};
 
 use crate::forms::{find_named, read_lots, read_lots_or_zero, read_name, read_px_where};
 use crate::lists::{in_range, read_kind, read_life, read_side};
-use crate::refusal::refused;
+use crate::refusal::refuse;
 use crate::request::{CancelOrder, NewOrder, ReplaceOrder, Request, Sender};
 use crate::tags;
 use crate::texts::{
@@ -16,30 +16,35 @@ use crate::texts::{
 use crate::values::Values;
 use gx_base::Names;
 
-/// The value that a step gives. A fault ends the function with the refusal of the message: a request is large, so it is built
-/// where it is returned, and no result is wrapped around it.
+/// The value that a step gives. A fault ends the function with the refusal of the message: a request is large, so it is written
+/// where the caller has room for it, and no result is wrapped around it.
 macro_rules! or_refuse {
-    ($sender:expr, $step:expr) => {
+    ($request:expr, $sender:expr, $step:expr) => {
         match $step {
             Ok(value) => value,
-            Err(fault) => return refused($sender, fault),
+            Err(fault) => return refuse($request, $sender, fault),
         }
     };
 }
 
-/// The new order of these values, or the refusal by the first of their faults.
+/// Writes the new order of these values, or the refusal by the first of their faults.
 #[tactic(auto, unfolding(crate::specs::Inner::Orders::new_of, crate::specs::Inner::Orders::order_texts, crate::specs::Inner::Orders::order_forms))]
-pub fn read_new(names: &Names, sender: &Sender, values: &Values) -> Request
-    ensures { result ≡ or_refused_by_content sender.now (result_map Request.New (new_of names.now sender.now (values_view values.now))) }
+pub fn read_new(names: &Names, sender: &Sender, values: &Values, request: &mut Request)
+    ensures { request.new ≡ or_refused_by_content sender.now (result_map Request.New (new_of names.now sender.now (values_view values.now))) }
 {
-    or_refuse!(sender, check_needed(tags::ID, values.id));
-    or_refuse!(sender, check_order_texts(values));
+    or_refuse!(request, sender, check_needed(tags::ID, values.id));
+    or_refuse!(request, sender, check_order_texts(values));
 
-    let id = or_refuse!(sender, read_name(tags::ID, values.id));
-    let symbol = or_refuse!(sender, read_name(symbol_tag(values), symbol_text(values)));
+    let id = or_refuse!(request, sender, read_name(tags::ID, values.id));
+    let symbol = or_refuse!(
+        request,
+        sender,
+        read_name(symbol_tag(values), symbol_text(values))
+    );
     let named = find_named(names, &symbol);
-    let quantity = or_refuse!(sender, read_lots(tags::QUANTITY, values.quantity));
+    let quantity = or_refuse!(request, sender, read_lots(tags::QUANTITY, values.quantity));
     let price = or_refuse!(
+        request,
         sender,
         read_px_where(
             has_price(values.kind),
@@ -50,6 +55,7 @@ pub fn read_new(names: &Names, sender: &Sender, values: &Values) -> Request
         )
     );
     let trigger = or_refuse!(
+        request,
         sender,
         read_px_where(
             has_trigger(values.kind),
@@ -59,15 +65,15 @@ pub fn read_new(names: &Names, sender: &Sender, values: &Values) -> Request
             values.trigger
         )
     );
-    let min = or_refuse!(sender, read_lots_or_zero(tags::MIN, values.min));
-    let show = or_refuse!(sender, read_lots_or_zero(tags::SHOW, values.show));
+    let min = or_refuse!(request, sender, read_lots_or_zero(tags::MIN, values.min));
+    let show = or_refuse!(request, sender, read_lots_or_zero(tags::SHOW, values.show));
 
-    let side = or_refuse!(sender, read_side(values.side));
-    let kind = or_refuse!(sender, read_kind(values.kind));
-    let life = or_refuse!(sender, read_life(values.life));
-    let price = or_refuse!(sender, in_range(tags::PRICE, price));
-    let trigger = or_refuse!(sender, in_range(tags::TRIGGER, trigger));
-    Request::New(NewOrder {
+    let side = or_refuse!(request, sender, read_side(values.side));
+    let kind = or_refuse!(request, sender, read_kind(values.kind));
+    let life = or_refuse!(request, sender, read_life(values.life));
+    let price = or_refuse!(request, sender, in_range(tags::PRICE, price));
+    let trigger = or_refuse!(request, sender, in_range(tags::TRIGGER, trigger));
+    *request = Request::New(NewOrder {
         sender: *sender,
         id,
         symbol,
@@ -80,41 +86,46 @@ pub fn read_new(names: &Names, sender: &Sender, values: &Values) -> Request
         life,
         min,
         show,
-    })
+    });
 }
 
-/// The cancel of these values, or the refusal by the first of their faults.
+/// Writes the cancel of these values, or the refusal by the first of their faults.
 #[tactic(auto, unfolding(crate::specs::Inner::Orders::cancel_of))]
-pub fn read_cancel(sender: &Sender, values: &Values) -> Request
-    ensures { result ≡ or_refused_by_content sender.now (result_map Request.Cancel (cancel_of sender.now (values_view values.now))) }
+pub fn read_cancel(sender: &Sender, values: &Values, request: &mut Request)
+    ensures { request.new ≡ or_refused_by_content sender.now (result_map Request.Cancel (cancel_of sender.now (values_view values.now))) }
 {
-    or_refuse!(sender, check_needed(tags::ID, values.id));
-    or_refuse!(sender, check_needed(tags::OLD, values.old));
+    or_refuse!(request, sender, check_needed(tags::ID, values.id));
+    or_refuse!(request, sender, check_needed(tags::OLD, values.old));
 
-    let id = or_refuse!(sender, read_name(tags::ID, values.id));
-    let old = or_refuse!(sender, read_name(tags::OLD, values.old));
-    Request::Cancel(CancelOrder {
+    let id = or_refuse!(request, sender, read_name(tags::ID, values.id));
+    let old = or_refuse!(request, sender, read_name(tags::OLD, values.old));
+    *request = Request::Cancel(CancelOrder {
         sender: *sender,
         id,
         old,
-    })
+    });
 }
 
-/// The replace of these values, or the refusal by the first of their faults.
+/// Writes the replace of these values, or the refusal by the first of their faults.
 #[tactic(auto, unfolding(crate::specs::Inner::Orders::replace_of, crate::specs::Inner::Orders::order_texts, crate::specs::Inner::Orders::order_forms))]
-pub fn read_replace(names: &Names, sender: &Sender, values: &Values) -> Request
-    ensures { result ≡ or_refused_by_content sender.now (result_map Request.Replace (replace_of names.now sender.now (values_view values.now))) }
+pub fn read_replace(names: &Names, sender: &Sender, values: &Values, request: &mut Request)
+    ensures { request.new ≡ or_refused_by_content sender.now (result_map Request.Replace (replace_of names.now sender.now (values_view values.now))) }
 {
-    or_refuse!(sender, check_needed(tags::ID, values.id));
-    or_refuse!(sender, check_needed(tags::OLD, values.old));
-    or_refuse!(sender, check_order_texts(values));
+    or_refuse!(request, sender, check_needed(tags::ID, values.id));
+    or_refuse!(request, sender, check_needed(tags::OLD, values.old));
+    or_refuse!(request, sender, check_order_texts(values));
 
-    let id = or_refuse!(sender, read_name(tags::ID, values.id));
-    let old = or_refuse!(sender, read_name(tags::OLD, values.old));
-    let symbol = or_refuse!(sender, read_name(symbol_tag(values), symbol_text(values)));
+    let id = or_refuse!(request, sender, read_name(tags::ID, values.id));
+    let old = or_refuse!(request, sender, read_name(tags::OLD, values.old));
+    let symbol = or_refuse!(
+        request,
+        sender,
+        read_name(symbol_tag(values), symbol_text(values))
+    );
     let named = find_named(names, &symbol);
-    let quantity = or_refuse!(sender, read_lots(tags::QUANTITY, values.quantity));
+    let quantity = or_refuse!(request, sender, read_lots(tags::QUANTITY, values.quantity));
     let price = or_refuse!(
+        request,
         sender,
         read_px_where(
             has_price(values.kind),
@@ -125,6 +136,7 @@ pub fn read_replace(names: &Names, sender: &Sender, values: &Values) -> Request
         )
     );
     let trigger = or_refuse!(
+        request,
         sender,
         read_px_where(
             has_trigger(values.kind),
@@ -135,11 +147,11 @@ pub fn read_replace(names: &Names, sender: &Sender, values: &Values) -> Request
         )
     );
 
-    let side = or_refuse!(sender, read_side(values.side));
-    let kind = or_refuse!(sender, read_kind(values.kind));
-    let price = or_refuse!(sender, in_range(tags::PRICE, price));
-    let trigger = or_refuse!(sender, in_range(tags::TRIGGER, trigger));
-    Request::Replace(ReplaceOrder {
+    let side = or_refuse!(request, sender, read_side(values.side));
+    let kind = or_refuse!(request, sender, read_kind(values.kind));
+    let price = or_refuse!(request, sender, in_range(tags::PRICE, price));
+    let trigger = or_refuse!(request, sender, in_range(tags::TRIGGER, trigger));
+    *request = Request::Replace(ReplaceOrder {
         sender: *sender,
         id,
         old,
@@ -149,5 +161,5 @@ pub fn read_replace(names: &Names, sender: &Sender, values: &Values) -> Request
         kind,
         price,
         trigger,
-    })
+    });
 }

@@ -11,7 +11,7 @@ ghost use Rattle.fix_request.specs.Inner.Views.{values_view};
 use crate::header::{check_target, read_firm, read_sequence, read_time};
 use crate::message_type::{MessageType, read_type};
 use crate::orders::{read_cancel, read_new, read_replace};
-use crate::refusal::{refused, refused_by_form, refused_by_header};
+use crate::refusal::{refuse, refused_by_form, refused_by_header};
 use crate::request::{Refusal, Request, Sender};
 use crate::values::{Values, no_values, read_values};
 use fix_frame::frame_body;
@@ -35,7 +35,11 @@ pub(crate) fn read_body(names: &Names, body: &[u8]) -> Request
 {
     let mut values = no_values();
     match read_sender(names, body, &mut values) {
-        Ok(sender) => read_content(names, &sender, &values),
+        Ok(sender) => {
+            let mut request = Request::Passed(sender);
+            read_content(names, &sender, &values, &mut request);
+            request
+        }
         Err(refusal) => Request::Refused(refusal),
     }
 }
@@ -71,16 +75,16 @@ fn read_sender<'a>(
     Ok(Sender { firm, seq, time })
 }
 
-/// What the message of this sender asks for, or its refusal by rules 7 to 10.
+/// Writes what the message of this sender asks for, or its refusal by rules 7 to 10.
 #[tactic(auto, unfolding(crate::specs::Inner::Requests::content_of, crate::specs::Inner::Requests::content_by))]
-fn read_content(names: &Names, sender: &Sender, values: &Values) -> Request
-    ensures { result ≡ request_of_content names.now (sender.now, values_view values.now) }
+fn read_content(names: &Names, sender: &Sender, values: &Values, request: &mut Request)
+    ensures { request.new ≡ request_of_content names.now (sender.now, values_view values.now) }
 {
     match read_type(values) {
-        Ok(MessageType::Session) => Request::Passed(*sender),
-        Ok(MessageType::New) => read_new(names, sender, values),
-        Ok(MessageType::Cancel) => read_cancel(sender, values),
-        Ok(MessageType::Replace) => read_replace(names, sender, values),
-        Err(fault) => refused(sender, fault),
+        Ok(MessageType::Session) => *request = Request::Passed(*sender),
+        Ok(MessageType::New) => read_new(names, sender, values, request),
+        Ok(MessageType::Cancel) => read_cancel(sender, values, request),
+        Ok(MessageType::Replace) => read_replace(names, sender, values, request),
+        Err(fault) => refuse(request, sender, fault),
     }
 }

@@ -1,16 +1,17 @@
 //! The values of the tags that rules name.
-ghost use Rattle.std.specs.Prelude.{◌≡◌, ◌≤◌, [], Some, length, if◌then◌else◌};
+ghost use Rattle.std.specs.Prelude.{◌≡◌, ◌≤◌, [], Some, length};
 ghost use Rattle.std.specs.List.{list_all};
 ghost use Rattle.std.specs.Option.{option_or};
-ghost use Rattle.fix_request.specs.Faults.{fault};
 ghost use Rattle.fix_request.specs.Fields.{texts_of, has_tag};
 ghost use Rattle.fix_request.specs.Inner.Values.{values_of};
 ghost use Rattle.fix_request.specs.Inner.Rules.{result_map};
 ghost use Rattle.fix_request.specs.Inner.Requests.{checked_values, well_formed_values};
-ghost use Rattle.fix_request.specs.Inner.Views.{values_view, if_not_empty, noted};
+ghost use Rattle.fix_request.specs.Inner.Noting.{noted, empty_fault, field_noted};
+ghost use Rattle.fix_request.specs.Inner.Views.{values_view, if_not_empty};
 
 use crate::fault::Fault;
-use crate::fields::first_field;
+use crate::fields::{has_tag_of_two_digits, read_field, short_field};
+use gx_base::{SOH, split_at_byte};
 
 /// The values of the tags that rules name, each that of the first field with its tag, and empty where there is none: no field
 /// of a message that is read on has an empty value.
@@ -73,25 +74,46 @@ fn read_fields<'a>(bytes: &'a [u8], values: &mut Values<'a>) -> Result<(), Fault
     ensures { result_map (λ _. values_view values.exit.now) result ≡ well_formed_values bytes.now }
 {
     let mut rest = bytes;
-    while !rest.is_empty() {
-        let field = first_field(rest);
-        if !field.has_tag {
-            return Err(Fault::bad_tag());
+    'fields: loop {
+        // Most tags have two digits, and need no search.
+        if has_tag_of_two_digits(rest) {
+            let field = short_field(rest);
+            if field.value.is_empty() {
+                return Err(fault_of_empty(field.tag, field.behind));
+            }
+            note(values, field.tag, field.value);
+            rest = field.behind;
+        } else if rest.is_empty() {
+            return Ok(());
+        } else {
+            rest = read_other_field(rest, values)?;
         }
-        if field.value.is_empty() {
-            return Err(fault_of_empty(field.tag, field.behind));
-        }
-        note(values, field.tag, field.value);
-        rest = field.behind;
     }
-    Ok(())
+}
+
+/// Notes the value of the first field of some bytes, and answers what stands behind it. An `Err` is the first of the faults in the
+/// form of these bytes, where this field is one that has any.
+#[cold]
+#[inline(never)]
+fn read_other_field<'a>(bytes: &'a [u8], values: &mut Values<'a>) -> Result<&'a [u8], Fault>
+    ensures { result_map (λ rest. (rest.now, values_view values.exit.now)) result ≡ field_noted (values_view values.entry.now) bytes.now }
+{
+    let (text, behind) = split_at_byte(bytes, SOH);
+    let Some(field) = read_field(text) else {
+        return Err(Fault::bad_tag());
+    };
+    if field.value.is_empty() {
+        return Err(fault_of_empty(field.tag, behind));
+    }
+    note(values, field.tag, field.value);
+    Ok(behind)
 }
 
 /// The fault of fields of which the one with this tag is the first without a value, and is followed by these: one of them may
 /// have no tag, which comes first.
 #[cold]
 fn fault_of_empty(tag: u32, behind: &[u8]) -> Fault
-    ensures { result ≡ (if list_all has_tag (texts_of behind.now) then fault 3 4 tag else fault 2 0 0) }
+    ensures { result ≡ empty_fault tag behind.now }
 {
     if have_tags(behind) {
         Fault::no_value(tag)
@@ -106,11 +128,11 @@ fn have_tags(bytes: &[u8]) -> bool
 {
     let mut rest = bytes;
     while !rest.is_empty() {
-        let field = first_field(rest);
-        if !field.has_tag {
+        let (text, behind) = split_at_byte(rest, SOH);
+        if read_field(text).is_none() {
             return false;
         }
-        rest = field.behind;
+        rest = behind;
     }
     true
 }
@@ -143,8 +165,8 @@ pub fn no_values<'a>() -> Values<'a>
 }
 
 /// Notes the value of one more field, unless an earlier one has its tag, or no rule names it.
-#[tactic(auto, unfolding(crate::specs::Inner::Views::noted))]
-#[inline]
+#[tactic(auto, unfolding(crate::specs::Inner::Noting::noted))]
+#[inline(always)]
 fn note<'a>(values: &mut Values<'a>, tag: u32, value: &'a [u8])
     requires { 1 ≤ length value.now }
     ensures { values_view values.exit.now ≡ noted (values_view values.entry.now) (record { tag = tag; value = value.entry.now }) }
@@ -172,7 +194,7 @@ fn note<'a>(values: &mut Values<'a>, tag: u32, value: &'a [u8])
 }
 
 /// Notes a value, unless one is noted already.
-#[inline]
+#[inline(always)]
 fn note_first<'a>(noted: &mut &'a [u8], value: &'a [u8])
     requires { 1 ≤ length value.now }
     ensures { if_not_empty noted.exit.now.now ≡ option_or (if_not_empty noted.entry.now.now) (Some value.entry.now) }

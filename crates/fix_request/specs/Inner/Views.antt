@@ -1,21 +1,17 @@
 -- Fields and values as the code holds them: slices, which contracts see as their bytes.
-use Rattle.std.specs.Prelude.{ℕ, Bool, not, ◌&&◌, ◌==◌, nat_lt, if◌then◌else◌, List, length, slice_index, Option, Some, None}
+use Rattle.std.specs.Prelude.{ℕ, Bool, not, ◌&&◌, ◌==◌, nat_lt, nat_le, if◌then◌else◌, List, length, slice_index, Option, Some, None}
 use Rattle.std.specs.Char.{is_ascii_digit}
 use Rattle.std.specs.List.{before_first, after_first, list_any}
-use Rattle.std.specs.Option.{option_or}
+use Rattle.gx_base.specs.declared.digits.TheConstants.{MOST_DIGITS}
+use Rattle.gx_base.specs.Numbers.{are_digits}
 use Rattle.fix_request.specs.Fields.{is_equals_sign, Field}
 use Rattle.fix_request.specs.Inner.Values.{Values}
 use Rattle.fix_request.specs.Inner.Orders.{has_price, has_trigger, OrderTexts}
 use Rattle.fix_request.specs.declared.fields.Field.{Field as FieldSlices}
-use Rattle.fix_request.specs.declared.fields.FirstField.{FirstField}
 use Rattle.fix_request.specs.declared.values.Values.{Values as ValueSlices}
 
 abbrev pub field_view : FieldSlices → Field
 field_view f = record { tag = f.tag; value = f.value.now }
-
--- the field that the first one of some bytes is, where it has a tag
-abbrev pub tagged_field : FirstField → Option Field
-tagged_field f = if f.has_tag then Some (record { tag = f.tag; value = f.value.now }) else None
 
 -- two digits, the first not 0, and `=`
 abbrev pub has_tag_of_two_digits : List ℕ → Bool
@@ -25,6 +21,10 @@ has_tag_of_two_digits text =
     && is_ascii_digit (slice_index text 0)
     && not (slice_index text 0 == 48)
     && is_ascii_digit (slice_index text 1)
+
+-- one to MOST_DIGITS digits
+abbrev pub is_number : List ℕ → Bool
+is_number text = nat_le 1 (length text) && nat_le (length text) MOST_DIGITS && are_digits text
 
 -- what stands before the first `=` of a text and behind it, where it has one
 abbrev pub split_at_equals_sign : List ℕ → Option (List ℕ × List ℕ)
@@ -75,30 +75,4 @@ order_view v =
       kind = v.kind.now;
       price = if_read (has_price v.kind.now) v.price.now;
       trigger = if_read (has_trigger v.kind.now) v.trigger.now;
-    }
-
--- a value once one more field is read: the first field with the tag counts
-abbrev pub noted_value : ℕ → Option (List ℕ) → Field → Option (List ℕ)
-noted_value tag value field = if field.tag == tag then option_or value (Some field.value) else value
-
-unfoldable pub noted : Values → Field → Values
-noted values field =
-    record {
-      type = noted_value 35 values.type field;
-      sender = noted_value 49 values.sender field;
-      target = noted_value 56 values.target field;
-      sequence = noted_value 34 values.sequence field;
-      time = noted_value 52 values.time field;
-      id = noted_value 11 values.id field;
-      old = noted_value 41 values.old field;
-      symbol = noted_value 55 values.symbol field;
-      description = noted_value 107 values.description field;
-      side = noted_value 54 values.side field;
-      quantity = noted_value 38 values.quantity field;
-      kind = noted_value 40 values.kind field;
-      price = noted_value 44 values.price field;
-      trigger = noted_value 99 values.trigger field;
-      life = noted_value 59 values.life field;
-      min = noted_value 110 values.min field;
-      show = noted_value 210 values.show field;
     }
