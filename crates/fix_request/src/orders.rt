@@ -16,8 +16,8 @@ use crate::texts::{
 use crate::values::Values;
 use gx_base::Names;
 
-/// The value that a step gives. A fault ends the function with the refusal of the message: a request is large, so it is written
-/// where the caller has room for it, and no result is wrapped around it.
+/// The value that a step gives. A fault ends the function with the refusal of the message: no result is wrapped around a request,
+/// which is large, and is written where the caller has room for it.
 macro_rules! or_refuse {
     ($request:expr, $sender:expr, $step:expr) => {
         match $step {
