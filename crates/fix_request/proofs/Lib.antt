@@ -10,4 +10,5 @@ mod Noting
 mod Numbers
 mod Prices
 mod Splits
+mod Symbols
 mod TwoDigits

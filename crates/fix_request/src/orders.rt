@@ -5,14 +5,14 @@ ghost use Rattle.fix_request.specs.Inner.Requests.{or_refused_by_content};
 ghost use Rattle.fix_request.specs.Inner.Rules.{result_map};
 ghost use Rattle.fix_request.specs.Inner.Views.{values_view};
 
-use crate::forms::{find_named, read_lots, read_lots_or_zero, read_name, read_px_where};
+use crate::forms::{
+    find_named, read_lots, read_lots_or_zero, read_name, read_px_where, read_symbol,
+};
 use crate::lists::{in_range, read_kind, read_life, read_side};
 use crate::refusal::refuse;
 use crate::request::{CancelOrder, NewOrder, ReplaceOrder, Request, Sender};
 use crate::tags;
-use crate::texts::{
-    check_needed, check_order_texts, has_price, has_trigger, symbol_tag, symbol_text,
-};
+use crate::texts::{check_needed, check_order_texts, has_price, has_trigger};
 use crate::values::Values;
 use gx_base::Names;
 
@@ -36,12 +36,8 @@ pub fn read_new(names: &Names, sender: &Sender, values: &Values, request: &mut R
     or_refuse!(request, sender, check_order_texts(values));
 
     let id = or_refuse!(request, sender, read_name(tags::ID, values.id));
-    let symbol = or_refuse!(
-        request,
-        sender,
-        read_name(symbol_tag(values), symbol_text(values))
-    );
-    let named = find_named(names, &symbol);
+    let named = find_named(names, values);
+    let symbol = or_refuse!(request, sender, read_symbol(names, named, values));
     let quantity = or_refuse!(request, sender, read_lots(tags::QUANTITY, values.quantity));
     let price = or_refuse!(
         request,
@@ -117,12 +113,8 @@ pub fn read_replace(names: &Names, sender: &Sender, values: &Values, request: &m
 
     let id = or_refuse!(request, sender, read_name(tags::ID, values.id));
     let old = or_refuse!(request, sender, read_name(tags::OLD, values.old));
-    let symbol = or_refuse!(
-        request,
-        sender,
-        read_name(symbol_tag(values), symbol_text(values))
-    );
-    let named = find_named(names, &symbol);
+    let named = find_named(names, values);
+    let symbol = or_refuse!(request, sender, read_symbol(names, named, values));
     let quantity = or_refuse!(request, sender, read_lots(tags::QUANTITY, values.quantity));
     let price = or_refuse!(
         request,
