@@ -5,7 +5,8 @@ Makes 100,000 limit orders and cancels of four firms, always the same ones, in t
 it runs the program over each stream with a new journal, one after the other, five times, and then over the journals that
 these runs leave with an empty input, which is recovery alone. In a folder on a disk it runs the program over one stream of
 100,000 from a file, where each record waits for two syncs, and measures beside it, in turn, what the syncs of records of
-8,192 bytes cost without the engine. The spread between the rounds is the machine's noise.
+8,192 bytes cost without the engine. It does the same once more on a slower disk, which strace makes of this one: each sync takes
+two milliseconds more. The spread between the rounds is the machine's noise.
 
 At the end it measures what a checkpoint spares a start, in a folder in memory, over two journals of 400,000 messages: those of a
 drill, which fill a book of 100,000 orders, so that the image is as long as may be; and orders of which each trades, with one
@@ -14,6 +15,7 @@ recovers from the image. The bytes are those that the process read beside its wo
 
     ./run-example.sh                           builds the program
     bench/measure.py [PROGRAM [DISK_FOLDER]]   the folder is a new one in that one, or in the current one
+    bench/measure.py --disk [PROGRAM [DISK_FOLDER]]   the part on a disk alone
     bench/measure.py --checkpoint [PROGRAM]    the last part alone
     bench/measure.py --compare PROGRAM..       the first part alone, of several programs, in turn within each round
 """
@@ -35,6 +37,8 @@ ROUNDS = 5
 JOURNAL_START = 4_096
 RECORD = 8_192
 DISK_ROUNDS = 5
+SLOWER_BY = 2_000
+PAIRS = "--pairs"
 RESTART_MESSAGES = 400_000
 RESTART_ROUNDS = 5
 KEYS = "max_orders = 100000\njournal_limit = 67108864\n"
@@ -68,20 +72,28 @@ def serve_and_recover(program, folder, inputs):
     return served, recovered, reports
 
 
-def sync_pairs(folder, records):
-    """Seconds of writing so many bytes, syncing, writing one byte, and syncing, for each of some records."""
+def sync_pairs(folder, count):
+    """Seconds of writing a record, syncing, writing one byte, and syncing, so many times."""
     with open(os.path.join(folder, "pairs"), "wb", buffering=0) as file:
         file.write(bytes(JOURNAL_START))
         os.fsync(file)
         place = JOURNAL_START
         started = time.perf_counter()
-        for record in records:
-            os.pwrite(file.fileno(), record, place)
+        for _ in range(count):
+            os.pwrite(file.fileno(), bytes(RECORD), place)
             os.fsync(file)
             os.pwrite(file.fileno(), b"\1", place - 1)
             os.fsync(file)
-            place += len(record)
+            place += RECORD
         return time.perf_counter() - started
+
+
+def slower(microseconds):
+    """The words in front of a call in which each sync takes so much longer; none where that is 0."""
+    if microseconds == 0:
+        return []
+    delay = f"inject=fsync:delay_exit={microseconds}"
+    return ["strace", "-f", "-qq", "--seccomp-bpf", "-o", os.devnull, "-e", "trace=fsync", "-e", delay]
 
 
 def rates(count, seconds):
@@ -103,17 +115,24 @@ def measure_in_memory(programs):
         print(f"messages a second, recovered: {rates(total, [recovered for _, recovered, _ in measured])}")
 
 
-def run_from_file(program, folder, input_file):
+def run_from_file(program, folder, input_file, microseconds):
     """Seconds of a run whose input is a file, over a new journal, and how many records it leaves."""
     pathlib.Path(folder, streams.JOURNAL).unlink(missing_ok=True)
     with open(input_file, "rb") as file:
         started = time.perf_counter()
-        subprocess.run([program, "run"], cwd=folder, stdin=file, stdout=subprocess.DEVNULL, check=True)
+        subprocess.run([*slower(microseconds), program, "run"], cwd=folder, stdin=file, stdout=subprocess.DEVNULL, check=True)
         seconds = time.perf_counter() - started
     return seconds, len(streams.payloads(os.path.join(folder, streams.JOURNAL)))
 
 
-def measure_on_disk(program, parent):
+def pairs_alone(folder, count, microseconds):
+    """Seconds of so many pairs of syncs in a process of their own."""
+    words = [*slower(microseconds), sys.executable, __file__, PAIRS, folder, str(count)]
+    return float(subprocess.run(words, stdout=subprocess.PIPE, check=True).stdout)
+
+
+def measure_on_disk(program, parent, microseconds):
+    """Prints what a run reaches of what the syncs of its records allow, where each sync takes so much longer than the disk's."""
     bytes_in = b"".join(streams.mixed(1, STREAMS * MESSAGES))
     with new_folder(parent, KEYS) as folder:
         input_file = os.path.join(folder, "input")
@@ -121,13 +140,14 @@ def measure_on_disk(program, parent):
         least = -(-len(bytes_in) // RECORD)
         served, bare = [], []
         for _ in range(DISK_ROUNDS):
-            seconds, records = run_from_file(program, folder, input_file)
+            seconds, records = run_from_file(program, folder, input_file, microseconds)
             served.append(seconds)
-            bare.append(sync_pairs(folder, [bytes(RECORD)] * least))
-    print(f"{STREAMS * MESSAGES} messages from a file, journal on the disk of {parent}: {records} records, {least} at the least")
+            bare.append(pairs_alone(folder, least, microseconds))
+    disk = f"the disk of {parent}" + (f", each sync {microseconds} microseconds slower" if microseconds else "")
+    print(f"{STREAMS * MESSAGES} messages from a file, journal on {disk}: {records} records, {least} at the least")
     print(f"messages a second, served: {rates(STREAMS * MESSAGES, served)}")
     print(f"two writes and two syncs of {RECORD} bytes without the engine: {rates(least, bare)} a second")
-    print(f"of what these syncs allow the run reaches {statistics.median(b / s for b, s in zip(bare, served)):.2f} in the middle of {DISK_ROUNDS} rounds")
+    print(f"of what these syncs allow the run reaches {statistics.median(b / s for b, s in zip(bare, served)):.3f} in the middle of {DISK_ROUNDS} rounds")
 
 
 def timed(program, folder, command):
@@ -193,15 +213,22 @@ def program_at(path):
 
 def main():
     words = [word for word in sys.argv[1:] if not word.startswith("--")]
+    if PAIRS in sys.argv[1:]:
+        print(sync_pairs(words[0], int(words[1])))
+        return
     if "--compare" in sys.argv[1:]:
         measure_in_memory([program_at(word) for word in words])
         return
     program = program_at(words[0] if words else streams.PROGRAM)
     disk = os.path.abspath(words[1] if len(words) > 1 else os.curdir)
-    if "--checkpoint" not in sys.argv[1:]:
+    parts = [word for word in ("--disk", "--checkpoint") if word in sys.argv[1:]]
+    if not parts:
         measure_in_memory([program])
-        measure_on_disk(program, disk)
-    measure_checkpoints(program)
+    if not parts or "--disk" in parts:
+        for microseconds in (0, SLOWER_BY):
+            measure_on_disk(program, disk, microseconds)
+    if not parts or "--checkpoint" in parts:
+        measure_checkpoints(program)
 
 
 if __name__ == "__main__":

@@ -15,7 +15,7 @@ mod products;
 mod table;
 
 use draws::Draws;
-use std::alloc::Global;
+use std::alloc::{AllocError, Global};
 use std::process::ExitCode;
 use std::rt::Env;
 use std::{env, io};
@@ -83,52 +83,56 @@ fn try_cases(
     Ok(())
 }
 
-/// Prints the row of each command.
-fn print_table(rt: &HostRuntime, table: &Table) -> io::Result<()> {
-    for row in table.rows() {
-        let line = row.line(rt.alloc())?;
-        println!(rt; "{line}")?;
-    }
-    Ok(())
-}
-
-/// Prints why the cases ended.
-fn print_stop(rt: &HostRuntime, stop: &Stop, seed: u64, case: u64) -> io::Result<()> {
+/// What is said of the cases that ended a kind.
+fn stop_text(alloc: Global, stop: &Stop, seed: u64, case: u64) -> Result<String, AllocError> {
     match stop {
-        Stop::NoMemory => println!(rt; "seed {seed}, case {case}: out of memory"),
+        Stop::NoMemory => format!(in alloc; "seed {seed}, case {case}: out of memory\n"),
         Stop::Broken(what, outcome) => {
             let (status, at) = (outcome.status, outcome.at);
-            println!(rt;
-                "seed {seed}, case {case} breaks \"{what}\": status {status} at {at} after {} messages",
+            format!(in alloc;
+                "seed {seed}, case {case} breaks \"{what}\": status {status} at {at} after {} messages\n",
                 outcome.messages
             )
         }
     }
 }
 
-/// Tries the cases of a kind and prints what came out. `false` is a case that broke a check.
-fn try_kind(rt: &HostRuntime, kind: Kind, seed: u64, count: u64) -> io::Result<bool> {
+/// Tries the cases of a kind, and adds what came out to the text. `false` is a case that broke a check.
+fn try_kind(
+    alloc: Global,
+    kind: Kind,
+    seed: u64,
+    count: u64,
+    text: &mut String,
+) -> Result<bool, AllocError> {
     let name = kind.name();
-    println!(rt; "{name}, seed {seed}, {count} cases")?;
-    let Ok(mut table) = kind.table(rt.alloc()) else {
+    let head = format!(in alloc; "{name}, seed {seed}, {count} cases\n")?;
+    text.push_str(head.as_str())?;
+    let Ok(mut table) = kind.table(alloc) else {
         return Ok(false);
     };
     let mut case = 0;
-    let tried = try_cases(rt.alloc(), kind, seed, count, &mut table, &mut case);
-    print_table(rt, &table)?;
+    let tried = try_cases(alloc, kind, seed, count, &mut table, &mut case);
+    text.push_str(table.text(alloc)?.as_str())?;
     match tried {
         Ok(()) => Ok(true),
         Err(stop) => {
-            print_stop(rt, &stop, seed, case)?;
+            text.push_str(stop_text(alloc, &stop, seed, case)?.as_str())?;
             Ok(false)
         }
     }
 }
 
 /// Tries the kinds one after the other.
-fn try_kinds(rt: &HostRuntime, kinds: &[Kind], seed: u64, count: u64) -> io::Result<bool> {
+fn try_kinds(
+    alloc: Global,
+    kinds: &[Kind],
+    seed: u64,
+    count: u64,
+    text: &mut String,
+) -> Result<bool, AllocError> {
     for kind in kinds {
-        if !try_kind(rt, *kind, seed, count)? {
+        if !try_kind(alloc, *kind, seed, count, text)? {
             return Ok(false);
         }
     }
@@ -144,8 +148,8 @@ fn number_of(words: &[String], at: usize) -> Option<u64> {
     words.get(at).and_then(|word| word.parse().ok())
 }
 
-/// What the words ask for. `false` is a case that broke a check.
-fn run(rt: &HostRuntime, words: &[String]) -> io::Result<bool> {
+/// Does what the words ask for, and adds what came out to the text. `false` is a case that broke a check.
+fn run(alloc: Global, words: &[String], text: &mut String) -> Result<bool, AllocError> {
     let kinds = match words.first() {
         Some(word) => kinds_of(word),
         None => &[],
@@ -155,15 +159,17 @@ fn run(rt: &HostRuntime, words: &[String]) -> io::Result<bool> {
         number_of(words, 1),
         number_of(words, 2),
     ) else {
-        println!(rt; "hostile_runs frames|products|journals|all SEED COUNT")?;
+        text.push_str("hostile_runs frames|products|journals|all SEED COUNT\n")?;
         return Ok(false);
     };
-    try_kinds(rt, kinds, seed, count)
+    try_kinds(alloc, kinds, seed, count, text)
 }
 
 fn main(rt: HostRuntime) -> io::Result<ExitCode> {
     let words = words(&rt)?;
-    let held = run(&rt, words.as_slice())?;
+    let mut text = String::new(rt.alloc());
+    let held = run(rt.alloc(), words.as_slice(), &mut text)?;
+    print!(rt; "{text}")?;
     Ok(if held {
         ExitCode::SUCCESS
     } else {

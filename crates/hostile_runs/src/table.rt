@@ -60,7 +60,7 @@ impl Row {
     }
 
     /// The command, how often each status came that came at all, and the messages of all calls.
-    pub fn line(&self, alloc: Global) -> Result<String, AllocError> {
+    fn line(&self, alloc: Global) -> Result<String, AllocError> {
         let mut line = String::from_str(alloc, self.command)?;
         for (status, count) in self.statuses.iter().enumerate() {
             if *count > 0 {
@@ -68,7 +68,7 @@ impl Row {
                 line.push_str(entry.as_str())?;
             }
         }
-        let messages = format!(in alloc; ", messages {}", self.messages)?;
+        let messages = format!(in alloc; ", messages {}\n", self.messages)?;
         line.push_str(messages.as_str())?;
         Ok(line)
     }
@@ -98,7 +98,12 @@ impl Table {
         }
     }
 
-    pub fn rows(&self) -> &[Row] {
-        self.rows.as_slice()
+    /// The line of each row.
+    pub fn text(&self, alloc: Global) -> Result<String, AllocError> {
+        let mut text = String::new(alloc);
+        for row in self.rows.iter() {
+            text.push_str(row.line(alloc)?.as_str())?;
+        }
+        Ok(text)
     }
 }
