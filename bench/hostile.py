@@ -373,13 +373,14 @@ def folded_multiply(a, b):
 
 
 def ids_that_meet(count):
-    """Ids of 8 digits of the first firm whose searches all begin in one twentieth of the table: the hash has a fixed seed."""
+    """Ids of 8 digits of the first firm that all stand in a five-hundredth of the table's buckets: the hash has a fixed seed. With
+    50,000 of them and room for 100,000 that is some 125 in each bucket."""
     of_firm = folded_multiply(SEED, MULTIPLIER ^ 2)
     number = 0
     while count > 0:
         name = f"{number:08}"
         word = int.from_bytes(name.encode(), "little")
-        if folded_multiply(of_firm ^ word, MULTIPLIER ^ 16) < WORD // 20:
+        if folded_multiply(of_firm ^ word, MULTIPLIER ^ 16) < WORD // 500:
             count -= 1
             yield name
         number += 1
@@ -407,7 +408,7 @@ def book_streams(scale):
     all_shown = [client_order(0, 2, 10 * cascade, middle), client_order(1, 1, 10 * cascade, middle)]
     met = [client_order(name, 2, 1, middle + k % 100) for k, name in enumerate(ids_that_meet(count))]
     return {
-        "ids that meet in one place": (met, level),
+        "ids that meet in few buckets": (met, level),
         "each order a worse price": (rising, falling),
         "fill or kill over many prices": (falling + unfilled, level + unfilled),
         "trades before stops that wait": (stops + trades, level + trades),
