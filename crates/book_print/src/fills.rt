@@ -1,5 +1,5 @@
 //! The fills as text.
-ghost use Rattle.std.specs.Prelude.{◌≡◌, ◌≤◌, [], false, IsOk, length, take};
+ghost use Rattle.std.specs.Prelude.{◌≡◌, ◌≤◌, [], false, IsOk, take};
 ghost use Rattle.gx_base.specs.Emits.{Puts};
 ghost use Rattle.exec_report.specs.Pushes.{waiting_with};
 ghost use Rattle.book_print.specs.FillText.{fill_line};

@@ -1,8 +1,8 @@
 //! What a drill counts, and its summary.
-ghost use Rattle.std.specs.Prelude.{◌≡◌, ◌≤◌, [], OnOk, length, take};
+ghost use Rattle.std.specs.Prelude.{◌≡◌, ◌≤◌, [], OnOk, take};
 ghost use Rattle.gx_station.specs.Quiet.{Sends};
 ghost use Rattle.order_kinds.specs.Balance.{filled_in};
-ghost use Rattle.book_print.specs.TallyText.{no_tally, tally_with, tally_line, fills_in};
+ghost use Rattle.book_print.specs.TallyText.{no_tally, tally_line, fills_in};
 
 use crate::pieces::{LONGEST_PIECE, end_line, number, send_line};
 use exec_report::{ReportBuffer, SendFault};

@@ -1,5 +1,5 @@
 //! The state of a journal.
-ghost use Rattle.std.specs.Prelude.{◌≡◌, ℕ, ◌+◌, ◌-◌, ◌*◌, ◌^◌, ◌<◌, ◌≤◌, List, [], false, true, length, vec_len, Some, OnOk, IfOk, IsErrOf};
+ghost use Rattle.std.specs.Prelude.{◌≡◌, ℕ, ◌+◌, ◌-◌, ◌*◌, ◌^◌, ◌<◌, ◌≤◌, List, [], false, true, length, Some, OnOk, IfOk, IsErrOf};
 ghost use Rattle.gx_station.specs.Counts.{Rose};
 ghost use Rattle.match_journal.specs.Causes.{ReadsAtMost};
 ghost use Rattle.match_journal.specs.Opening.{IsOpened};

@@ -2,7 +2,7 @@
 ghost use Rattle.std.specs.Prelude.{◌≡◌, ℕ, ◌+◌, ◌-◌, ◌<◌, ◌≤◌, ◌↔◌, List, [], length, vec_len, false, true, Some, Ok, IsTrue, OnOk, IsErr, IsErrOf};
 ghost use Rattle.gx_station.specs.Counts.{Rose};
 ghost use Rattle.gx_station.specs.StoreCalls.{OnStore};
-ghost use Rattle.fix_frame.specs.Stream.{messages_of, rest_of};
+ghost use Rattle.fix_frame.specs.Stream.{messages_of};
 ghost use Rattle.book_image.specs.Image.{image_len};
 ghost use Rattle.match_journal.specs.Causes.{ReadsAtMost, LooksOnly};
 ghost use Rattle.match_journal.specs.Journal.{IsJournal, Record, journal_front};

@@ -1,5 +1,5 @@
 //! Laws of journals with book images. The functions do nothing; what their contracts say is proved.
-ghost use Rattle.std.specs.Prelude.{◌≡◌, ℕ, ◌<◌, List, [], length};
+ghost use Rattle.std.specs.Prelude.{◌≡◌, ◌<◌, List, [], length};
 ghost use Rattle.product_file.specs.Products.{ProductLists, IsRightProduct};
 ghost use Rattle.order_kinds.specs.State.{empty_state};
 ghost use Rattle.order_kinds.specs.declared.core_state.TheConstants.{MOST_MESSAGES};

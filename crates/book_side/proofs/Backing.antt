@@ -10,7 +10,7 @@ use Rattle.gx_base.specs.declared.order.Order.{Order}
 use Rattle.gx_base.specs.declared.order.Side.{Side}
 use Rattle.plain_book.specs.declared.entry.Entry.{Entry}
 use Rattle.plain_book.specs.Orders as orders
-use Rattle.plain_book.specs.Orders.{Level, level_of, is_on, is_side, is_named, is_at_earlier_level, side_of, slot_of, slot_named, is_slot_in, without, placed}
+use Rattle.plain_book.specs.Orders.{Level, level_of, is_named, is_at_earlier_level, side_of, slot_of, slot_named, is_slot_in, without, placed}
 use Rattle.plain_book.specs.Book.{Book, live_orders, IsRight, EachPair, AreInBookOrder}
 use Rattle.plain_book.proofs.Levels.{AllDiffer-front, HasSlot-left, order_of-left, and-left, and-right, same}
 use Rattle.plain_book.proofs.Pairs.{all-with, all-both, all-append, all-filter, pairs-filter}

@@ -9,7 +9,7 @@ use Rattle.gx_base.specs.declared.order.Order.{Order}
 use Rattle.gx_base.specs.declared.order.Side.{Side}
 use Rattle.plain_book.specs.declared.entry.Entry.{Entry}
 use Rattle.plain_book.specs.Orders as orders
-use Rattle.plain_book.specs.Orders.{Level, level_of, is_level, is_before, orders_at, slot_of, slot_after, slot_named, stops_of}
+use Rattle.plain_book.specs.Orders.{Level, level_of, is_before, orders_at, slot_of, slot_after, slot_named, stops_of}
 use Rattle.plain_book.specs.Book.{Book, live_orders, slot_number}
 use Rattle.plain_book.proofs.Levels.{AllDiffer-front, AllDiffer-back, HasSlot-either, order_of-left, order_of-right, slots-apart, is_level-same, is_level-refl, is_before-irrefl}
 use Rattle.order_pool.specs.Queues as pool

@@ -8,7 +8,6 @@ use Rattle.gx_base.specs.declared.order.Order.{Order}
 use Rattle.gx_base.specs.declared.order.Side.{Side}
 use Rattle.plain_book.specs.declared.entry.Entry.{Entry}
 use Rattle.plain_book.specs.Orders as orders
-use Rattle.plain_book.specs.Orders.{level_of}
 use Rattle.plain_book.specs.Book.{AllDiffer}
 use Rattle.plain_book.proofs.Levels.{order_of-left, order_of-right, slots-apart, AllDiffer-back}
 use Rattle.plain_book.proofs.Pairs.{all-front, all-back}

@@ -1,5 +1,4 @@
 //! A core over each book, on one made stream; and a drill that a book which looks through its orders would not end in time.
-ghost use Rattle.std.specs.Prelude.{◌≤◌};
 ghost use Rattle.order_kinds.specs.Cores.{FitsProduct};
 
 use book_side::LinkedBook;

@@ -1,5 +1,5 @@
 //! Serving the input: frames in, reports out, one record for each read.
-ghost use Rattle.std.specs.Prelude.{◌≡◌, ◌+◌, ◌*◌, ◌^◌, ◌<◌, ◌≤◌, ◌≢◌, [], true, IsTrue, vec_len, length};
+ghost use Rattle.std.specs.Prelude.{◌≡◌, ◌+◌, ◌^◌, ◌<◌, ◌≤◌, ◌≢◌, [], true, IsTrue, vec_len, length};
 ghost use Rattle.fix_frame.specs.declared.framer.TheConstants.{ROOM};
 ghost use Rattle.fix_frame.specs.declared.place.TheConstants.{FRONT_LIMIT};
 ghost use Rattle.order_kinds.specs.State.{state_numbered};

@@ -1,5 +1,5 @@
 //! One record: the frames that were read, kept, applied and reported.
-ghost use Rattle.std.specs.Prelude.{◌≡◌, ◌+◌, ◌-◌, ◌*◌, ◌<◌, ◌≤◌, ◌≢◌, [], true, length, IsTrue, OnOk, Err};
+ghost use Rattle.std.specs.Prelude.{◌≡◌, ◌+◌, ◌-◌, ◌<◌, ◌≤◌, ◌≢◌, [], true, length, IsTrue, OnOk, Err};
 ghost use Rattle.std.specs.List.{concat};
 ghost use Rattle.order_kinds.specs.Step.{events_from};
 ghost use Rattle.order_kinds.specs.State.{state_numbered};

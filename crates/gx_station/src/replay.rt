@@ -1,6 +1,6 @@
 //! What calls made of an image, and what a crash could make of it.
 ghost use Rattle.std.specs.Prelude.{◌≡◌, ◌+◌, ◌≤◌, ◌^◌, [], ◌++◌, length, take, drop, OnOk, IfOk, fold};
-ghost use Rattle.gx_station.specs.Disk.{Disk, written};
+ghost use Rattle.gx_station.specs.Disk.{Disk};
 ghost use Rattle.gx_station.specs.MemoryStation.{disk_step, first_disk};
 ghost use Rattle.gx_station.specs.Entries.{calls_of, written_by};
 ghost use Rattle.gx_station.specs.CrashImages.{filled, filled_image, IsReplayed, call_of, piece_count, end_of, greatest_end};

@@ -1,5 +1,4 @@
 //! Each order of a level that had no share of a pro rata step trades one lot.
-ghost use Rattle.std.specs.Prelude.{◌≡◌};
 ghost use Rattle.plain_book.specs.Matches.{match_at, Matches, CanTrade};
 ghost use Rattle.plain_book.specs.Steps.{leveling};
 

@@ -1,8 +1,7 @@
 //! What holds of the names of each product.
-ghost use Rattle.std.specs.Prelude.{ℕ, ◌≤◌, List, IsTrue};
+ghost use Rattle.std.specs.Prelude.{ℕ, List, IsTrue};
 ghost use Rattle.std.specs.List.{All};
 ghost use Rattle.gx_base.specs.Texts.{is_name};
-ghost use Rattle.gx_base.specs.declared.names.Listed.{Listed as ListedData};
 ghost use Rattle.maker_laws.specs.Names.{AreNames, IsListed};
 
 use gx_base::Names;

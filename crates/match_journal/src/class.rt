@@ -1,6 +1,6 @@
 //! What an image is, by its first bytes.
 ghost use Rattle.std.specs.Prelude.{◌≡◌, ℕ, ◌+◌, ◌<◌, ◌≤◌, List, length, take, min, IfOk, IsErrOf};
-ghost use Rattle.match_journal.specs.Classes.{HasHeader, first_difference};
+ghost use Rattle.match_journal.specs.Classes.{first_difference};
 ghost use Rattle.match_journal.specs.Inner.Fronts.{SizeAnswers, FrontAnswers, least_length};
 ghost use Rattle.match_journal.specs.declared.limits.TheConstants.{MOST_UNFINISHED};
 

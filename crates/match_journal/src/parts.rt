@@ -1,5 +1,5 @@
 //! Bytes that are written, and then synced.
-ghost use Rattle.std.specs.Prelude.{◌≡◌, ◌+◌, ◌≤◌, ◌^◌, ◌++◌, [], ◌∷◌, length};
+ghost use Rattle.std.specs.Prelude.{◌+◌, ◌≤◌, ◌^◌, ◌++◌, length};
 ghost use Rattle.match_journal.specs.Inner.Stores.{Stores, Stored};
 
 use gx_station::{Failed, Station};

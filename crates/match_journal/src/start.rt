@@ -2,7 +2,6 @@
 ghost use Rattle.std.specs.Prelude.{◌≡◌, ◌⊎◌, ℕ, ◌+◌, ◌<◌, ◌≤◌, max, List, [], ◌++◌, length, Some, true, OnOk, IfOk, IfErr, IsErrOf};
 ghost use Rattle.gx_station.specs.Counts.{Rose};
 ghost use Rattle.gx_station.specs.Honest.{KeepsImage, IsSettled};
-ghost use Rattle.gx_station.specs.StoreCalls.{OnStore};
 ghost use Rattle.match_journal.specs.Causes.{SendsNothing, ReadsAtMost};
 ghost use Rattle.match_journal.specs.Steps.{Steps, StepsFrom, HoldsOne};
 ghost use Rattle.match_journal.specs.Standing.{IsStanding, at_first};

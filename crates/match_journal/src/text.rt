@@ -1,5 +1,5 @@
 //! The product text in an image, and the one that is handed in.
-ghost use Rattle.std.specs.Prelude.{◌≡◌, ◌≢◌, ℕ, ◌+◌, ◌<◌, ◌≤◌, List, length, take, drop, None, Some, IfOk, IfSome};
+ghost use Rattle.std.specs.Prelude.{◌≡◌, ℕ, ◌+◌, ◌<◌, ◌≤◌, List, length, take, drop, None, Some, IfOk, IfSome};
 ghost use Rattle.gx_station.specs.StoreCalls.{OnStore};
 ghost use Rattle.match_journal.specs.Causes.{LooksOnly};
 ghost use Rattle.match_journal.specs.Classes.{first_difference};

@@ -16,7 +16,7 @@ pub(crate) struct Instrument<'a> {
 }
 
 impl<'a> Instrument<'a> {
-    ghost use Rattle.std.specs.Prelude.{OnSome, IfSome};
+    ghost use Rattle.std.specs.Prelude.{IfSome};
     ghost use Rattle.order_kinds.specs.Instruments.{instrument_of};
     ghost use Rattle.order_kinds.specs.Inner.Terms.{listed_instrument};
 

@@ -1,5 +1,5 @@
 //! One block of nodes, whose links are raw pointers. A contract sees a list of cells, whose links are indices.
-ghost use Rattle.std.specs.Prelude.{◌≡◌, ◌+◌, ◌^◌, ◌<◌, length, IfOk};
+ghost use Rattle.std.specs.Prelude.{◌≡◌, ◌+◌, ◌<◌, length, IfOk};
 ghost use Rattle.order_pool.specs.Inner.Block.{cell_at, with_order, detached, attached, IsFresh};
 
 use crate::node::{Node, close, fill, relink, set_next, set_prev};

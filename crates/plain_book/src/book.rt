@@ -1,5 +1,5 @@
 //! What a book of orders does.
-ghost use Rattle.std.specs.Prelude.{◌≡◌, ℕ, ◌<◌, ◌≤◌, min, length, false, option_map};
+ghost use Rattle.std.specs.Prelude.{◌≡◌, ◌<◌, ◌≤◌, min, length, false, option_map};
 ghost use Rattle.plain_book.specs.Orders.{level, level_of, best_of, worse_of, orders_at, stops_of, slot_of, slot_after, slot_named, is_live, order_of, HasSlot, shown_at, open_within, top_of, filled_by};
 ghost use Rattle.plain_book.specs.Book.{Book, IsRight, IsFitToRest, IsFitToWait, CanBeTop, live_orders, slot_number, book_placed, book_waited, book_traded, book_with_order, book_without, book_changed, book_with_top, book_cleared};
 

@@ -1,6 +1,6 @@
 //! What lists of live orders become.
-ghost use Rattle.std.specs.Prelude.{◌≡◌, ◌<◌, ◌≤◌, vec_len, vec_capacity, None, option_map, if◌then◌else◌};
-ghost use Rattle.plain_book.specs.Orders.{without, with_order, reordered, placed, lined_up, with_top, topped, is_slot_in, is_at_earlier_level, is_of_earlier_instrument, is_new_best};
+ghost use Rattle.std.specs.Prelude.{◌≡◌, ◌<◌, ◌≤◌, vec_len, vec_capacity, None, option_map};
+ghost use Rattle.plain_book.specs.Orders.{without, with_order, reordered, placed, lined_up, with_top, topped, is_slot_in, is_new_best};
 ghost use Rattle.plain_book.specs.Book.{EachPair, AreInBookOrder, AreInLine, slot_number, first_shown, is_enough, changed_to};
 
 use crate::entry::Entry;

@@ -1,6 +1,6 @@
 //! A book that keeps its orders in two lists.
 ghost use Rattle.std.specs.Prelude.{◌≡◌, ◌<◌, ◌≤◌, ◌+◌, false, IfOk, [], ◌∷◌, ◌++◌, length, vec_len, vec_capacity};
-ghost use Rattle.plain_book.specs.Orders.{HasSlot, order_of, traded, filled_by, refreshed, placed, without};
+ghost use Rattle.plain_book.specs.Orders.{order_of, traded, filled_by, refreshed, placed, without};
 ghost use Rattle.plain_book.specs.Book.{EachPair, AreInBookOrder, empty_book, resting_placed};
 ghost use Rattle.plain_book.specs.Inner.FreeSlots.{freed, IsFreeList};
 

@@ -1,6 +1,6 @@
 //! What is read from lists of live orders.
-ghost use Rattle.std.specs.Prelude.{◌≡◌, ◌<◌, ◌≤◌, ◌^◌, ◌++◌, ℕ, true, false, length, nat_lt, option_map};
-ghost use Rattle.plain_book.specs.Orders.{is_better, is_within, is_on, is_at, is_of, is_slot, is_named, is_before, level, level_of, best_of, worse_of, orders_at, stops_of, slot_of, slot_after, slot_named, order_of, HasSlot, shown_at, open_within, top_of, is_at_earlier_level, is_of_earlier_instrument, entry_at};
+ghost use Rattle.std.specs.Prelude.{◌≡◌, ◌<◌, ◌≤◌, ◌^◌, ◌++◌, ℕ, true, false, length, option_map};
+ghost use Rattle.plain_book.specs.Orders.{is_on, is_at, is_of, is_named, is_before, level, level_of, best_of, worse_of, orders_at, stops_of, slot_of, slot_after, slot_named, order_of, HasSlot, shown_at, open_within, top_of, is_at_earlier_level, is_of_earlier_instrument, entry_at};
 ghost use Rattle.plain_book.specs.Book.{slot_number};
 
 use crate::entry::Entry;

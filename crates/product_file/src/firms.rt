@@ -1,12 +1,12 @@
 //! The firms of a product file.
-ghost use Rattle.std.specs.Prelude.{◌≡◌, ◌≢◌, ◌≤◌, map, length, codes, bytes_eq, IsTrue, IfOk, IfErr, Ok, Err, Some, None, SomeIff};
+ghost use Rattle.std.specs.Prelude.{◌≡◌, ◌≢◌, ◌≤◌, map, length, IsTrue, IfOk, IfErr, Ok, Err, Some, None, SomeIff};
 ghost use Rattle.indexmap.specs.IndexSet.{IsEmpty, spare};
 ghost use Rattle.toml.specs.View.{view};
 ghost use Rattle.product_file.specs.declared.faults.ProductFault.TheVariants.{NoMemory};
 ghost use Rattle.product_file.specs.Values.{text_in};
 ghost use Rattle.product_file.specs.Ranges.{is_firm_name};
 ghost use Rattle.product_file.specs.Inner.Keys.{map_ok};
-ghost use Rattle.product_file.specs.Inner.FirmNames.{are_firm_names, first_name_twice, firms_of, firm_names};
+ghost use Rattle.product_file.specs.Inner.FirmNames.{first_name_twice, firms_of, firm_names};
 
 use crate::faults::{Key, ProductFault};
 use crate::keys::{text_in, texts_at};

@@ -1,8 +1,8 @@
 //! The shares of an instrument's lead market makers.
-ghost use Rattle.std.specs.Prelude.{◌≡◌, ◌≤◌, ◌<◌, ◌++◌, map, length, position, bytes_eq};
+ghost use Rattle.std.specs.Prelude.{◌≡◌, ◌≤◌, ◌<◌, length, position, bytes_eq};
 ghost use Rattle.toml.specs.View.{view};
 ghost use Rattle.step_config.specs.Rules.{has_firm};
-ghost use Rattle.product_file.specs.Inner.Shares.{share_firm, share_of, shares_after, shares_of};
+ghost use Rattle.product_file.specs.Inner.Shares.{share_firm, share_of, shares_of};
 
 use crate::faults::{Key, ProductFault};
 use crate::keys::{number_at, tables_or_none, text_at};

@@ -1,5 +1,5 @@
 //! Each order of a level trades its part of what is wanted, as the level stood when the step began.
-ghost use Rattle.std.specs.Prelude.{◌≡◌, ◌≤◌, ◌<◌, min};
+ghost use Rattle.std.specs.Prelude.{◌≡◌, ◌≤◌, ◌<◌};
 ghost use Rattle.plain_book.specs.Orders.{shown_at};
 ghost use Rattle.plain_book.specs.Matches.{match_at, Matches, CanTrade};
 ghost use Rattle.plain_book.specs.Steps.{facing, prorata};

@@ -1,5 +1,5 @@
 //! One step of a match, and what can be wrong with a list of them.
-ghost use Rattle.std.specs.Prelude.{◌≡◌, ◌≤◌, length};
+ghost use Rattle.std.specs.Prelude.{◌≡◌};
 ghost use Rattle.step_config.specs.Rules.{name_of, is_same_name, is_fifo, is_leveling, is_pro_rata};
 
 use arrayvec::ArrayVec;

@@ -1,5 +1,4 @@
 //! One stream of orders under each letter, through a log of lines. `examples/` has the same orders and reports as files.
-ghost use Rattle.std.specs.Prelude.{◌≤◌};
 ghost use Rattle.order_kinds.specs.Cores.{FitsProduct};
 
 use fix_frame::{Framer, Next};

@@ -1,10 +1,10 @@
-use Rattle.std.proofs.Common.{◌≡◌, ◌≤◌, Ok, Err, length, sym, ◌∙◌, arith}
+use Rattle.std.proofs.Common.{◌≤◌, Ok, Err, length, sym, ◌∙◌, arith}
 use Rattle.std.proofs.lemmas.Bool.Decides.{nat_tests}
 use Rattle.std.proofs.lemmas.Result.{err_from_is_err_and}
 use Rattle.fix_request.specs.Fields.{Field}
 use Rattle.fix_request.specs.Inner.Views.{values_view}
 use Rattle.fix_request.proofs.Noting.{none_read, one_read, empty_there, any_read, shorter}
-use Rattle.fix_request.proofs.TwoDigits.{AreDigitBytes, digits_there}
+use Rattle.fix_request.proofs.TwoDigits.{digits_there}
 use Rattle.fix_request.proofs.values.read_fields.Goals as goal
 
 pub fields-init : goal.fields-init
