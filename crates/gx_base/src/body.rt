@@ -124,7 +124,7 @@ fn line_head(into: &mut [u8], at: usize, names: &Names, message_type: &[u8], hea
 {
     let at = field(into, at, b"35=", message_type);
     let at = number(into, at, b"34=", head.line);
-    let at = name(into, at, b"49=", names.exchange_name());
+    let at = name(into, at, b"49=", names.exchange());
     let at = time(into, at, b"52=", &head.time);
     addressee_field(into, at, names, head.firm)
 }
@@ -137,7 +137,7 @@ fn addressee_field(into: &mut [u8], at: usize, names: &Names, firm: Option<u8>) 
 {
     match firm {
         Some(firm) if (firm as usize) < names.firm_count() => {
-            name(into, at, b"56=", names.firm_name(firm))
+            name(into, at, b"56=", names.firm(firm))
         }
         _ => word(into, at, b"56=", b"UNKNOWN"),
     }
@@ -150,7 +150,7 @@ fn instrument_field(into: &mut [u8], at: usize, names: &Names, instrument: u8) -
     ensures short { result ≤ at + LONGEST_FIELD }
 {
     if (instrument as usize) < names.instrument_count() {
-        name(into, at, b"55=", &names.listed_lent(instrument).name)
+        name(into, at, b"55=", &names.listed(instrument).name)
     } else {
         word(into, at, b"55=", b"UNKNOWN")
     }

@@ -71,7 +71,7 @@ pub fn price(into: &mut [u8], at: usize, tag: &[u8], price: Price, decimals: u8)
 
 /// Writes a field whose value is a name, as `field` does; what stands behind it is left open.
 #[inline]
-pub(crate) fn name(into: &mut [u8], at: usize, tag: &[u8], name: &ShortId) -> usize
+pub fn name(into: &mut [u8], at: usize, tag: &[u8], name: &ShortId) -> usize
     requires room { at + LONGEST_FIELD ≤ length into.old }
     requires tag { length tag.now ≤ LONGEST_TAG }
     ensures field { take result into.new ≡ take at into.old ++ (tag.now ++ name.now ++ SOH ∷ []) }
@@ -97,7 +97,7 @@ pub(crate) fn time(into: &mut [u8], at: usize, tag: &[u8], time: &Stamp) -> usiz
 
 /// Writes a field whose value is a constant, as `field` does, byte by byte: the compiler makes a few stores of that.
 #[inline]
-pub(crate) fn word(into: &mut [u8], at: usize, tag: &[u8], word: &[u8]) -> usize
+pub fn word(into: &mut [u8], at: usize, tag: &[u8], word: &[u8]) -> usize
     requires room { at + LONGEST_FIELD ≤ length into.old }
     requires tag { length tag.now ≤ LONGEST_TAG }
     requires word { length word.now ≤ LONGEST_VALUE }

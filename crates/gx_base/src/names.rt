@@ -59,14 +59,7 @@ impl Names {
     }
 
     /// The exchange's name.
-    pub fn exchange(&self) -> ShortId
-        ensures { result ≡ self.now.exchange }
-    {
-        self.exchange
-    }
-
-    /// Lends the exchange's name.
-    pub(crate) fn exchange_name(&self) -> &ShortId
+    pub fn exchange(&self) -> &ShortId
         ensures { result.now ≡ self.now.exchange }
     {
         &self.exchange
@@ -89,15 +82,7 @@ impl Names {
     }
 
     /// The name of the firm with this number, which is below `firm_count`.
-    pub fn firm(&self, number: u8) -> ShortId
-        requires { number < length self.now.firms }
-        ensures { slice_get self.now.firms number ≡ Some result }
-    {
-        self.firms[number as usize]
-    }
-
-    /// Lends the name of the firm with this number, which is below `firm_count`.
-    pub(crate) fn firm_name(&self, number: u8) -> &ShortId
+    pub fn firm(&self, number: u8) -> &ShortId
         requires { number < length self.now.firms }
         ensures { slice_get self.now.firms number ≡ Some result.now }
     {
@@ -106,16 +91,7 @@ impl Names {
 
     /// The instrument with this number, which is below `instrument_count`. Its prices have at most
     /// `MOST_DECIMALS` decimals.
-    pub fn listed(&self, number: u8) -> Listed
-        requires { number < length self.now.instruments }
-        ensures listed { slice_get self.now.instruments number ≡ Some result }
-        ensures decimals { result.decimals ≤ MOST_DECIMALS }
-    {
-        self.instruments[number as usize]
-    }
-
-    /// Lends the instrument with this number, which is below `instrument_count`, as `listed` copies it.
-    pub(crate) fn listed_lent(&self, number: u8) -> &Listed
+    pub fn listed(&self, number: u8) -> &Listed
         requires { number < length self.now.instruments }
         ensures listed { slice_get self.now.instruments number ≡ Some result.now }
         ensures decimals { result.now.decimals ≤ MOST_DECIMALS }

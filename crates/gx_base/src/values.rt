@@ -13,7 +13,7 @@ pub fn addressee(names: &Names, firm: Option<u8>) -> ShortId
     ensures { result ≡ addressee names.now firm }
 {
     match firm {
-        Some(firm) if (firm as usize) < names.firm_count() => names.firm(firm),
+        Some(firm) if (firm as usize) < names.firm_count() => *names.firm(firm),
         _ => ShortId::default(),
     }
 }
@@ -25,7 +25,7 @@ pub fn listed(names: &Names, instrument: u8) -> Listed
     ensures few { result.decimals ≤ MOST_DECIMALS }
 {
     if (instrument as usize) < names.instrument_count() {
-        names.listed(instrument)
+        *names.listed(instrument)
     } else {
         Listed::default()
     }
@@ -37,7 +37,7 @@ pub(crate) fn decimals_of(names: &Names, instrument: u8) -> u8
     ensures few { result ≤ MOST_DECIMALS }
 {
     if (instrument as usize) < names.instrument_count() {
-        names.listed_lent(instrument).decimals
+        names.listed(instrument).decimals
     } else {
         0
     }

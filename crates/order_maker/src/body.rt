@@ -1,11 +1,11 @@
 //! The bodies of messages, field by field. Each call writes behind the first `at` bytes, and answers where what it wrote
 //! ends.
-ghost use Rattle.std.specs.Prelude.{◌≡◌, ◌+◌, ◌*◌, ◌≤◌, ◌++◌, length, take};
+ghost use Rattle.std.specs.Prelude.{◌≡◌, ◌+◌, ◌*◌, ◌≤◌, [], ◌∷◌, ◌++◌, length, take};
 ghost use Rattle.order_maker.specs.Stream.{head_fields, tick_at, order_fields, body_of};
 
 use crate::made::{Made, firm_at, instrument_at, side_at};
-use gx_base::fields::{LONGEST_FIELD, field, number, price};
-use gx_base::{LONGEST_VALUE, Price, side_text};
+use gx_base::fields::{LONGEST_FIELD, name, number, price, word};
+use gx_base::{Price, side_text};
 use product_file::{MOST_TICK, Product};
 
 /// The time of each message.
@@ -25,13 +25,13 @@ pub(crate) fn write_body(
 {
     match *made {
         Made::New { lots, ticks } => {
-            let at = head_fields(into, at, product, b"D", message, message);
+            let at = head_fields(into, at, product, b'D', message, message);
             let at = number(into, at, b"11=G", message);
             let at = order_fields(into, at, product, message, lots, ticks);
-            field(into, at, b"59=", b"0")
+            word(into, at, b"59=", b"0")
         }
         Made::Cancel { target } => {
-            let at = head_fields(into, at, product, b"F", message, target);
+            let at = head_fields(into, at, product, b'F', message, target);
             let at = number(into, at, b"11=G", message);
             number(into, at, b"41=G", target)
         }
@@ -40,7 +40,7 @@ pub(crate) fn write_body(
             lots,
             ticks,
         } => {
-            let at = head_fields(into, at, product, b"G", message, target);
+            let at = head_fields(into, at, product, b'G', message, target);
             let at = number(into, at, b"11=G", message);
             let at = number(into, at, b"41=G", target);
             order_fields(into, at, product, target, lots, ticks)
@@ -53,23 +53,20 @@ fn head_fields(
     into: &mut [u8],
     at: usize,
     product: &Product,
-    message_type: &[u8],
+    message_type: u8,
     message: u64,
     owner: u64,
 ) -> usize
-    requires room { at + 5 * LONGEST_FIELD ≤ length into.old }
-    requires short_type { length message_type.now ≤ LONGEST_VALUE }
-    ensures fields { take result into.new ≡ take at into.old ++ head_fields product.now message_type.now message owner }
+    requires { at + 5 * LONGEST_FIELD ≤ length into.old }
+    ensures fields { take result into.new ≡ take at into.old ++ head_fields product.now (message_type ∷ []) message owner }
     ensures short { result ≤ at + 5 * LONGEST_FIELD }
 {
     let names = product.names();
-    let firm = names.firm(firm_at(product, owner));
-    let exchange = names.exchange();
-    let at = field(into, at, b"35=", message_type);
-    let at = field(into, at, b"49=", firm.bytes());
-    let at = field(into, at, b"56=", exchange.bytes());
+    let at = word(into, at, b"35=", &[message_type]);
+    let at = name(into, at, b"49=", names.firm(firm_at(product, owner)));
+    let at = name(into, at, b"56=", names.exchange());
     let at = number(into, at, b"34=", message);
-    field(into, at, b"52=", TIME)
+    word(into, at, b"52=", TIME)
 }
 
 /// A limit order on the instrument and the side of a message.
@@ -87,10 +84,10 @@ fn order_fields(
 {
     let instrument = product.names().listed(instrument_at(product, message));
     let units = u64::from(ticks) * tick_at(product, message);
-    let at = field(into, at, b"55=", instrument.name.bytes());
-    let at = field(into, at, b"54=", side_text(side_at(product, message)));
+    let at = name(into, at, b"55=", &instrument.name);
+    let at = word(into, at, b"54=", side_text(side_at(product, message)));
     let at = number(into, at, b"38=", u64::from(lots));
-    let at = field(into, at, b"40=", b"2");
+    let at = word(into, at, b"40=", b"2");
     price(into, at, b"44=", Price(units as i64), instrument.decimals)
 }
 

@@ -1,5 +1,5 @@
 //! Whose each message is, what it is about, and what is drawn for it.
-ghost use Rattle.std.specs.Prelude.{◌≡◌, ◌<◌, ◌≤◌, length, unsigned_abs};
+ghost use Rattle.std.specs.Prelude.{◌≡◌, ◌<◌, length};
 ghost use Rattle.order_maker.specs.Draws.{next_state, drawn};
 ghost use Rattle.order_maker.specs.Messages.{firm_at, instrument_at, side_at, lowest, target_of, new_of, cancel_of, replace_of, message_of};
 

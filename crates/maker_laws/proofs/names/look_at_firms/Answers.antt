@@ -5,7 +5,7 @@ use Rattle.maker_laws.proofs.names.look_at_firms.Goals as goal
 
 pub loop-number-preserved : goal.loop-number-preserved
 loop-number-preserved c =
-    one-more (λ (firm : List ℕ). IsTrue (is_name firm)) c.args.names.now.firms c.loop-number.number c.firm-firm.result c.firm-firm.ensures
+    one-more (λ (firm : List ℕ). IsTrue (is_name firm)) c.args.names.now.firms c.loop-number.number c.firm-firm.result.now c.firm-firm.ensures
     (subst (λ (firm : List ℕ). IsTrue (is_name firm)) c.bytes-text.ensures.bytes c.bytes-text.ensures.name) c.loop-number.invariant
 
 pub returns : goal.returns

@@ -6,7 +6,7 @@ use Rattle.maker_laws.proofs.names.look_at_instruments.Goals as goal
 
 pub loop-number-preserved : goal.loop-number-preserved
 loop-number-preserved c =
-    one-more IsListed c.args.names.now.instruments c.loop-number.number c.listed-listed.result c.listed-listed.ensures.listed
+    one-more IsListed c.args.names.now.instruments c.loop-number.number c.listed-listed.result.now c.listed-listed.ensures.listed
     (subst (λ (name : List ℕ). IsTrue (is_name name)) c.bytes-text.ensures.bytes c.bytes-text.ensures.name, c.listed-listed.ensures.decimals) c.loop-number.invariant
 
 pub returns : goal.returns
