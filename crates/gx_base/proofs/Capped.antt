@@ -1,15 +1,16 @@
 -- Numbers that are read from digits, up to a ceiling.
-use Rattle.std.proofs.Common.{◌≡◌, ℕ, ◌+◌, ◌-◌, ◌*◌, ◌^◌, ◌<◌, ◌≤◌, min, true, List, [], ◌∷◌, ◌++◌, length, take, get_or, fold, arith, refl, sym, ap, ◌∙◌, ⊎_elim}
+use Rattle.std.proofs.Common.{◌≡◌, ℕ, ◌+◌, ◌-◌, ◌*◌, ◌^◌, ◌<◌, ◌≤◌, min, true, List, [], ◌∷◌, ◌&&◌, ◌++◌, zero, suc, replicate, length, take, get_or, mul_assoc, mul_comm, pow-suc, fold, arith, refl, sym, ap, ◌∙◌, ⊎_elim}
 use Rattle.std.proofs.lemmas.Bool.{and_parts, cases_lt, true_from_ne_false, true≢false}
 use Rattle.std.proofs.lemmas.Bool.Decides.{nat_tests}
 use Rattle.std.proofs.lemmas.Int.Digits.{digits_value-lt}
-use Rattle.std.proofs.lemmas.List.Folds.{list_all_at}
+use Rattle.std.proofs.lemmas.List.Folds.{list_all_at, list_all_more}
 use Rattle.std.proofs.lemmas.List.Sums.{fold_more}
+use Rattle.std.proofs.lemmas.Nat.{pow-add}
 use Rattle.std.proofs.Math.Nat.{pow-le-pow_right}
 use Rattle.std.specs.Char.{digit_value, is_ascii_digit}
 use Rattle.std.specs.Str.Parse.{digits_value, digits_value_after, AllDigits}
 use Rattle.gx_base.specs.Numbers.{are_digits}
-use Rattle.gx_base.specs.declared.digits.TheConstants.{MOST_DIGITS}
+use Rattle.gx_base.specs.declared.digits.TheConstants.{CEILING, MOST_DIGITS}
 
 -- a digit, and what it is worth
 pub digit_is : (c : ℕ) → is_ascii_digit c ≡ true → (48 ≤ c) × (c ≤ 57) × (digit_value c + 48 ≡ c)
@@ -48,11 +49,38 @@ value_more n ds i low =
     rw (value_is_fold n (take (i + 1) ds), value_is_fold n (take i ds)) (fold_more (λ a c. a * 10 + digit_value c) n ds i 0 low)
 
 -- one digit more, up to a ceiling
-pub capped_more : (top n : ℕ) (ds : List ℕ) (i k : ℕ) → are_digits ds ≡ true → i < length ds → k ≡ min top (digits_value_after 10 n (take i ds)) → min top (k * 10 + (get_or ds i 0 - 48)) ≡ min top (digits_value_after 10 n (take (i + 1) ds))
+pub capped_more : (top n : ℕ) (ds : List ℕ) (i k : ℕ) → is_ascii_digit (get_or ds i 0) ≡ true → i < length ds → k ≡ min top (digits_value_after 10 n (take i ds)) → min top (k * 10 + (get_or ds i 0 - 48)) ≡ min top (digits_value_after 10 n (take (i + 1) ds))
 capped_more top n ds i k h low e =
     let more : digits_value_after 10 n (take (i + 1) ds) ≡ digits_value_after 10 n (take i ds) * 10 + digit_value (get_or ds i 0) = value_more n ds i low in
-    let digit : (48 ≤ get_or ds i 0) × (get_or ds i 0 ≤ 57) × (digit_value (get_or ds i 0) + 48 ≡ get_or ds i 0) = digit_is _ (digit_at ds i h low) in
+    let digit : (48 ≤ get_or ds i 0) × (get_or ds i 0 ≤ 57) × (digit_value (get_or ds i 0) + 48 ≡ get_or ds i 0) = digit_is _ h in
     omega arith
+
+-- digits that are tried and read so far
+pub record IsReadTo (front : ℕ) (text : List ℕ) (i number : ℕ) : Type 0 where
+  pub is : number ≡ min CEILING (digits_value_after 10 front (take i text))
+  pub digits : are_digits (take i text) ≡ true
+
+pub one_more : (front : ℕ) (text : List ℕ) (i number : ℕ) → i < length text → is_ascii_digit (get_or text i 0) ≡ true → IsReadTo front text i number → IsReadTo front text (i + 1) (min CEILING (number * 10 + (get_or text i 0 - 48)))
+one_more front text i number low digit so_far = record {
+  is = capped_more CEILING front text i number digit low so_far.is;
+  digits = list_all_more is_ascii_digit text i 0 low ∙ ap (λ b. b && is_ascii_digit (get_or text i 0)) so_far.digits ∙ digit;
+}
+
+-- zeros behind a number
+value_zeros : (n k : ℕ) → digits_value_after 10 n (replicate k 48) ≡ n * 10 ^ k
+value_zeros n zero = omega arith
+value_zeros n (suc k) =
+    let same : n * 10 + digit_value 48 ≡ n * 10 = omega arith in
+    value_zeros (n * 10 + digit_value 48) k ∙ ap (λ m. m * 10 ^ k) same ∙ mul_assoc n 10 (10 ^ k) ∙ ap (λ p. n * p) (mul_comm 10 (10 ^ k) ∙ sym (pow-suc 10 k))
+
+pub one_zero_more : (top n i k : ℕ) → k ≡ min top (n * 10 ^ i) → min top (k * 10) ≡ min top (n * 10 ^ (i + 1))
+one_zero_more top n i k e =
+    let power : n * 10 ^ (i + 1) ≡ n * 10 ^ i * 10 = ap (λ p. n * p) (pow-add 10 i 1) ∙ sym (mul_assoc n (10 ^ i) 10) in
+    let m : ℕ = n * 10 ^ i in
+    omega arith
+
+pub capped_zeros : (top n k m : ℕ) → m ≡ min top (n * 10 ^ k) → m ≡ min top (digits_value_after 10 n (replicate k 48))
+capped_zeros top n k m e = e ∙ ap (min top) (sym (value_zeros n k))
 
 value_append : (n : ℕ) (ds es : List ℕ) → digits_value_after 10 n (ds ++ es) ≡ digits_value_after 10 (digits_value_after 10 n ds) es
 value_append n [] es = refl

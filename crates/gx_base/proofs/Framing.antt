@@ -1,9 +1,8 @@
 -- The head of a frame, written into the gap before the body, and the frame that this makes.
-use Rattle.std.proofs.Common.{◌≡◌, ℕ, ◌+◌, ◌-◌, ◌^◌, ◌<◌, ◌≤◌, List, ◌++◌, length, take, drop, decimal, sym, ◌∙◌, ap, length-append, length-drop, arith}
-use Rattle.std.proofs.lemmas.List.{drop_at, drop-drop, drop-take, length-take-le, take-take}
-use Rattle.std.proofs.lemmas.List.Edits.{take-paste}
+use Rattle.std.proofs.Common.{◌≡◌, ℕ, ◌+◌, ◌-◌, ◌^◌, ◌<◌, ◌≤◌, List, ◌++◌, length, take, drop, decimal, sym, ◌∙◌, ap, length-append, arith}
+use Rattle.std.proofs.lemmas.List.{drop_at, drop-append-le, drop-drop, drop-take, length-take-le, take-take}
 use Rattle.std.proofs.lemmas.Fmt.{length-decimal-le}
-use Rattle.std.proofs.Math.Seq.{take-add, take-append-add, paste}
+use Rattle.std.proofs.Math.Seq.{take-add, take-append-add}
 use Rattle.gx_base.specs.Frames.{frame_of}
 use Rattle.gx_base.specs.declared.fields.TheConstants.{GAP}
 
@@ -35,14 +34,25 @@ head_fills old new head at end gap full front same =
     ∙ ap (λ (l : List ℕ). head ++ take (end - GAP) l) (same ∙ ap (λ k. drop k old) full)
     ∙ ap (λ (l : List ℕ). head ++ l) (body_behind old end gap)
 
+-- the front of a body that stands behind the gap
+pub body_front : (old : List ℕ) (end from : ℕ) → GAP ≤ end → end ≤ from → take (end - GAP) (drop GAP (take from old)) ≡ drop GAP (take end old)
+body_front old end from gap within =
+    ap (take (end - GAP)) (sym (body_behind old from (omega arith)))
+    ∙ take-take (end - GAP) (from - GAP) (drop GAP old) (omega arith)
+    ∙ body_behind old end gap
+
+-- a body and the bytes behind it
+pub body_longer : (old : List ℕ) (from more : ℕ) → GAP ≤ from → from ≤ length old → drop GAP (take from old) ++ take more (drop from old) ≡ drop GAP (take (from + more) old)
+body_longer old from more gap fits =
+    sym (ap (drop GAP) (take-add from more old) ∙ drop-append-le GAP (take from old) (take more (drop from old)) (omega (arith, length-take-le from old fits)))
+
 -- the body is moved to a shorter head
-pub body_moved : (old new head : List ℕ) (at end : ℕ) → GAP ≤ end → at ≤ GAP → end ≤ length new → take at new ≡ head → drop at new ≡ drop at old
-    → take (at + (end - GAP)) (paste new at (drop GAP new) (end - GAP)) ≡ head ++ drop GAP (take end old)
-body_moved old new head at end gap short room front same =
-    take-paste new at (drop GAP new) (end - GAP) (omega arith) (omega (arith, length-drop GAP new))
-    ∙ ap (λ (l : List ℕ). l ++ take (end - GAP) (drop GAP new)) front
-    ∙ ap (λ (l : List ℕ). head ++ take (end - GAP) l) (same_further at GAP new old short same)
-    ∙ ap (λ (l : List ℕ). head ++ l) (body_behind old end gap)
+pub body_moved : (old new head moved : List ℕ) (at end : ℕ) → GAP ≤ end → at ≤ GAP → take at new ≡ head → drop at new ≡ drop at old
+    → moved ≡ take at new ++ drop GAP (take end new) → moved ≡ head ++ drop GAP (take end old)
+body_moved old new head moved at end gap short front same is =
+    is
+    ∙ ap (λ (l : List ℕ). l ++ drop GAP (take end new)) front
+    ∙ ap (λ (l : List ℕ). head ++ l) (sym (body_behind new end gap) ∙ ap (take (end - GAP)) (same_further at GAP new old short same) ∙ body_behind old end gap)
 
 -- a body that is written behind the gap ends behind it
 pub ends_behind_gap : (old new body : List ℕ) (end : ℕ) → GAP ≤ length old → end ≤ length new → take end new ≡ take GAP old ++ body → GAP ≤ end

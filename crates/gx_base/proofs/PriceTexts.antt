@@ -1,88 +1,71 @@
 -- Prices as texts.
-use Rattle.std.proofs.Common.{◌≡◌, ℕ, zero, suc, ◌+◌, ◌-◌, ◌*◌, ◌/◌, ◌^◌, ◌<◌, ◌≤◌, ◌&&◌, Bool, true, false, min, not, nat_le, List, [], ◌∷◌, ◌++◌, length, take, drop, replicate, Err, decimal, arith, rules, refl, sym, ap, ◌∙◌}
-use Rattle.std.proofs.lemmas.Bool.{and_parts, and_from, cond-true, cond-false, le-leb, lt-ltb, not_from_true}
+use Rattle.std.proofs.Common.{◌≡◌, ℕ, zero, suc, ◌+◌, ◌-◌, ◌*◌, ◌/◌, ◌^◌, ◌<◌, ◌≤◌, ◌&&◌, Bool, true, false, cond, min, nat_le, List, ◌∷◌, ◌++◌, length, take, drop, take-append-drop, replicate, Option, Some, None, decimal, arith, rules, refl, sym, ap, ◌∙◌}
+use Rattle.std.proofs.lemmas.Bool.{and_from, cond-true, cond-false, le-leb}
 use Rattle.std.proofs.lemmas.Fmt.{length-decimal-le}
-use Rattle.std.proofs.lemmas.List.{append_assoc, length_push, places, same_lists}
+use Rattle.std.proofs.lemmas.List.{append_assoc, length-drop, take_all, length_push, places, same_lists}
+use Rattle.std.proofs.lemmas.List.Folds.{list_all-append}
 use Rattle.std.proofs.lemmas.Nat.{pow-add}
 use Rattle.std.proofs.Math.Nat.{div-le_self, div-lt_iff_lt-mul, one-le-pow}
-use Rattle.std.specs.List.{before_first, after_first}
 use Rattle.std.specs.Char.{is_ascii_digit}
 use Rattle.std.specs.Str.Parse.{digits_value, digits_value_after}
-use Rattle.gx_base.proofs.Capped.{capped_append}
-use Rattle.gx_base.specs.Numbers.{are_digits, are_zeros, is_point, unsigned_text, is_price_text, whole_digits, fraction_digits, units_of, price_limit, price_of, fixed_digits, fraction_text}
-use Rattle.gx_base.specs.declared.digits.TheConstants.{CEILING}
+use Rattle.gx_base.proofs.Capped.{capped_append, capped_zeros}
+use Rattle.gx_base.specs.Numbers.{are_digits, fixed_digits, fraction_text}
 use Rattle.gx_base.specs.declared.limits.TheConstants.{MOST_DECIMALS}
-use Rattle.gx_base.specs.declared.price.TheConstants.{LONGEST_PRICE}
-use Rattle.gx_base.specs.declared.price.PriceFault.TheVariants.{Range}
 
-pub are_digits-take : (n : ℕ) (ds : List ℕ) → are_digits ds ≡ true → are_digits (take n ds) ≡ true
-are_digits-take zero ds h = refl
-are_digits-take (suc n) [] h = refl
-are_digits-take (suc n) (c ∷ cs) h =
-    let both = and_parts (is_ascii_digit c) (are_digits cs) h in
-    and_from _ _ both.0 (are_digits-take n cs both.1)
+and_false : (b : Bool) → (b && false) ≡ false
+and_false true = refl
+and_false false = refl
 
-pub are_digits-zeros : (n : ℕ) → are_digits (replicate n 48) ≡ true
-are_digits-zeros zero = refl
-are_digits-zeros (suc n) = are_digits-zeros n
+-- digits as far as a place, and behind it
+digits_in_two : (n : ℕ) (ds : List ℕ) → are_digits ds ≡ (are_digits (take n ds) && are_digits (drop n ds))
+digits_in_two n ds = ap are_digits (sym (take-append-drop n ds)) ∙ list_all-append is_ascii_digit (take n ds) (drop n ds)
+
+-- as a slice is that ends where the whole ends
+slice_behind : (n : ℕ) (ds : List ℕ) → take (length ds - n) (drop n ds) ≡ drop n ds
+slice_behind n ds = take_all (length ds - n) (drop n ds) (omega (arith, length-drop n ds))
+
+pub digits_from_two : (n : ℕ) (ds : List ℕ) → are_digits (take n ds) ≡ true → are_digits (take (length ds - n) (drop n ds)) ≡ true → are_digits ds ≡ true
+digits_from_two n ds front behind = digits_in_two n ds ∙ and_from _ _ front (ap are_digits (sym (slice_behind n ds)) ∙ behind)
+
+pub none_in_front : (n : ℕ) (ds : List ℕ) → are_digits (take n ds) ≡ false → are_digits ds ≡ false
+none_in_front n ds h = digits_in_two n ds ∙ ap (λ b. b && are_digits (drop n ds)) h
+
+pub none_behind : (n : ℕ) (ds : List ℕ) → are_digits (take (length ds - n) (drop n ds)) ≡ false → are_digits ds ≡ false
+none_behind n ds h = digits_in_two n ds ∙ ap (λ b. are_digits (take n ds) && b) (ap are_digits (sym (slice_behind n ds)) ∙ h) ∙ and_false (are_digits (take n ds))
 
 -- digits filled up with zeros
 filled_up : (decimals kept : ℕ) (ds : List ℕ) → kept ≡ min (length ds) decimals → take decimals (ds ++ replicate decimals 48) ≡ take kept ds ++ replicate (decimals - kept) 48
 filled_up decimals kept ds e = same_lists _ _ (search (rules, places)) (λ k d h. grind (arith, places))
 
--- what is read in three parts
-pub units_are : (top decimals kept a b r : ℕ) (whole ds zeros : List ℕ) → kept ≡ min (length ds) decimals → zeros ≡ replicate (decimals - kept) 48 → a ≡ min top (digits_value_after 10 0 whole) → b ≡ min top (digits_value_after 10 a (take kept ds)) → r ≡ min top (digits_value_after 10 b zeros) → r ≡ min top (digits_value 10 (whole ++ take decimals (ds ++ replicate decimals 48)))
-units_are top decimals kept a b r whole ds zeros e z p q s =
-    capped_append top 0 b r (whole ++ take kept ds) zeros (capped_append top 0 a b whole (take kept ds) p q) s
+-- what is read in two parts and filled up
+pub units_are : (top decimals kept a b r : ℕ) (whole ds : List ℕ) → kept ≡ min (length ds) decimals → a ≡ min top (digits_value_after 10 0 whole) → b ≡ min top (digits_value_after 10 a (take kept ds)) → r ≡ min top (b * 10 ^ (decimals - kept)) → r ≡ min top (digits_value 10 (whole ++ take decimals (ds ++ replicate decimals 48)))
+units_are top decimals kept a b r whole ds e p q s =
+    let zeros = replicate (decimals - kept) 48 in
+    capped_append top 0 b r (whole ++ take kept ds) zeros (capped_append top 0 a b whole (take kept ds) p q) (capped_zeros top b (decimals - kept) r s)
     ∙ ap (λ es. min top (digits_value 10 es)) (append_assoc whole (take kept ds) zeros)
-    ∙ ap (λ es. min top (digits_value 10 (whole ++ es))) (ap (λ ys. take kept ds ++ ys) z ∙ sym (filled_up decimals kept ds e))
+    ∙ ap (λ es. min top (digits_value 10 (whole ++ es))) (sym (filled_up decimals kept ds e))
 
-abbrev are_price_digits : List ℕ → List ℕ → Bool
-are_price_digits whole fraction = nat_le 1 (length whole + length fraction) && are_digits whole && are_digits fraction
+-- a number that is there or not, by a test
+pub found_by : (b : Bool) (n m : ℕ) → Some m ≡ cond b (Some n) None → (b ≡ true) × (m ≡ n)
+found_by true n m h = (refl, cc)
+found_by false n m h = cc
 
-abbrev units_from : ℕ → List ℕ → List ℕ → ℕ
-units_from decimals whole fraction = digits_value 10 (whole ++ take decimals (fraction ++ replicate decimals 48))
+pub missing_by : (b : Bool) (n : ℕ) → None ≡ cond b (Some n) None → b ≡ false
+missing_by true n h = cc
+missing_by false n h = refl
 
-is_price_text-from : (text : List ℕ) → length text ≤ LONGEST_PRICE → are_price_digits (whole_digits text) (fraction_digits text) ≡ true → is_price_text text ≡ true
-is_price_text-from text short h =
-    let both = and_parts _ _ h in
-    let two = and_parts _ _ both.0 in
-    and_from _ _ (and_from _ _ (and_from _ _ (le-leb (length text) LONGEST_PRICE short) two.0) two.1) both.1
+-- where one part is no digits, there is no number
+abbrev number_of : List ℕ → List ℕ → ℕ → Option ℕ
+number_of whole fraction units = cond (nat_le 1 (length whole + length fraction) && are_digits whole && are_digits fraction) (Some units) None
 
--- what `read_price` finds on its way
-pub record IsRead (text : List ℕ) (decimals : ℕ) (rest whole fraction : List ℕ) (units : ℕ) : Type 0 where
-  pub rest_is : rest ≡ unsigned_text text
-  pub whole_is : whole ≡ before_first is_point rest
-  pub fraction_is : fraction ≡ after_first is_point rest
-  pub short : length text ≤ LONGEST_PRICE
-  pub digits : true ≡ are_price_digits whole fraction
-  pub zeros : true ≡ are_zeros (drop decimals fraction)
-  pub units_is : units ≡ min CEILING (units_from decimals whole fraction)
+pub no_number : (whole fraction : List ℕ) (units : ℕ) → are_digits fraction ≡ false → None ≡ number_of whole fraction units
+no_number whole fraction units h = sym (cond-false _ _ _ (ap (λ b. nat_le 1 (length whole + length fraction) && are_digits whole && b) h ∙ and_false _))
 
-module _ {text : List ℕ} {decimals : ℕ} {rest whole fraction : List ℕ} {units : ℕ} (read : IsRead text decimals rest whole fraction units) where
-  whole_same : whole ≡ whole_digits text
-  whole_same = read.whole_is ∙ ap (before_first is_point) read.rest_is
+pub nothing_there : (whole fraction : List ℕ) (units : ℕ) → length whole + length fraction ≡ 0 → None ≡ number_of whole fraction units
+nothing_there whole fraction units h = sym (cond-false _ _ _ (ap (λ n. nat_le 1 n && are_digits whole && are_digits fraction) h))
 
-  fraction_same : fraction ≡ fraction_digits text
-  fraction_same = read.fraction_is ∙ ap (after_first is_point) read.rest_is
-
-  is_text : not (is_price_text text) ≡ false
-  is_text =
-      not_from_true _ (is_price_text-from text read.short (sym (read.digits
-      ∙ ap (λ ws. are_price_digits ws fraction) whole_same
-      ∙ ap (are_price_digits (whole_digits text)) fraction_same)))
-
-  fits : not (are_zeros (drop decimals (fraction_digits text))) ≡ false
-  fits = not_from_true _ (sym (read.zeros ∙ ap (λ fs. are_zeros (drop decimals fs)) fraction_same))
-
-  capped : units ≡ min CEILING (units_of text decimals)
-  capped = read.units_is ∙ ap (λ ws. min CEILING (units_from decimals ws fraction)) whole_same ∙ ap (λ fs. min CEILING (units_from decimals (whole_digits text) fs)) fraction_same
-
-  pub price_of-range : price_limit < units → Err Range ≡ price_of text decimals
-  price_of-range above =
-      sym (cond-false _ _ _ is_text
-      ∙ cond-false _ _ _ fits
-      ∙ cond-true _ _ _ (lt-ltb price_limit (units_of text decimals) (omega (arith, capped))))
+pub a_number : (whole fraction : List ℕ) (units : ℕ) → 1 ≤ length whole + length fraction → are_digits whole ≡ true → are_digits fraction ≡ true → Some units ≡ number_of whole fraction units
+a_number whole fraction units some before behind = sym (cond-true _ _ _ (and_from _ _ (and_from _ _ (le-leb 1 (length whole + length fraction) some) before) behind))
 
 -- the room that a price takes
 pub length-fixed_digits : (width n : ℕ) → length (fixed_digits width n) ≡ width

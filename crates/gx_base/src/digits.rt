@@ -1,5 +1,5 @@
 //! Digits in texts.
-ghost use Rattle.std.specs.Prelude.{◌≡◌, ◌≤◌, IsTrue, length, min};
+ghost use Rattle.std.specs.Prelude.{◌≡◌, ◌≤◌, IsTrue, Some, None, if◌then◌else◌, length, min};
 ghost use Rattle.std.specs.Str.Parse.{digits_value, digits_value_after};
 ghost use Rattle.gx_base.specs.Numbers.{are_digits, are_zeros, fixed_digits};
 
@@ -41,6 +41,23 @@ pub(crate) fn read_on(front: u64, digits: &[u8]) -> u64
         number = cmp::min(CEILING, number * 10 + u64::from(*digit - b'0'));
     }
     number
+}
+
+/// The number that `read_on` reads, where each byte is a digit, in one pass. `None` where one is not.
+#[inline]
+pub(crate) fn read_if_digits(front: u64, text: &[u8]) -> Option<u64>
+    requires low { front ≤ CEILING }
+    ensures { result ≡ (if are_digits text.now then Some (min CEILING (digits_value_after 10 front text.now)) else None) }
+{
+    let mut number = front;
+    for c in text {
+        let digit = u64::from(*c).wrapping_sub(u64::from(b'0'));
+        if digit > 9 {
+            return None;
+        }
+        number = cmp::min(CEILING, number * 10 + digit);
+    }
+    Some(number)
 }
 
 /// The number that at most `MOST_DIGITS` digits write.

@@ -21,7 +21,7 @@ pub const LONGEST_FIELD: usize = LONGEST_TAG + LONGEST_VALUE + 1;
 /// Room before a body for its head, whose length has at most three digits.
 pub const GAP: usize = 16;
 
-/// How many bytes of a line are summed at a time.
+/// How many bytes of a line are summed or moved at a time.
 const BLOCK: usize = 32;
 
 /// Writes a field: its tag and `=`, its value, and SOH. Answers where it ends, at most `LONGEST_FIELD` bytes further.
@@ -128,7 +128,7 @@ pub fn put_frame(into: &mut [u8], end: usize) -> usize
 /// where the two end. The body is moved where its length has less than three digits.
 fn put_head(into: &mut [u8], end: usize) -> usize
     requires gap { GAP ≤ end }
-    requires short { end ≤ 1000 }
+    requires short { end + LONGEST_FIELD ≤ 1000 }
     requires room { LONGEST_LINE ≤ length into.old }
     ensures head { take result into.new ≡ head_of (decimal (end - GAP)) ++ drop GAP (take end into.old) }
     ensures end { result ≤ end }
@@ -136,9 +136,25 @@ fn put_head(into: &mut [u8], end: usize) -> usize
     let count = end - GAP;
     let at = head_fields(into, count);
     if at < GAP {
-        into.copy_within(GAP..end, at);
+        move_body(into, end, at);
     }
     at + count
+}
+
+/// Moves the body, which stands behind the gap and ends at `end`, behind the first `to` bytes, a block at a time: a copy within a
+/// slice takes twice as long, since it may go either way. What stands behind it is left open.
+fn move_body(into: &mut [u8], end: usize, to: usize)
+    requires gap { (GAP ≤ end) × (to < GAP) }
+    requires room { end + BLOCK ≤ length into.old }
+    ensures { take (to + (end - GAP)) into.new ≡ take to into.old ++ drop GAP (take end into.old) }
+{
+    let mut from = GAP;
+    while from < end {
+        let mut block = [0; BLOCK];
+        block.copy_from_slice(&into[from..from + BLOCK]);
+        append_few(into, to + (from - GAP), &block);
+        from += BLOCK;
+    }
 }
 
 /// Writes the head of a body of so many bytes into the gap.

@@ -1,7 +1,6 @@
 //! Names: firms, instruments, the exchange, and the ids that clients give their orders.
 ghost use Rattle.std.specs.Prelude.{◌≡◌, ◌+◌, ◌≤◌, ◌++◌, SomeIff, IsTrue, codes, length, take};
-ghost use Rattle.std.specs.List.{list_all};
-ghost use Rattle.gx_base.specs.Texts.{is_name, is_name_byte};
+ghost use Rattle.gx_base.specs.Texts.{is_name};
 
 use crate::limits::LONGEST_NAME;
 use crate::text::Text;
@@ -34,12 +33,11 @@ impl ShortId {
     pub fn new(bytes: &[u8]) -> Option<ShortId>
         ensures { SomeIff result (IsTrue (is_name bytes.now)) bytes.now }
     {
-        if !is_name(bytes) {
+        if bytes.is_empty() || bytes.len() > LONGEST_NAME {
             return None;
         }
-        Some(ShortId {
-            text: Text::new(bytes),
-        })
+        let text = Text::new_if_printable(bytes)?;
+        Some(ShortId { text })
     }
 
     /// Lends the bytes of the name.
@@ -61,22 +59,6 @@ impl ShortId {
     {
         self.text.append_to(into, at)
     }
-}
-
-/// Whether there are 1 to `LONGEST_NAME` bytes, each of them printable ASCII.
-#[inline]
-fn is_name(bytes: &[u8]) -> bool
-    ensures { result ≡ is_name bytes.now }
-{
-    !bytes.is_empty() && bytes.len() <= LONGEST_NAME && are_name_bytes(bytes)
-}
-
-/// Whether each byte is printable ASCII.
-#[inline]
-fn are_name_bytes(bytes: &[u8]) -> bool
-    ensures { result ≡ list_all is_name_byte bytes.now }
-{
-    bytes.iter().all(|c| (32..=126).contains(c))
 }
 
 /// The name `UNKNOWN`, which stands where no name is known.

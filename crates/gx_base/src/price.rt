@@ -1,11 +1,11 @@
 //! Prices in units, and their texts.
-ghost use Rattle.std.specs.Prelude.{◌≡◌, ◌+◌, ◌-◌, ◌^◌, ◌≤◌, ◌++◌, ◌&&◌, nat_le, min, IsTrue, length, take, drop, replicate};
+ghost use Rattle.std.specs.Prelude.{◌≡◌, ◌+◌, ◌*◌, ◌^◌, ◌≤◌, ◌++◌, ◌&&◌, Some, None, if◌then◌else◌, nat_le, min, length, take, drop, replicate};
 ghost use Rattle.std.specs.Str.Parse.{digits_value};
 ghost use Rattle.gx_base.specs.Numbers.{are_digits, are_zeros, has_minus, signed_units, unsigned_text, fraction_text, price_of, price_text};
 
 use crate::bytes::{append, split_at_byte};
 use crate::decimal::{append_number, append_pair};
-use crate::digits::{CEILING, are_digits, are_zeros, read_on, write_fixed_digits};
+use crate::digits::{CEILING, are_digits, are_zeros, read_if_digits, write_fixed_digits};
 use crate::limits::{LONGEST_VALUE, MOST_DECIMALS, MOST_PRICE_UNITS};
 use std::cmp;
 use thiserror::Error;
@@ -52,13 +52,13 @@ pub fn read_price(text: &[u8], decimals: u8) -> Result<Price, PriceFault>
     ensures { result ≡ price_of text.now decimals }
 {
     let (whole, fraction) = split_at_byte(without_minus(text), b'.');
-    if text.len() > LONGEST_PRICE || !are_price_digits(whole, fraction) {
+    if text.len() > LONGEST_PRICE {
         return Err(PriceFault::Format);
     }
+    let units = read_units(whole, fraction, decimals).ok_or(PriceFault::Format)?;
     if !are_zeros_behind(fraction, decimals) {
         return Err(PriceFault::Scale);
     }
-    let units = read_units(whole, fraction, decimals);
     if units > MOST_PRICE_UNITS {
         return Err(PriceFault::Range);
     }
@@ -81,12 +81,31 @@ fn without_minus(text: &[u8]) -> &[u8]
     if has_minus(text) { &text[1..] } else { text }
 }
 
-/// Whether these are the digits of a price, before its point and behind it: there is at least one of them.
+/// The number whose digits are those of `whole` and the first `decimals` of `fraction`, filled up with zeros, or
+/// `CEILING` where that is less. `None` where there is no digit at all, or a byte is none.
 #[inline]
-fn are_price_digits(whole: &[u8], fraction: &[u8]) -> bool
-    ensures { result ≡ (nat_le 1 (length whole.now + length fraction.now) && are_digits whole.now && are_digits fraction.now) }
+fn read_units(whole: &[u8], fraction: &[u8], decimals: u8) -> Option<u64>
+    ensures { result ≡ (if nat_le 1 (length whole.now + length fraction.now) && are_digits whole.now && are_digits fraction.now then Some (min CEILING (digits_value 10 (whole.now ++ take decimals (fraction.now ++ replicate decimals 48)))) else None) }
 {
-    !(whole.is_empty() && fraction.is_empty()) && are_digits(whole) && are_digits(fraction)
+    let kept = cmp::min(fraction.len(), decimals as usize);
+    if whole.len() + fraction.len() == 0 || !are_digits(&fraction[kept..]) {
+        return None;
+    }
+    let units = read_if_digits(read_if_digits(0, whole)?, &fraction[..kept])?;
+    Some(with_zeros(units, decimals - kept as u8))
+}
+
+/// The number with so many zeros behind its digits, or `CEILING` where that is less.
+#[inline]
+fn with_zeros(number: u64, zeros: u8) -> u64
+    requires { number ≤ CEILING }
+    ensures { result ≡ min CEILING (number * 10 ^ zeros) }
+{
+    let mut longer = number;
+    for _ in 0..zeros {
+        longer = cmp::min(CEILING, longer * 10);
+    }
+    longer
 }
 
 /// Whether each digit behind the first `decimals` is 0.
@@ -96,21 +115,6 @@ fn are_zeros_behind(fraction: &[u8], decimals: u8) -> bool
 {
     let kept = cmp::min(fraction.len(), decimals as usize);
     are_zeros(&fraction[kept..])
-}
-
-/// The number whose digits are those of `whole` and the first `decimals` of `fraction`, filled up with zeros, or
-/// `CEILING` where that is less.
-#[inline]
-fn read_units(whole: &[u8], fraction: &[u8], decimals: u8) -> u64
-    requires few { decimals ≤ MOST_DECIMALS }
-    requires whole_digits { IsTrue (are_digits whole.now) }
-    requires fraction_digits { IsTrue (are_digits fraction.now) }
-    ensures { result ≡ min CEILING (digits_value 10 (whole.now ++ take decimals (fraction.now ++ replicate decimals 48))) }
-{
-    let kept = cmp::min(fraction.len(), decimals as usize);
-    let zeros = [b'0'; MOST_DECIMALS as usize];
-    let units = read_on(read_on(0, whole), &fraction[..kept]);
-    read_on(units, &zeros[..decimals as usize - kept])
 }
 
 /// So many units, or as many below zero.

@@ -41,7 +41,7 @@ impl Stamp {
             return None;
         }
         Some(Stamp {
-            text: Text::new(text),
+            text: copy_of(text),
         })
     }
 
@@ -72,6 +72,18 @@ impl Stamp {
     {
         self.text.append_to(into, at)
     }
+}
+
+/// A copy of the text of a time. One of a length that the compiler knows is a few stores.
+#[inline]
+fn copy_of(text: &[u8]) -> Text<LONGEST_STAMP>
+    requires { length text.now ≤ LONGEST_STAMP }
+    ensures { result ≡ text.now }
+{
+    if text.len() == 17 {
+        return Text::new(&text[..17]);
+    }
+    Text::new(text)
 }
 
 /// Whether a text is a time, without or with milliseconds.

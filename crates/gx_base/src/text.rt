@@ -1,5 +1,7 @@
 //! Short texts in fixed room, which can be copied.
-ghost use Rattle.std.specs.Prelude.{◌≡◌, ◌+◌, ◌≤◌, ◌++◌, length, take};
+ghost use Rattle.std.specs.Prelude.{◌≡◌, ◌+◌, ◌≤◌, ◌++◌, SomeIff, IsTrue, length, take};
+ghost use Rattle.std.specs.List.{list_all};
+ghost use Rattle.gx_base.specs.Texts.{is_name_byte};
 
 use crate::bytes::append_few;
 use std::marker::Model;
@@ -40,6 +42,26 @@ impl<const N: usize> Text<N> {
         }
     }
 
+    /// A copy of these bytes, of which there are at most `N`, tried and copied in one pass. `None` where one of them is not
+    /// printable ASCII.
+    #[inline]
+    pub(crate) fn new_if_printable(bytes: &[u8]) -> Option<Text<N>>
+        requires { length bytes.now ≤ N }
+        ensures { SomeIff result (IsTrue (list_all is_name_byte bytes.now)) bytes.now }
+    {
+        let mut room = [0; N];
+        for k in 0..bytes.len() {
+            if !is_printable(bytes[k]) {
+                return None;
+            }
+            room[k] = bytes[k];
+        }
+        Some(Text {
+            bytes: room,
+            len: bytes.len(),
+        })
+    }
+
     /// Lends the bytes.
     #[inline]
     pub fn bytes(&self) -> &[u8]
@@ -61,4 +83,12 @@ impl<const N: usize> Text<N> {
         append_few(into, at, &room);
         at + self.len
     }
+}
+
+/// Whether a byte is printable ASCII.
+#[inline]
+fn is_printable(byte: u8) -> bool
+    ensures { result ≡ is_name_byte byte }
+{
+    (32..=126).contains(&byte)
 }

@@ -13,8 +13,8 @@ returns-clause-head c =
     let taken = λ (l : List ℕ). take (c.head_fields-at.result + (c.args.end - GAP)) l in
     elim c.if-at-lt-GAP.branch [
       | then-at-lt-GAP w ↦
-          ap taken (w.into-is ∙ w.copy_within.ensures.after)
-          ∙ body_moved old new head c.head_fields-at.result c.args.end (omega arith) (omega arith) (omega arith) c.head_fields-at.ensures.fields c.head_fields-at.ensures.behind
+          ap taken w.into-is
+          ∙ body_moved old new head _ c.head_fields-at.result c.args.end (omega arith) (omega arith) c.head_fields-at.ensures.fields c.head_fields-at.ensures.behind w.move_body.ensures
       | else-at-lt-GAP w ↦
           ap taken w.into-is
           ∙ head_fills old new head c.head_fields-at.result c.args.end (omega arith) (omega arith) c.head_fields-at.ensures.fields c.head_fields-at.ensures.behind
