@@ -26,15 +26,15 @@ impl Called {
         self.outcome.status == status
     }
 
-    /// Whether it ended with the same status at the same place.
-    pub fn ended_as(&self, other: &Called) -> bool {
-        self.outcome.status == other.outcome.status && self.outcome.at == other.outcome.at
-    }
-
     /// Whether nothing was sent, and the image is still this one.
     pub fn did_nothing(&self, image: &[u8]) -> bool {
         self.station.output().is_empty() && self.station.image() == image
     }
+}
+
+/// Whether two calls ended with the same status at the same place.
+pub fn end_alike(one: Outcome, other: Outcome) -> bool {
+    one.status == other.status && one.at == other.at
 }
 
 /// A source that gives these bytes at once.

@@ -60,24 +60,22 @@ fn has_true_place(run: &Called, len: usize) -> bool {
     }
 }
 
-/// Runs a stream over an empty journal, and then prints what the journal keeps.
-fn expect_stream_served(alloc: Global, input: &[u8], table: &mut Table) -> Result<(), Stop> {
-    let run = call(alloc, "run", PRODUCT.as_bytes(), input, b"")?;
-    table.count("run", run.outcome);
-    let status = run.outcome.status;
+/// What holds of a run of so many bytes.
+fn expect_served(run: &Called, len: usize) -> Result<(), Stop> {
     expect_holds(
-        matches!(status, 0 | 7 | 8),
+        matches!(run.outcome.status, 0 | 7 | 8),
         "run ends with 0, 7 or 8",
         run.outcome,
     )?;
     expect_holds(
-        has_true_place(&run, input.len()),
+        has_true_place(run, len),
         "the place is within the input",
         run.outcome,
-    )?;
-    let kept = run.station.image();
-    let replay = call(alloc, "replay", PRODUCT.as_bytes(), b"", kept)?;
-    table.count("replay", replay.outcome);
+    )
+}
+
+/// What holds of `replay` over the journal that a run has left.
+fn expect_replayed(run: &Called, replay: &Called) -> Result<(), Stop> {
     expect_holds(
         replay.ended_with(0) && replay.outcome.at == 0,
         "replay ends with 0",
@@ -94,10 +92,21 @@ fn expect_stream_served(alloc: Global, input: &[u8], table: &mut Table) -> Resul
         replay.outcome,
     )?;
     expect_holds(
-        replay.station.image() == kept,
+        replay.station.image() == run.station.image(),
         "replay leaves the journal",
         replay.outcome,
     )
+}
+
+/// Runs a stream over an empty journal, and then prints what the journal keeps.
+fn expect_stream_served(alloc: Global, input: &[u8], table: &mut Table) -> Result<(), Stop> {
+    let run = call(alloc, "run", PRODUCT.as_bytes(), input, b"")?;
+    table.count("run", run.outcome);
+    expect_served(&run, input.len())?;
+    let kept = run.station.image();
+    let replay = call(alloc, "replay", PRODUCT.as_bytes(), b"", kept)?;
+    table.count("replay", replay.outcome);
+    expect_replayed(&run, &replay)
 }
 
 /// One case: in a third of them the changes are of bodies alone, so that the rules behind the frames are reached.

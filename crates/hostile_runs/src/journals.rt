@@ -1,10 +1,11 @@
 //! Hostile journals.
 
-use crate::calls::{Called, call};
+use crate::calls::{Called, call, end_alike};
 use crate::draws::Draws;
 use crate::edits::{behind, front, spliced, with_one_change};
 use crate::messages::{PRODUCT, drawn_frames};
 use crate::table::{Stop, Table, expect_holds};
+use globex_run::Outcome;
 use std::alloc::{AllocError, Global};
 
 pub const COMMANDS: [&str; 5] = ["run", "book", "replay", "fills", "ledger"];
@@ -142,28 +143,6 @@ fn changed_journal(
     Ok(image)
 }
 
-/// Calls a command that is given no input over a journal, and checks its status, and that it changes nothing where it may not.
-fn called(
-    alloc: Global,
-    command: &'static str,
-    image: &[u8],
-    table: &mut Table,
-) -> Result<Called, Stop> {
-    let called = call(alloc, command, PRODUCT.as_bytes(), b"", image)?;
-    table.count(command, called.outcome);
-    expect_holds(
-        matches!(called.outcome.status, 0 | 9 | 10 | 11),
-        "a command ends with 0, 9, 10 or 11",
-        called.outcome,
-    )?;
-    expect_holds(
-        command == "run" || called.station.image() == image,
-        "a command that prints leaves the journal",
-        called.outcome,
-    )?;
-    Ok(called)
-}
-
 /// What holds of a run without input.
 fn expect_run_honest(run: &Called, image: &[u8]) -> Result<(), Stop> {
     expect_holds(
@@ -178,24 +157,68 @@ fn expect_run_honest(run: &Called, image: &[u8]) -> Result<(), Stop> {
     )
 }
 
+/// Calls a command that is given no input over a journal, and checks its status, and that it changes nothing where it may not.
+/// Returns how it ended.
+fn outcome_of(
+    alloc: Global,
+    command: &'static str,
+    image: &[u8],
+    table: &mut Table,
+) -> Result<Outcome, Stop> {
+    let called = call(alloc, command, PRODUCT.as_bytes(), b"", image)?;
+    table.count(command, called.outcome);
+    expect_holds(
+        matches!(called.outcome.status, 0 | 9 | 10 | 11),
+        "a command ends with 0, 9, 10 or 11",
+        called.outcome,
+    )?;
+    if command == "run" {
+        expect_run_honest(&called, image)?;
+    } else {
+        expect_holds(
+            called.station.image() == image,
+            "a command that prints leaves the journal",
+            called.outcome,
+        )?;
+    }
+    Ok(called.outcome)
+}
+
 /// What holds of the commands that begin with the last image beside those that read each record.
-fn expect_agreed(run: &Called, replay: &Called, with_image: bool) -> Result<(), Stop> {
+fn expect_agreed(run: Outcome, replay: Outcome, with_image: bool) -> Result<(), Stop> {
     expect_holds(
-        run.ended_with(0) || !replay.ended_with(0),
+        run.status == 0 || replay.status != 0,
         "run ends with 0 where replay does",
-        run.outcome,
+        run,
     )?;
     expect_holds(
-        with_image || run.outcome.status == replay.outcome.status,
+        with_image || run.status == replay.status,
         "run and replay end alike where there is no image",
-        run.outcome,
+        run,
     )?;
-    let at_opening = matches!(run.outcome.status, 9 | 11);
+    let at_opening = matches!(run.status, 9 | 11);
     expect_holds(
-        !at_opening || run.ended_as(replay),
+        !at_opening || end_alike(run, replay),
         "run and replay refuse alike at the opening",
-        run.outcome,
+        run,
     )
+}
+
+/// What each command answers to a journal.
+fn expect_answers(alloc: Global, image: &[u8], table: &mut Table) -> Result<(), Stop> {
+    let run = outcome_of(alloc, "run", image, table)?;
+    let book = outcome_of(alloc, "book", image, table)?;
+    let replay = outcome_of(alloc, "replay", image, table)?;
+    let fills = outcome_of(alloc, "fills", image, table)?;
+    let ledger = outcome_of(alloc, "ledger", image, table)?;
+    expect_holds(end_alike(run, book), "book ends as run does", book)?;
+    expect_holds(end_alike(fills, replay), "fills ends as replay does", fills)?;
+    expect_holds(
+        end_alike(ledger, replay),
+        "ledger ends as replay does",
+        ledger,
+    )?;
+    expect_agreed(run, replay, has_image(alloc, image)?)
 }
 
 /// One case: what each command answers to a changed journal.
@@ -206,23 +229,5 @@ pub fn try_case(
     table: &mut Table,
 ) -> Result<(), Stop> {
     let image = changed_journal(alloc, draws, journals)?;
-    let image = image.as_slice();
-    let run = called(alloc, "run", image, table)?;
-    let book = called(alloc, "book", image, table)?;
-    let replay = called(alloc, "replay", image, table)?;
-    let fills = called(alloc, "fills", image, table)?;
-    let ledger = called(alloc, "ledger", image, table)?;
-    expect_run_honest(&run, image)?;
-    expect_holds(run.ended_as(&book), "book ends as run does", book.outcome)?;
-    expect_holds(
-        fills.ended_as(&replay),
-        "fills ends as replay does",
-        fills.outcome,
-    )?;
-    expect_holds(
-        ledger.ended_as(&replay),
-        "ledger ends as replay does",
-        ledger.outcome,
-    )?;
-    expect_agreed(&run, &replay, has_image(alloc, image)?)
+    expect_answers(alloc, image.as_slice(), table)
 }

@@ -1,6 +1,6 @@
 //! Hostile product texts.
 
-use crate::calls::call;
+use crate::calls::{Called, call, end_alike};
 use crate::draws::Draws;
 use crate::edits::{behind, front, spliced, with_one_change};
 use crate::messages::PRODUCT;
@@ -166,13 +166,8 @@ fn changed_text(alloc: Global, draws: &mut Draws) -> Result<Vec<u8>, AllocError>
     Ok(text)
 }
 
-/// One case: `steps` and `run` have one opinion of a product, and nothing is touched where it is refused.
-pub fn try_case(alloc: Global, draws: &mut Draws, table: &mut Table) -> Result<(), Stop> {
-    let text = changed_text(alloc, draws)?;
-    let steps = call(alloc, "steps", text.as_slice(), b"", b"")?;
-    table.count("steps", steps.outcome);
-    let run = call(alloc, "run", text.as_slice(), b"", b"")?;
-    table.count("run", run.outcome);
+/// What holds of `steps` and `run` over one product text.
+fn expect_one_opinion(steps: &Called, run: &Called) -> Result<(), Stop> {
     let status = steps.outcome.status;
     let place = steps.outcome.at;
     expect_holds(
@@ -180,7 +175,11 @@ pub fn try_case(alloc: Global, draws: &mut Draws, table: &mut Table) -> Result<(
         "steps ends with 0, or with 3 at a rule",
         steps.outcome,
     )?;
-    expect_holds(run.ended_as(&steps), "run ends as steps does", run.outcome)?;
+    expect_holds(
+        end_alike(run.outcome, steps.outcome),
+        "run ends as steps does",
+        run.outcome,
+    )?;
     expect_holds(
         status == 0 || (steps.station.calls() == 0 && steps.did_nothing(b"")),
         "steps touches nothing where it refuses",
@@ -191,4 +190,14 @@ pub fn try_case(alloc: Global, draws: &mut Draws, table: &mut Table) -> Result<(
         "run touches nothing where it refuses",
         run.outcome,
     )
+}
+
+/// One case: `steps` and `run` have one opinion of a product, and nothing is touched where it is refused.
+pub fn try_case(alloc: Global, draws: &mut Draws, table: &mut Table) -> Result<(), Stop> {
+    let text = changed_text(alloc, draws)?;
+    let steps = call(alloc, "steps", text.as_slice(), b"", b"")?;
+    table.count("steps", steps.outcome);
+    let run = call(alloc, "run", text.as_slice(), b"", b"")?;
+    table.count("run", run.outcome);
+    expect_one_opinion(&steps, &run)
 }
