@@ -7,9 +7,7 @@ mod prefixes;
 use globex_run::Outcome;
 use gx_station::{MemSource, MemStation};
 use run_fixtures::{ROOM, ended, frames_of, run_over, station_over};
-use std::alloc::{AllocError, Global};
 use std::process::Abort;
-use std::test::Fail;
 
 /// The usual product with few live orders, whose memory is soon taken, and a journal as short as it may be.
 const SMALL_PRODUCT: &str = r#"exchange = "GX"
@@ -36,19 +34,26 @@ const THIRD_REPORTS: [&str; 3] = [
     "35=8|34=2|49=GX|52=20240102-09:30:02|56=CCC|37=3|11=c1|17=7|20=0|150=2|39=2|55=ESZ4|54=1|38=6|40=2|44=100.00|59=0|32=6|31=100.00|151=0|14=6|6=0|60=20240102-09:30:02|9001=FIFO|9002=2|9003=0|",
 ];
 
+/// A source of these bytes, whose reads do not fail.
+fn source_of(rt: &(impl Abort + AllocGlobal), bytes: Vec<u8>) -> MemSource {
+    let alloc = rt.alloc();
+    MemSource::new(alloc, bytes, Vec::new(alloc), Vec::new(alloc)).expect(rt, "memory")
+}
+
 /// Executes the command of these words over the product of this text and the frames of these bodies.
 fn execute(
-    alloc: Global,
+    rt: &(impl Abort + AllocGlobal),
     text: &str,
     line: &str,
     bodies: &[&str],
     station: &mut MemStation,
-) -> Result<Outcome, AllocError> {
-    let text = text.as_bytes().to_vec(alloc)?;
-    let mut product = MemSource::new(alloc, text, Vec::new(alloc), Vec::new(alloc))?;
-    let input = frames_of(alloc, bodies)?;
-    let mut input = MemSource::new(alloc, input, Vec::new(alloc), Vec::new(alloc))?;
-    run_over(alloc, line, &mut product, &mut input, station)
+) -> Outcome {
+    let alloc = rt.alloc();
+    let text = text.as_bytes().to_vec(alloc).expect(rt, "memory");
+    let mut product = source_of(rt, text);
+    let frames = frames_of(alloc, bodies).expect(rt, "memory");
+    let mut input = source_of(rt, frames);
+    run_over(alloc, line, &mut product, &mut input, station).expect(rt, "memory")
 }
 
 /// Executes the command over the small product and this image.
@@ -57,11 +62,12 @@ fn execute_over(
     line: &str,
     bodies: &[&str],
     image: &[u8],
-) -> Result<(Outcome, MemStation), Fail> {
+) -> (Outcome, MemStation) {
+    let alloc = rt.alloc();
     assert!(rt; image.len() <= ROOM);
-    let mut station = station_over(rt.alloc(), image, Vec::new(rt.alloc()))?;
-    let outcome = execute(rt.alloc(), SMALL_PRODUCT, line, bodies, &mut station)?;
-    Ok((outcome, station))
+    let mut station = station_over(alloc, image, Vec::new(alloc)).expect(rt, "memory");
+    let outcome = execute(rt, SMALL_PRODUCT, line, bodies, &mut station);
+    (outcome, station)
 }
 
 /// The image after a command over this one that does all it should.
@@ -70,28 +76,24 @@ fn image_behind(
     line: &str,
     bodies: &[&str],
     image: &[u8],
-) -> Result<Vec<u8>, Fail> {
-    let (got, station) = execute_over(rt, line, bodies, image)?;
+) -> Vec<u8> {
+    let (got, station) = execute_over(rt, line, bodies, image);
     assert_eq!(rt; got.status, 0, "{line}");
-    Ok(station.image().to_vec(rt.alloc())?)
+    station.image().to_vec(rt.alloc()).expect(rt, "memory")
 }
 
 /// The first bytes of some.
-fn front_of(
-    rt: &(impl Abort + AllocGlobal),
-    bytes: &[u8],
-    count: usize,
-) -> Result<Vec<u8>, AllocError> {
+fn front_of(rt: &(impl Abort + AllocGlobal), bytes: &[u8], count: usize) -> Vec<u8> {
     assert!(rt; count <= bytes.len());
-    bytes[..count].to_vec(rt.alloc())
+    bytes[..count].to_vec(rt.alloc()).expect(rt, "memory")
 }
 
 /// The parts, one behind the other, and a closed gate.
-fn closed(alloc: Global, parts: &[&[u8]]) -> Result<Vec<u8>, AllocError> {
-    let mut bytes = Vec::new(alloc);
+fn closed(rt: &(impl Abort + AllocGlobal), parts: &[&[u8]]) -> Vec<u8> {
+    let mut bytes = Vec::new(rt.alloc());
     for part in parts {
-        bytes.extend_from_slice(part)?;
+        bytes.extend_from_slice(part).expect(rt, "memory");
     }
-    bytes.push(0)?;
-    Ok(bytes)
+    bytes.push(0).expect(rt, "memory");
+    bytes
 }

@@ -1,5 +1,5 @@
 //! Images of small books: their bytes, and the place of each thing that is wrong with one.
-ghost use Rattle.std.specs.Prelude.{◌≡◌, IfOk};
+ghost use Rattle.std.specs.Prelude.{◌≡◌};
 ghost use Rattle.order_kinds.specs.State.{empty_state};
 ghost use Rattle.order_kinds.specs.Cores.{FitsProduct};
 
@@ -12,9 +12,7 @@ use order_kinds::{Core, MOST_MESSAGES};
 use plain_book::Book;
 use product_file::{Product, read_product};
 use run_fixtures::{PRODUCT, frames_of};
-use std::alloc::{AllocError, Global};
 use std::process::Abort;
-use std::test::Fail;
 
 /// An order of ten lots, four of which were traded.
 pub(super) const ONE_ORDER: [&str; 2] = [
@@ -128,66 +126,62 @@ fn apply_all<B: Book>(
     product: &Product,
     core: &mut Core<B>,
     bodies: &[&str],
-) -> Result<(), Fail>
+)
     requires fits { FitsProduct product.now core.old }
     ensures fits { FitsProduct product.now core.new }
 {
-    let bytes = frames_of(rt.alloc(), bodies)?;
-    let mut framer = Framer::new(rt.alloc())?;
+    let bytes = frames_of(rt.alloc(), bodies).expect(rt, "memory");
+    let mut framer = Framer::new(rt.alloc()).expect(rt, "memory");
     assert_eq!(rt; framer.feed(bytes.as_slice()), bytes.len());
     apply_held(rt, product, core, &mut framer, bodies.len());
     assert_eq!(rt; framer.rest(), 0);
-    Ok(())
 }
 
 /// The product of two instruments, with room for so many orders.
-pub(super) fn two_instruments(alloc: Global, orders: u32) -> Result<String, AllocError> {
-    format!(in alloc; "max_orders = {orders}\n{TWO_INSTRUMENTS}")
+pub(super) fn two_instruments(rt: &(impl Abort + AllocGlobal), orders: u32) -> String {
+    format!(in rt.alloc(); "max_orders = {orders}\n{TWO_INSTRUMENTS}").expect(rt, "memory")
+}
+
+/// The product of this text.
+fn product_from(rt: &(impl Abort + AllocGlobal), text: &str) -> Product {
+    read_product(rt.alloc(), text.as_bytes()).expect(rt, "a product")
 }
 
 /// A core over an empty book.
-fn new_core(alloc: Global, product: &Product) -> Result<Core<LinkedBook>, AllocError>
-    ensures { IfOk result (λ core. core ≡ empty_state product.now) }
+fn new_core(rt: &(impl Abort + AllocGlobal), product: &Product) -> Core<LinkedBook>
+    ensures { result ≡ empty_state product.now }
 {
     let instruments = product.names().instrument_count() as u8;
-    let book = LinkedBook::new(alloc, product.max_orders(), instruments)?;
-    Ok(Core::new(book, product))
+    let book = LinkedBook::new(rt.alloc(), product.max_orders(), instruments).expect(rt, "memory");
+    Core::new(book, product)
 }
 
 /// The image of a core.
-fn image_of<B: Book>(
-    alloc: Global,
-    product: &Product,
-    core: &Core<B>,
-) -> Result<Vec<u8>, AllocError>
+fn image_of<B: Book>(rt: &(impl Abort + AllocGlobal), product: &Product, core: &Core<B>) -> Vec<u8>
     requires fits { FitsProduct product.now core.now }
 {
     let instruments = product.names().instrument_count() as u32;
     let size = image_len(instruments, core.book().live());
-    let mut image = vec![in alloc; 0; size]?;
+    let mut image = vec![in rt.alloc(); 0; size].expect(rt, "memory");
     write_image(core, product, image.as_mut_slice());
-    Ok(image)
+    image
 }
 
 /// What is answered to who reads this payload into a new core.
 fn read(
-    alloc: Global,
+    rt: &(impl Abort + AllocGlobal),
     product: &Product,
     payload: &[u8],
-) -> Result<Result<(), ImageBad>, AllocError> {
-    let mut core = new_core(alloc, product)?;
-    Ok(read_image(payload, product, &mut core))
+) -> Result<(), ImageBad> {
+    let mut core = new_core(rt, product);
+    read_image(payload, product, &mut core)
 }
 
 /// The image after these messages.
-fn image_after(
-    rt: &(impl Abort + AllocGlobal),
-    product: &Product,
-    bodies: &[&str],
-) -> Result<Vec<u8>, Fail> {
-    let mut core = new_core(rt.alloc(), product)?;
-    apply_all(rt, product, &mut core, bodies)?;
-    Ok(image_of(rt.alloc(), product, &core)?)
+fn image_after(rt: &(impl Abort + AllocGlobal), product: &Product, bodies: &[&str]) -> Vec<u8> {
+    let mut core = new_core(rt, product);
+    apply_all(rt, product, &mut core, bodies);
+    image_of(rt, product, &core)
 }
 
 /// Each of these images is refused at its place: the image after some messages, with these bytes in place of its own.
@@ -196,23 +190,18 @@ fn expect_faults(
     text: &str,
     bodies: &[&str],
     faults: &[(&[(usize, u8)], u64)],
-) -> Result<(), Fail> {
-    let alloc = rt.alloc();
-    let product = read_product(alloc, text.as_bytes())?;
-    let image = image_after(rt, &product, bodies)?;
-    assert_eq!(rt; read(alloc, &product, image.as_slice())?, Ok(()));
+) {
+    let product = product_from(rt, text);
+    let image = image_after(rt, &product, bodies);
+    assert_eq!(rt; read(rt, &product, image.as_slice()), Ok(()));
     for (changes, place) in faults {
-        let mut other = image.as_slice().to_vec(alloc)?;
+        let mut other = image.as_slice().to_vec(rt.alloc()).expect(rt, "memory");
         for (at, byte) in *changes {
             assert!(rt; *at < other.len());
             other.as_mut_slice()[*at] = *byte;
         }
-        assert_eq!(rt;
-            read(alloc, &product, other.as_slice())?,
-            Err(ImageBad(*place))
-        );
+        assert_eq!(rt; read(rt, &product, other.as_slice()), Err(ImageBad(*place)));
     }
-    Ok(())
 }
 
 /// The image of `ONE_ORDER`, from its table.
@@ -226,50 +215,42 @@ pub(super) fn one_order_image(rt: &impl Abort) -> [u8; ONE_ORDER_BYTES] {
 }
 
 #[test]
-fn image_of_one_order(rt: HostRuntime) -> Result<(), Fail> {
-    let product = read_product(rt.alloc(), PRODUCT.as_bytes())?;
-    let image = image_after(&rt, &product, &ONE_ORDER)?;
+fn image_of_one_order(rt: HostRuntime) {
+    let product = product_from(&rt, PRODUCT);
+    let image = image_after(&rt, &product, &ONE_ORDER);
     assert_eq!(rt; image.as_slice(), one_order_image(&rt).as_slice());
-    Ok(())
 }
 
 /// The core that an image was read into has that image.
 #[test]
-fn image_is_read_back(rt: HostRuntime) -> Result<(), Fail> {
-    let alloc = rt.alloc();
-    let product = read_product(alloc, two_instruments(alloc, 4)?.as_bytes())?;
-    let image = image_after(&rt, &product, &FOUR_ORDERS)?;
-    let mut core = new_core(alloc, &product)?;
+fn image_is_read_back(rt: HostRuntime) {
+    let product = product_from(&rt, two_instruments(&rt, 4).as_str());
+    let image = image_after(&rt, &product, &FOUR_ORDERS);
+    let mut core = new_core(&rt, &product);
     assert_eq!(rt; read_image(image.as_slice(), &product, &mut core), Ok(()));
-    assert_eq!(rt;
-        image_of(alloc, &product, &core)?.as_slice(),
-        image.as_slice()
-    );
+    assert_eq!(rt; image_of(&rt, &product, &core).as_slice(), image.as_slice());
     assert_eq!(rt; core.messages(), 4);
     assert_eq!(rt; core.book().live(), 4);
-    Ok(())
 }
 
 /// An image that ends too early, in each of its parts, or goes on.
 #[test]
-fn lengths_of_images(rt: HostRuntime) -> Result<(), Fail> {
-    let alloc = rt.alloc();
-    let product = read_product(alloc, PRODUCT.as_bytes())?;
-    let image = image_after(&rt, &product, &ONE_ORDER)?;
+fn lengths_of_images(rt: HostRuntime) {
+    let product = product_from(&rt, PRODUCT);
+    let image = image_after(&rt, &product, &ONE_ORDER);
     for count in [0, 8, 551, 552, 576, 577, 580, 581, 662, 663, 666] {
         assert!(rt; count < image.len());
         let short = &image.as_slice()[..count];
-        assert_eq!(rt; read(alloc, &product, short)?, Err(ImageBad(count as u64)));
+        assert_eq!(rt; read(&rt, &product, short), Err(ImageBad(count as u64)));
     }
-    let mut long = image.as_slice().to_vec(alloc)?;
-    long.push(0)?;
-    assert_eq!(rt; read(alloc, &product, long.as_slice())?, Err(ImageBad(667)));
-    Ok(())
+    let mut long = image.as_slice().to_vec(rt.alloc()).expect(&rt, "memory");
+    long.push(0).expect(&rt, "memory");
+    assert_eq!(rt; read(&rt, &product, long.as_slice()), Err(ImageBad(667)));
 }
 
 /// Counters, the parts of an instrument, counts, and each field of a row.
 #[test]
-fn faults_of_one_order(rt: HostRuntime) -> Result<(), Fail> {
+fn faults_of_one_order(rt: HostRuntime) {
     expect_faults(
         &rt,
         PRODUCT,
@@ -325,15 +306,15 @@ fn faults_of_one_order(rt: HostRuntime) -> Result<(), Fail> {
             (&[(658, 1)], 581),
             (&[(659, 1)], 581),
         ],
-    )
+    );
 }
 
 /// TOP, rows beside each other, and what a waiting stop has.
 #[test]
-fn faults_of_four_orders(rt: HostRuntime) -> Result<(), Fail> {
+fn faults_of_four_orders(rt: HostRuntime) {
     expect_faults(
         &rt,
-        two_instruments(rt.alloc(), 4)?.as_str(),
+        two_instruments(&rt, 4).as_str(),
         &FOUR_ORDERS,
         &[
             // TOP of the buys is the sell, or no order; that of the sells a buy; there is a TOP where the steps have none
@@ -365,19 +346,17 @@ fn faults_of_four_orders(rt: HostRuntime) -> Result<(), Fail> {
             // the waiting stop of an instrument that there is not
             (&[(865, 2)], STOP),
         ],
-    )
+    );
 }
 
 /// A lower number of orders that may be live is passed by the resting ones, or only with the stops.
 #[test]
-fn more_orders_than_may_be_live(rt: HostRuntime) -> Result<(), Fail> {
-    let alloc = rt.alloc();
-    let product = read_product(alloc, two_instruments(alloc, 4)?.as_bytes())?;
-    let image = image_after(&rt, &product, &FOUR_ORDERS)?;
+fn more_orders_than_may_be_live(rt: HostRuntime) {
+    let product = product_from(&rt, two_instruments(&rt, 4).as_str());
+    let image = image_after(&rt, &product, &FOUR_ORDERS);
     for (orders, place) in [(3, WAITING), (2, RESTING)] {
-        let smaller = read_product(alloc, two_instruments(alloc, orders)?.as_bytes())?;
-        let answer = read(alloc, &smaller, image.as_slice())?;
+        let smaller = product_from(&rt, two_instruments(&rt, orders).as_str());
+        let answer = read(&rt, &smaller, image.as_slice());
         assert_eq!(rt; answer, Err(ImageBad(place)));
     }
-    Ok(())
 }

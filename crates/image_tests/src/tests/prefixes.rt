@@ -5,30 +5,23 @@ use super::{closed, execute, front_of};
 use globex_run::Outcome;
 use run_fixtures::{PRODUCT, ROOM, ended, frames_of, station_over};
 use std::process::Abort;
-use std::test::Fail;
 
 /// Over these first bytes of the journal a run of no messages ends so. Of at most one byte it makes a new journal, and all others
 /// it leaves as they are.
-fn expect_prefix(
-    rt: &(impl Abort + AllocGlobal),
-    journal: &[u8],
-    length: usize,
-    outcome: Outcome,
-) -> Result<(), Fail> {
+fn expect_prefix(rt: &(impl Abort + AllocGlobal), journal: &[u8], length: usize, outcome: Outcome) {
     let alloc = rt.alloc();
-    let image = front_of(rt, journal, length)?;
+    let image = front_of(rt, journal, length);
     assert!(rt; image.len() <= ROOM);
-    let mut station = station_over(alloc, image.as_slice(), Vec::new(alloc))?;
-    let got = execute(alloc, PRODUCT, "run", &[], &mut station)?;
+    let mut station = station_over(alloc, image.as_slice(), Vec::new(alloc)).expect(rt, "memory");
+    let got = execute(rt, PRODUCT, "run", &[], &mut station);
     assert_eq!(rt; got, outcome, "{length} bytes");
     assert!(rt; station.output().is_empty());
     let left = if length > 1 {
         image
     } else {
-        closed(alloc, &[front_of(rt, journal, 149)?.as_slice()])?
+        closed(rt, &[front_of(rt, journal, 149).as_slice()])
     };
     assert_eq!(rt; station.image(), left.as_slice());
-    Ok(())
 }
 
 /// The least and the greatest of some lengths, the status, and the place: nothing tells what the bytes are, the name of a journal
@@ -49,9 +42,8 @@ const PREFIXES: [(usize, usize, u8, u64); 12] = [
 ];
 
 #[test]
-fn prefixes_of_a_journal(rt: HostRuntime) -> Result<(), Fail> {
-    let alloc = rt.alloc();
-    let orders = frames_of(alloc, &ONE_ORDER)?;
+fn prefixes_of_a_journal(rt: HostRuntime) {
+    let orders = frames_of(rt.alloc(), &ONE_ORDER).expect(&rt, "memory");
     let payload = one_order_image(&rt);
     let parts: [&[u8]; 6] = [
         b"\x01GXJOURN1\x00\x00\x00\x88",
@@ -61,12 +53,11 @@ fn prefixes_of_a_journal(rt: HostRuntime) -> Result<(), Fail> {
         IMAGE_HEAD,
         payload.as_slice(),
     ];
-    let journal = closed(alloc, &parts)?;
+    let journal = closed(&rt, &parts);
     assert_eq!(rt; journal.len(), 1_050);
     for (least, greatest, status, at) in PREFIXES {
         for length in least..=greatest {
-            expect_prefix(&rt, journal.as_slice(), length, ended(status, at, 0))?;
+            expect_prefix(&rt, journal.as_slice(), length, ended(status, at, 0));
         }
     }
-    Ok(())
 }
