@@ -11,9 +11,7 @@ use run_fixtures::{
     ACCEPTED, FILLED, ORDER, PRODUCT, ROOM, SECOND_ACCEPTED, SECOND_FILLED, SECOND_ORDER, join,
     run_over, station_over,
 };
-use std::alloc::{AllocError, Global};
 use std::process::Abort;
-use std::test::Fail;
 
 /// Two orders, which trade.
 const ORDERS: [&str; 2] = [ORDER, SECOND_ORDER];
@@ -31,35 +29,82 @@ const REPORTS: [&str; 4] = [ACCEPTED, SECOND_ACCEPTED, FILLED, SECOND_FILLED];
 const HEADER: &[u8] = b"\x01GXJOURN1\x00\x00\x00\x88";
 
 /// The parts, one behind the other.
-fn image_of(alloc: Global, parts: &[&[u8]]) -> Result<Vec<u8>, AllocError> {
-    let mut bytes = Vec::new(alloc);
+fn image_of(rt: &(impl Abort + AllocGlobal), parts: &[&[u8]]) -> Vec<u8> {
+    let mut bytes = Vec::new(rt.alloc());
     for part in parts {
-        bytes.extend_from_slice(part)?;
+        bytes.extend_from_slice(part).expect(rt, "memory");
     }
-    Ok(bytes)
+    bytes
 }
 
 /// A journal of the product with these records, each with its head, and a closed gate.
-fn journal_of(alloc: Global, records: &[&[u8]]) -> Result<Vec<u8>, AllocError> {
-    let records = image_of(alloc, records)?;
+fn journal_of(rt: &(impl Abort + AllocGlobal), records: &[&[u8]]) -> Vec<u8> {
+    let records = image_of(rt, records);
     image_of(
-        alloc,
+        rt,
         &[HEADER, PRODUCT.as_bytes(), records.as_slice(), b"\x00"],
     )
 }
 
+/// The bytes of these texts, one behind the other.
+fn joined(rt: &(impl Abort + AllocGlobal), texts: &[&str]) -> Vec<u8> {
+    join(rt.alloc(), texts).expect(rt, "memory")
+}
+
+/// A source of these bytes.
+fn source_of(rt: &(impl Abort + AllocGlobal), bytes: &[u8]) -> MemSource {
+    let alloc = rt.alloc();
+    let bytes = bytes.to_vec(alloc).expect(rt, "memory");
+    MemSource::new(alloc, bytes, Vec::new(alloc), Vec::new(alloc)).expect(rt, "memory")
+}
+
+/// A source of these bytes, of which the first read gives so many, and the next one all others; the reads of these numbers fail.
+fn cut_source(
+    rt: &(impl Abort + AllocGlobal),
+    bytes: &[u8],
+    first: usize,
+    fail: Vec<u64>,
+) -> MemSource {
+    let alloc = rt.alloc();
+    assert!(rt; first >= 1);
+    let pieces = vec![in alloc; first].expect(rt, "memory");
+    let bytes = bytes.to_vec(alloc).expect(rt, "memory");
+    MemSource::new(alloc, bytes, pieces, fail).expect(rt, "memory")
+}
+
+/// A station over this image.
+fn station_of(rt: &(impl Abort + AllocGlobal), image: &[u8]) -> MemStation {
+    assert!(rt; image.len() <= ROOM);
+    station_over(rt.alloc(), image, Vec::new(rt.alloc())).expect(rt, "memory")
+}
+
+/// A station over an empty image, of which this call fails.
+fn failing_station(rt: &(impl Abort + AllocGlobal), call: u64) -> MemStation {
+    let fail = vec![in rt.alloc(); call].expect(rt, "memory");
+    station_over(rt.alloc(), b"", fail).expect(rt, "memory")
+}
+
+/// Executes the command of these words over these sources and this station.
+fn execute_from(
+    rt: &(impl Abort + AllocGlobal),
+    line: &str,
+    mut product: MemSource,
+    mut input: MemSource,
+    station: &mut MemStation,
+) -> Outcome {
+    run_over(rt.alloc(), line, &mut product, &mut input, station).expect(rt, "memory")
+}
+
 /// Executes the command of these words over the product and these frames.
 fn execute(
-    alloc: Global,
+    rt: &(impl Abort + AllocGlobal),
     line: &str,
     frames: &[&str],
     station: &mut MemStation,
-) -> Result<Outcome, AllocError> {
-    let text = PRODUCT.as_bytes().to_vec(alloc)?;
-    let mut product = MemSource::new(alloc, text, Vec::new(alloc), Vec::new(alloc))?;
-    let input = join(alloc, frames)?;
-    let mut input = MemSource::new(alloc, input, Vec::new(alloc), Vec::new(alloc))?;
-    run_over(alloc, line, &mut product, &mut input, station)
+) -> Outcome {
+    let product = source_of(rt, PRODUCT.as_bytes());
+    let input = source_of(rt, joined(rt, frames).as_slice());
+    execute_from(rt, line, product, input, station)
 }
 
 /// Executes the command over this image.
@@ -68,11 +113,10 @@ fn execute_over(
     line: &str,
     frames: &[&str],
     image: &[u8],
-) -> Result<(Outcome, MemStation), Fail> {
-    assert!(rt; image.len() <= ROOM);
-    let mut station = station_over(rt.alloc(), image, Vec::new(rt.alloc()))?;
-    let outcome = execute(rt.alloc(), line, frames, &mut station)?;
-    Ok((outcome, station))
+) -> (Outcome, MemStation) {
+    let mut station = station_of(rt, image);
+    let outcome = execute(rt, line, frames, &mut station);
+    (outcome, station)
 }
 
 /// Runs over this image and this input, of which the first read gives so many bytes, and the next one all others.
@@ -81,15 +125,10 @@ fn run_from(
     image: &[u8],
     input: &[u8],
     first: usize,
-) -> Result<(Outcome, MemStation), Fail> {
-    let alloc = rt.alloc();
-    let text = PRODUCT.as_bytes().to_vec(alloc)?;
-    let mut product = MemSource::new(alloc, text, Vec::new(alloc), Vec::new(alloc))?;
-    assert!(rt; first >= 1);
-    let pieces = vec![in alloc; first]?;
-    let mut source = MemSource::new(alloc, input.to_vec(alloc)?, pieces, Vec::new(alloc))?;
-    assert!(rt; image.len() <= ROOM);
-    let mut station = station_over(alloc, image, Vec::new(alloc))?;
-    let outcome = run_over(alloc, "run", &mut product, &mut source, &mut station)?;
-    Ok((outcome, station))
+) -> (Outcome, MemStation) {
+    let product = source_of(rt, PRODUCT.as_bytes());
+    let input = cut_source(rt, input, first, Vec::new(rt.alloc()));
+    let mut station = station_of(rt, image);
+    let outcome = execute_from(rt, "run", product, input, &mut station);
+    (outcome, station)
 }

@@ -1,12 +1,12 @@
 //! Runs in which a call of the outside fails, what can still be done then, and a run for which memory may not suffice.
-use super::{BOTH, ONE, ORDERS, REPORTS, execute_over};
-use globex_run::{Outcome, globex};
-use gx_station::{LEAST_READ, MemSource, MemStation, Source};
-use run_fixtures::{
-    ACCEPTED, PRODUCT, SECOND_ORDER, ended, join, run_over, station_over, words_of,
+use super::{
+    BOTH, ONE, ORDERS, REPORTS, cut_source, execute_from, execute_over, failing_station, joined,
+    source_of, station_of,
 };
+use globex_run::Outcome;
+use gx_station::{LEAST_READ, MemSource, MemStation, Source};
+use run_fixtures::{ACCEPTED, PRODUCT, SECOND_ORDER, ended, run_over};
 use std::process::Abort;
-use std::test::Fail;
 
 const HEARTBEAT: &str = "8=FIX.4.2|9=49|35=0|49=AAA|56=GX|34=1|52=20240102-09:30:00|58=x|10=133|";
 
@@ -31,32 +31,28 @@ fn run_failing(
     frames: &[&str],
     first: usize,
     fails: (u64, u64, u64),
-) -> Result<(Outcome, MemStation), Fail> {
+) -> (Outcome, MemStation) {
     let alloc = rt.alloc();
     let (product_read, input_read, call) = fails;
-    let text = PRODUCT.as_bytes().to_vec(alloc)?;
-    let fail = vec![in alloc; product_read]?;
-    let mut product = MemSource::new(alloc, text, Vec::new(alloc), fail)?;
-    assert!(rt; first >= 1);
-    let pieces = vec![in alloc; first]?;
-    let fail = vec![in alloc; input_read]?;
-    let mut input = MemSource::new(alloc, join(alloc, frames)?, pieces, fail)?;
-    let fail = vec![in alloc; call]?;
-    let mut station = station_over(alloc, b"", fail)?;
-    let outcome = run_over(alloc, "run", &mut product, &mut input, &mut station)?;
-    Ok((outcome, station))
+    let text = PRODUCT.as_bytes().to_vec(alloc).expect(rt, "memory");
+    let fail = vec![in alloc; product_read].expect(rt, "memory");
+    let product = MemSource::new(alloc, text, Vec::new(alloc), fail).expect(rt, "memory");
+    let fail = vec![in alloc; input_read].expect(rt, "memory");
+    let input = cut_source(rt, joined(rt, frames).as_slice(), first, fail);
+    let mut station = failing_station(rt, call);
+    let outcome = execute_from(rt, "run", product, input, &mut station);
+    (outcome, station)
 }
 
 /// Runs with the calls that fail.
-fn expect_failing(rt: &(impl Abort + AllocGlobal), row: &Failing) -> Result<(), Fail> {
+fn expect_failing(rt: &(impl Abort + AllocGlobal), row: &Failing) {
     let (name, frames, first, fails, (status, at, messages), reports, (calls, length)) = *row;
-    let (got, station) = run_failing(rt, frames, first, fails)?;
-    let sent = join(rt.alloc(), reports)?;
+    let (got, station) = run_failing(rt, frames, first, fails);
+    let sent = joined(rt, reports);
     assert_eq!(rt; got, ended(status, at, messages), "{name}");
     assert_eq!(rt; station.output(), sent.as_slice(), "{name}");
     assert_eq!(rt; station.calls(), calls, "{name}");
     assert_eq!(rt; station.image().len(), length, "{name}");
-    Ok(())
 }
 
 /// An empty image is opened by ten calls, of which the first is a sync, and a journal with no record is recovered by one read.
@@ -201,28 +197,21 @@ const FAILING: [Failing; 15] = [
 ];
 
 #[test]
-fn failing_calls(rt: HostRuntime) -> Result<(), Fail> {
+fn failing_calls(rt: HostRuntime) {
     for row in &FAILING {
-        expect_failing(&rt, row)?;
+        expect_failing(&rt, row);
     }
-    Ok(())
 }
 
 /// An image keeps so many of the two orders; a run of the others makes a journal of both.
-fn expect_finished(
-    rt: &(impl Abort + AllocGlobal),
-    image: &[u8],
-    kept: u64,
-    others: &[&str],
-) -> Result<(), Fail> {
-    let (got, _) = execute_over(rt, "replay", &[], image)?;
+fn expect_finished(rt: &(impl Abort + AllocGlobal), image: &[u8], kept: u64, others: &[&str]) {
+    let (got, _) = execute_over(rt, "replay", &[], image);
     assert_eq!(rt; got, ended(0, 0, kept));
-    let (got, later) = execute_over(rt, "run", others, image)?;
+    let (got, later) = execute_over(rt, "run", others, image);
     assert_eq!(rt; got, ended(0, 0, others.len() as u64));
-    let (got, whole) = execute_over(rt, "replay", &[], later.image())?;
+    let (got, whole) = execute_over(rt, "replay", &[], later.image());
     assert_eq!(rt; got, ended(0, 0, 2));
-    assert_eq!(rt; whole.output(), join(rt.alloc(), &REPORTS)?.as_slice());
-    Ok(())
+    assert_eq!(rt; whole.output(), joined(rt, &REPORTS).as_slice());
 }
 
 /// The first and the last of some calls of a run with one order a read, the status where one of them alone fails, how many orders
@@ -239,42 +228,33 @@ const CALLS: [Calls; 4] = [
 
 /// After a crash at the call that failed, the rest of the run can be done.
 #[test]
-fn each_call_failing(rt: HostRuntime) -> Result<(), Fail> {
+fn each_call_failing(rt: HostRuntime) {
     for (first, last, status, kept, others) in CALLS {
         for call in first..=last {
-            let (got, station) = run_failing(&rt, &ORDERS, ONE, (NEVER, NEVER, call))?;
+            let (got, station) = run_failing(&rt, &ORDERS, ONE, (NEVER, NEVER, call));
             assert_eq!(rt; got, ended(status, 0, kept), "call {call}");
             for fill in [0, 200] {
-                let image = station.crash_image(rt.alloc(), station.calls(), fill)?;
-                expect_finished(&rt, image.as_slice(), kept, others)?;
+                let image = station.crash_image(rt.alloc(), station.calls(), fill);
+                let image = image.expect(&rt, "memory");
+                expect_finished(&rt, image.as_slice(), kept, others);
             }
         }
     }
-    Ok(())
 }
 
 /// A run that ends for want of memory has left the input and the station alone. With `rt try --test --fail-alloc` an allocation
 /// is refused; with ample memory all reports are sent.
 #[test]
-fn refused_memory(rt: HostRuntime) -> Result<(), Fail> {
-    let alloc = rt.alloc();
-    let text = PRODUCT.as_bytes().to_vec(alloc)?;
-    let mut product = MemSource::new(alloc, text, Vec::new(alloc), Vec::new(alloc))?;
-    let orders = join(alloc, &ORDERS)?;
-    let bytes = orders.as_slice().to_vec(alloc)?;
-    let mut input = MemSource::new(alloc, bytes, Vec::new(alloc), Vec::new(alloc))?;
-    let mut station = station_over(alloc, b"", Vec::new(alloc))?;
-    let sent = join(alloc, &REPORTS)?;
-    let words = words_of(alloc, "run")?;
-    let got = globex(
-        alloc,
-        words.as_slice(),
-        &mut product,
-        &mut input,
-        &mut station,
-    );
+fn refused_memory(rt: HostRuntime) {
+    let orders = joined(&rt, &ORDERS);
+    let sent = joined(&rt, &REPORTS);
+    let mut product = source_of(&rt, PRODUCT.as_bytes());
+    let mut input = source_of(&rt, orders.as_slice());
+    let mut station = station_of(&rt, b"");
+    let got = run_over(rt.alloc(), "run", &mut product, &mut input, &mut station);
+    let got = got.expect(&rt, "memory");
     let mut into = [0; LEAST_READ];
-    let left = input.read(&mut into)?;
+    let left = input.read(&mut into).expect(&rt, "a read");
     if got.status == 1 {
         assert_eq!(rt; got, ended(1, 0, 0));
         assert_eq!(rt; station.calls(), 0);
@@ -284,5 +264,4 @@ fn refused_memory(rt: HostRuntime) -> Result<(), Fail> {
         assert_eq!(rt; station.output(), sent.as_slice());
         assert_eq!(rt; left, 0);
     }
-    Ok(())
 }

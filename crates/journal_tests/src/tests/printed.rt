@@ -1,9 +1,8 @@
 //! What the commands print of the stored example and of made messages.
-use super::{ORDERS, REPORTS, execute};
+use super::{ORDERS, REPORTS, execute, failing_station, joined, station_of};
 use gx_station::MemStation;
-use run_fixtures::{ended, join, station_over};
+use run_fixtures::ended;
 use std::process::Abort;
-use std::test::Fail;
 
 /// A command: its words, the frames that are read, the messages that the outcome counts, and what is sent.
 type Step = (
@@ -14,22 +13,21 @@ type Step = (
 );
 
 /// Executes the commands, one behind the other, over one station.
-fn expect_steps(rt: &(impl Abort + AllocGlobal), steps: &[Step]) -> Result<(), Fail> {
-    let alloc = rt.alloc();
-    let mut station = station_over(alloc, b"", Vec::new(alloc))?;
-    let mut sent = Vec::new(alloc);
+fn expect_steps(rt: &(impl Abort + AllocGlobal), steps: &[Step]) {
+    let mut station = station_of(rt, b"");
+    let mut sent = Vec::new(rt.alloc());
     for step in steps {
         let (line, input, messages, texts) = *step;
-        let got = execute(alloc, line, input, &mut station)?;
-        sent.extend_from_slice(join(alloc, texts)?.as_slice())?;
+        let got = execute(rt, line, input, &mut station);
+        sent.extend_from_slice(joined(rt, texts).as_slice())
+            .expect(rt, "memory");
         assert_eq!(rt; got, ended(0, 0, messages), "{line}");
         assert_eq!(rt; station.output(), sent.as_slice(), "{line}");
     }
-    Ok(())
 }
 
 #[test]
-fn printed_forms(rt: HostRuntime) -> Result<(), Fail> {
+fn printed_forms(rt: HostRuntime) {
     expect_steps(
         &rt,
         &[
@@ -72,11 +70,11 @@ fn printed_forms(rt: HostRuntime) -> Result<(), Fail> {
             ("steps", &[], 0, &["ESZ4 F FIFO\n"]),
             ("replay", &[], 2, &REPORTS),
         ],
-    )
+    );
 }
 
 #[test]
-fn drills(rt: HostRuntime) -> Result<(), Fail> {
+fn drills(rt: HostRuntime) {
     expect_steps(
         &rt,
         &[
@@ -103,23 +101,20 @@ fn drills(rt: HostRuntime) -> Result<(), Fail> {
                 ],
             ),
         ],
-    )
+    );
 }
 
 /// The send of the reports fails; they can be sent later.
 #[test]
-fn replay_after_a_failed_send(rt: HostRuntime) -> Result<(), Fail> {
-    let alloc = rt.alloc();
-    let fail = vec![in alloc; 16]?;
-    let mut station = station_over(alloc, b"", fail)?;
-    let got = execute(alloc, "run", &ORDERS, &mut station)?;
+fn replay_after_a_failed_send(rt: HostRuntime) {
+    let mut station = failing_station(&rt, 16);
+    let got = execute(&rt, "run", &ORDERS, &mut station);
     assert_eq!(rt; got, ended(6, 0, 2));
     assert!(rt; station.output().is_empty());
-    let got = execute(alloc, "replay", &[], &mut station)?;
+    let got = execute(&rt, "replay", &[], &mut station);
     assert_eq!(rt; got, ended(0, 0, 2));
-    let sent = join(alloc, &REPORTS)?;
+    let sent = joined(&rt, &REPORTS);
     assert_eq!(rt; station.output(), sent.as_slice());
-    Ok(())
 }
 
 const SUMMARY: &[u8] = b"messages 2000 reports 2578 trades 289 lots 7431 live 1220\n";
@@ -128,17 +123,17 @@ const SUMMARY: &[u8] = b"messages 2000 reports 2578 trades 289 lots 7431 live 12
 const TOTAL: &[u8] = b"\ntotal entered 81224 filled 14862 open 61228 cancelled 5134\n";
 
 #[test]
-fn two_drills_agree(rt: HostRuntime) -> Result<(), Fail> {
+fn two_drills_agree(rt: HostRuntime) {
     let alloc = rt.alloc();
     for _ in 0..2 {
         let none = Vec::new(alloc);
-        let mut station = MemStation::new(alloc, none, 1 << 20, 1 << 20, 20_000, Vec::new(alloc))?;
-        let got = execute(alloc, "drill --first 7 --count 2000", &[], &mut station)?;
+        let station = MemStation::new(alloc, none, 1 << 20, 1 << 20, 20_000, Vec::new(alloc));
+        let mut station = station.expect(&rt, "memory");
+        let got = execute(&rt, "drill --first 7 --count 2000", &[], &mut station);
         assert_eq!(rt; got, ended(0, 0, 2000));
         assert_eq!(rt; station.output(), SUMMARY);
-        let got = execute(alloc, "ledger", &[], &mut station)?;
+        let got = execute(&rt, "ledger", &[], &mut station);
         assert_eq!(rt; got, ended(0, 0, 2000));
         assert!(rt; station.output().ends_with(TOTAL));
     }
-    Ok(())
 }

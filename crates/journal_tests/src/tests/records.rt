@@ -1,39 +1,35 @@
 //! Journals in memory: two messages in one record, images that are opened or refused, and what failed calls leave.
-use super::{ORDERS, journal_of};
+use super::{ORDERS, failing_station, joined, journal_of, station_of};
 use gx_station::Station;
 use match_journal::{AppendFault, Entry, EntryKind, Journal, StartFault};
-use run_fixtures::{PRODUCT, ROOM, join, station_over};
-use std::test::Fail;
+use run_fixtures::PRODUCT;
+use std::process::Abort;
 
 const LIMIT: u64 = 131_072;
 
 #[test]
-fn two_messages_in_one_record(rt: HostRuntime) -> Result<(), Fail> {
-    let alloc = rt.alloc();
-    let mut station = station_over(alloc, b"", Vec::new(alloc))?;
+fn two_messages_in_one_record(rt: HostRuntime) {
+    let mut station = station_of(&rt, b"");
     let started = Journal::start(&mut station, PRODUCT.as_bytes(), LIMIT);
     let mut journal = started.expect(&rt, "a journal");
     assert_eq!(rt; journal.next_entry(&mut station), Ok(None));
-    let both = join(alloc, &ORDERS)?;
+    let both = joined(&rt, &ORDERS);
     assert_eq!(rt; both.len(), 221);
     assert!(rt; journal.at_end());
     let added = journal.append(&mut station, EntryKind::Frames, both.as_slice());
     assert_eq!(rt; added, Ok(()));
-    let one = journal_of(alloc, &[b"\x01M\x00\x00\x00\xDD", both.as_slice()])?;
+    let one = journal_of(&rt, &[b"\x01M\x00\x00\x00\xDD", both.as_slice()]);
     assert_eq!(rt; station.image(), one.as_slice());
     assert_eq!(rt; journal.end(), 376);
-    Ok(())
 }
 
 #[test]
-fn records_are_read_in_their_order(rt: HostRuntime) -> Result<(), Fail> {
-    let alloc = rt.alloc();
+fn records_are_read_in_their_order(rt: HostRuntime) {
     let image = journal_of(
-        alloc,
+        &rt,
         &[b"\x01M\x00\x00\x00\x03one", b"\x01M\x00\x00\x00\x012"],
-    )?;
-    assert!(rt; image.len() <= ROOM);
-    let mut station = station_over(alloc, image.as_slice(), Vec::new(alloc))?;
+    );
+    let mut station = station_of(&rt, image.as_slice());
     let looked = Journal::look(&mut station, PRODUCT.as_bytes(), LIMIT);
     let looked = looked.expect(&rt, "an image that is opened");
     let mut journal = looked.expect(&rt, "a journal");
@@ -57,14 +53,12 @@ fn records_are_read_in_their_order(rt: HostRuntime) -> Result<(), Fail> {
     journal.rewind();
     assert!(rt; !journal.at_end());
     assert_eq!(rt; journal.next_entry(&mut station), Ok(Some(first)));
-    Ok(())
 }
 
 /// Records of book images: an empty one, and one longer than the frames of a record may be.
 #[test]
-fn records_of_images(rt: HostRuntime) -> Result<(), Fail> {
-    let alloc = rt.alloc();
-    let mut station = station_over(alloc, b"", Vec::new(alloc))?;
+fn records_of_images(rt: HostRuntime) {
+    let mut station = station_of(&rt, b"");
     let started = Journal::start(&mut station, PRODUCT.as_bytes(), LIMIT);
     let mut journal = started.expect(&rt, "a journal");
     let kind = EntryKind::Image;
@@ -90,7 +84,6 @@ fn records_of_images(rt: HostRuntime) -> Result<(), Fail> {
     assert_eq!(rt; journal.next_entry(&mut station), Ok(Some(whole)));
     assert_eq!(rt; journal.next_entry(&mut station), Ok(None));
     assert!(rt; station.image().ends_with(b"xxx\x00"));
-    Ok(())
 }
 
 /// Each image with what is answered to one who looks, whether there is a journal, or why not; the product is `text`.
@@ -145,47 +138,53 @@ const IMAGES: [(&[u8], Result<bool, StartFault>); 21] = [
     ),
 ];
 
-#[test]
-fn images_by_their_class(rt: HostRuntime) -> Result<(), Fail> {
-    for (image, want) in IMAGES {
-        assert!(rt; image.len() <= ROOM);
-        let mut looked_at = station_over(rt.alloc(), image, Vec::new(rt.alloc()))?;
-        let looked = Journal::look(&mut looked_at, b"text", LIMIT);
-        assert_eq!(rt; looked.map(|found| found.is_some()), want);
-        assert_eq!(rt; looked_at.image(), image);
-        let mut opened = station_over(rt.alloc(), image, Vec::new(rt.alloc()))?;
-        let started = Journal::start(&mut opened, b"text", LIMIT);
-        assert_eq!(rt; started.map(|_| ()), want.map(|_| ()));
-        assert!(rt; want.is_ok() || opened.image() == image);
-    }
-    Ok(())
+/// Whether one who looks at this image finds a journal, or why not; the image stays as it is.
+fn expect_looked(rt: &(impl Abort + AllocGlobal), image: &[u8], want: Result<bool, StartFault>) {
+    let mut station = station_of(rt, image);
+    let looked = Journal::look(&mut station, b"text", LIMIT);
+    assert_eq!(rt; looked.map(|found| found.is_some()), want);
+    assert_eq!(rt; station.image(), image);
+}
+
+/// Whether one starts over this image, or why not; then the image stays as it is.
+fn expect_started(rt: &(impl Abort + AllocGlobal), image: &[u8], want: Result<(), StartFault>) {
+    let mut station = station_of(rt, image);
+    let started = Journal::start(&mut station, b"text", LIMIT);
+    assert_eq!(rt; started.map(|_| ()), want);
+    assert!(rt; want.is_ok() || station.image() == image);
 }
 
 #[test]
-fn a_look_does_not_sync(rt: HostRuntime) -> Result<(), Fail> {
-    let alloc = rt.alloc();
+fn images_by_their_class(rt: HostRuntime) {
+    for (image, want) in IMAGES {
+        expect_looked(&rt, image, want);
+        expect_started(&rt, image, want.map(|_| ()));
+    }
+}
+
+#[test]
+fn a_look_does_not_sync(rt: HostRuntime) {
     let image = b"\x01GXJOURN1\x00\x00\x00\x04text\x00";
-    let mut station = station_over(alloc, image, Vec::new(alloc))?;
+    let mut station = station_of(&rt, image);
     assert_eq!(rt; station.length(), Ok(18));
     assert_eq!(rt; station.write(17, b"\x00"), Ok(()));
     let looked = Journal::look(&mut station, b"text", LIMIT);
     assert!(rt; matches!(looked, Ok(Some(_))));
     // A length, the head, and the text.
     assert_eq!(rt; station.calls(), 5);
-    let left = station.crash_image(alloc, 5, 200)?;
+    let left = station.crash_image(rt.alloc(), 5, 200);
+    let left = left.expect(&rt, "memory");
     assert_eq!(rt;
         left.as_slice(),
         b"\x01GXJOURN1\x00\x00\x00\x04text\xC8".as_slice()
     );
-    Ok(())
 }
 
 /// Each of the ten calls of an opening fails, and each of the four of an append, which is then the last.
 #[test]
-fn failed_calls(rt: HostRuntime) -> Result<(), Fail> {
-    let alloc = rt.alloc();
+fn failed_calls(rt: HostRuntime) {
     for call in [1, 2, 3, 4, 5, 6, 7, 8, 9, 10, 12, 13, 14, 15] {
-        let mut station = station_over(alloc, b"", vec![in alloc; call]?)?;
+        let mut station = failing_station(&rt, call);
         match Journal::start(&mut station, PRODUCT.as_bytes(), LIMIT) {
             Err(fault) => {
                 assert!(rt; call <= 10 && fault == StartFault::Store);
@@ -202,5 +201,4 @@ fn failed_calls(rt: HostRuntime) -> Result<(), Fail> {
             }
         }
     }
-    Ok(())
 }

@@ -1,10 +1,8 @@
 //! Images that are refused: what each command answers and sends, and that they stay as they are.
-use super::{HEADER, ORDERS, REPORTS, execute_over, image_of, journal_of};
+use super::{HEADER, ORDERS, REPORTS, execute_over, image_of, joined, journal_of};
 use globex_run::Outcome;
-use run_fixtures::{ORDER, PRODUCT, ended, join};
-use std::alloc::{AllocError, Global};
+use run_fixtures::{ORDER, PRODUCT, ended};
 use std::process::Abort;
-use std::test::Fail;
 
 /// The command of these words over this image and both orders ends so, sends these texts, and leaves the image as it is.
 fn expect_left(
@@ -13,13 +11,12 @@ fn expect_left(
     image: &[u8],
     outcome: Outcome,
     texts: &[&str],
-) -> Result<(), Fail> {
-    let (got, station) = execute_over(rt, line, &ORDERS, image)?;
-    let sent = join(rt.alloc(), texts)?;
+) {
+    let (got, station) = execute_over(rt, line, &ORDERS, image);
+    let sent = joined(rt, texts);
     assert_eq!(rt; got, outcome, "{line}");
     assert_eq!(rt; station.output(), sent.as_slice(), "{line}");
     assert_eq!(rt; station.image(), image, "{line}");
-    Ok(())
 }
 
 /// What `steps` sends, whatever the image is.
@@ -38,14 +35,14 @@ const OPENING: [&str; 7] = [
 
 /// Images of something else, with a bad header, and of another product.
 #[test]
-fn images_that_no_command_opens(rt: HostRuntime) -> Result<(), Fail> {
-    let alloc = rt.alloc();
-    let other = PRODUCT.replace(alloc, "protection = 2", "protection = 3")?;
-    let other_journal = image_of(alloc, &[HEADER, other.as_bytes(), b"\x00"])?;
+fn images_that_no_command_opens(rt: HostRuntime) {
+    let other = PRODUCT.replace(rt.alloc(), "protection = 2", "protection = 3");
+    let other = other.expect(&rt, "memory");
+    let other_journal = image_of(&rt, &[HEADER, other.as_bytes(), b"\x00"]);
     let bad_header = image_of(
-        alloc,
+        &rt,
         &[b"\x01GXJOURN1\x00\x01\x00\x01", PRODUCT.as_bytes(), b"\x00"],
-    )?;
+    );
     let rows: [(&[u8], Outcome); 4] = [
         (b"hello", ended(9, 0, 0)),
         (b"\x01GXJOURN2", ended(9, 8, 0)),
@@ -54,11 +51,10 @@ fn images_that_no_command_opens(rt: HostRuntime) -> Result<(), Fail> {
     ];
     for (image, outcome) in rows {
         for line in OPENING {
-            expect_left(&rt, line, image, outcome, &[])?;
+            expect_left(&rt, line, image, outcome, &[]);
         }
-        expect_left(&rt, "steps", image, ended(0, 0, 0), &[STEPS])?;
+        expect_left(&rt, "steps", image, ended(0, 0, 0), &[STEPS]);
     }
-    Ok(())
 }
 
 /// The commands that begin with the last book image, or with the first record, and send nothing where they meet a bad one.
@@ -94,54 +90,46 @@ const BAD: [(&[u8], u64, u64); 3] = [
 ];
 
 /// A journal of one record of both orders, with these bytes behind it.
-fn behind_orders(alloc: Global, bad: &[u8]) -> Result<Vec<u8>, AllocError> {
-    let orders = join(alloc, &ORDERS)?;
-    journal_of(alloc, &[b"\x01M\x00\x00\x00\xDD", orders.as_slice(), bad])
+fn behind_orders(rt: &(impl Abort + AllocGlobal), bad: &[u8]) -> Vec<u8> {
+    let orders = joined(rt, &ORDERS);
+    journal_of(rt, &[b"\x01M\x00\x00\x00\xDD", orders.as_slice(), bad])
 }
 
 /// Each command over this image: those that begin with the heads, and those that read record by record, are refused at these places.
-fn expect_bad(
-    rt: &(impl Abort + AllocGlobal),
-    image: &[u8],
-    beginning: u64,
-    reading: u64,
-) -> Result<(), Fail> {
+fn expect_bad(rt: &(impl Abort + AllocGlobal), image: &[u8], beginning: u64, reading: u64) {
     for line in BEGINNING {
-        expect_left(rt, line, image, ended(10, beginning, 0), &[])?;
+        expect_left(rt, line, image, ended(10, beginning, 0), &[]);
     }
     for (line, texts) in READING {
-        expect_left(rt, line, image, ended(10, reading, 0), texts)?;
+        expect_left(rt, line, image, ended(10, reading, 0), texts);
     }
-    expect_left(rt, "steps", image, ended(0, 0, 0), &[STEPS])
+    expect_left(rt, "steps", image, ended(0, 0, 0), &[STEPS]);
 }
 
 #[test]
-fn bad_records_behind_a_good_one(rt: HostRuntime) -> Result<(), Fail> {
+fn bad_records_behind_a_good_one(rt: HostRuntime) {
     for (bad, beginning, reading) in BAD {
-        let image = behind_orders(rt.alloc(), bad)?;
-        expect_bad(&rt, image.as_slice(), beginning, reading)?;
+        let image = behind_orders(&rt, bad);
+        expect_bad(&rt, image.as_slice(), beginning, reading);
     }
-    Ok(())
 }
 
 /// Records that a run refuses: one longer than the image, one whose last frame is cut, and behind a good one an image of one byte.
 #[test]
-fn bad_records(rt: HostRuntime) -> Result<(), Fail> {
-    let alloc = rt.alloc();
-    let order = join(alloc, &[ORDER])?;
-    let long_record = journal_of(alloc, &[b"\x01M\x00\x00\x00\x64"])?;
+fn bad_records(rt: HostRuntime) {
+    let order = joined(&rt, &[ORDER]);
+    let long_record = journal_of(&rt, &[b"\x01M\x00\x00\x00\x64"]);
     let whole = order.as_slice();
     assert!(rt; whole.len() >= 110);
-    let cut_frame = journal_of(alloc, &[b"\x01M\x00\x00\x00\x6E", &whole[..110]])?;
+    let cut_frame = journal_of(&rt, &[b"\x01M\x00\x00\x00\x6E", &whole[..110]]);
     let good_and_bad: [&[u8]; 3] = [b"\x01M\x00\x00\x00\x6F", whole, b"\x01C\x00\x00\x00\x01x"];
-    let good_and_bad = journal_of(alloc, &good_and_bad)?;
+    let good_and_bad = journal_of(&rt, &good_and_bad);
     let rows: [(&[u8], u64); 3] = [
         (long_record.as_slice(), 149),
         (cut_frame.as_slice(), 149),
         (good_and_bad.as_slice(), 266),
     ];
     for (image, place) in rows {
-        expect_left(&rt, "run", image, ended(10, place, 0), &[])?;
+        expect_left(&rt, "run", image, ended(10, place, 0), &[]);
     }
-    Ok(())
 }
