@@ -7,7 +7,6 @@ use order_pool::Pool;
 use rand::rngs::SmallRng;
 use rand::{RngExt, SeedableRng};
 use std::process::Abort;
-use std::test::Fail;
 
 const QUEUES: u32 = 7;
 
@@ -15,8 +14,8 @@ const QUEUES: u32 = 7;
 type Line = Vec<(Slot, Order)>;
 
 #[test]
-fn queues_after_a_few_calls(rt: HostRuntime) -> Result<(), Fail> {
-    let mut pool = Pool::new(rt.alloc(), 3, 2)?;
+fn queues_after_a_few_calls(rt: HostRuntime) {
+    let mut pool = Pool::new(rt.alloc(), 3, 2).expect(&rt, "memory");
     let a = pool.push_back(0, &order(1));
     let b = pool.push_back(0, &order(2));
     let c = pool.push_back(0, &order(3));
@@ -33,24 +32,22 @@ fn queues_after_a_few_calls(rt: HostRuntime) -> Result<(), Fail> {
     expect_queue(&rt, &pool, 0, &[(e, order(5)), (a, order(1))]);
     expect_queue(&rt, &pool, 1, &[(d, order(4))]);
     assert_eq!(rt; pool.live(), 3);
-    Ok(())
 }
 
 #[test]
-fn pool_beside_lists(rt: HostRuntime) -> Result<(), Fail> {
+fn pool_beside_lists(rt: HostRuntime) {
     let mut lines = Vec::new(rt.alloc());
     for _ in 0..QUEUES {
-        lines.push(Vec::new(rt.alloc()))?;
+        lines.push(Vec::new(rt.alloc())).expect(&rt, "memory");
     }
-    let pool = Pool::new(rt.alloc(), 60, QUEUES)?;
+    let pool = Pool::new(rt.alloc(), 60, QUEUES).expect(&rt, "memory");
     let mut pair = Pair { pool, lines };
     let mut draws = SmallRng::seed_from_u64(1);
     for call in 0..CALLS {
         let queue = draws.random_range(0..QUEUES);
-        pair.step(&rt, &mut draws, queue, &order(call))?;
+        pair.step(&rt, &mut draws, queue, &order(call));
         pair.expect_equal(&rt, queue);
     }
-    Ok(())
 }
 
 /// A queue has just these entries, in this order, and so say all calls that read.
@@ -77,21 +74,15 @@ struct Pair {
 
 impl Pair {
     /// One drawn call.
-    fn step(
-        &mut self,
-        rt: &impl Abort,
-        draws: &mut SmallRng,
-        queue: u32,
-        order: &Order,
-    ) -> Result<(), Fail> {
+    fn step(&mut self, rt: &impl Abort, draws: &mut SmallRng, queue: u32, order: &Order) {
         assert!(rt; queue < self.pool.queues());
-        let line = self.lines.get_mut(queue as usize).ok_or("no queue")?;
+        let line = self.lines.get_mut(queue as usize).expect(rt, "a queue");
         if line.is_empty() || draws.random_range(0..8) < 3 {
             if self.pool.live() < self.pool.capacity() {
                 let slot = self.pool.push_back(queue, order);
-                line.push((slot, *order))?;
+                line.push((slot, *order)).expect(rt, "memory");
             }
-            return Ok(());
+            return;
         }
         let place = draws.random_range(0..line.len());
         let (slot, was) = line[place];
@@ -106,14 +97,13 @@ impl Pair {
             1 => {
                 self.pool.to_back(slot);
                 line.remove(place);
-                line.push((slot, was))?;
+                line.push((slot, was)).expect(rt, "memory");
             }
             _ => {
                 self.pool.set(slot, order);
                 line[place] = (slot, *order);
             }
         }
-        Ok(())
     }
 
     /// The queue is the list, and the pool has as many orders as all lists together.

@@ -4,16 +4,14 @@ use gx_base::{ShortId, Slot};
 use id_table::IdTable;
 use rand::rngs::SmallRng;
 use rand::{RngExt, SeedableRng};
-use std::alloc::{AllocGlobal, Global};
 use std::collections::BTreeMap;
 use std::process::Abort;
-use std::test::Fail;
 
 #[test]
-fn ids_after_a_few_calls(rt: HostRuntime) -> Result<(), Fail> {
-    let x = ShortId::new(b"x").ok_or("no id")?;
-    let y = ShortId::new(b"y").ok_or("no id")?;
-    let mut table = IdTable::new(rt.alloc(), 2)?;
+fn ids_after_a_few_calls(rt: HostRuntime) {
+    let x = ShortId::new(b"x").expect(&rt, "an id");
+    let y = ShortId::new(b"y").expect(&rt, "an id");
+    let mut table = IdTable::new(rt.alloc(), 2).expect(&rt, "memory");
     assert!(rt; table.len() < table.capacity() && table.find(0, &x).is_none());
     table.insert(0, x, Slot(7));
     assert!(rt; table.len() < table.capacity() && table.find(1, &x).is_none());
@@ -26,23 +24,17 @@ fn ids_after_a_few_calls(rt: HostRuntime) -> Result<(), Fail> {
     assert_eq!(rt; table.find(1, &x), None);
     assert_eq!(rt; table.find(0, &y), Some(Slot(7)));
     assert_eq!(rt; table.len(), 1);
-    Ok(())
 }
 
 /// An id of 19 digits, as clients count them.
-fn id_of(alloc: Global, number: u32) -> Result<ShortId, Fail> {
-    let text = format!(in alloc; "{number:019}")?;
-    Ok(ShortId::new(text.as_bytes()).ok_or("no id")?)
+fn id_of(rt: &(impl Abort + AllocGlobal), number: u32) -> ShortId {
+    let text = format!(in rt.alloc(); "{number:019}").expect(rt, "memory");
+    ShortId::new(text.as_bytes()).expect(rt, "an id")
 }
 
 /// Three ids come, the first one leaves, and the second one takes its name.
-fn first_of_three_leaves(
-    rt: &(impl Abort + AllocGlobal),
-    x: ShortId,
-    y: ShortId,
-    z: ShortId,
-) -> Result<(), Fail> {
-    let mut table = IdTable::new(rt.alloc(), 3)?;
+fn first_of_three_leaves(rt: &(impl Abort + AllocGlobal), x: ShortId, y: ShortId, z: ShortId) {
+    let mut table = IdTable::new(rt.alloc(), 3).expect(rt, "memory");
     assert!(rt; table.len() < table.capacity() && table.find(0, &x).is_none());
     table.insert(0, x, Slot(1));
     assert!(rt; table.len() < table.capacity() && table.find(0, &y).is_none());
@@ -58,29 +50,27 @@ fn first_of_three_leaves(
     assert_eq!(rt; table.find(0, &x), Some(Slot(2)));
     assert_eq!(rt; table.find(0, &y), None);
     assert_eq!(rt; table.find(0, &z), Some(Slot(3)));
-    Ok(())
 }
 
 /// Each three of sixteen ids, in each order. A table for three has few buckets, so some of them meet in one, where the first
 /// stands above the two others, on one side or on both.
 #[test]
-fn ids_that_meet(rt: HostRuntime) -> Result<(), Fail> {
+fn ids_that_meet(rt: HostRuntime) {
     for three in 0..4096 {
         let (a, b, c) = (three % 16, three / 16 % 16, three / 256);
         if a != b && b != c && c != a {
-            let x = id_of(rt.alloc(), a)?;
-            let y = id_of(rt.alloc(), b)?;
-            let z = id_of(rt.alloc(), c)?;
-            first_of_three_leaves(&rt, x, y, z)?;
+            let x = id_of(&rt, a);
+            let y = id_of(&rt, b);
+            let z = id_of(&rt, c);
+            first_of_three_leaves(&rt, x, y, z);
         }
     }
-    Ok(())
 }
 
 #[test]
-fn table_beside_a_map(rt: HostRuntime) -> Result<(), Fail> {
+fn table_beside_a_map(rt: HostRuntime) {
     let mut pair = Pair {
-        table: IdTable::new(rt.alloc(), 50)?,
+        table: IdTable::new(rt.alloc(), 50).expect(&rt, "memory"),
         slots: BTreeMap::new(rt.alloc()),
     };
     let mut draws = SmallRng::seed_from_u64(1);
@@ -88,9 +78,8 @@ fn table_beside_a_map(rt: HostRuntime) -> Result<(), Fail> {
         let firm = draws.random_range(0..3);
         let number = draws.random_range(0..40);
         let other = draws.random_range(0..40);
-        pair.step(&rt, firm, number, other, Slot(call as u32))?;
+        pair.step(&rt, firm, number, other, Slot(call as u32));
     }
-    Ok(())
 }
 
 /// A table and the map that it should be. Its ids are the numbers of which they are made.
@@ -109,24 +98,25 @@ impl Pair {
         number: u32,
         other: u32,
         slot: Slot,
-    ) -> Result<(), Fail> {
-        let id = id_of(rt.alloc(), number)?;
-        let new = id_of(rt.alloc(), other)?;
+    ) {
+        let id = id_of(rt, number);
+        let new = id_of(rt, other);
         let was = self.table.find(firm, &id);
         assert_eq!(rt; was, self.slots.get(&(firm, number)).copied());
         if let Some(was) = was {
             self.slots.remove(&(firm, number));
             if self.table.find(firm, &new).is_none() {
                 self.table.rename(firm, &id, new);
-                self.slots.insert((firm, other), was)?;
+                let renamed: Result<_, _> = self.slots.insert((firm, other), was);
+                renamed.expect(rt, "memory");
             } else {
                 self.table.remove(firm, &id);
             }
         } else if self.table.len() < self.table.capacity() {
             self.table.insert(firm, id, slot);
-            self.slots.insert((firm, number), slot)?;
+            let added: Result<_, _> = self.slots.insert((firm, number), slot);
+            added.expect(rt, "memory");
         }
         assert_eq!(rt; self.table.len() as usize, self.slots.len());
-        Ok(())
     }
 }
