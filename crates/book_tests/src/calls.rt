@@ -14,8 +14,7 @@ use reads::{
     Answer, Call, Log, ROOM, answer_at, early_at, named, order_at, read_numbers, read_orders,
     top_of,
 };
-use std::alloc::{AllocError, Global};
-use std::test::Fail;
+use std::process::Abort;
 
 /// So few that the books are full at times.
 const CAPACITY: u32 = 64;
@@ -283,11 +282,11 @@ fn make_call<B: Book>(book: &mut B, random: &mut Random, log: &mut Log)
 }
 
 /// The calls of a run on this book, and what it answers.
-fn run<B: Book>(alloc: Global, book: &mut B) -> Result<Log, AllocError>
+fn run<B: Book>(rt: &(impl Abort + AllocGlobal), book: &mut B) -> Log
     requires { (B.book book.old).instruments ≡ INSTRUMENTS }
 {
     let mut random = Random::new();
-    let mut log = Log::new(alloc)?;
+    let mut log = Log::new(rt);
     for _step in 0..STEPS {
         make_call(book, &mut random, &mut log);
         read_numbers(book, &mut random, &mut log);
@@ -295,16 +294,16 @@ fn run<B: Book>(alloc: Global, book: &mut B) -> Result<Log, AllocError>
             read_orders(book, &mut log);
         }
     }
-    Ok(log)
+    log
 }
 
 #[test]
-fn both_books_give_the_same_answers(rt: HostRuntime) -> Result<(), Fail> {
+fn both_books_give_the_same_answers(rt: HostRuntime) {
     let alloc = rt.alloc();
-    let mut book = PlainBook::new(alloc, CAPACITY, INSTRUMENTS)?;
-    let log = run(alloc, &mut book)?;
-    let mut book = LinkedBook::new(alloc, CAPACITY, INSTRUMENTS)?;
-    let other = run(alloc, &mut book)?;
+    let mut book = PlainBook::new(alloc, CAPACITY, INSTRUMENTS).expect(&rt, "memory");
+    let log = run(&rt, &mut book);
+    let mut book = LinkedBook::new(alloc, CAPACITY, INSTRUMENTS).expect(&rt, "memory");
+    let other = run(&rt, &mut book);
     for (place, (line, other)) in log.lines().iter().zip(other.lines()).enumerate() {
         assert_eq!(rt; *line, *other, "line {place}");
     }
@@ -314,5 +313,4 @@ fn both_books_give_the_same_answers(rt: HostRuntime) -> Result<(), Fail> {
         let times = log.times(call);
         assert!(rt; times >= least, "{call:?} is made {times} times");
     }
-    Ok(())
 }

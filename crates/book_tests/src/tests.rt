@@ -4,13 +4,13 @@ ghost use Rattle.order_kinds.specs.Cores.{FitsProduct};
 use book_side::LinkedBook;
 use fix_frame::{Framer, Next};
 use fix_request::read_request;
-use globex_run::{Outcome, globex};
 use gx_base::{ByteEmit, Emit};
 use gx_station::{LEAST_READ, MemSource, MemStation, Source};
 use order_kinds::{Core, MOST_MESSAGES};
 use order_maker::MakerSource;
 use plain_book::{Book, PlainBook};
 use product_file::{Product, read_product};
+use run_fixtures::{ended, run_over};
 use std::process::Abort;
 use std::test::Fail;
 
@@ -110,32 +110,28 @@ fn both_books_give_the_same_lines(rt: HostRuntime) -> Result<(), Fail> {
 
 /// At the end the book is full.
 #[test]
-fn drill_of_400_000_messages(rt: HostRuntime) -> Result<(), Fail> {
+fn drill_of_400_000_messages(rt: HostRuntime) {
     let alloc = rt.alloc();
-    let text = LARGE_PRODUCT.as_bytes().to_vec(alloc)?;
-    let mut product = MemSource::new(alloc, text, Vec::new(alloc), Vec::new(alloc))?;
-    let mut input = MemSource::new(alloc, Vec::new(alloc), Vec::new(alloc), Vec::new(alloc))?;
-    let none = Vec::new(alloc);
-    let mut station = MemStation::new(alloc, none, 1 << 26, 1 << 16, 2_000_000, Vec::new(alloc))?;
-    let mut words = Vec::new(alloc);
-    for word in ["drill", "--first", "1", "--count", "400000"] {
-        words.push(String::from_str(alloc, word)?)?;
-    }
-    let got = globex(
-        alloc,
-        words.as_slice(),
-        &mut product,
-        &mut input,
-        &mut station,
+    let text = LARGE_PRODUCT.as_bytes().to_vec(alloc).expect(&rt, "memory");
+    let mut product = MemSource::new(alloc, text, Vec::new(alloc), Vec::new(alloc)).expect(
+        &rt, "memory",
     );
-    let served = Outcome {
-        status: 0,
-        at: 0,
-        messages: 400_000,
-    };
-    assert_eq!(rt; got, served);
+    let mut input = MemSource::new(alloc, Vec::new(alloc), Vec::new(alloc), Vec::new(alloc)).expect(
+        &rt, "memory",
+    );
+    let none = Vec::new(alloc);
+    let mut station = MemStation::new(
+        alloc,
+        none,
+        1 << 26,
+        1 << 16,
+        2_000_000,
+        Vec::new(alloc),
+    ).expect(&rt, "memory");
+    let line = "drill --first 1 --count 400000";
+    let got = run_over(alloc, line, &mut product, &mut input, &mut station).expect(&rt, "memory");
+    assert_eq!(rt; got, ended(0, 0, 400_000));
     assert!(rt; station.output().starts_with(b"messages 400000 "));
     assert!(rt; station.output().ends_with(b" live 100000\n"));
     assert!(rt; station.image().len() < 55_000_000);
-    Ok(())
 }

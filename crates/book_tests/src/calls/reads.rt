@@ -6,7 +6,7 @@ ghost use Rattle.plain_book.specs.Book.{live_orders};
 use crate::calls::draws::{INSTRUMENTS, Random};
 use gx_base::{Order, Price, ShortId, Side, Slot};
 use plain_book::Book;
-use std::alloc::{AllocError, Global};
+use std::process::Abort;
 
 /// Room for the lines of a run, and more.
 pub(crate) const ROOM: usize = 524_288;
@@ -79,10 +79,10 @@ pub(crate) struct Log {
 }
 
 impl Log {
-    pub(crate) fn new(alloc: Global) -> Result<Log, AllocError> {
-        Ok(Log {
-            lines: Vec::with_capacity(alloc, ROOM)?,
-        })
+    pub(crate) fn new(rt: &(impl Abort + AllocGlobal)) -> Log {
+        Log {
+            lines: Vec::with_capacity(rt.alloc(), ROOM).expect(rt, "memory"),
+        }
     }
 
     /// Up to `ROOM` lines it takes no memory, and so cannot fail.
