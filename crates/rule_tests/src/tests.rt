@@ -10,7 +10,6 @@ mod stops;
 
 use run_fixtures::{ended, frames_of, run};
 use std::process::Abort;
-use std::test::Fail;
 
 /// The product of most runs with room for two live orders.
 const SMALL_PRODUCT: &str = r#"exchange = "GX"
@@ -46,15 +45,16 @@ type Case = (
 );
 
 /// Runs over the messages of each case, and looks for its reports.
-fn expect_reports(rt: &(impl Abort + AllocGlobal), cases: &[Case]) -> Result<(), Fail> {
+fn expect_reports(rt: &(impl Abort + AllocGlobal), cases: &[Case]) {
     let alloc = rt.alloc();
     for case in cases {
         let (name, product, bodies, reports) = *case;
-        let input = frames_of(alloc, bodies)?;
-        let sent = frames_of(alloc, reports)?;
-        let (got, station) = run(alloc, "run", product, input.as_slice(), Vec::new(alloc))?;
+        let input = frames_of(alloc, bodies).expect(rt, "memory");
+        let sent = frames_of(alloc, reports).expect(rt, "memory");
+        let (got, station) = run(alloc, "run", product, input.as_slice(), Vec::new(alloc)).expect(
+            rt, "memory",
+        );
         assert_eq!(rt; got, ended(0, 0, bodies.len() as u64), "{name}");
         assert_eq!(rt; station.output(), sent.as_slice(), "{name}");
     }
-    Ok(())
 }

@@ -2,7 +2,6 @@
 use fix_frame::{Framer, Next, ROOM};
 use run_fixtures::{ORDER, PRODUCT, bytes_of, ended, frames_of, run};
 use std::process::Abort;
-use std::test::Fail;
 
 /// Bytes, and the status of a run over them alone: 8 where they are the front of a frame, and 7 where they are of none.
 const FRONTS: [(&str, u8); 17] = [
@@ -26,11 +25,11 @@ const FRONTS: [(&str, u8); 17] = [
 ];
 
 /// What a framer that takes these bytes alone answers first.
-fn first_answer(rt: &(impl Abort + AllocGlobal), bytes: &[u8]) -> Result<Next, Fail> {
-    let mut framer = Framer::new(rt.alloc())?;
+fn first_answer(rt: &(impl Abort + AllocGlobal), bytes: &[u8]) -> Next {
+    let mut framer = Framer::new(rt.alloc()).expect(rt, "memory");
     assert!(rt; bytes.len() <= ROOM);
     assert_eq!(rt; framer.feed(bytes), bytes.len());
-    Ok(framer.next())
+    framer.next()
 }
 
 /// The first bytes of some.
@@ -40,13 +39,9 @@ fn prefix_of<'a>(rt: &impl Abort, bytes: &'a [u8], count: usize) -> &'a [u8] {
 }
 
 /// Looks for this status at the first of these bytes, with nothing sent, and for the framer's answer to it.
-fn expect_front(
-    rt: &(impl Abort + AllocGlobal),
-    name: &str,
-    bytes: &[u8],
-    status: u8,
-) -> Result<(), Fail> {
-    let (got, station) = run(rt.alloc(), "run", PRODUCT, bytes, Vec::new(rt.alloc()))?;
+fn expect_front(rt: &(impl Abort + AllocGlobal), name: &str, bytes: &[u8], status: u8) {
+    let alloc = rt.alloc();
+    let (got, station) = run(alloc, "run", PRODUCT, bytes, Vec::new(alloc)).expect(rt, "memory");
     assert_eq!(rt; got, ended(status, 0, 0), "{name}");
     assert_eq!(rt; station.output(), b"".as_slice(), "{name}");
     let answer = if status == 8 {
@@ -54,45 +49,42 @@ fn expect_front(
     } else {
         Next::Bad(0)
     };
-    assert_eq!(rt; first_answer(rt, bytes)?, answer, "{name}");
-    Ok(())
+    assert_eq!(rt; first_answer(rt, bytes), answer, "{name}");
 }
 
 #[test]
-fn fronts(rt: HostRuntime) -> Result<(), Fail> {
+fn fronts(rt: HostRuntime) {
     for (text, status) in FRONTS {
-        let bytes = bytes_of(rt.alloc(), text)?;
-        expect_front(&rt, text, bytes.as_slice(), status)?;
+        let bytes = bytes_of(rt.alloc(), text).expect(&rt, "memory");
+        expect_front(&rt, text, bytes.as_slice(), status);
     }
-    Ok(())
 }
 
 #[test]
-fn prefixes_of_a_frame(rt: HostRuntime) -> Result<(), Fail> {
-    let order = bytes_of(rt.alloc(), ORDER)?;
+fn prefixes_of_a_frame(rt: HostRuntime) {
+    let order = bytes_of(rt.alloc(), ORDER).expect(&rt, "memory");
     assert_eq!(rt; order.len(), 111);
     for count in 0..111 {
-        let answer = first_answer(&rt, prefix_of(&rt, order.as_slice(), count))?;
+        let answer = first_answer(&rt, prefix_of(&rt, order.as_slice(), count));
         assert_eq!(rt; answer, Next::More, "{count} bytes");
     }
-    assert_eq!(rt; first_answer(&rt, order.as_slice())?, Next::Frame(0, 111));
-    Ok(())
+    assert_eq!(rt; first_answer(&rt, order.as_slice()), Next::Frame(0, 111));
 }
 
 /// A body of 4,000 bytes, the most, is one field without a tag.
 #[test]
-fn frame_of_the_greatest_length(rt: HostRuntime) -> Result<(), Fail> {
+fn frame_of_the_greatest_length(rt: HostRuntime) {
     let alloc = rt.alloc();
     let mut frame: [u8; 4024] = [b'x'; 4024];
     frame[..17].copy_from_slice(b"8=FIX.4.2\x019=4000\x01");
     frame[4016] = 1;
     frame[4017..].copy_from_slice(b"10=227\x01");
-    expect_front(&rt, "all but its last byte", &frame[..4023], 8)?;
-    let (got, station) = run(alloc, "run", PRODUCT, &frame, Vec::new(alloc))?;
+    expect_front(&rt, "all but its last byte", &frame[..4023], 8);
+    let (got, station) = run(alloc, "run", PRODUCT, &frame, Vec::new(alloc)).expect(&rt, "memory");
     assert_eq!(rt; got, ended(0, 0, 1));
     let reports = [
         "35=3|34=1|49=GX|52=00000000-00:00:00|56=UNKNOWN|45=0|371=35|373=11|58=FIRST TAG|",
     ];
-    assert_eq!(rt; station.output(), frames_of(alloc, &reports)?.as_slice());
-    Ok(())
+    let sent = frames_of(alloc, &reports).expect(&rt, "memory");
+    assert_eq!(rt; station.output(), sent.as_slice());
 }

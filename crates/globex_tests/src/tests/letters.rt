@@ -9,7 +9,6 @@ use plain_book::{Book, PlainBook};
 use product_file::{Product, read_product};
 use run_fixtures::{PRODUCT, frames_of};
 use std::process::Abort;
-use std::test::Fail;
 
 /// Four sells at one price, of 10, 50, 30 and 1 lots, and a buy of 41.
 const ORDERS: [&str; 5] = [
@@ -51,28 +50,25 @@ fn apply_all<B: Book>(
 }
 
 /// Applies the orders under this product, and looks for these fills behind the five acceptances.
-fn expect_fills(
-    rt: &(impl Abort + AllocGlobal),
-    name: &str,
-    product: &str,
-    fills: &[&str],
-) -> Result<(), Fail> {
+fn expect_fills(rt: &(impl Abort + AllocGlobal), name: &str, product: &str, fills: &[&str]) {
     let alloc = rt.alloc();
-    let product = read_product(alloc, product.as_bytes())?;
+    let product = read_product(alloc, product.as_bytes()).expect(rt, "a product");
     let instruments = product.names().instrument_count() as u8;
-    let book = PlainBook::new(alloc, product.max_orders(), instruments)?;
+    let book = PlainBook::new(alloc, product.max_orders(), instruments).expect(rt, "memory");
     let mut core = Core::new(book, &product);
-    let mut framer = Framer::new(alloc)?;
-    let mut log = ByteEmit::new(alloc, product.names(), 8192)?;
-    let bytes = frames_of(alloc, &ORDERS)?;
+    let mut framer = Framer::new(alloc).expect(rt, "memory");
+    let mut log = ByteEmit::new(alloc, product.names(), 8192).expect(rt, "memory");
+    let bytes = frames_of(alloc, &ORDERS).expect(rt, "memory");
     assert!(rt; bytes.len() <= 4096);
     assert_eq!(rt; framer.feed(bytes.as_slice()), bytes.len());
     apply_all(rt, &product, &mut core, &mut framer, &mut log);
     assert!(rt; !log.failed(), "{name}");
-    let mut expected = frames_of(alloc, &ACCEPTED)?;
-    expected.extend_from_slice(frames_of(alloc, fills)?.as_slice())?;
+    let mut expected = frames_of(alloc, &ACCEPTED).expect(rt, "memory");
+    let fills = frames_of(alloc, fills).expect(rt, "memory");
+    expected
+        .extend_from_slice(fills.as_slice())
+        .expect(rt, "memory");
     assert_eq!(rt; log.bytes(), expected.as_slice(), "{name}");
-    Ok(())
 }
 
 /// The oldest order first.
@@ -305,9 +301,8 @@ const LETTERS: [(&str, &str, &[&str]); 9] = [
 ];
 
 #[test]
-fn fills_of_each_letter(rt: HostRuntime) -> Result<(), Fail> {
+fn fills_of_each_letter(rt: HostRuntime) {
     for (name, product, fills) in LETTERS {
-        expect_fills(&rt, name, product, fills)?;
+        expect_fills(&rt, name, product, fills);
     }
-    Ok(())
 }

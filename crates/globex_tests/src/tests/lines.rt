@@ -5,7 +5,6 @@ use gx_base::{
 };
 use product_file::read_product;
 use run_fixtures::bytes_of;
-use std::test::Fail;
 
 /// An exchange, a firm and an instrument of 24 bytes each, with prices of 8 decimals.
 const LONG_NAMES: &str = r#"exchange = "EEEEEEEEEEEEEEEEEEEEEEEE"
@@ -24,8 +23,8 @@ const LONGEST: &str =
     "8=FIX.4.2|9=453|35=8|34=18446744073709551615|49=EEEEEEEEEEEEEEEEEEEEEEEE|52=20240102-09:30:02.999|56=FFFFFFFFFFFFFFFFFFFFFFFF|37=18446744073709551615|11=OOOOOOOOOOOOOOOOOOOOOOOO|17=18446744073709551615|20=0|150=1|39=1|55=IIIIIIIIIIIIIIIIIIIIIIII|54=1|38=4294967295|40=4|44=-92233720368.54775808|99=-92233720368.54775808|59=1|32=4294967295|31=-92233720368.54775808|151=4294967295|14=4294967295|6=0|60=20240102-09:30:02.999|9001=LEVELING|9002=18446744073709551615|9003=0|10=094|";
 
 #[test]
-fn longest_line(rt: HostRuntime) -> Result<(), Fail> {
-    let product = read_product(rt.alloc(), LONG_NAMES.as_bytes())?;
+fn longest_line(rt: HostRuntime) {
+    let product = read_product(rt.alloc(), LONG_NAMES.as_bytes()).expect(&rt, "a product");
     let event = Event::Fill {
         head: Head {
             firm: Some(0),
@@ -58,11 +57,11 @@ fn longest_line(rt: HostRuntime) -> Result<(), Fail> {
     };
     let mut room = [0; LONGEST_LINE];
     let count = write_line(&event, product.names(), &mut room);
-    assert_eq!(rt; &room[..count], bytes_of(rt.alloc(), LONGEST)?.as_slice());
-    let text = format!(in rt.alloc(); "{}", PriceFault::Scale)?;
+    let longest = bytes_of(rt.alloc(), LONGEST).expect(&rt, "memory");
+    assert_eq!(rt; &room[..count], longest.as_slice());
+    let text = format!(in rt.alloc(); "{}", PriceFault::Scale).expect(&rt, "memory");
     assert_eq!(rt;
         text.as_str(),
         "the price has more decimals than the instrument"
     );
-    Ok(())
 }

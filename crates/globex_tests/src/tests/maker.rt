@@ -3,7 +3,6 @@ use gx_station::{LEAST_READ, Source};
 use order_maker::MakerSource;
 use product_file::read_product;
 use run_fixtures::{PRODUCT, join};
-use std::test::Fail;
 
 /// The stream of three messages with the first state 1, with `|` for SOH.
 const STREAM: [&str; 3] = [
@@ -13,13 +12,12 @@ const STREAM: [&str; 3] = [
 ];
 
 #[test]
-fn makes_the_first_messages(rt: HostRuntime) -> Result<(), Fail> {
-    let product = read_product(rt.alloc(), PRODUCT.as_bytes())?;
-    let mut source = MakerSource::new(rt.alloc(), &product, 1, 3)?;
+fn makes_the_first_messages(rt: HostRuntime) {
+    let product = read_product(rt.alloc(), PRODUCT.as_bytes()).expect(&rt, "a product");
+    let mut source = MakerSource::new(rt.alloc(), &product, 1, 3).expect(&rt, "memory");
     let mut into = [0; LEAST_READ];
-    let count = source.read(&mut into)?;
-    let stream = join(rt.alloc(), &STREAM)?;
+    let count = source.read(&mut into).expect(&rt, "messages");
+    let stream = join(rt.alloc(), &STREAM).expect(&rt, "memory");
     assert_eq!(rt; &into[..count], stream.as_slice());
     assert_eq!(rt; source.read(&mut into), Ok(0));
-    Ok(())
 }

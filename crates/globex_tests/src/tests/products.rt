@@ -2,9 +2,7 @@
 use gx_station::MemSource;
 use product_file::read_product;
 use run_fixtures::{PRODUCT, ended, run_over, station_over};
-use std::alloc::{AllocError, Global};
 use std::process::Abort;
-use std::test::Fail;
 
 const FIRMS: &str = r#"firms = ["AAA", "BBB"]"#;
 
@@ -115,42 +113,41 @@ const REFUSED: [Refused; 17] = [
 ];
 
 /// A product file of these lines.
-fn file(alloc: Global, firms: &str, tick: &str, algorithm: &str) -> Result<String, AllocError> {
-    format!(in alloc;
+fn file(rt: &(impl Abort + AllocGlobal), firms: &str, tick: &str, algorithm: &str) -> String {
+    format!(in rt.alloc();
         "exchange = \"GX\"\n{firms}\n\n[[instrument]]\nname = \"ESZ4\"\ndecimals = 2\n{tick}\nprotection = 2\n{algorithm}\n"
-    )
+    ).expect(rt, "memory")
+}
+
+/// A source that gives these bytes at once.
+fn source(rt: &(impl Abort + AllocGlobal), bytes: &[u8]) -> MemSource {
+    let alloc = rt.alloc();
+    let bytes = bytes.to_vec(alloc).expect(rt, "memory");
+    MemSource::new(alloc, bytes, Vec::new(alloc), Vec::new(alloc)).expect(rt, "memory")
 }
 
 /// Looks for status 3 with this number, and for a fault that says this.
-fn expect_refused(
-    rt: &(impl Abort + AllocGlobal),
-    text: &[u8],
-    number: u8,
-    says: &str,
-) -> Result<(), Fail> {
+fn expect_refused(rt: &(impl Abort + AllocGlobal), text: &[u8], number: u8, says: &str) {
     let alloc = rt.alloc();
-    let none = Vec::new(alloc);
-    let mut product = MemSource::new(alloc, text.to_vec(alloc)?, Vec::new(alloc), none)?;
-    let mut input = MemSource::new(alloc, Vec::new(alloc), Vec::new(alloc), Vec::new(alloc))?;
-    let mut station = station_over(alloc, b"", Vec::new(alloc))?;
-    let got = run_over(alloc, "run", &mut product, &mut input, &mut station)?;
+    let mut product = source(rt, text);
+    let mut input = source(rt, b"");
+    let mut station = station_over(alloc, b"", Vec::new(alloc)).expect(rt, "memory");
+    let got = run_over(alloc, "run", &mut product, &mut input, &mut station).expect(rt, "memory");
     assert_eq!(rt; got, ended(3, u64::from(number), 0), "{says}");
     assert_eq!(rt; station.calls(), 0, "{says}");
-    let fault = read_product(alloc, text).err().ok_or("faulty")?;
-    let shown = format!(in alloc; "{fault}")?;
+    let fault = read_product(alloc, text).err().expect(rt, "a fault");
+    let shown = format!(in alloc; "{fault}").expect(rt, "memory");
     assert_eq!(rt; shown.as_str(), says);
-    Ok(())
 }
 
 #[test]
-fn refused_products(rt: HostRuntime) -> Result<(), Fail> {
-    expect_refused(&rt, b"", 3, "`exchange` is missing")?;
-    expect_refused(&rt, b"=", 2, "the product file is no TOML document")?;
+fn refused_products(rt: HostRuntime) {
+    expect_refused(&rt, b"", 3, "`exchange` is missing");
+    expect_refused(&rt, b"=", 2, "the product file is no TOML document");
     for (firms, tick, algorithm, number, says) in REFUSED {
-        let text = file(rt.alloc(), firms, tick, algorithm)?;
-        expect_refused(&rt, text.as_bytes(), number, says)?;
+        let text = file(&rt, firms, tick, algorithm);
+        expect_refused(&rt, text.as_bytes(), number, says);
     }
-    Ok(())
 }
 
 /// A text of the usual product file, the one that stands there instead, the number of the rule, and what the fault says.
@@ -178,26 +175,27 @@ const CHANGED: [(&str, &str, u8, &str); 5] = [
 ];
 
 #[test]
-fn products_with_one_change(rt: HostRuntime) -> Result<(), Fail> {
+fn products_with_one_change(rt: HostRuntime) {
     for (old, new, number, says) in CHANGED {
-        let text = PRODUCT.replace(rt.alloc(), old, new)?;
-        expect_refused(&rt, text.as_bytes(), number, says)?;
+        let text = PRODUCT.replace(rt.alloc(), old, new).expect(&rt, "memory");
+        expect_refused(&rt, text.as_bytes(), number, says);
     }
-    Ok(())
 }
 
 /// A product file with a byte that no text has at its front, and one that is a byte too long.
 #[test]
-fn products_that_are_no_texts(rt: HostRuntime) -> Result<(), Fail> {
+fn products_that_are_no_texts(rt: HostRuntime) {
     let alloc = rt.alloc();
-    let mut no_text = b"\xFF".to_vec(alloc)?;
-    no_text.extend_from_slice(PRODUCT.as_bytes())?;
+    let mut no_text = b"\xFF".to_vec(alloc).expect(&rt, "memory");
+    no_text
+        .extend_from_slice(PRODUCT.as_bytes())
+        .expect(&rt, "memory");
     let says = "the product file is no TOML document";
-    expect_refused(&rt, no_text.as_slice(), 2, says)?;
-    let mut long = PRODUCT.as_bytes().to_vec(alloc)?;
+    expect_refused(&rt, no_text.as_slice(), 2, says);
+    let mut long = PRODUCT.as_bytes().to_vec(alloc).expect(&rt, "memory");
     for _ in PRODUCT.len()..65_537 {
-        long.push(b'#')?;
+        long.push(b'#').expect(&rt, "memory");
     }
     let says = "the product file has more than 65536 bytes";
-    expect_refused(&rt, long.as_slice(), 1, says)
+    expect_refused(&rt, long.as_slice(), 1, says);
 }

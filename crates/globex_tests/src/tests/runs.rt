@@ -8,7 +8,6 @@ use run_fixtures::{
     ended, join, run,
 };
 use std::process::Abort;
-use std::test::Fail;
 
 const HEARTBEAT: &str = "8=FIX.4.2|9=49|35=0|49=AAA|56=GX|34=1|52=20240102-09:30:00|58=x|10=133|";
 
@@ -29,13 +28,12 @@ fn expect_run(
     pieces: Vec<usize>,
     outcome: Outcome,
     sent: &[u8],
-) -> Result<(), Fail>
+)
     requires { AllByRecursion (λ size. 1 ≤ size) pieces.items }
 {
-    let (got, station) = run(rt.alloc(), word, PRODUCT, input, pieces)?;
+    let (got, station) = run(rt.alloc(), word, PRODUCT, input, pieces).expect(rt, "memory");
     assert_eq!(rt; got, outcome, "{name}");
     assert_eq!(rt; station.output(), sent, "{name}");
-    Ok(())
 }
 
 /// Runs over this input, read at once, byte by byte, and cut at every place into two reads.
@@ -46,16 +44,15 @@ fn expect_each_reading(
     input: &[u8],
     outcome: Outcome,
     sent: &[u8],
-) -> Result<(), Fail> {
+) {
     let whole = Vec::new(rt.alloc());
-    expect_run(rt, name, word, input, whole, outcome, sent)?;
-    let bytes = vec![in rt.alloc(); 1; 221]?;
-    expect_run(rt, name, word, input, bytes, outcome, sent)?;
+    expect_run(rt, name, word, input, whole, outcome, sent);
+    let bytes = vec![in rt.alloc(); 1; 221].expect(rt, "memory");
+    expect_run(rt, name, word, input, bytes, outcome, sent);
     for cut in 1..input.len() {
-        let pieces = vec![in rt.alloc(); cut]?;
-        expect_run(rt, name, word, input, pieces, outcome, sent)?;
+        let pieces = vec![in rt.alloc(); cut].expect(rt, "memory");
+        expect_run(rt, name, word, input, pieces, outcome, sent);
     }
-    Ok(())
 }
 
 /// A run: its name, its word, the frames that are read, how it ends, and what is sent.
@@ -114,13 +111,12 @@ const READINGS: [Reading; 7] = [
 ];
 
 #[test]
-fn readings(rt: HostRuntime) -> Result<(), Fail> {
+fn readings(rt: HostRuntime) {
     let alloc = rt.alloc();
     for (name, word, frames, (status, at, messages), reports) in READINGS {
-        let input = join(alloc, frames)?;
-        let sent = join(alloc, reports)?;
+        let input = join(alloc, frames).expect(&rt, "memory");
+        let sent = join(alloc, reports).expect(&rt, "memory");
         let outcome = ended(status, at, messages);
-        expect_each_reading(&rt, name, word, input.as_slice(), outcome, sent.as_slice())?;
+        expect_each_reading(&rt, name, word, input.as_slice(), outcome, sent.as_slice());
     }
-    Ok(())
 }

@@ -1,13 +1,12 @@
 //! Words that are a command, and words that are none.
 use command_words::{Command, WordsFault, read_command};
 use run_fixtures::words_of;
-use std::alloc::Global;
-use std::test::Fail;
+use std::process::Abort;
 
 /// The answer to the words of a text.
-fn answer(alloc: Global, line: &str) -> Result<Result<Command, WordsFault>, Fail> {
-    let words = words_of(alloc, line)?;
-    Ok(read_command(alloc, words.as_slice()))
+fn answer(rt: &(impl Abort + AllocGlobal), line: &str) -> Result<Command, WordsFault> {
+    let words = words_of(rt.alloc(), line).expect(rt, "memory");
+    read_command(rt.alloc(), words.as_slice())
 }
 
 const TAKEN: [(&str, Command); 12] = [
@@ -77,15 +76,13 @@ const REFUSED: [&str; 30] = [
 ];
 
 #[test]
-fn words(rt: HostRuntime) -> Result<(), Fail> {
-    let alloc = rt.alloc();
+fn words(rt: HostRuntime) {
     for (line, command) in TAKEN {
-        assert!(rt; answer(alloc, line)? == Ok(command), "{line}");
+        assert!(rt; answer(&rt, line) == Ok(command), "{line}");
     }
     let none: [String; 0] = [];
-    assert!(rt; read_command(alloc, none.as_slice()) == Err(WordsFault::Refused));
+    assert!(rt; read_command(rt.alloc(), none.as_slice()) == Err(WordsFault::Refused));
     for line in REFUSED {
-        assert!(rt; answer(alloc, line)? == Err(WordsFault::Refused), "{line}");
+        assert!(rt; answer(&rt, line) == Err(WordsFault::Refused), "{line}");
     }
-    Ok(())
 }

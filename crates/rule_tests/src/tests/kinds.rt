@@ -1,7 +1,6 @@
 //! Orders of each kind and life: what they may trade, and where their rest goes.
 use super::{Case, expect_reports};
 use run_fixtures::PRODUCT;
-use std::test::Fail;
 
 /// A sell of 100 that shows 10, one of 20 behind it, and a buy of 45.
 const DISPLAY: [&str; 3] = [
@@ -219,6 +218,6 @@ const CASES: [Case; 8] = [
 ];
 
 #[test]
-fn kinds_and_lives(rt: HostRuntime) -> Result<(), Fail> {
-    expect_reports(&rt, &CASES)
+fn kinds_and_lives(rt: HostRuntime) {
+    expect_reports(&rt, &CASES);
 }

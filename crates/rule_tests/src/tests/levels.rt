@@ -1,7 +1,6 @@
 //! Levels and books worked by hand: who gives how much, and in which step.
 use super::{Case, expect_reports};
 use run_fixtures::PRODUCT;
-use std::test::Fail;
 
 /// Pro rata, where a share of one lot is given, and then FIFO.
 const PRO_RATA: &str = r#"exchange = "GX"
@@ -180,6 +179,6 @@ const CASES: [Case; 5] = [
 ];
 
 #[test]
-fn worked_levels(rt: HostRuntime) -> Result<(), Fail> {
-    expect_reports(&rt, &CASES)
+fn worked_levels(rt: HostRuntime) {
+    expect_reports(&rt, &CASES);
 }

@@ -1,7 +1,6 @@
 //! What messages are answered that name nothing known, or break a session rule.
 use super::{Case, expect_reports};
 use run_fixtures::PRODUCT;
-use std::test::Fail;
 
 const UNKNOWN_ORDER_FIRM_AND_INSTRUMENT: [&str; 3] = [
     "35=F|49=AAA|56=GX|34=1|52=20240102-09:30:00|11=x1|41=x9|",
@@ -57,6 +56,6 @@ const CASES: [Case; 2] = [
 ];
 
 #[test]
-fn refused_messages(rt: HostRuntime) -> Result<(), Fail> {
-    expect_reports(&rt, &CASES)
+fn refused_messages(rt: HostRuntime) {
+    expect_reports(&rt, &CASES);
 }

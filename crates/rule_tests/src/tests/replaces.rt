@@ -1,7 +1,6 @@
 //! Replaces: which keep the place, which trade and trigger a stop, and which are refused.
 use super::{Case, expect_reports};
 use run_fixtures::PRODUCT;
-use std::test::Fail;
 
 /// Two sells of 10, of which the first is lowered to 6, may not go down to the 3 that are filled, and is raised to 8.
 const PLACE: [&str; 7] = [
@@ -113,6 +112,6 @@ const CASES: [Case; 4] = [
 ];
 
 #[test]
-fn replaces(rt: HostRuntime) -> Result<(), Fail> {
-    expect_reports(&rt, &CASES)
+fn replaces(rt: HostRuntime) {
+    expect_reports(&rt, &CASES);
 }

@@ -1,6 +1,5 @@
 //! Products whose steps are more than FIFO.
 use super::{Case, expect_reports};
-use std::test::Fail;
 
 /// Pro rata, where a share of fewer than five lots is not given, and then FIFO.
 const PRO_RATA: &str = r#"exchange = "GX"
@@ -269,6 +268,6 @@ const CASES: [Case; 7] = [
 ];
 
 #[test]
-fn shares_of_each_step(rt: HostRuntime) -> Result<(), Fail> {
-    expect_reports(&rt, &CASES)
+fn shares_of_each_step(rt: HostRuntime) {
+    expect_reports(&rt, &CASES);
 }

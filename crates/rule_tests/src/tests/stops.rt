@@ -1,7 +1,6 @@
 //! Stop limit orders: which a message triggers, in which order, and what they then trade.
 use super::{Case, expect_reports};
 use run_fixtures::PRODUCT;
-use std::test::Fail;
 
 /// A buy stop and a sell stop, and a buy that trades at 99.90 and at 100.05.
 const BOTH_SIDES: [&str; 7] = [
@@ -108,6 +107,6 @@ const CASES: [Case; 3] = [
 ];
 
 #[test]
-fn stops(rt: HostRuntime) -> Result<(), Fail> {
-    expect_reports(&rt, &CASES)
+fn stops(rt: HostRuntime) {
+    expect_reports(&rt, &CASES);
 }
