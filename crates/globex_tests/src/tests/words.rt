@@ -80,8 +80,7 @@ fn words(rt: HostRuntime) {
     for (line, command) in TAKEN {
         assert!(rt; answer(&rt, line) == Ok(command), "{line}");
     }
-    let none: [String; 0] = [];
-    assert!(rt; read_command(rt.alloc(), none.as_slice()) == Err(WordsFault::Refused));
+    assert!(rt; read_command(rt.alloc(), &[]) == Err(WordsFault::Refused));
     for line in REFUSED {
         assert!(rt; answer(&rt, line) == Err(WordsFault::Refused), "{line}");
     }
