@@ -51,9 +51,8 @@ fn expect_reports(rt: &(impl Abort + AllocGlobal), cases: &[Case]) {
         let (name, product, bodies, reports) = *case;
         let input = frames_of(alloc, bodies).expect(rt, "memory");
         let sent = frames_of(alloc, reports).expect(rt, "memory");
-        let (got, station) = run(alloc, "run", product, input.as_slice(), Vec::new(alloc)).expect(
-            rt, "memory",
-        );
+        let ran = run(alloc, "run", product, input.as_slice(), Vec::new(alloc));
+        let (got, station) = ran.expect(rt, "memory");
         assert_eq!(rt; got, ended(0, 0, bodies.len() as u64), "{name}");
         assert_eq!(rt; station.output(), sent.as_slice(), "{name}");
     }
