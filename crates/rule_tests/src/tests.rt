@@ -1,4 +1,4 @@
-//! Runs that apply all of their messages, with the reports of each. Each file has a table of cases, and a test that goes through it.
+//! Runs that apply all of their messages, with the reports of each. Each file has the messages and reports of its cases, and a test that goes through them.
 mod displays;
 mod kinds;
 mod levels;
@@ -36,24 +36,19 @@ protection = 2
 algorithm = "F"
 "#;
 
-/// A run that applies all of its messages: its name, its product, the bodies of the messages, and those of the reports.
-type Case = (
-    &'static str,
-    &'static str,
-    &'static [&'static str],
-    &'static [&'static str],
-);
-
-/// Runs over the messages of each case, and looks for its reports.
-fn expect_reports(rt: &(impl Abort + AllocGlobal), cases: &[Case]) {
+/// Runs over these messages, which are all applied, and looks for these reports; both are bodies.
+fn expect_reports(
+    rt: &(impl Abort + AllocGlobal),
+    name: &str,
+    product: &str,
+    bodies: &[&str],
+    reports: &[&str],
+) {
     let alloc = rt.alloc();
-    for case in cases {
-        let (name, product, bodies, reports) = *case;
-        let input = frames_of(alloc, bodies).expect(rt, "memory");
-        let sent = frames_of(alloc, reports).expect(rt, "memory");
-        let ran = run(alloc, "run", product, input.as_slice(), Vec::new(alloc));
-        let (got, station) = ran.expect(rt, "memory");
-        assert_eq!(rt; got, ended(0, 0, bodies.len() as u64), "{name}");
-        assert_eq!(rt; station.output(), sent.as_slice(), "{name}");
-    }
+    let input = frames_of(alloc, bodies).expect(rt, "memory");
+    let sent = frames_of(alloc, reports).expect(rt, "memory");
+    let ran = run(alloc, "run", product, input.as_slice(), Vec::new(alloc));
+    let (got, station) = ran.expect(rt, "memory");
+    assert_eq!(rt; got, ended(0, 0, bodies.len() as u64), "{name}");
+    assert_eq!(rt; station.output(), sent.as_slice(), "{name}");
 }

@@ -1,5 +1,5 @@
 //! Orders that show a part of their lots, under all six steps.
-use super::{Case, expect_reports};
+use super::expect_reports;
 
 /// Each step once.
 const SIX_STEPS: &str = r#"exchange = "GX"
@@ -106,14 +106,13 @@ const SHOWN_PARTS_REPORTS: [&str; 68] = [
     "35=8|34=17|49=GX|52=20240102-09:31:44|56=CCC|37=8|11=c26|17=68|20=0|150=2|39=2|55=ALL1|54=1|38=19|40=2|44=50.05|59=3|32=1|31=50.05|151=0|14=19|6=0|60=20240102-09:31:44|9001=FIFO|9002=30|9003=0|",
 ];
 
-const CASES: [Case; 1] = [(
-    "shown part is refreshed in each step",
-    SIX_STEPS,
-    &SHOWN_PARTS,
-    &SHOWN_PARTS_REPORTS,
-)];
-
 #[test]
 fn shown_parts(rt: HostRuntime) {
-    expect_reports(&rt, &CASES);
+    expect_reports(
+        &rt,
+        "shown part is refreshed in each step",
+        SIX_STEPS,
+        &SHOWN_PARTS,
+        &SHOWN_PARTS_REPORTS,
+    );
 }

@@ -1,5 +1,5 @@
 //! Orders of each kind and life: what they may trade, and where their rest goes.
-use super::{Case, expect_reports};
+use super::expect_reports;
 use run_fixtures::PRODUCT;
 
 /// A sell of 100 that shows 10, one of 20 behind it, and a buy of 45.
@@ -166,58 +166,62 @@ const ENDS_OF_RANGE_REPORTS: [&str; 21] = [
     "35=8|34=6|49=GX|52=20240102-09:30:11|56=CCC|37=7|11=c5|17=19|20=0|150=2|39=2|55=TK25|54=1|38=2|40=2|44=-9999999999.75|59=0|32=2|31=-9999999999.75|151=0|14=2|6=0|60=20240102-09:30:11|9001=FIFO|9002=5|9003=0|",
 ];
 
-const CASES: [Case; 8] = [
-    (
+#[test]
+fn kinds_and_lives(rt: HostRuntime) {
+    expect_reports(
+        &rt,
         "display is refreshed behind its price",
         PRODUCT,
         &DISPLAY,
         &DISPLAY_REPORTS,
-    ),
-    (
+    );
+    expect_reports(
+        &rt,
         "fill or kill is cancelled",
         PRODUCT,
         &FILL_OR_KILL,
         &FILL_OR_KILL_REPORTS,
-    ),
-    (
+    );
+    expect_reports(
+        &rt,
         "fill or kill counts what is hidden",
         PRODUCT,
         &HIDDEN_LOTS,
         &HIDDEN_LOTS_REPORTS,
-    ),
-    (
+    );
+    expect_reports(
+        &rt,
         "fill or kill with a minimum quantity",
         PRODUCT,
         &OWN_MINIMUM,
         &OWN_MINIMUM_REPORTS,
-    ),
-    (
+    );
+    expect_reports(
+        &rt,
         "fill and kill cancels its rest",
         PRODUCT,
         &FILL_AND_KILL,
         &FILL_AND_KILL_REPORTS,
-    ),
-    (
+    );
+    expect_reports(
+        &rt,
         "protected market order rests at its limit",
         PRODUCT,
         &PROTECTED_MARKET,
         &PROTECTED_MARKET_REPORTS,
-    ),
-    (
+    );
+    expect_reports(
+        &rt,
         "market order without a market",
         PRODUCT,
         &NO_MARKET,
         &NO_MARKET_REPORTS,
-    ),
-    (
+    );
+    expect_reports(
+        &rt,
         "protection ends within the price range",
         RANGE_PRODUCT,
         &ENDS_OF_RANGE,
         &ENDS_OF_RANGE_REPORTS,
-    ),
-];
-
-#[test]
-fn kinds_and_lives(rt: HostRuntime) {
-    expect_reports(&rt, &CASES);
+    );
 }

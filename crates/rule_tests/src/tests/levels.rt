@@ -1,5 +1,5 @@
 //! Levels and books worked by hand: who gives how much, and in which step.
-use super::{Case, expect_reports};
+use super::expect_reports;
 use run_fixtures::PRODUCT;
 
 /// Pro rata, where a share of one lot is given, and then FIFO.
@@ -160,25 +160,29 @@ const LEAST_OVER_PRICES_REPORTS: [&str; 15] = [
     "35=8|34=8|49=GX|52=20240102-09:30:04|56=BBB|37=5|11=b2|17=15|20=0|150=4|39=4|55=ESZ4|54=2|38=30|40=2|44=99.98|59=3|151=0|14=24|6=0|60=20240102-09:30:04|58=FAK|9003=6|",
 ];
 
-const CASES: [Case; 5] = [
-    ("largest orders", PRO_RATA, &LARGEST, &LARGEST_REPORTS),
-    (
+#[test]
+fn worked_levels(rt: HostRuntime) {
+    expect_reports(&rt, "largest orders", PRO_RATA, &LARGEST, &LARGEST_REPORTS);
+    expect_reports(
+        &rt,
         "more wanted than shown",
         PRO_RATA,
         &MORE_THAN_SHOWN,
         &MORE_THAN_SHOWN_REPORTS,
-    ),
-    ("unspent share", TWO_MAKERS, &UNSPENT, &UNSPENT_REPORTS),
-    ("buys by price, then time", PRODUCT, &BUYS, &BUYS_REPORTS),
-    (
+    );
+    expect_reports(&rt, "unspent share", TWO_MAKERS, &UNSPENT, &UNSPENT_REPORTS);
+    expect_reports(
+        &rt,
+        "buys by price, then time",
+        PRODUCT,
+        &BUYS,
+        &BUYS_REPORTS,
+    );
+    expect_reports(
+        &rt,
         "least over prices",
         PRODUCT,
         &LEAST_OVER_PRICES,
         &LEAST_OVER_PRICES_REPORTS,
-    ),
-];
-
-#[test]
-fn worked_levels(rt: HostRuntime) {
-    expect_reports(&rt, &CASES);
+    );
 }

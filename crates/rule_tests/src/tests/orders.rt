@@ -1,5 +1,5 @@
 //! What orders and cancels are answered, report by report.
-use super::{Case, SMALL_PRODUCT, WIDE_TICK_PRODUCT, expect_reports};
+use super::{SMALL_PRODUCT, WIDE_TICK_PRODUCT, expect_reports};
 use run_fixtures::PRODUCT;
 
 const NUMBERS_AS_WRITTEN: [&str; 12] = [
@@ -117,36 +117,48 @@ const TWO_PRICES_REPORTS: [&str; 10] = [
     "35=8|34=4|49=GX|52=20240102-09:30:03|56=DDD|37=4|11=d1|17=10|20=0|150=2|39=2|55=ESZ4|54=1|38=12|40=2|44=100.01|59=0|32=2|31=100.01|151=0|14=12|6=0|60=20240102-09:30:03|9001=FIFO|9002=3|9003=0|",
 ];
 
-const CASES: [Case; 6] = [
-    (
+#[test]
+fn orders_and_cancels(rt: HostRuntime) {
+    expect_reports(
+        &rt,
         "numbers as written",
         PRODUCT,
         &NUMBERS_AS_WRITTEN,
         &NUMBERS_AS_WRITTEN_REPORTS,
-    ),
-    ("repeated id", PRODUCT, &REPEATED_ID, &REPEATED_ID_REPORTS),
-    ("full book", SMALL_PRODUCT, &FULL_BOOK, &FULL_BOOK_REPORTS),
-    (
+    );
+    expect_reports(
+        &rt,
+        "repeated id",
+        PRODUCT,
+        &REPEATED_ID,
+        &REPEATED_ID_REPORTS,
+    );
+    expect_reports(
+        &rt,
+        "full book",
+        SMALL_PRODUCT,
+        &FULL_BOOK,
+        &FULL_BOOK_REPORTS,
+    );
+    expect_reports(
+        &rt,
         "cancel of a part",
         PRODUCT,
         &CANCEL_OF_A_PART,
         &CANCEL_OF_A_PART_REPORTS,
-    ),
-    (
+    );
+    expect_reports(
+        &rt,
         "usual client message",
         WIDE_TICK_PRODUCT,
         &USUAL_CLIENT_MESSAGE,
         &USUAL_CLIENT_MESSAGE_REPORTS,
-    ),
-    (
+    );
+    expect_reports(
+        &rt,
         "sweeps two prices",
         PRODUCT,
         &TWO_PRICES,
         &TWO_PRICES_REPORTS,
-    ),
-];
-
-#[test]
-fn orders_and_cancels(rt: HostRuntime) {
-    expect_reports(&rt, &CASES);
+    );
 }

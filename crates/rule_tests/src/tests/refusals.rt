@@ -1,5 +1,5 @@
 //! What messages are answered that name nothing known, or break a session rule.
-use super::{Case, expect_reports};
+use super::expect_reports;
 use run_fixtures::PRODUCT;
 
 const UNKNOWN_ORDER_FIRM_AND_INSTRUMENT: [&str; 3] = [
@@ -40,22 +40,20 @@ const SESSION_RULES_REPORTS: [&str; 10] = [
     "35=3|34=6|49=GX|52=20240102-09:30:00|56=AAA|45=1|371=54|373=5|58=VALUE|",
 ];
 
-const CASES: [Case; 2] = [
-    (
+#[test]
+fn refused_messages(rt: HostRuntime) {
+    expect_reports(
+        &rt,
         "unknown order firm and instrument",
         PRODUCT,
         &UNKNOWN_ORDER_FIRM_AND_INSTRUMENT,
         &UNKNOWN_ORDER_FIRM_AND_INSTRUMENT_REPORTS,
-    ),
-    (
+    );
+    expect_reports(
+        &rt,
         "session rules",
         PRODUCT,
         &SESSION_RULES,
         &SESSION_RULES_REPORTS,
-    ),
-];
-
-#[test]
-fn refused_messages(rt: HostRuntime) {
-    expect_reports(&rt, &CASES);
+    );
 }

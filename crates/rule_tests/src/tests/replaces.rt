@@ -1,5 +1,5 @@
 //! Replaces: which keep the place, which trade and trigger a stop, and which are refused.
-use super::{Case, expect_reports};
+use super::expect_reports;
 use run_fixtures::PRODUCT;
 
 /// Two sells of 10, of which the first is lowered to 6, may not go down to the 3 that are filled, and is raised to 8.
@@ -99,19 +99,28 @@ const WAITING_REPORTS: [&str; 3] = [
     "35=9|34=3|49=GX|52=20240102-09:30:03|56=AAA|37=1|11=r3|41=r2|39=0|434=2|102=2|58=MISMATCH|60=20240102-09:30:03|",
 ];
 
-const CASES: [Case; 4] = [
-    ("place is kept or lost", PRODUCT, &PLACE, &PLACE_REPORTS),
-    (
+#[test]
+fn replaces(rt: HostRuntime) {
+    expect_reports(
+        &rt,
+        "place is kept or lost",
+        PRODUCT,
+        &PLACE,
+        &PLACE_REPORTS,
+    );
+    expect_reports(
+        &rt,
         "trades and triggers a stop",
         PRODUCT,
         &TRADING,
         &TRADING_REPORTS,
-    ),
-    ("refusals", PRODUCT, &REFUSALS, &REFUSALS_REPORTS),
-    ("a stop that waits", PRODUCT, &WAITING, &WAITING_REPORTS),
-];
-
-#[test]
-fn replaces(rt: HostRuntime) {
-    expect_reports(&rt, &CASES);
+    );
+    expect_reports(&rt, "refusals", PRODUCT, &REFUSALS, &REFUSALS_REPORTS);
+    expect_reports(
+        &rt,
+        "a stop that waits",
+        PRODUCT,
+        &WAITING,
+        &WAITING_REPORTS,
+    );
 }

@@ -1,5 +1,5 @@
 //! Products whose steps are more than FIFO.
-use super::{Case, expect_reports};
+use super::expect_reports;
 
 /// Pro rata, where a share of fewer than five lots is not given, and then FIFO.
 const PRO_RATA: &str = r#"exchange = "GX"
@@ -232,42 +232,49 @@ const NO_HEIR_REPORTS: [&str; 9] = [
     "35=8|34=4|49=GX|52=20240102-09:30:04|56=BBB|37=5|11=b2|17=9|20=0|150=2|39=2|55=ESZ4|54=1|38=10|40=2|44=100.00|59=0|32=10|31=100.00|151=0|14=10|6=0|60=20240102-09:30:04|9001=PRORATA|9002=2|9003=0|",
 ];
 
-const CASES: [Case; 7] = [
-    (
+#[test]
+fn shares_of_each_step(rt: HostRuntime) {
+    expect_reports(
+        &rt,
         "pro rata with a least share",
         PRO_RATA,
         &LEAST_SHARE,
         &LEAST_SHARE_REPORTS,
-    ),
-    ("split then pro rata", SPLIT_STEPS, &SPLIT, &SPLIT_REPORTS),
-    (
+    );
+    expect_reports(
+        &rt,
+        "split then pro rata",
+        SPLIT_STEPS,
+        &SPLIT,
+        &SPLIT_REPORTS,
+    );
+    expect_reports(
+        &rt,
         "pro rata with leveling",
         LEVELING_STEPS,
         &LEVELING,
         &LEVELING_REPORTS,
-    ),
-    ("lmm before fifo", MAKER_STEPS, &MAKER, &MAKER_REPORTS),
-    (
+    );
+    expect_reports(&rt, "lmm before fifo", MAKER_STEPS, &MAKER, &MAKER_REPORTS);
+    expect_reports(
+        &rt,
         "two market makers with half each",
         TWO_MAKERS_STEPS,
         &TWO_MAKERS,
         &TWO_MAKERS_REPORTS,
-    ),
-    (
+    );
+    expect_reports(
+        &rt,
         "threshold top is bettered",
         BETTERED_STEPS,
         &BETTERED,
         &BETTERED_REPORTS,
-    ),
-    (
+    );
+    expect_reports(
+        &rt,
         "nobody inherits top",
         NO_HEIR_STEPS,
         &NO_HEIR,
         &NO_HEIR_REPORTS,
-    ),
-];
-
-#[test]
-fn shares_of_each_step(rt: HostRuntime) {
-    expect_reports(&rt, &CASES);
+    );
 }

@@ -1,5 +1,5 @@
 //! Stop limit orders: which a message triggers, in which order, and what they then trade.
-use super::{Case, expect_reports};
+use super::expect_reports;
 use run_fixtures::PRODUCT;
 
 /// A buy stop and a sell stop, and a buy that trades at 99.90 and at 100.05.
@@ -95,18 +95,15 @@ const TOO_LITTLE_REPORTS: [&str; 11] = [
     "35=8|34=3|49=GX|52=20240102-09:30:05|56=CCC|37=3|11=c1|17=11|20=0|150=4|39=4|55=ESZ4|54=1|38=5|40=2|44=100.10|59=4|151=0|14=0|6=0|60=20240102-09:30:05|58=MINQTY NOT MET|9003=5|",
 ];
 
-const CASES: [Case; 3] = [
-    ("both sides", PRODUCT, &BOTH_SIDES, &BOTH_SIDES_REPORTS),
-    ("three stops", PRODUCT, &THREE, &THREE_REPORTS),
-    (
+#[test]
+fn stops(rt: HostRuntime) {
+    expect_reports(&rt, "both sides", PRODUCT, &BOTH_SIDES, &BOTH_SIDES_REPORTS);
+    expect_reports(&rt, "three stops", PRODUCT, &THREE, &THREE_REPORTS);
+    expect_reports(
+        &rt,
         "fill or kill that finds too little",
         PRODUCT,
         &TOO_LITTLE,
         &TOO_LITTLE_REPORTS,
-    ),
-];
-
-#[test]
-fn stops(rt: HostRuntime) {
-    expect_reports(&rt, &CASES);
+    );
 }
