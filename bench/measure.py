@@ -2,7 +2,7 @@
 """Measures how many messages a second `globex run` serves, how many it recovers, and how long it takes after a checkpoint.
 
 Makes 100,000 limit orders and cancels of four firms, always the same ones, in ten streams of 10,000. In a folder in memory
-it runs the program over each stream with a new journal, one after the other, five times, and then over the journals that
+it runs the program over each stream with a new journal, one after the other, forty times, and then over the journals that
 these runs leave with an empty input, which is recovery alone. In a folder on a disk it runs the program over one stream of
 100,000 from a file, where each record waits for two syncs, and measures beside it, in turn, what the syncs of records of
 8,192 bytes cost without the engine. It does the same once more on a slower disk, which strace makes of this one: each sync takes
@@ -33,7 +33,7 @@ import streams
 
 STREAMS = 10
 MESSAGES = 10_000
-ROUNDS = 5
+ROUNDS = 40
 JOURNAL_START = 4_096
 RECORD = 8_192
 DISK_ROUNDS = 5
