@@ -29,7 +29,7 @@ def body_of(frame):
 
 
 class NoFrame(Exception):
-    """Bytes that are the front of no frame. `place` is the first wrong byte, counted from where the frame would begin."""
+    """Bytes that are the front of no frame. `place` is the first wrong byte, counted from the first byte of the frame."""
 
     def __init__(self, place, why):
         super().__init__(why)
@@ -55,7 +55,7 @@ def hold_to(data, at, place, wanted, why):
 
 
 def length_at(data, at):
-    """The body's length and where the body begins, counted from the frame's begin; nothing where more bytes are needed."""
+    """The length of the body and its place in the frame; nothing if more bytes are needed."""
     front = len(BEGIN)
     length = 0
     for count in range(MOST_LENGTH_DIGITS + 1):
@@ -82,8 +82,8 @@ def length_at(data, at):
 
 
 def end_of_frame(data, at=0):
-    """Where the frame that begins at a place ends; nothing where more bytes are needed. Raises NoFrame where none can begin."""
-    if not hold_to(data, at, 0, BEGIN, lambda given: "it does not begin with 8=FIX.4.2 and 9="):
+    """The end of the frame that begins at a place; nothing if more bytes are needed. Raises NoFrame if none can begin there."""
+    if not hold_to(data, at, 0, BEGIN, lambda given: "it does not begin with 8=FIX.4.2|9="):
         return None
     found = length_at(data, at)
     if found is None:
@@ -116,7 +116,7 @@ class Stopped(Exception):
 
 
 def stopped_by(fault, offset, count):
-    return Stopped(offset, count, f"no frame stands here: {fault.why} (byte {offset + fault.place})", False)
+    return Stopped(offset, count, f"no frame begins here: {fault.why} (byte {offset + fault.place})", False)
 
 
 def cut_at(offset, count, left):
@@ -139,7 +139,7 @@ class Frames:
         return len(more) > 0
 
     def __iter__(self):
-        """Each frame with its offset. Raises Stopped where the rest begins with none."""
+        """Each frame with its offset. Raises Stopped if the rest begins with none."""
         at = 0
         while True:
             try:
@@ -161,7 +161,7 @@ class Frames:
             raise cut_at(self.offset, self.count, len(self.left))
 
     def skip(self, count):
-        """Goes over so many frames. Answers where the next one would begin; `left` begins there then."""
+        """Goes over so many frames. Answers the offset of the next one, at which `left` begins then."""
         at = 0
         while self.count < count:
             try:
@@ -185,7 +185,7 @@ class Frames:
 
 
 def whole_frames(payload):
-    """The frames of some bytes, one after the other. Raises Stopped where there is a rest."""
+    """The frames of some bytes, one after the other. Raises Stopped if there is a rest."""
     frames, at = [], 0
     while at < len(payload):
         try:
@@ -208,7 +208,7 @@ def escaped(data):
 
 
 def unescaped(data):
-    """The bytes that such text stands for."""
+    """The bytes that such text means."""
     return ESCAPE.sub(lambda found: bytes([int(found[1], 16)]), data)
 
 

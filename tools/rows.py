@@ -85,7 +85,7 @@ def csv_body(tags, cells):
 
 
 def columns_of(frame):
-    """The cells of a frame by their columns. A column is a heading and, of tags that stand twice, which one it is."""
+    """The cells of a frame by their columns. A column is a heading and, for a tag that is there twice, which one it is."""
     cells, others = {}, []
     for text in fix42.field_texts(frame):
         tag_text, _, value = text.partition(b"=")

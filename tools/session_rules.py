@@ -16,7 +16,7 @@ Fault = collections.namedtuple("Fault", "rule text tag reason why")
 
 
 def said(fault):
-    """A fault in one line: the rule, why, and what the Reject would tell."""
+    """A fault in one line: the rule, why, and what the Reject would say."""
     tag = f"371={fault.tag}" if fault.tag else "no 371"
     return f"{fault.text}: {fault.why} ({tag}, 373={fault.reason})"
 
@@ -76,7 +76,7 @@ class Product:
             raise BadProduct("instrument is no array of 1 to 16 tables")
         self.decimals = dict(decimals_in(entry) for entry in tables)
         if len(self.decimals) < len(tables):
-            raise BadProduct("an instrument stands twice")
+            raise BadProduct("an instrument is there twice")
         self.journal_limit = integer_in(table, "journal_limit", *JOURNAL_LIMITS)
         self.max_orders = integer_in(table, "max_orders", *MOST_ORDERS)
 
@@ -128,8 +128,8 @@ FORMS = {
     QUANTITY: (is_quantity, "no quantity of one to nine digits"),
     PRICE: (is_price, "no price of digits and a point in at most 32 bytes"),
 }
-# where 40 is one of these, a price is needed and read
-READ_WHERE_40 = {44: (b"2", b"4"), 99: (b"4",)}
+# a price is needed and read if 40 is one of these
+READ_IF_40 = {44: (b"2", b"4"), 99: (b"4",)}
 ALLOWED = {54: (b"1", b"2"), 40: (b"1", b"2", b"4"), 59: (b"0", b"1", b"3", b"4")}
 
 Row = collections.namedtuple("Row", "needed forms values")
@@ -154,7 +154,7 @@ ROWS.update({b"D": NEW, b"F": CANCEL, b"G": REPLACE})
 
 
 class Message:
-    """The first value of each tag. A symbol is that of 107 where it is there, else of 55."""
+    """The first value of each tag. A symbol is that of 107 if it is there, else of 55."""
 
     def __init__(self, pairs):
         self.values = {}
@@ -162,15 +162,15 @@ class Message:
             self.values.setdefault(tag, value)
         self.symbol_tag = 107 if 107 in self.values else SYMBOL
 
-    def tag_told(self, tag):
+    def named_tag(self, tag):
         return self.symbol_tag if tag == SYMBOL else tag
 
     def is_read(self, tag):
-        return tag not in READ_WHERE_40 or self.values.get(40) in READ_WHERE_40[tag]
+        return tag not in READ_IF_40 or self.values.get(40) in READ_IF_40[tag]
 
     def value(self, tag):
-        """The value where it is there and is read, else nothing."""
-        return self.values.get(self.tag_told(tag)) if self.is_read(tag) else None
+        """The value if it is there and is read, else nothing."""
+        return self.values.get(self.named_tag(tag)) if self.is_read(tag) else None
 
 
 def pairs_of(body):
@@ -251,8 +251,8 @@ def hold_content(message, product):
         value = message.value(tag)
         has_form, what = FORMS[form]
         if value is not None and not has_form(value):
-            told = message.tag_told(tag)
-            raise Refused(Fault(9, "FORMAT", told, 6, f"{told} is {what}"))
+            named = message.named_tag(tag)
+            raise Refused(Fault(9, "FORMAT", named, 6, f"{named} is {what}"))
     for tag in row.values:
         value = message.value(tag)
         if value is None:
@@ -260,7 +260,7 @@ def hold_content(message, product):
         if tag in ALLOWED and value not in ALLOWED[tag]:
             listed = ", ".join(text.decode() for text in ALLOWED[tag])
             raise Refused(Fault(10, "VALUE", tag, 5, f"{tag} is none of {listed}"))
-        if tag in READ_WHERE_40 and product is not None:
+        if tag in READ_IF_40 and product is not None:
             decimals = product.decimals.get(message.value(SYMBOL))
             if decimals is not None and not is_in_range(value, decimals):
                 why = f"{tag} is beyond {MOST_PRICE_UNITS:,} units of its instrument"

@@ -1,0 +1,284 @@
+"""Journals, by docs/FORMATS.md ("The journal", "Book images"): what a file is, its records, and copies with fewer of them."""
+
+import dataclasses
+
+import fix42
+import session_rules
+
+MAGIC = b"GXJOURN1"
+MOST_TEXT = 65_536
+MOST_UNFINISHED = 65_550
+MOST_PAYLOAD = 8_192
+MOST_MESSAGES = 1 << 24
+HEAD = 6
+TEXT_AT = 13
+
+MESSAGES, IMAGE = b"M", b"C"
+OPEN, CLOSED = b"\x01", b"\x00"
+
+IMAGE_FRONT = 552
+INSTRUMENT_BYTES = 25
+ORDER_BYTES = 82
+
+
+class Bad(Exception):
+    """A file or a record that is refused. The engine names the same `place`."""
+
+    def __init__(self, place, why):
+        super().__init__(why)
+        self.place = place
+        self.why = why
+
+
+@dataclasses.dataclass
+class Record:
+    """A record with a good head. `fault` says why its payload is not good, or is nothing. `count` is how many messages it has,
+    `before` how many are before it, and `counted` the count after it, which an image sets to its own."""
+
+    gate: int
+    kind: bytes
+    length: int
+    count: int
+    before: int
+    counted: int
+    fault: str | None
+
+    @property
+    def end(self):
+        return self.gate + HEAD + self.length
+
+
+def number_at(data, place, width):
+    return int.from_bytes(data[place : place + width], "big")
+
+
+def record_bytes(kind, payload):
+    """A record with its open gate, and without the gate after it."""
+    return OPEN + kind + len(payload).to_bytes(4, "big") + payload
+
+
+# ---- what a file is
+
+
+def has_header(data):
+    """Whether GXJOURN1, a length, a text and a gate follow the first gate."""
+    length = number_at(data, 9, 4)
+    return data[1:9] == MAGIC and len(data) >= TEXT_AT and length <= MOST_TEXT and len(data) > TEXT_AT + length
+
+
+def first_gate(data):
+    """The gate of the first record, if there is a header."""
+    return TEXT_AT + number_at(data, 9, 4)
+
+
+def class_of(data):
+    if len(data) <= 1 or (data[:1] == CLOSED and len(data) <= MOST_UNFINISHED):
+        return "blank"
+    if data[:1] not in (CLOSED, OPEN) and has_header(data) and data[first_gate(data)] == 0:
+        return "sealed"
+    if data[:9] == OPEN + MAGIC:
+        return "journal"
+    return "foreign"
+
+
+class Journal:
+    """A journal file: its class, its product text, and its records up to the first closed gate or the first bad head."""
+
+    def __init__(self, data):
+        self.data = data
+        self.kind = class_of(data)
+        self.records = []
+        self.text = None
+        self.product = None
+        self.product_fault = None
+        self.bad_head = None
+        self.gate = None
+        if self.kind == "foreign":
+            raise Bad(0 if data[:1] != OPEN else 1 + fix42.first_difference(data[1:9], MAGIC), "it is no journal")
+        if self.kind == "blank":
+            return
+        if not has_header(data):
+            raise Bad(9, "the length of the product text in the header cannot be")
+        self.text = data[TEXT_AT : first_gate(data)]
+        try:
+            self.product = session_rules.Product(self.text)
+        except session_rules.BadProduct as fault:
+            self.product_fault = str(fault)
+        if self.kind == "journal":
+            self.walk()
+
+    @property
+    def limit(self):
+        return self.product.journal_limit if self.product else session_rules.JOURNAL_LIMITS[2]
+
+    def walk(self):
+        """Reads the records."""
+        self.gate, before, counted = first_gate(self.data), 0, 0
+        while self.data[self.gate : self.gate + 1] == OPEN:
+            try:
+                self.hold_head()
+            except Bad as fault:
+                self.bad_head = fault
+                return
+            record = self.record_at(before, counted)
+            self.records.append(record)
+            self.gate, before, counted = record.end, before + record.count, record.counted
+
+    def hold_head(self):
+        """Refuses a bad head at the gate."""
+        gate, data = self.gate, self.data
+        if len(data) < gate + HEAD:
+            raise Bad(gate, "the file ends inside the head of a record")
+        kind, length = data[gate + 1 : gate + 2], number_at(data, gate + 2, 4)
+        if kind not in (MESSAGES, IMAGE):
+            raise Bad(gate, f"the kind of the record is the byte {data[gate + 1]}, and neither M nor C")
+        if kind == MESSAGES and not 1 <= length <= MOST_PAYLOAD:
+            raise Bad(gate, f"a record of messages has {length:,} bytes, and not 1 to {MOST_PAYLOAD:,}")
+        if gate + HEAD + 1 + length > len(data):
+            raise Bad(gate, f"a record of {length:,} bytes goes past the end of the file")
+        if gate + HEAD + 1 + length > self.limit:
+            raise Bad(gate, f"a record of {length:,} bytes goes past journal_limit, {self.limit:,}")
+
+    def record_at(self, before, counted):
+        gate, data = self.gate, self.data
+        kind, length = data[gate + 1 : gate + 2], number_at(data, gate + 2, 4)
+        payload = data[gate + HEAD : gate + HEAD + length]
+        if kind == IMAGE:
+            fault = image_fault(payload, self.product)
+            return Record(gate, kind, length, 0, before, number_at(payload, 0, 8), fault)
+        count, fault = count_of(payload)
+        counted += count
+        if fault is None and counted >= MOST_MESSAGES:
+            fault = f"{counted:,} messages are counted with it, and not fewer than {MOST_MESSAGES:,}"
+        return Record(gate, kind, length, count, before, counted, fault)
+
+    def payload(self, record):
+        return self.data[record.gate + HEAD : record.end]
+
+    def frames(self, record):
+        """The messages of a good record."""
+        return fix42.whole_frames(self.payload(record)) if record.kind == MESSAGES else []
+
+    # ---- what is wrong with it, and its messages
+
+    def first_bad(self):
+        """What `replay`, `fills` and `ledger` refuse, or nothing: the first bad record."""
+        for record in self.records:
+            if record.fault is not None:
+                return Bad(record.gate, record.fault)
+        return self.bad_head
+
+    def bad_for_runs(self):
+        """What `run`, `drill`, `checkpoint` and `book` refuse, or nothing: the first bad head, else the first bad record from the
+        last image on."""
+        if self.bad_head is not None:
+            return self.bad_head
+        images = [number for number, record in enumerate(self.records) if record.kind == IMAGE]
+        for record in self.records[images[-1] if images else 0 :]:
+            if record.fault is not None:
+                return Bad(record.gate, record.fault)
+        return None
+
+    def good_records(self):
+        """The records before the first bad one."""
+        for record in self.records:
+            if record.fault is not None:
+                return
+            yield record
+
+    def count(self):
+        """How many messages are before the first bad record."""
+        return sum(record.count for record in self.good_records())
+
+    def messages(self, first, last):
+        """The messages from one number to another, of those before the first bad record."""
+        for record in self.good_records():
+            if first <= record.before + record.count and record.before < last:
+                yield from self.frames(record)[max(first - 1 - record.before, 0) : last - record.before]
+
+    def miscounted(self):
+        """The first good image whose count is not that of the messages before it, or nothing. The engine does not try this."""
+        for record in self.records:
+            if record.kind == IMAGE and record.fault is None and record.counted != record.before:
+                why = f"the image counts {record.counted:,} messages, and {record.before:,} are before it"
+                return Bad(record.gate, why)
+        return None
+
+
+def count_of(payload):
+    """How many frames are at the front of a payload, and what is wrong with its rest or nothing."""
+    try:
+        return len(fix42.whole_frames(payload)), None
+    except fix42.Stopped as stopped:
+        return stopped.count, f"its payload is not whole frames: at its byte {stopped.offset} {stopped.why}"
+
+
+def image_fault(image, product):
+    """What is wrong with the length of an image, with its count of messages or of live orders; the engine tries more. Without a
+    product nothing is known of its instruments."""
+    if product is None:
+        return None
+    resting_at = IMAGE_FRONT + INSTRUMENT_BYTES * len(product.decimals)
+    if len(image) < resting_at + 4:
+        return f"its image ends at {len(image)}, before the count of resting orders"
+    if number_at(image, 0, 8) >= MOST_MESSAGES:
+        return f"its image counts {number_at(image, 0, 8):,} messages, and not fewer than {MOST_MESSAGES:,}"
+    waiting_at = resting_at + 4 + ORDER_BYTES * number_at(image, resting_at, 4)
+    if len(image) < waiting_at + 4:
+        return f"its image ends at {len(image)}, before the count of waiting stops"
+    length = waiting_at + 4 + ORDER_BYTES * number_at(image, waiting_at, 4)
+    if len(image) != length:
+        return f"its image has {len(image):,} bytes, and its counts say {length:,}"
+    if live_orders(image, product) > product.max_orders:
+        return f"its image has {live_orders(image, product):,} live orders, and max_orders is {product.max_orders:,}"
+    return None
+
+
+def live_orders(image, product):
+    """How many orders an image of a right length has."""
+    return (len(image) - IMAGE_FRONT - 8 - INSTRUMENT_BYTES * len(product.decimals)) // ORDER_BYTES
+
+
+# ---- copies
+
+
+def front_of(journal):
+    """All up to the gate of the first record."""
+    return journal.data[: first_gate(journal.data)]
+
+
+def cut(journal, count):
+    """A journal that keeps the first messages, and the images up to the next message."""
+    if journal.kind != "journal":
+        if count > 0:
+            raise Bad(0, "the creation of the journal is unfinished, and no messages are kept")
+        return journal.data
+    parts, kept = [front_of(journal)], 0
+    for record in journal.good_records():
+        if kept == count and record.kind == MESSAGES:
+            break
+        payload, left = journal.payload(record), count - kept
+        if record.count > left:
+            payload = b"".join(journal.frames(record)[:left])
+        parts.append(record_bytes(record.kind, payload))
+        kept += min(record.count, left)
+    if kept < count:
+        bad = journal.first_bad()
+        if bad is not None:
+            raise Bad(bad.place, f"only {kept} messages are before a bad record: {bad.why}")
+        raise Bad(journal.gate, f"only {kept} messages are kept")
+    return b"".join(parts) + CLOSED
+
+
+def drop(journal, gate):
+    """A journal without the image at a gate."""
+    if journal.kind != "journal":
+        raise Bad(gate, "the creation of the journal is unfinished, and no record is kept")
+    found = next((record for record in journal.records if record.gate == gate), None)
+    if found is None:
+        raise journal.bad_head or Bad(gate, "no record has its gate there")
+    if found.kind == MESSAGES:
+        raise Bad(gate, "the record is of messages, and only an image can be taken out")
+    if journal.bad_head is not None:
+        raise journal.bad_head
+    return journal.data[:gate] + journal.data[found.end : journal.gate] + CLOSED
