@@ -145,7 +145,8 @@ class Journal:
         payload = data[gate + HEAD : gate + HEAD + length]
         if kind == IMAGE:
             fault = image_fault(payload, self.product)
-            return Record(gate, kind, length, 0, before, number_at(payload, 0, 8), fault)
+            own = number_at(payload, 0, 8) if fault is None else counted
+            return Record(gate, kind, length, 0, before, own, fault)
         count, fault = count_of(payload)
         counted += count
         if fault is None and counted >= MOST_MESSAGES:
@@ -220,12 +221,12 @@ def image_fault(image, product):
         return None
     resting_at = IMAGE_FRONT + INSTRUMENT_BYTES * len(product.decimals)
     if len(image) < resting_at + 4:
-        return f"its image ends at {len(image)}, before the count of resting orders"
+        return f"its image has {len(image):,} bytes, and the count of resting orders is not there"
     if number_at(image, 0, 8) >= MOST_MESSAGES:
         return f"its image counts {number_at(image, 0, 8):,} messages, and not fewer than {MOST_MESSAGES:,}"
     waiting_at = resting_at + 4 + ORDER_BYTES * number_at(image, resting_at, 4)
     if len(image) < waiting_at + 4:
-        return f"its image ends at {len(image)}, before the count of waiting stops"
+        return f"its image has {len(image):,} bytes, and the count of waiting stops is not there"
     length = waiting_at + 4 + ORDER_BYTES * number_at(image, waiting_at, 4)
     if len(image) != length:
         return f"its image has {len(image):,} bytes, and its counts say {length:,}"
@@ -255,7 +256,7 @@ def cut(journal, count):
         return journal.data
     parts, kept = [front_of(journal)], 0
     for record in journal.good_records():
-        if kept == count and record.kind == MESSAGES:
+        if record.before > count or (record.before == count and record.kind == MESSAGES):
             break
         payload, left = journal.payload(record), count - kept
         if record.count > left:

@@ -1,0 +1,379 @@
+"""Tests of `journal`: bytes of docs/FORMATS.md, cuts at each message, images that are dropped, and files that are damaged."""
+
+import os
+import pathlib
+import re
+import tempfile
+import unittest
+
+import fix42
+import gxj
+from called import FORMATS, PROGRAM, call, call_program, documented_frames, soh
+
+TEXT = (PROGRAM / "data" / "product.toml").read_bytes()
+STREAM = (PROGRAM / "stdin").read_bytes()
+SELL, BUY = fix42.whole_frames(STREAM)
+# a message more, of the documented stream of a drill
+CANCEL = next(soh(line) for line in documented_frames() if "|35=F|" in line)
+
+EMPTY = b"\x01GXJOURN1" + len(TEXT).to_bytes(4, "big") + TEXT + b"\x00"
+
+
+def messages_record(*frames):
+    return b"\x01M" + sum(map(len, frames)).to_bytes(4, "big") + b"".join(frames)
+
+
+def image_record(image):
+    return b"\x01C" + len(image).to_bytes(4, "big") + image
+
+
+def journal_of(*records):
+    return EMPTY[:-1] + b"".join(records) + b"\x00"
+
+
+def documented_image():
+    """The 667 bytes of the image behind the two messages, from the table of docs/FORMATS.md."""
+    text = FORMATS.read_text()
+    table = text[text.index("The image behind the two messages") :].split("\n\n")[1]
+    image = bytearray(667)
+    for places, values in re.findall(r"^\| ([0-9, ]+) \| ([0-9a-f ,]+) \|", table, re.MULTILINE):
+        values = [bytes.fromhex(value) for value in values.split(", ")]
+        for place, value in zip(map(int, places.split(", ")), values, strict=True):
+            image[place : place + len(value)] = value
+    return bytes(image)
+
+
+IMAGE = documented_image()
+
+
+def image_after(count):
+    """An image without orders that counts so many messages."""
+    return count.to_bytes(8, "big") + bytes(560 + 25 - 8)
+
+
+# An image of an empty book, a record of two messages, an image, one message, two images, and one message.
+RECORDS = [
+    image_record(image_after(0)),
+    messages_record(SELL, BUY),
+    image_record(IMAGE),
+    messages_record(CANCEL),
+    image_record(image_after(3)),
+    image_record(image_after(3)),
+    messages_record(CANCEL),
+]
+GATES = [149 + sum(map(len, RECORDS[:number])) for number in range(len(RECORDS) + 1)]
+FULL = journal_of(*RECORDS)
+KEPT = [SELL, BUY, CANCEL, CANCEL]
+
+BAD_HEADS = [
+    (b"\x01", "the file ends inside the head of a record"),
+    (b"\x01M\x00\x00\x00", "the file ends inside the head of a record"),
+    (b"\x01m" + messages_record(SELL)[2:] + b"\x00", "the kind of the record is the byte 109, and neither M nor C"),
+    (b"\x01M\x00\x00\x00\x00\x00", "a record of messages has 0 bytes, and not 1 to 8,192"),
+    (b"\x01M\x00\x00\x20\x01" + bytes(9_000), "a record of messages has 8,193 bytes, and not 1 to 8,192"),
+    (messages_record(SELL), "a record of 111 bytes goes past the end of the file"),
+    (b"\x01C\x00\x03\x00\x00" + bytes(200_000), "a record of 196,608 bytes goes past journal_limit, 131,072"),
+]
+SHORT = b"its payload is not whole frames: at its byte 111 the input ends inside a frame, of which 50 bytes are there"
+BAD_PAYLOADS = [
+    (messages_record(SELL + BUY[:50]), SHORT.decode()),
+    (
+        messages_record(SELL + b"\n" + BUY),
+        "its payload is not whole frames: at its byte 111 no frame begins here: it does not begin with 8=FIX.4.2|9= (byte 111)",
+    ),
+    (image_record(IMAGE[:-1] + b"\x01"), "its image has 667 bytes, and its counts say 749"),
+    (image_record(IMAGE[:-1]), "its image has 666 bytes, and the count of waiting stops is not there"),
+    (image_record(IMAGE + b"\x00"), "its image has 668 bytes, and its counts say 667"),
+    (image_record(IMAGE[:580]), "its image has 580 bytes, and the count of resting orders is not there"),
+    (image_record(b""), "its image has 0 bytes, and the count of resting orders is not there"),
+    (image_record(b"\x00" * 4 + b"\x01" + IMAGE[5:]), "its image counts 16,777,218 messages, and not fewer than 16,777,216"),
+]
+
+
+class InFolder(unittest.TestCase):
+    def setUp(self):
+        folder = tempfile.TemporaryDirectory()
+        self.addCleanup(folder.cleanup)
+        self.folder = pathlib.Path(folder.name)
+        self.path = self.folder / "journal.gxj"
+        self.copy = self.folder / "copy.gxj"
+
+    def over(self, data, command, *words):
+        """A call over a journal, which stays as it is."""
+        self.path.write_bytes(data)
+        self.path.chmod(0o444)
+        answer = call("journal", command, self.path, *words)
+        self.path.chmod(0o644)
+        self.assertEqual(self.path.read_bytes(), data)
+        return answer
+
+    def copied(self, data, command, *words):
+        """The copy that a command makes of a journal."""
+        self.copy.unlink(missing_ok=True)
+        self.assertEqual(self.over(data, command, *words, "--output", self.copy), (0, b"", ""))
+        return self.copy.read_bytes()
+
+
+class Documented(InFolder):
+    def test_lengths(self):
+        self.assertEqual((len(TEXT), len(EMPTY)), (136, 150))
+        self.assertEqual(len(journal_of(messages_record(SELL, BUY))), 377)
+        self.assertEqual(len(journal_of(messages_record(SELL), messages_record(BUY))), 383)
+        checkpoint = journal_of(messages_record(SELL, BUY), image_record(IMAGE))
+        self.assertEqual(len(checkpoint), 1_050)
+        self.assertEqual(checkpoint[149:155], bytes.fromhex("01 4d 00 00 00 dd"))
+        self.assertEqual(checkpoint[376:382], bytes.fromhex("01 43 00 00 02 9b"))
+        self.assertEqual(sum(byte != 0 for byte in IMAGE), 22)
+
+    def test_list(self):
+        checkpoint = journal_of(messages_record(SELL, BUY), image_record(IMAGE))
+        listed = (
+            b"header: product text of 136 bytes, journal_limit 16777216\n"
+            b"149 M 2 messages, 221 bytes\n"
+            b"376 C image after 2 messages, 667 bytes\n"
+            b"1049 last gate\n"
+            b"a journal at rest, which keeps 2 messages\n"
+        )
+        self.assertEqual(self.over(checkpoint, "list"), (0, listed, ""))
+        behind = listed.replace(b"last gate", b"last gate, and 3 bytes after it that mean nothing")
+        self.assertEqual(self.over(checkpoint + b"\x01M\x00", "list"), (0, behind, ""))
+
+    def test_check_and_count(self):
+        for data, checked, count in [
+            (EMPTY, b"0 messages, 0 records, 0 images\n", b"0\n"),
+            (journal_of(messages_record(SELL, BUY)), b"2 messages, 1 records, 0 images\n", b"2\n"),
+            (journal_of(messages_record(SELL, BUY), image_record(IMAGE)), b"2 messages, 2 records, 1 images\n", b"2\n"),
+            (FULL, b"4 messages, 7 records, 4 images\n", b"4\n"),
+        ]:
+            self.assertEqual(self.over(data, "check"), (0, checked, ""))
+            self.assertEqual(self.over(data, "check", "--product", PROGRAM / "data" / "product.toml"), (0, checked, ""))
+            self.assertEqual(self.over(data, "count"), (0, count, ""))
+
+    def test_product(self):
+        self.assertEqual(self.over(FULL, "product"), (0, TEXT, ""))
+
+    def test_messages(self):
+        self.assertEqual(self.over(FULL, "messages"), (0, b"".join(KEPT), ""))
+        for first in range(1, 5):
+            for last in range(first, 5):
+                wanted = b"".join(KEPT[first - 1 : last])
+                self.assertEqual(self.over(FULL, "messages", "--first", first, "--last", last), (0, wanted, ""))
+        text = (BUY + CANCEL).replace(b"10=168\x01", b"10=168\x01\n").replace(b"\x01", b"|") + b"\n"
+        self.assertEqual(self.over(FULL, "messages", "--text", "--first", 2, "--last", 3), (0, text, ""))
+        self.assertEqual(self.over(FULL, "messages", "--first", 5), (0, b"", ""))
+        error = "only 4 messages are kept\n"
+        self.assertEqual(self.over(FULL, "messages", "--first", 6), (1, b"", error))
+        self.assertEqual(self.over(FULL, "messages", "--first", 4, "--last", 5), (1, CANCEL, error))
+        self.assertEqual(self.over(FULL, "messages", "--first", 0)[0], 2)
+
+    def test_as_a_program(self):
+        self.path.write_bytes(FULL)
+        self.assertEqual(call_program("journal", "check", self.path), (0, b"4 messages, 7 records, 4 images\n", ""))
+        self.assertEqual(call_program("journal", "messages", self.path)[1], b"".join(KEPT))
+        status, out, error = call_program("journal", "check", self.folder / "no such file")
+        self.assertEqual((status, out, error.count("\n")), (1, b"", 1))
+        for command in ("list", "count", "messages", "product", "cut", "drop", "check"):
+            self.assertEqual(call("journal", command, "--help")[0], 0)
+
+
+class Copies(InFolder):
+    def test_cut_at_each_message(self):
+        wanted = [
+            RECORDS[:1],
+            [RECORDS[0], messages_record(SELL)],
+            RECORDS[:3],
+            RECORDS[:6],
+            RECORDS,
+        ]
+        for count, records in enumerate(wanted):
+            with self.subTest(count):
+                copy = self.copied(FULL, "cut", "--messages", count)
+                self.assertEqual(copy, journal_of(*records))
+                status, checked, error = call("journal", "check", self.copy)
+                self.assertEqual((status, error), (0, ""))
+                self.assertTrue(checked.startswith(b"%d messages, " % count))
+                self.assertEqual(call("journal", "messages", self.copy)[1], b"".join(KEPT[:count]))
+        error = f"place {GATES[-1]}: only 4 messages are kept\n"
+        self.assertEqual(self.over(FULL, "cut", "--messages", 5, "--output", self.folder / "none"), (1, b"", error))
+        self.assertFalse((self.folder / "none").exists())
+
+    def test_cut_leaves_bytes_out_that_mean_nothing(self):
+        for gate in (b"\x00", b"\xc8"):
+            old = journal_of(messages_record(SELL, BUY))[:-1] + gate + messages_record(CANCEL)
+            self.assertEqual(self.copied(old, "cut", "--messages", 2), journal_of(messages_record(SELL, BUY)))
+
+    def test_cut_in_front_of_a_bad_record(self):
+        for bad, why in BAD_PAYLOADS + BAD_HEADS[:-1]:
+            with self.subTest(why):
+                damaged = journal_of(messages_record(SELL, BUY), bad)[:-1]
+                if bad[:1] == b"\x01" and (bad, why) in BAD_PAYLOADS:
+                    damaged += b"\x00"
+                self.assertEqual(self.copied(damaged, "cut", "--messages", 2), journal_of(messages_record(SELL, BUY)))
+                self.assertEqual(self.copied(damaged, "cut", "--messages", 1), journal_of(messages_record(SELL)))
+                error = f"place 376: only 2 messages are before a bad record: {why}\n"
+                none = self.folder / "none"
+                self.assertEqual(self.over(damaged, "cut", "--messages", 3, "--output", none), (1, b"", error))
+
+    def test_cut_an_unfinished_creation(self):
+        self.assertEqual(self.copied(b"\x00", "cut", "--messages", 0), b"\x00")
+        self.assertEqual(self.over(b"\x00", "cut", "--messages", 1, "--output", self.folder / "none")[0], 1)
+
+    def test_drop_each_image(self):
+        for number, record in enumerate(RECORDS):
+            if record[1:2] == b"C":
+                with self.subTest(number):
+                    copy = self.copied(FULL, "drop", "--gate", GATES[number])
+                    self.assertEqual(copy, journal_of(*RECORDS[:number], *RECORDS[number + 1 :]))
+                    self.assertEqual(call("journal", "messages", self.copy)[1], b"".join(KEPT))
+                    self.assertEqual(call("journal", "check", self.copy)[1], b"4 messages, 6 records, 3 images\n")
+
+    def test_a_bad_image_can_be_dropped(self):
+        damaged = journal_of(messages_record(SELL, BUY), image_record(IMAGE[:-1]), messages_record(CANCEL))
+        copy = self.copied(damaged, "drop", "--gate", 376)
+        self.assertEqual(copy, journal_of(messages_record(SELL, BUY), messages_record(CANCEL)))
+
+    def test_drop_refuses_all_else(self):
+        none = self.folder / "none"
+        for data, gate, why in [
+            (FULL, GATES[1], "the record is of messages, and only an image can be taken out"),
+            (FULL, GATES[6], "the record is of messages, and only an image can be taken out"),
+            (FULL, GATES[7], "no record has its gate there"),
+            (FULL, GATES[2] + 1, "no record has its gate there"),
+            (FULL, 0, "no record has its gate there"),
+            (b"\x00", 0, "the creation of the journal is unfinished, and no record is kept"),
+        ]:
+            with self.subTest(gate):
+                error = f"place {gate}: {why}\n"
+                self.assertEqual(self.over(data, "drop", "--gate", gate, "--output", none), (1, b"", error))
+        damaged = FULL[:-1] + b"\x01X\x00\x00\x00\x00\x00"
+        error = f"place {GATES[7]}: the kind of the record is the byte 88, and neither M nor C\n"
+        self.assertEqual(self.over(damaged, "drop", "--gate", GATES[2], "--output", none), (1, b"", error))
+        self.assertFalse(none.exists())
+
+    def test_outputs_that_are_there(self):
+        self.copy.write_bytes(b"old")
+        words = ("cut", "--messages", 1, "--output", self.copy)
+        self.assertEqual(self.over(FULL, *words), (1, b"", f"{self.copy} is there already\n"))
+        self.assertEqual(self.copy.read_bytes(), b"old")
+        self.assertEqual(self.over(FULL, *words, "--force"), (0, b"", ""))
+        self.assertEqual(self.copy.read_bytes(), journal_of(RECORDS[0], messages_record(SELL)))
+        self.copy.unlink()
+        os.link(self.path, self.copy)
+        for output in (self.path, self.copy, self.folder / "." / "journal.gxj"):
+            for force in ([], ["--force"]):
+                for words in (("cut", self.path, "--messages", 1), ("drop", self.path, "--gate", GATES[2])):
+                    status, _, error = call("journal", *words, "--output", output, *force)
+                    self.assertEqual((status, error), (1, f"{output} is the journal itself, which is never written\n"))
+        self.assertEqual(self.path.read_bytes(), FULL)
+
+
+class Damaged(InFolder):
+    def refused(self, data, place, why, *words):
+        self.assertEqual(self.over(data, "check", *words), (1, b"", f"place {place}: {why}\n"))
+
+    def test_heads(self):
+        small = TEXT.replace(b"\n\n", b"\njournal_limit = 131072\n\n", 1)
+        front = b"\x01GXJOURN1" + len(small).to_bytes(4, "big") + small
+        for bad, why in BAD_HEADS:
+            with self.subTest(why):
+                self.refused(front + bad, len(front), why)
+                self.refused(front + messages_record(SELL) + bad, len(front) + 117, why)
+
+    def test_the_limit(self):
+        small = TEXT.replace(b"\n\n", b"\njournal_limit = 131072\n\n", 1)
+        front = b"\x01GXJOURN1" + len(small).to_bytes(4, "big") + small
+        filler = messages_record(SELL) * ((131_072 - len(front) - 1) // 117 - 1)
+        left = 131_072 - 1 - len(front) - len(filler) - 6
+        body = soh("35=0|58=")
+        length = next(n for n in range(len(body) + 2, 300) if len(fix42.frame_of(bytes(n))) == left)
+        last = messages_record(fix42.frame_of(body + b"x" * (length - len(body) - 1) + b"\x01"))
+        whole = front + filler + last + b"\x00"
+        self.assertEqual(len(whole), 131_072)
+        self.assertEqual(self.over(whole, "check")[0], 0)
+        longer = messages_record(fix42.frame_of(body + b"x" * (length - len(body)) + b"\x01"))
+        why = f"a record of {left + 1} bytes goes past journal_limit, 131,072"
+        self.refused(front + filler + longer + b"\x00", len(front) + len(filler), why)
+
+    def test_payloads(self):
+        for bad, why in BAD_PAYLOADS:
+            with self.subTest(why):
+                damaged = journal_of(messages_record(SELL), bad, messages_record(BUY))
+                self.refused(damaged, 266, why)
+                status, out, error = self.over(damaged, "list")
+                self.assertEqual((status, error), (1, f"place 266: {why}\n"))
+                self.assertIn(f", bad: {why}\n", out.decode())
+                self.assertIn(" M 1 message, 110 bytes\n", out.decode())
+                self.assertEqual(self.over(damaged, "count"), (1, b"1\n", f"place 266: {why}\n"))
+                self.assertEqual(self.over(damaged, "messages"), (1, SELL, f"place 266: {why}\n"))
+                self.assertEqual(self.over(damaged, "messages", "--last", 1), (0, SELL, ""))
+
+    def test_a_bad_record_before_a_later_image(self):
+        damaged = journal_of(messages_record(SELL + BUY[:50]), image_record(IMAGE))
+        self.refused(damaged, 149, SHORT.decode() + "; run, drill, checkpoint and book go on from a later image")
+        head = damaged[:-1] + b"\x01X\x00\x00\x00\x00\x00"
+        self.refused(head, 149, SHORT.decode())
+
+    def test_an_image_of_other_messages(self):
+        data = journal_of(messages_record(SELL), image_record(IMAGE))
+        self.refused(data, 266, "the image counts 2 messages, and 1 are before it")
+        line = b"266 C image after 1 message, 667 bytes, but it counts 2 messages\n"
+        self.assertIn(line, self.over(data, "list")[1])
+
+    def test_what_is_no_journal(self):
+        for data, place in [
+            (b"\x01G", 2),
+            (b"\x01X" + EMPTY[2:], 1),
+            (b"\x01GXJOURN2" + EMPTY[9:], 8),
+            (b"\x02" + EMPTY[1:-1] + b"\x01", 0),
+            (b"\x02" + EMPTY[1:-1], 0),
+            (TEXT, 0),
+            (bytes(65_551), 0),
+        ]:
+            with self.subTest(data[:20]):
+                self.refused(data, place, "it is no journal")
+                for command in ("list", "count", "messages", "product"):
+                    self.assertEqual(self.over(data, command), (1, b"", f"place {place}: it is no journal\n"))
+
+    def test_headers(self):
+        why = "the length of the product text in the header cannot be"
+        for data in (EMPTY[:9], EMPTY[:12], EMPTY[:13], EMPTY[:-1], EMPTY[:9] + b"\x00\x01\x00\x01" + bytes(66_000)):
+            with self.subTest(len(data)):
+                self.refused(data, 9, why)
+
+    def test_unfinished_creations(self):
+        sealed = b"\x02" + EMPTY[1:]
+        for data, kind in [(b"", "blank"), (b"\x07", "blank"), (b"\x00" * 65_550, "blank"), (b"\x00" + EMPTY[1:], "blank"), (sealed, "sealed")]:
+            with self.subTest(len(data)):
+                self.assertEqual(self.over(data, "check"), (0, b"0 messages, 0 records, 0 images\n", ""))
+                self.assertEqual(self.over(data, "count"), (0, b"0\n", ""))
+                self.assertEqual(self.over(data, "messages"), (0, b"", ""))
+                status, out, error = self.over(data, "list")
+                self.assertEqual((status, error), (0, ""))
+                self.assertTrue(out.decode().endswith(f"an unfinished creation ({kind}), which keeps no messages\n"))
+        self.assertEqual(self.over(sealed, "product"), (0, TEXT, ""))
+        self.assertEqual(self.over(b"\x00", "product")[0], 1)
+
+    def test_other_products(self):
+        other = self.folder / "product.toml"
+        for text, place in [(TEXT + b"\n", 149), (TEXT[:-1], 148), (TEXT.replace(b"GX", b"GY"), 26), (b"", 13)]:
+            other.write_bytes(text)
+            for data in (FULL, b"\x02" + EMPTY[1:]):
+                self.refused(data, place, f"the product text is not that of {other}", "--product", other)
+            self.assertEqual(self.over(b"\x00", "check", "--product", other)[0], 0)
+
+    def test_a_text_that_gives_no_product(self):
+        data = FULL.replace(b"exchange", b"exchangf")
+        self.refused(data, 13, "the product text gives no product: exchange is missing")
+        self.assertEqual(self.over(data, "count"), (0, b"4\n", ""))
+
+
+class Classes(unittest.TestCase):
+    def test_places_of_records(self):
+        journal = gxj.Journal(FULL)
+        self.assertEqual([record.gate for record in journal.records] + [journal.gate], GATES)
+        self.assertEqual([record.before for record in journal.records], [0, 0, 2, 2, 3, 3, 3])
+        self.assertIsNone(journal.first_bad())
+
+
+if __name__ == "__main__":
+    unittest.main()
