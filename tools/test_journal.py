@@ -161,6 +161,8 @@ class Documented(InFolder):
         text = (BUY + CANCEL).replace(b"10=168\x01", b"10=168\x01\n").replace(b"\x01", b"|") + b"\n"
         self.assertEqual(self.over(FULL, "messages", "--text", "--first", 2, "--last", 3), (0, text, ""))
         self.assertEqual(self.over(FULL, "messages", "--first", 5), (0, b"", ""))
+        three = journal_of(messages_record(SELL), messages_record(BUY, CANCEL, SELL))
+        self.assertEqual(self.over(three, "messages"), (0, SELL + BUY + CANCEL + SELL, ""))
         error = "only 4 messages are kept\n"
         self.assertEqual(self.over(FULL, "messages", "--first", 6), (1, b"", error))
         self.assertEqual(self.over(FULL, "messages", "--first", 4, "--last", 5), (1, CANCEL, error))
@@ -312,6 +314,24 @@ class Damaged(InFolder):
         self.refused(damaged, 149, SHORT.decode() + "; run, drill, checkpoint and book go on from a later image")
         head = damaged[:-1] + b"\x01X\x00\x00\x00\x00\x00"
         self.refused(head, 149, SHORT.decode())
+
+    def test_more_live_orders_than_max_orders(self):
+        text = TEXT.replace(b"\n\n", b"\nmax_orders = 2\n\n", 1)
+        front = b"\x01GXJOURN1" + len(text).to_bytes(4, "big") + text
+        row = IMAGE[581:663]
+        for resting, waiting in ((2, 0), (1, 1), (3, 0), (1, 2)):
+            image = bytes(577) + resting.to_bytes(4, "big") + row * resting + waiting.to_bytes(4, "big") + row * waiting
+            data = front + image_record(image) + b"\x00"
+            if resting + waiting == 2:
+                self.assertEqual(self.over(data, "check"), (0, b"0 messages, 1 records, 1 images\n", ""))
+            else:
+                self.refused(data, len(front), "its image has 3 live orders, and max_orders is 2")
+
+    def test_the_count_of_messages(self):
+        data = journal_of(image_record(image_after((1 << 24) - 2)), messages_record(SELL))
+        self.refused(data, 149, "the image counts 16,777,214 messages, and 0 are before it")
+        data = journal_of(image_record(image_after((1 << 24) - 2)), messages_record(SELL, BUY))
+        self.refused(data, 149 + 7 + 584, "16,777,216 messages are counted with it, and not fewer than 16,777,216")
 
     def test_an_image_of_other_messages(self):
         data = journal_of(messages_record(SELL), image_record(IMAGE))
