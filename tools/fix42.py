@@ -10,6 +10,10 @@ LONGEST_BODY = 4_000
 READ = 65_536
 
 ESCAPE = re.compile(rb"\\x([0-9a-fA-F]{2})")
+# a byte that is not printable, a backslash, a `|`
+ESCAPED = re.compile(rb"[^ -~]|[\\|]")
+ESCAPED_IN_FRAMES = re.compile(rb"[^ -~\x01]|[\\|]")
+TAG = re.compile(rb"[1-9][0-9]{0,4}")
 
 
 def check_sum(front):
@@ -48,6 +52,8 @@ def first_difference(given, wanted):
 def hold_to(data, at, place, wanted, why):
     """Whether all wanted bytes are there. Refuses the first wrong one."""
     given = data[at + place : at + place + len(wanted)]
+    if given == wanted:
+        return True
     differs = first_difference(given, wanted)
     if differs < len(given):
         raise NoFrame(place + differs, why(given))
@@ -202,9 +208,13 @@ def whole_frames(payload):
 # ---- text
 
 
+def escape_of(found):
+    return b"\\x%02x" % found[0][0]
+
+
 def escaped(data):
     """Bytes as text. A byte that is not printable, a backslash and a `|` become \\x and two hex digits."""
-    return "".join(chr(c) if 32 <= c <= 126 and c not in b"\\|" else f"\\x{c:02x}" for c in data)
+    return ESCAPED.sub(escape_of, data).decode("ascii")
 
 
 def unescaped(data):
@@ -219,7 +229,7 @@ def field_texts(body):
 
 def text_of(frame):
     """A frame as one line, with `|` for SOH."""
-    return "".join(escaped(text) + "|" for text in field_texts(frame))
+    return ESCAPED_IN_FRAMES.sub(escape_of, frame).replace(SOH, b"|").decode("ascii")
 
 
 # ---- what people call tags and values
@@ -337,7 +347,7 @@ VALUE_NAMES = {
 
 def tag_number(text):
     """The number of a tag that has the form of one, else nothing: one to five digits, the first not 0."""
-    return int(text) if re.fullmatch(rb"[1-9][0-9]{0,4}", text) else None
+    return int(text) if TAG.fullmatch(text) else None
 
 
 def named_field(text):
