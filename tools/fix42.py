@@ -56,7 +56,7 @@ def hold_to(data, at, place, wanted, why):
         return True
     differs = first_difference(given, wanted)
     if differs < len(given):
-        raise NoFrame(place + differs, why(given))
+        raise NoFrame(place + differs, why)
     return len(given) == len(wanted)
 
 
@@ -89,7 +89,7 @@ def length_at(data, at):
 
 def end_of_frame(data, at=0):
     """The end of the frame that begins at a place; nothing if more bytes are needed. Raises NoFrame if none can begin there."""
-    if not hold_to(data, at, 0, BEGIN, lambda given: "it does not begin with 8=FIX.4.2|9="):
+    if not hold_to(data, at, 0, BEGIN, "it does not begin with 8=FIX.4.2|9="):
         return None
     found = length_at(data, at)
     if found is None:
@@ -100,12 +100,12 @@ def end_of_frame(data, at=0):
         return None
     if data[at + last] != SOH[0]:
         raise NoFrame(last, f"BodyLength (9) is {length}, and no field ends there")
-    if not hold_to(data, at, last + 1, b"10=", lambda given: f"BodyLength (9) is {length}, and 10= does not follow"):
+    if not hold_to(data, at, last + 1, b"10=", f"BodyLength (9) is {length}, and 10= does not follow"):
         return None
     wanted = check_sum(memoryview(data)[at : at + last + 1])
-    if not hold_to(data, at, last + 4, wanted, lambda given: f"CheckSum (10) is not {wanted.decode()}"):
+    if not hold_to(data, at, last + 4, wanted, f"CheckSum (10) is not {wanted.decode()}"):
         return None
-    if not hold_to(data, at, last + 7, SOH, lambda given: "CheckSum (10) does not end after three digits"):
+    if not hold_to(data, at, last + 7, SOH, "CheckSum (10) does not end after three digits"):
         return None
     return at + last + 8
 
@@ -130,63 +130,56 @@ def cut_at(offset, count, left):
 
 
 class Frames:
-    """The frames of a file that is read as its bytes come. `left` has what was read and is in no frame yet."""
+    """The frames of a file that is read as its bytes come."""
 
     def __init__(self, file):
         self.file = file
-        self.left = b""
+        self.held = b""
+        self.at = 0
         self.offset = 0
         self.count = 0
 
+    def rest(self):
+        """What was read and is in no frame yet."""
+        return self.held[self.at :]
+
     def read(self):
         """Reads more. Answers whether there was any."""
-        more = self.file.read1(READ) if hasattr(self.file, "read1") else self.file.read(READ)
-        self.left += more
+        more = self.file.read1(READ)
+        self.held, self.at = self.rest() + more, 0
         return len(more) > 0
 
-    def __iter__(self):
-        """Each frame with its offset. Raises Stopped if the rest begins with none."""
-        at = 0
+    def take(self):
+        """The next frame; nothing at the end. Raises Stopped if the rest begins with none."""
         while True:
             try:
-                end = end_of_frame(self.left, at)
+                end = end_of_frame(self.held, self.at)
             except NoFrame as fault:
-                self.left = self.left[at:]
                 raise stopped_by(fault, self.offset, self.count) from None
-            if end is None:
-                self.left, at = self.left[at:], 0
-                if not self.read():
-                    break
-                continue
-            frame, offset = self.left[at:end], self.offset
-            at = end
-            self.offset += len(frame)
-            self.count += 1
+            if end is not None:
+                break
+            if not self.read():
+                if self.held:
+                    raise cut_at(self.offset, self.count, len(self.held))
+                return None
+        frame = self.held[self.at : end]
+        self.at = end
+        self.offset += len(frame)
+        self.count += 1
+        return frame
+
+    def __iter__(self):
+        """Each frame with its offset."""
+        offset = self.offset
+        while (frame := self.take()) is not None:
             yield offset, frame
-        if self.left:
-            raise cut_at(self.offset, self.count, len(self.left))
+            offset = self.offset
 
     def skip(self, count):
-        """Goes over so many frames. Answers the offset of the next one, at which `left` begins then."""
-        at = 0
+        """Takes so many frames. Answers the offset of the next one."""
         while self.count < count:
-            try:
-                end = end_of_frame(self.left, at)
-            except NoFrame as fault:
-                raise stopped_by(fault, self.offset, self.count) from None
-            if end is None:
-                self.left, at = self.left[at:], 0
-                if not self.read():
-                    break
-                continue
-            self.offset += end - at
-            self.count += 1
-            at = end
-        self.left = self.left[at:]
-        if self.count < count:
-            if self.left:
-                raise cut_at(self.offset, self.count, len(self.left))
-            raise Stopped(self.offset, self.count, f"there are only {self.count} frames", False)
+            if self.take() is None:
+                raise Stopped(self.offset, self.count, f"there are only {self.count} frames", False)
         return self.offset
 
 

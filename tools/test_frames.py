@@ -206,6 +206,21 @@ class Grammar(unittest.TestCase):
         self.assertEqual(list(fix42.Frames(OneByOne(STREAM))), whole)
         self.assertEqual([offset for offset, _ in whole], [0, 111])
 
+    def test_each_cut_of_a_stream_is_known(self):
+        for length in range(len(STREAM)):
+            frames = fix42.Frames(io.BytesIO(STREAM[:length]))
+            if length in (0, 111):
+                self.assertEqual(frames.skip(length // 111), length)
+                continue
+            with self.assertRaises(fix42.Stopped) as raised:
+                list(frames)
+            stopped = raised.exception
+            self.assertEqual((stopped.offset, stopped.is_cut), (length // 111 * 111, True))
+            with self.assertRaises(fix42.Stopped) as raised:
+                list(fix42.Frames(io.BytesIO(STREAM[:length] + b"\xff" * 4_024)))
+            stopped = raised.exception
+            self.assertEqual((stopped.offset, stopped.is_cut), (length // 111 * 111, False))
+
     def test_the_longest_body(self):
         body = soh(f"35=0|{HEAD}58=")
         body += b"x" * (3_999 - len(body)) + b"\x01"
