@@ -365,8 +365,12 @@ class Text(unittest.TestCase):
             self.assertIn(f" | {part} | ", report)
         others = fix42.frame_of(soh("35=3|371=49|373=9|103=6|434=1|102=1|7777=x|y|"))
         shown = call("frames", "show", "--names", given=others)[1].decode()
-        named = "371 RefTagID=49 SenderCompID | 373 SessionRejectReason=9 wrong firm or exchange | 103 OrdRejReason=6 duplicate order"
-        self.assertIn(named + " | 434 CxlRejResponseTo=1 cancel | 102 CxlRejReason=1 unknown order | 7777=x | y | 10 ", shown)
+        for part in (
+            "371 RefTagID=49 SenderCompID | 373 SessionRejectReason=9 wrong firm or exchange",
+            "103 OrdRejReason=6 duplicate order | 434 CxlRejResponseTo=1 cancel | 102 CxlRejReason=1 unknown order",
+            "7777=x | y | 10 CheckSum=",
+        ):
+            self.assertIn(f" | {part}", shown)
 
 
 class Csv(unittest.TestCase):
@@ -374,7 +378,8 @@ class Csv(unittest.TestCase):
         order = b"35=D\x01" + soh(HEAD) + soh("11=a1|55=ESZ4|54=2|38=10|40=2|44=100.00|59=0|")
         for heading in (
             b"49,56,34,52,35,11,55,54,38,40,44,59,99",
-            b"SenderCompID,TargetCompID,MsgSeqNum,SendingTime,MsgType,ClOrdID,Symbol,side,orderqty,OrdType,Price,TimeInForce,StopPx",
+            b"SenderCompID,TargetCompID,MsgSeqNum,SendingTime,MsgType,ClOrdID,"
+            b"Symbol,side,orderqty,OrdType,Price,TimeInForce,StopPx",
         ):
             row = b'AAA,GX,1,20240102-09:30:00,D,a1,"ESZ4",2,10,2,100.00,0,'
             given = b"\xef\xbb\xbf# orders\r\n\r\n" + heading + b"\r\n" + row + b"\r\n,,,,,,,,,,,,\r\n"

@@ -362,7 +362,8 @@ class Damaged(InFolder):
 
     def test_unfinished_creations(self):
         sealed = b"\x02" + EMPTY[1:]
-        for data, kind in [(b"", "blank"), (b"\x07", "blank"), (b"\x00" * 65_550, "blank"), (b"\x00" + EMPTY[1:], "blank"), (sealed, "sealed")]:
+        blank = [b"", b"\x07", b"\x00" * 65_550, b"\x00" + EMPTY[1:]]
+        for data, kind in [*((data, "blank") for data in blank), (sealed, "sealed")]:
             with self.subTest(len(data)):
                 self.assertEqual(self.over(data, "check"), (0, b"0 messages, 0 records, 0 images\n", ""))
                 self.assertEqual(self.over(data, "count"), (0, b"0\n", ""))
