@@ -1,4 +1,5 @@
 mod Entries
 mod Memory
 mod Replayed
+mod StreamSteps
 mod Written

@@ -14,5 +14,8 @@ pub mod Entries
 pub mod MemoryLaws
 pub mod CrashImages
 pub mod CrashLaws
+pub mod ImageFiles
+pub mod Locks
+pub mod Streams
 pub mod ReadSources
 pub mod FileStations
