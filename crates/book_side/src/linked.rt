@@ -30,6 +30,7 @@ pub struct LinkedBook {
 }
 
 impl Model for LinkedBook {
+    ghost use Rattle.std.specs.Prelude.{◌≡◌, vec_capacity};
     ghost use Rattle.plain_book.specs.Book.{Book};
     ghost use Rattle.book_side.specs.Inner.Content.{book_of};
     ghost use Rattle.book_side.specs.Inner.Linked.{IsLinked};
@@ -38,12 +39,13 @@ impl Model for LinkedBook {
 
     ghost view = { λ p. book_of p.capacity p.instruments p.tops.items p.pool.queues p.levels.rows };
 
-    ghost invariant = { λ p. IsLinked p.capacity p.instruments p.pool p.ids p.levels p.tops.items };
+    ghost invariant = { λ p. IsLinked p.capacity p.instruments p.pool p.ids p.levels p.tops.items × (vec_capacity p.tops ≡ p.instruments) };
 }
 
 impl LinkedBook {
     /// An empty book for so many live orders, and so many instruments. An `Err` is want of memory, also where twice the
-    /// capacity, the instruments and one more are together 2 to the power of 32 or more. No other call takes memory.
+    /// capacity, the instruments and one more are together 2 to the power of 32 or more. It takes all the memory: no
+    /// call changes how much a part has room for.
     pub fn new(alloc: Global, capacity: u32, instruments: u8) -> Result<LinkedBook, AllocError>
         ensures { IfOk result (λ b. b ≡ empty_book capacity instruments) }
     {

@@ -1,5 +1,5 @@
 //! TOP of each side.
-ghost use Rattle.std.specs.Prelude.{◌≡◌, ◌<◌, ◌==◌, if◌then◌else◌, option_map, length, IfOk, replicate};
+ghost use Rattle.std.specs.Prelude.{◌≡◌, ◌<◌, ◌==◌, if◌then◌else◌, option_map, length, IfOk, replicate, vec_capacity};
 ghost use Rattle.gx_base.specs.declared.order.Side.{Side};
 ghost use Rattle.plain_book.specs.Book.{slot_number};
 ghost use Rattle.book_side.specs.Inner.Content.{no_tops, top_of_side, top_at};
@@ -15,15 +15,19 @@ pub(crate) struct SideTops {
     pub(crate) sell: Option<Slot>,
 }
 
-/// No TOP on any side of so many instruments. An `Err` is want of memory.
+/// No TOP on any side of so many instruments, with room for no more. An `Err` is want of memory.
 pub(crate) fn no_tops(alloc: Global, instruments: u8) -> Result<Vec<SideTops>, AllocError>
-    ensures { IfOk result (λ v. v.items ≡ replicate instruments no_tops) }
+    ensures items { IfOk result (λ v. v.items ≡ replicate instruments no_tops) }
+    ensures room { IfOk result (λ v. vec_capacity v ≡ instruments) }
 {
-    let none = SideTops {
-        buy: None,
-        sell: None,
-    };
-    Vec::from_elem(alloc, none, instruments as usize)
+    let mut tops = Vec::with_capacity(alloc, instruments as usize)?;
+    for _ in 0..instruments {
+        tops.push_reserved(SideTops {
+            buy: None,
+            sell: None,
+        });
+    }
+    Ok(tops)
 }
 
 fn of_side(tops: &SideTops, side: Side) -> Option<Slot>
@@ -47,6 +51,7 @@ pub(crate) fn top_at(tops: &[SideTops], instrument: u8, side: Side) -> Option<Sl
 pub(crate) fn set_top_at(tops: &mut Vec<SideTops>, instrument: u8, side: Side, top: Option<Slot>)
     requires { instrument < length tops.old.items }
     ensures length { length tops.new.items ≡ length tops.old.items }
+    ensures room { vec_capacity tops.new ≡ vec_capacity tops.old }
     ensures tops { IsTopSet tops.old.items tops.new.items instrument side (option_map slot_number top) }
 {
     match side {
@@ -65,6 +70,7 @@ pub(crate) fn place_top(
 )
     requires { order.now.instrument < length tops.old.items }
     ensures length { length tops.new.items ≡ length tops.old.items }
+    ensures room { vec_capacity tops.new ≡ vec_capacity tops.old }
     ensures tops { IsTopPlaced best enough slot.0 order.now tops.old.items tops.new.items }
 {
     if best {
@@ -86,6 +92,7 @@ fn without_slot(top: Option<Slot>, slot: Slot) -> Option<Slot>
 pub(crate) fn drop_top(tops: &mut Vec<SideTops>, order: &Order, slot: Slot)
     requires { order.now.instrument < length tops.old.items }
     ensures length { length tops.new.items ≡ length tops.old.items }
+    ensures room { vec_capacity tops.new ≡ vec_capacity tops.old }
     ensures tops { IsTopDropped slot.0 order.now tops.old.items tops.new.items }
 {
     let top = without_slot(top_at(tops, order.instrument, order.side), slot);

@@ -1,5 +1,5 @@
 //! Reports that wait to be sent.
-ghost use Rattle.std.specs.Prelude.{◌≡◌, ◌+◌, ◌≤◌, ◌↔◌, ◌++◌, ◌==◌, [], IsTrue, IfOk, length};
+ghost use Rattle.std.specs.Prelude.{◌≡◌, ◌+◌, ◌≤◌, ◌↔◌, ◌++◌, ◌==◌, [], IsTrue, IfOk, length, vec_len, vec_capacity};
 ghost use Rattle.std.specs.Bool.{OnTrue, OnFalse};
 ghost use Rattle.gx_base.specs.Line.{line_of};
 
@@ -27,21 +27,21 @@ impl Model for ReportBuffer {
 
     ghost Value = { List ℕ };
 
-    ghost use Rattle.std.specs.Prelude.{◌≡◌, ◌≤◌, take, vec_len};
+    ghost use Rattle.std.specs.Prelude.{◌≡◌, ◌≤◌, take, vec_len, vec_capacity};
     ghost use Rattle.exec_report.specs.declared.report_buffer.TheConstants.{MOST_WAITING, BUFFER_ROOM};
 
     ghost view = { λ b. take b.len b.bytes.items };
 
-    ghost invariant = { λ b. (b.len ≤ MOST_WAITING) × (vec_len b.bytes ≡ BUFFER_ROOM) };
+    ghost invariant = { λ b. (b.len ≤ MOST_WAITING) × (vec_len b.bytes ≡ BUFFER_ROOM) × (vec_capacity b.bytes ≡ BUFFER_ROOM) };
 }
 
 impl ReportBuffer {
-    /// An empty buffer. An `Err` is want of memory.
+    /// An empty buffer. It takes all the memory, `BUFFER_ROOM` bytes: the buffer never grows. An `Err` is want of memory.
     pub fn new(alloc: Global) -> Result<ReportBuffer, AllocError>
         ensures { IfOk result (λ b. b ≡ []) }
     {
         Ok(ReportBuffer {
-            bytes: vec![in alloc; 0; BUFFER_ROOM]?,
+            bytes: zeros(alloc, BUFFER_ROOM)?,
             len: 0,
         })
     }
@@ -102,4 +102,16 @@ impl ReportBuffer {
     {
         self.len = 0;
     }
+}
+
+/// So many zeros, with room for no more.
+fn zeros(alloc: Global, count: usize) -> Result<Vec<u8>, AllocError>
+    ensures len { IfOk result (λ v. vec_len v ≡ count) }
+    ensures room { IfOk result (λ v. vec_capacity v ≡ count) }
+{
+    let mut bytes = Vec::with_capacity(alloc, count)?;
+    for _ in 0..count {
+        bytes.push_reserved(0);
+    }
+    Ok(bytes)
 }

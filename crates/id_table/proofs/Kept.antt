@@ -1,5 +1,5 @@
 -- Tables: what holds of the fields after each call.
-use Rattle.std.proofs.Common.{◌≡◌, ◌≢◌, ℕ, ◌+◌, ◌-◌, ◌*◌, ◌<◌, ◌≤◌, cond, List, [], ◌∷◌, ◌++◌, length, take, replicate, Option, Some, None, is_some, refl, sym, ap, subst, ◌∙◌, arith}
+use Rattle.std.proofs.Common.{◌≡◌, ◌≢◌, ℕ, ◌+◌, ◌-◌, ◌*◌, ◌<◌, cond, List, [], ◌∷◌, ◌++◌, length, take, replicate, Option, Some, None, is_some, refl, sym, ap, subst, ◌∙◌, arith}
 use Prim.Native.Nat.{zero, suc}
 use Rattle.std.specs.Cmp.Lexicographic.{slice_cmp, nat_list_cmp_total}
 use Rattle.std.specs.Ordering.{nat_cmp}
@@ -36,7 +36,7 @@ all_empty zero i = refl
 all_empty (suc n) zero = refl
 all_empty (suc n) (suc i) = all_empty n i
 
-pub kept_new : (capacity : ℕ) (buckets : List Tree) (spare room : ℕ) → buckets ≡ replicate (2 * capacity + 1) Empty → spare ≡ capacity → capacity ≤ room → IsKept capacity 0 buckets spare room
+pub kept_new : (capacity : ℕ) (buckets : List Tree) (spare room : ℕ) → buckets ≡ replicate (2 * capacity + 1) Empty → spare ≡ capacity → room ≡ capacity → IsKept capacity 0 buckets spare room
 kept_new capacity buckets spare room empty count wide = subst (λ (x : List Tree). IsKept capacity 0 x spare room) (sym empty) (record {
   table = record {
     long = length-replicate (2 * capacity + 1) Empty;

@@ -1,5 +1,5 @@
 //! The row of buckets, each with the tree of the ids whose hash leads there.
-ghost use Rattle.std.specs.Prelude.{◌≡◌, ◌≢◌, ◌≤◌, None, Some, IfOk, MatchOption, replicate, vec_len, vec_capacity};
+ghost use Rattle.std.specs.Prelude.{◌≡◌, ◌≢◌, None, Some, IfOk, MatchOption, replicate, vec_len, vec_capacity};
 ghost use Rattle.std.specs.FinMap as map;
 ghost use Rattle.gx_base.specs.declared.order.Slot.{Slot as SlotValue};
 ghost use Rattle.id_table.specs.Ids.{key};
@@ -12,9 +12,10 @@ use crate::tree::{Entry, Node, Tree, find, put, take};
 use gx_base::{ShortId, Slot};
 use std::alloc::{AllocError, Global};
 
-/// So many empty buckets.
+/// So many empty buckets, with room for no more.
 pub(crate) fn empty_buckets(alloc: Global, count: usize) -> Result<Vec<Tree>, AllocError>
-    ensures { IfOk result (λ buckets. buckets.items ≡ replicate count Empty) }
+    ensures items { IfOk result (λ buckets. buckets.items ≡ replicate count Empty) }
+    ensures room { IfOk result (λ buckets. vec_capacity buckets ≡ count) }
 {
     let mut buckets = Vec::with_capacity(alloc, count)?;
     for _ in 0..count {
@@ -23,10 +24,10 @@ pub(crate) fn empty_buckets(alloc: Global, count: usize) -> Result<Vec<Tree>, Al
     Ok(buckets)
 }
 
-/// So many nodes, whatever stands in them.
+/// So many nodes, whatever stands in them, with room for no more.
 pub(crate) fn spare_nodes(alloc: Global, count: usize) -> Result<Vec<Box<Node>>, AllocError>
     ensures count { IfOk result (λ nodes. vec_len nodes ≡ count) }
-    ensures room { IfOk result (λ nodes. count ≤ vec_capacity nodes) }
+    ensures room { IfOk result (λ nodes. vec_capacity nodes ≡ count) }
 {
     let mut nodes = Vec::with_capacity(alloc, count)?;
     for _ in 0..count {

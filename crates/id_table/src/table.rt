@@ -28,17 +28,17 @@ impl Model for IdTable {
 
     ghost coded = { ids_code };
 
-    ghost use Rattle.std.specs.Prelude.{vec_len, vec_capacity};
+    ghost use Rattle.std.specs.Prelude.{◌≡◌, ◌+◌, ◌*◌, vec_len, vec_capacity};
     ghost use Rattle.id_table.specs.Inner.Buckets.{slots_of, IsKept};
 
     ghost view = { λ t. record { capacity = t.capacity; slots = slots_of t.buckets.items } };
 
-    ghost invariant = { λ t. IsKept t.capacity t.live t.buckets.items (vec_len t.spare) (vec_capacity t.spare) };
+    ghost invariant = { λ t. IsKept t.capacity t.live t.buckets.items (vec_len t.spare) (vec_capacity t.spare) × (vec_capacity t.buckets ≡ 2 * t.capacity + 1) };
 }
 
 impl IdTable {
     /// An empty table for so many ids. An `Err` is want of memory: it takes 112 bytes for each of them, 72 of these in a
-    /// piece of its own, and 16 more. No other call takes memory, or gives any back.
+    /// piece of its own, and 16 more. That is all the memory: no call changes how much a part has room for.
     pub fn new(alloc: Global, capacity: u32) -> Result<IdTable, AllocError>
         ensures { IfOk result (λ t. t ≡ empty_ids capacity) }
     {

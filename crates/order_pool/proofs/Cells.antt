@@ -9,7 +9,7 @@ use denote.RawPtr.{Ptr, block_ptr, null_ptr, InBlock}
 use Rattle.order_pool.specs.declared.node.Node.{Node}
 use Rattle.gx_base.specs.declared.order.Order.{Order}
 use Rattle.order_pool.specs.Inner.Places.{place, index_of, IsPlace}
-use Rattle.order_pool.specs.Inner.Block.{Cell, cell_of, cells_of, node_at, cell_at, no_node, no_cell, node_size, with_order, with_next, with_prev, detached, attached, IsLinked, AllLinked, IsClosed, closed_node, IsBlank, blank_node, first_tag, IsFresh}
+use Rattle.order_pool.specs.Inner.Block.{Cell, cell_of, cells_of, node_at, cell_at, no_node, no_cell, node_size, with_order, with_next, with_prev, detached, attached, IsLinked, AllLinked, IsFull, IsClosed, closed_node, IsBlank, blank_node, first_tag, IsFresh}
 use Rattle.order_pool.specs.Queues.{no_order}
 
 pub index_of-place : (base : Ptr) (k : ℕ) → InBlock base → index_of node_size base (place node_size base k) ≡ k
@@ -129,6 +129,13 @@ module _ {Z : Type 0} where
   pub kept_ptr : (v w : Vec Node Z) (i : ℕ) (m : Node) → w ≡ with_item v i m → w.ptr ≡ v.ptr
   kept_ptr v w i m e = ap (λ (u : Vec Node Z). u.ptr) e
 
+  pub kept_room : (v w : Vec Node Z) (i : ℕ) (m : Node) → w ≡ with_item v i m → w.cap ≡ v.cap
+  kept_room v w i m e = ap (λ (u : Vec Node Z). u.cap) e
+
+  -- a Vec that is full still is once it was written
+  pub kept_full : (v w : Vec Node Z) (i : ℕ) (m : Node) → w ≡ with_item v i m → IsFull v → IsFull w
+  kept_full v w i m e full = subst IsFull (sym e) full
+
   -- a pointer to element i is still one once the Vec was written
   pub IsPlace-of : (v w : Vec Node Z) (i : ℕ) (p : Ptr) → w.ptr ≡ v.ptr → length w.items ≡ length v.items → InBlock v.ptr → p ≡ place node_size v.ptr i → i < length v.items → IsPlace node_size w.ptr w.len p
   IsPlace-of v w i p eb el inb ep lt =
@@ -208,6 +215,7 @@ module _ {Z : Type 0} where
       record {
         base = bx ∙ closed.base;
         many = lx ∙ closed.many;
+        room = kept_room w x _ _ e₂ ∙ kept_room v w _ _ e₁ ∙ closed.room;
         in_block = λ _. subst InBlock (sym bx) inb;
         done = λ j lj.
             elim (cases_eq j k) [

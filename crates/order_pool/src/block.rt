@@ -8,7 +8,7 @@ use gx_base::Order;
 use std::alloc::{AllocError, Global};
 use std::marker::Model;
 
-/// Nodes in rings. Each ring has a head, which is a node too, so no link is null.
+/// Nodes in rings. Each ring has a head, which is a node too, so no link is null. The block never grows.
 #[derive(Drop)]
 pub(crate) struct Block {
     nodes: Vec<Node>,
@@ -17,13 +17,13 @@ pub(crate) struct Block {
 impl Model for Block {
     ghost use Rattle.std.specs.Prelude.{List};
     ghost use Rattle.std.specs.Vec.{vec_ptr};
-    ghost use Rattle.order_pool.specs.Inner.Block.{Cell, cells_of, AllLinked};
+    ghost use Rattle.order_pool.specs.Inner.Block.{Cell, cells_of, AllLinked, IsFull};
 
     ghost Value = { List Cell };
 
     ghost view = { λ b. cells_of (vec_ptr b.nodes) b.nodes.items };
 
-    ghost invariant = { λ b. AllLinked (vec_ptr b.nodes) b.nodes.items };
+    ghost invariant = { λ b. AllLinked (vec_ptr b.nodes) b.nodes.items × IsFull b.nodes };
 }
 
 impl Block {

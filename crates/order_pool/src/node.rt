@@ -1,5 +1,5 @@
 //! An order with its two links.
-ghost use Rattle.std.specs.Prelude.{◌≡◌, vec_len, IfOk};
+ghost use Rattle.std.specs.Prelude.{◌≡◌, vec_len, vec_capacity, IfOk};
 ghost use Rattle.std.specs.Vec.{vec_ptr, with_item};
 ghost use Rattle.order_pool.specs.Inner.Places.{index_of, IsPlace};
 ghost use Rattle.order_pool.specs.Inner.Block.{node_at, node_size, blank_node, first_tag, IsBlank, IsClosed};
@@ -99,18 +99,19 @@ fn tag(slots: u32, queues: u32, k: u32) -> u32
     if k < slots { queues } else { k - slots }
 }
 
-/// Nodes that lead nowhere.
+/// Nodes that lead nowhere, in a block with room for no more.
 pub(crate) fn fill(
     alloc: Global,
     slots: u32,
     queues: u32,
     count: u32,
 ) -> Result<Vec<Node>, AllocError>
-    ensures { IfOk result (λ v. IsBlank slots queues count v.items) }
+    ensures blank { IfOk result (λ v. IsBlank slots queues count v.items) }
+    ensures room { IfOk result (λ v. vec_capacity v ≡ count) }
 {
     let mut nodes = Vec::with_capacity(alloc, count as usize)?;
     for k in 0..count {
-        nodes.push(blank(k, tag(slots, queues, k)))?;
+        nodes.push_reserved(blank(k, tag(slots, queues, k)));
     }
     Ok(nodes)
 }
@@ -126,8 +127,3 @@ pub(crate) fn close(nodes: &mut Vec<Node>, count: u32)
         set_next(nodes, here, here);
     }
 }
-
-// The links of a node lead into the block that owns it, and nobody else has them.
-unsafe impl Send for Node {}
-
-unsafe impl Sync for Node {}

@@ -1,5 +1,5 @@
 //! The pool: queues of orders, as rings in one block.
-ghost use Rattle.std.specs.Prelude.{◌≡◌, ℕ, ◌+◌, ◌-◌, ◌^◌, ◌<◌, length, option_map, vec_len, slice_index, slice_set, IfOk, IfSome, IsTrue, ◌↔◌, map};
+ghost use Rattle.std.specs.Prelude.{◌≡◌, ℕ, ◌+◌, ◌-◌, ◌^◌, ◌<◌, length, option_map, vec_len, vec_capacity, replicate, slice_index, slice_set, IfOk, IfSome, IsTrue, ◌↔◌, map};
 ghost use Rattle.order_pool.specs.Queues.{slot_number, empty_queues, order_of, first_slot, next_slot, IsIn, IsLive, entries_at, removed, appended, live_of, with_entry, SlotsDiffer};
 ghost use Rattle.order_pool.specs.Inner.Block.{IsFresh};
 ghost use Rattle.order_pool.specs.Inner.Rings.{IsChained};
@@ -11,7 +11,7 @@ use std::marker::Model;
 
 /// A number of queues, with room for a number of orders in all of them together; both are fixed at the start. Contracts see
 /// each queue as a list of slots with their orders. A slot is the name of an order from its `push_back` to its `unlink`.
-/// Each call but `new` takes constant time and no memory.
+/// Each call but `new` takes constant time, and no call changes how much its block and its counts have room for.
 #[derive(Drop)]
 pub struct Pool {
     block: Block,
@@ -22,6 +22,7 @@ pub struct Pool {
 }
 
 impl Model for Pool {
+    ghost use Rattle.std.specs.Prelude.{◌≡◌, vec_capacity};
     ghost use Rattle.order_pool.specs.Queues.{Queues};
     ghost use Rattle.order_pool.specs.Inner.Rings.{queues_of, IsPool};
 
@@ -29,18 +30,19 @@ impl Model for Pool {
 
     ghost view = { λ p. queues_of p.block p.capacity p.queues };
 
-    ghost invariant = { λ p. IsPool p.block p.capacity p.queues p.live p.counts.items };
+    ghost invariant = { λ p. IsPool p.block p.capacity p.queues p.live p.counts.items × (vec_capacity p.counts ≡ p.queues) };
 }
 
 impl Pool {
     /// Empty queues, so many, with room for so many orders. An `Err` is want of memory, also where nodes, queues and one more
-    /// are together 2 to the power of 32 or more. No other call takes memory.
+    /// are together 2 to the power of 32 or more. It takes all the memory: a node for each order, for each queue and for the
+    /// free slots, and four bytes for each queue.
     pub fn new(alloc: Global, nodes: u32, queues: u32) -> Result<Pool, AllocError>
         ensures { IfOk result (λ p. p ≡ empty_queues nodes queues) }
     {
         let mut block = Block::new(alloc, nodes, queues)?;
         chain_free(&mut block, nodes, queues);
-        let counts = Vec::from_elem(alloc, 0, queues as usize)?;
+        let counts = zeros(alloc, queues as usize)?;
         Ok(Pool {
             block,
             capacity: nodes,
@@ -194,10 +196,23 @@ impl Pool {
     }
 }
 
+/// So many zeros, with room for no more.
+fn zeros(alloc: Global, count: usize) -> Result<Vec<u32>, AllocError>
+    ensures items { IfOk result (λ v. v.items ≡ replicate count 0) }
+    ensures room { IfOk result (λ v. vec_capacity v ≡ count) }
+{
+    let mut counts = Vec::with_capacity(alloc, count)?;
+    for _ in 0..count {
+        counts.push_reserved(0);
+    }
+    Ok(counts)
+}
+
 fn lower(counts: &mut Vec<u32>, q: u32)
     requires in_range { q < vec_len counts.old }
     requires some { 0 < slice_index counts.old.items q }
-    ensures { counts.new.items ≡ slice_set counts.old.items q (slice_index counts.old.items q - 1) }
+    ensures items { counts.new.items ≡ slice_set counts.old.items q (slice_index counts.old.items q - 1) }
+    ensures room { vec_capacity counts.new ≡ vec_capacity counts.old }
 {
     counts[q as usize] -= 1;
 }
@@ -205,7 +220,8 @@ fn lower(counts: &mut Vec<u32>, q: u32)
 fn raise(counts: &mut Vec<u32>, q: u32)
     requires in_range { q < vec_len counts.old }
     requires fits { slice_index counts.old.items q + 1 < 2 ^ 32 }
-    ensures { counts.new.items ≡ slice_set counts.old.items q (slice_index counts.old.items q + 1) }
+    ensures items { counts.new.items ≡ slice_set counts.old.items q (slice_index counts.old.items q + 1) }
+    ensures room { vec_capacity counts.new ≡ vec_capacity counts.old }
 {
     counts[q as usize] += 1;
 }

@@ -1,5 +1,5 @@
 -- The fields once a level comes.
-use Rattle.std.proofs.Common.{◌≡◌, ◌≢◌, ℕ, ◌+◌, ◌<◌, ◌≤◌, List, [], ◌∷◌, ◌++◌, length, set, None, refl, sym, ap, subst, ◌∙◌, arith, inl, inr}
+use Rattle.std.proofs.Common.{◌≡◌, ◌≢◌, ℕ, ◌+◌, ◌<◌, List, [], ◌∷◌, ◌++◌, length, set, None, refl, sym, ap, subst, ◌∙◌, arith, inl, inr}
 use Rattle.std.specs.List.{AllByRecursion}
 use Rattle.std.proofs.lemmas.List.{length-set, length_push, map-id, get_or-set_same, get_or-set_other}
 use Rattle.gx_base.specs.declared.price.Price.{Price}
@@ -77,7 +77,7 @@ module _ {capacity instruments : ℕ} {table : List LevelRow} {all : List (List 
         (λ x h. (h.0.0, λ k. elim (placed-queues coming rows kept.rows.apart absent_here q_free.1 x k) [ inl e ↦ h.1.0 e | inr g ↦ h.0.1 g ])) left
         (all-both (λ (x : ℕ). (x < capacity) × (HasQueue x rows → ⊥)) (λ (x : ℕ). AllByRecursion (λ (b : ℕ). b ≢ x) (q ∷ [])) left (all-front (λ (x : ℕ). (x < capacity) × (HasQueue x rows → ⊥)) left (q ∷ []) was_free) apart)
 
-    pub kept_added : (free_capacity' : ℕ) → capacity ≤ free_capacity' → IsKept capacity instruments with_table with_all capacities left free_capacity'
+    pub kept_added : (free_capacity' : ℕ) → free_capacity' ≡ capacity → IsKept capacity instruments with_table with_all capacities left free_capacity'
     kept_added free_capacity' fits =
         kept_from capacity instruments with_table with_all capacities left free_capacity' (placed_row coming rows) rows_new
         (placed-apart coming rows kept.rows.apart absent_here q_free.1)

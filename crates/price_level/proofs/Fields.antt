@@ -1,5 +1,5 @@
 -- The lists of all sides and their rooms, where one of them changes or one more comes.
-use Rattle.std.proofs.Common.{◌≡◌, ℕ, ◌+◌, ◌<◌, ◌≤◌, List, [], ◌∷◌, ◌++◌, length, get_or, set, Vec, vec_capacity, Global, sym, ap, subst, ◌∙◌, arith}
+use Rattle.std.proofs.Common.{◌≡◌, ℕ, ◌+◌, ◌<◌, List, [], ◌∷◌, ◌++◌, length, get_or, set, Vec, vec_capacity, Global, sym, ap, subst, ◌∙◌, arith}
 use Rattle.std.proofs.Math.Seq.{map-set_same}
 use Rattle.std.specs.List.{AllByRecursion}
 use Rattle.std.proofs.lemmas.List.{map-set, get_or-map, map_push, length_push, length-map, length-set, with_items_is}
@@ -34,14 +34,14 @@ pub room_at : (sides : List (Vec Step Global)) (n capacity k : ℕ) → n < capa
 room_at sides n capacity k lt below h =
     let a = length-map sides (λ (x : Vec Step Global). x.items) in
     let b = length-map sides vec_capacity in
-    let le = all-at (λ (c : ℕ). capacity ≤ c) (rooms sides) k 0 h (omega arith) in
+    let le = all-at (λ (c : ℕ). c ≡ capacity) (rooms sides) k 0 h (omega arith) in
     omega arith
 
-pub empty_more : (n capacity : ℕ) (sides : List (Vec Step Global)) (v : Vec Step Global) → v.items ≡ [] → capacity ≤ vec_capacity v → AreEmpty n capacity (lists sides) (rooms sides) → AreEmpty (n + 1) capacity (lists (sides ++ v ∷ [])) (rooms (sides ++ v ∷ []))
+pub empty_more : (n capacity : ℕ) (sides : List (Vec Step Global)) (v : Vec Step Global) → v.items ≡ [] → vec_capacity v ≡ capacity → AreEmpty n capacity (lists sides) (rooms sides) → AreEmpty (n + 1) capacity (lists (sides ++ v ∷ [])) (rooms (sides ++ v ∷ []))
 empty_more n capacity sides v e le a =
     let l = map_push (λ (x : Vec Step Global). x.items) sides v in
     record {
       count = ap length l ∙ length_push (lists sides) v.items ∙ ap {B = ℕ} (λ (x : ℕ). x + 1) a.count;
       empty = subst (AllByRecursion (λ (x : List Step). x ≡ [])) (sym l) (all-append (λ (x : List Step). x ≡ []) (lists sides) (v.items ∷ []) a.empty (e, tt));
-      room = subst (HaveRoom capacity) (sym (map_push vec_capacity sides v)) (all-append (λ (c : ℕ). capacity ≤ c) (rooms sides) (vec_capacity v ∷ []) a.room (le, tt));
+      room = subst (HaveRoom capacity) (sym (map_push vec_capacity sides v)) (all-append (λ (c : ℕ). c ≡ capacity) (rooms sides) (vec_capacity v ∷ []) a.room (le, tt));
     }

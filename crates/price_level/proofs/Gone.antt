@@ -1,5 +1,5 @@
 -- The fields once a level goes.
-use Rattle.std.proofs.Common.{◌≡◌, ◌≢◌, ℕ, ◌+◌, ◌<◌, ◌≤◌, List, [], ◌∷◌, ◌++◌, length, set, filter, not, refl, sym, ap, subst, ◌∙◌, arith}
+use Rattle.std.proofs.Common.{◌≡◌, ◌≢◌, ℕ, ◌+◌, ◌<◌, List, [], ◌∷◌, ◌++◌, length, set, filter, not, refl, sym, ap, subst, ◌∙◌, arith}
 use Rattle.std.proofs.lemmas.List.{length-set, length_push}
 use Rattle.price_level.specs.declared.row.LevelRow.{LevelRow}
 use Rattle.price_level.specs.declared.side.Step.{Step}
@@ -52,7 +52,7 @@ module _ {capacity instruments : ℕ} {table : List LevelRow} {all : List (List 
     pub free_below : length unused < capacity
     free_below = let a = count_less in omega (arith, kept.count)
 
-    pub kept_closed : (free_capacity' : ℕ) → capacity ≤ free_capacity' → IsKept capacity instruments table less_all capacities (unused ++ q ∷ []) free_capacity'
+    pub kept_closed : (free_capacity' : ℕ) → free_capacity' ≡ capacity → IsKept capacity instruments table less_all capacities (unused ++ q ∷ []) free_capacity'
     kept_closed free_capacity' fits =
         kept_from capacity instruments table less_all capacities (unused ++ q ∷ []) free_capacity' (without_row q rows) rows_less
         (pairs-filter AreRowsApart _ rows kept.rows.apart)

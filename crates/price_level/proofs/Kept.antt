@@ -1,5 +1,5 @@
 -- Fields are kept, by the rows that they are; and where there is no level yet.
-use Rattle.std.proofs.Common.{◌≡◌, ℕ, ◌+◌, ◌*◌, ◌<◌, ◌≤◌, List, [], ◌∷◌, ◌++◌, length, refl, sym, ap, subst, ◌∙◌, arith}
+use Rattle.std.proofs.Common.{◌≡◌, ℕ, ◌+◌, ◌*◌, ◌<◌, List, [], ◌∷◌, ◌++◌, length, refl, sym, ap, subst, ◌∙◌, arith}
 use Prim.Native.Nat.{suc}
 use Rattle.std.specs.List.{AllByRecursion}
 use Rattle.price_level.specs.declared.row.LevelRow.{LevelRow}
@@ -14,7 +14,7 @@ IsBelow capacity instruments r = (r.queue < capacity) × (r.instrument < instrum
 
 -- fields are kept, by the rows that they are
 module _ (capacity instruments : ℕ) (table : List LevelRow) (all : List (List Step)) (capacities unused : List ℕ) (free_capacity : ℕ) (rs : List LevelRow) (is : rows_of table all ≡ rs) where
-  pub kept_from : Pairs AreRowsApart rs → AllByRecursion (IsBelow capacity instruments) rs → length table ≡ capacity → length all ≡ 2 * instruments → AreSides table 0 all → HaveRoom capacity capacities → AreFree capacity rs unused → AreApart unused → capacity ≤ free_capacity → length rs + length unused ≡ capacity
+  pub kept_from : Pairs AreRowsApart rs → AllByRecursion (IsBelow capacity instruments) rs → length table ≡ capacity → length all ≡ 2 * instruments → AreSides table 0 all → HaveRoom capacity capacities → AreFree capacity rs unused → AreApart unused → free_capacity ≡ capacity → length rs + length unused ≡ capacity
       → IsKept capacity instruments table all capacities unused free_capacity
   kept_from apart below long sides steps room free free_apart free_room count = record {
     rows = record { apart = subst (Pairs AreRowsApart) (sym is) apart; below = subst (AllByRecursion (IsBelow capacity instruments)) (sym is) below };
@@ -38,7 +38,7 @@ no-steps : (table : List LevelRow) (m : ℕ) (all : List (List Step)) → AllByR
 no-steps table m [] h = tt
 no-steps table m (l ∷ all) h = (subst (AllByRecursion (IsStep table m)) (sym h.0) tt, no-steps table (suc m) all h.1)
 
-module _ (capacity instruments : ℕ) (table : List LevelRow) (all : List (List Step)) (capacities unused : List ℕ) (free_capacity : ℕ) (long : length table ≡ capacity) (empty : AreEmpty (2 * instruments) capacity all capacities) (queues : AreAll capacity unused) (room : capacity ≤ free_capacity) where
+module _ (capacity instruments : ℕ) (table : List LevelRow) (all : List (List Step)) (capacities unused : List ℕ) (free_capacity : ℕ) (long : length table ≡ capacity) (empty : AreEmpty (2 * instruments) capacity all capacities) (queues : AreAll capacity unused) (room : free_capacity ≡ capacity) where
   pub kept_new : IsKept capacity instruments table all capacities unused free_capacity
   kept_new =
       kept_from capacity instruments table all capacities unused free_capacity [] (no-rows table all empty.empty) tt tt long empty.count (no-steps table 0 all empty.empty) empty.room

@@ -4,7 +4,7 @@ ghost use Rattle.book_order.specs.Levels.{level};
 ghost use Rattle.price_level.specs.Rows.{no_rows, AreRows, best_row, worse_row, queue_at, HasQueue, row_of, with_sums, new_row, placed_row, without_row, open_rows};
 
 use crate::queues::{all_queues, give_back};
-use crate::row::LevelRow;
+use crate::row::{LevelRow, blank_rows};
 use crate::side::{Step, best_price, open_lots, queue_at, worse_price};
 use crate::sides::{add_step, empty_sides, remove_step, steps_of};
 use gx_base::{Price, Side};
@@ -16,6 +16,7 @@ use std::marker::Model;
 ///
 /// The row of a queue is read and written in one step. A search by price looks at the best level of a side first, and then
 /// halves its levels, and a level that comes or goes moves the better levels of its side, so near the best price next to none.
+/// `new` takes all the memory, and no part ever grows.
 #[derive(Drop)]
 pub struct Levels {
     /// The row of each queue. That of a free queue means nothing.
@@ -32,33 +33,25 @@ impl Model for Levels {
     ghost use Rattle.price_level.specs.Rows.{Rows};
     ghost use Rattle.price_level.specs.Inner.Sides.{lists, rooms};
     ghost use Rattle.price_level.specs.Inner.Kept.{rows_seen, IsKept};
-    ghost use Rattle.std.specs.Prelude.{vec_capacity};
+    ghost use Rattle.std.specs.Prelude.{◌≡◌, ◌*◌, vec_capacity};
 
     ghost Value = { Rows };
 
     ghost view = { λ l. rows_seen l.capacity l.instruments l.rows.items (lists l.sides.items) };
 
-    ghost invariant = { λ l. IsKept l.capacity l.instruments l.rows.items (lists l.sides.items) (rooms l.sides.items) l.free.items (vec_capacity l.free) };
+    ghost invariant = { λ l. IsKept l.capacity l.instruments l.rows.items (lists l.sides.items) (rooms l.sides.items) l.free.items (vec_capacity l.free)
+        × ((vec_capacity l.rows ≡ l.capacity) × (vec_capacity l.sides ≡ 2 * l.instruments)) };
 }
 
 impl Levels {
     /// No levels, with room for so many of so many instruments. An `Err` is want of memory: it takes 44 bytes for each level,
-    /// and for each instrument 32 bytes for each level and 48 more, since all levels may come to stand on one side. No other
-    /// call takes memory.
+    /// and for each instrument 32 bytes for each level and 48 more, since all levels may come to stand on one side. It takes
+    /// all the memory: no call changes how much a part has room for.
     pub fn new(alloc: Global, capacity: u32, instruments: u8) -> Result<Levels, AllocError>
         ensures { IfOk result (λ l. l ≡ no_rows capacity instruments) }
     {
-        let blank = LevelRow {
-            instrument: 0,
-            side: Side::Buy,
-            price: Price(0),
-            queue: 0,
-            count: 0,
-            shown: 0,
-            leaves: 0,
-        };
         Ok(Levels {
-            rows: Vec::from_elem(alloc, blank, capacity as usize)?,
+            rows: blank_rows(alloc, capacity)?,
             sides: empty_sides(alloc, 2 * instruments as usize, capacity)?,
             free: all_queues(alloc, capacity)?,
             capacity,

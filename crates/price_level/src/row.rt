@@ -1,5 +1,8 @@
 //! A price level.
+ghost use Rattle.std.specs.Prelude.{◌≡◌, length, IfOk, vec_capacity};
+
 use gx_base::{Price, Side};
+use std::alloc::{AllocError, Global};
 
 /// A price level with the sums of its orders.
 #[derive(Clone, Copy, Debug, PartialEq, Eq)]
@@ -15,4 +18,24 @@ pub struct LevelRow {
     pub shown: u64,
     /// How many lots of them are open.
     pub leaves: u64,
+}
+
+/// So many rows of no level, with room for no more.
+pub(crate) fn blank_rows(alloc: Global, count: u32) -> Result<Vec<LevelRow>, AllocError>
+    ensures many { IfOk result (λ rows. length rows.items ≡ count) }
+    ensures room { IfOk result (λ rows. vec_capacity rows ≡ count) }
+{
+    let mut rows = Vec::with_capacity(alloc, count as usize)?;
+    for _ in 0..count {
+        rows.push_reserved(LevelRow {
+            instrument: 0,
+            side: Side::Buy,
+            price: Price(0),
+            queue: 0,
+            count: 0,
+            shown: 0,
+            leaves: 0,
+        });
+    }
+    Ok(rows)
 }

@@ -1,5 +1,5 @@
 //! The levels of all sides, each with room for all levels.
-ghost use Rattle.std.specs.Prelude.{◌≡◌, ◌<◌, length, set, slice_index, IfOk};
+ghost use Rattle.std.specs.Prelude.{◌≡◌, ◌<◌, length, set, slice_index, IfOk, vec_capacity};
 ghost use Rattle.price_level.specs.Inner.Steps.{AreWorstFirst, with_step, without_step};
 ghost use Rattle.price_level.specs.Inner.Sides.{side_number, lists, rooms, list_at, AreEmpty};
 
@@ -18,17 +18,18 @@ fn side_number(instrument: u8, side: Side) -> usize
     }
 }
 
-/// So many sides without levels, each with room for so many.
+/// So many sides without levels, each with room for so many, and for no more.
 pub(crate) fn empty_sides(
     alloc: Global,
     count: usize,
     capacity: u32,
 ) -> Result<Vec<Vec<Step>>, AllocError>
-    ensures { IfOk result (λ sides. AreEmpty count capacity (lists sides.items) (rooms sides.items)) }
+    ensures { IfOk result (λ sides. AreEmpty count capacity (lists sides.items) (rooms sides.items) × (vec_capacity sides ≡ count)) }
 {
     let mut sides = Vec::with_capacity(alloc, count)?;
     for _side in 0..count {
-        sides.push(Vec::with_capacity(alloc, capacity as usize)?)?;
+        let steps = Vec::with_capacity(alloc, capacity as usize)?;
+        sides.push_reserved(steps);
     }
     Ok(sides)
 }

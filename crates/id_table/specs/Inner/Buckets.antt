@@ -1,5 +1,5 @@
 -- The row of buckets of a table, and what is true of it at every moment.
-use Rattle.std.specs.Prelude.{◌≡◌, ◌≢◌, ℕ, ◌+◌, ◌*◌, ◌≤◌, List, [], ◌∷◌, ◌++◌, length, slice_index_or, None}
+use Rattle.std.specs.Prelude.{◌≡◌, ◌≢◌, ℕ, ◌+◌, ◌*◌, List, [], ◌∷◌, ◌++◌, length, slice_index_or, None}
 use Rattle.std.specs.FinMap as map
 use Rattle.gx_base.specs.declared.order.Slot.{Slot}
 use Rattle.id_table.specs.declared.tree.Tree.{Tree}
@@ -28,9 +28,9 @@ pub record IsTable (capacity : ℕ) (buckets : List Tree) : Type 0 where
   -- each key is in no other bucket than its home
   pub homed : (i : ℕ) (q : List ℕ) → i ≢ home_of capacity q → slot_of (bucket_at buckets i) q ≡ None
 
--- what is true of the fields of a table, which has so many spare nodes and room for so many
+-- what is true of the fields of a table, which has so many spare nodes, and room for so many
 pub record IsKept (capacity live : ℕ) (buckets : List Tree) (spare room : ℕ) : Type 0 where
   pub table : IsTable capacity buckets
   pub size : map.len (slots_of buckets) ≡ live
   pub few : spare + live ≡ capacity
-  pub wide : capacity ≤ room
+  pub wide : room ≡ capacity

@@ -1,5 +1,5 @@
 -- What a block of nodes is to its callers: a list of cells, whose links are indices.
-use Rattle.std.specs.Prelude.{◌≡◌, ℕ, ◌+◌, ◌-◌, ◌^◌, ◌<◌, ◌≤◌, nat_lt, if◌then◌else◌, List, map, length, slice_index_or, slice_set}
+use Rattle.std.specs.Prelude.{◌≡◌, ℕ, ◌+◌, ◌-◌, ◌^◌, ◌<◌, ◌≤◌, nat_lt, if◌then◌else◌, List, map, length, slice_index_or, slice_set, vec_len, vec_capacity}
 use Rattle.std.specs.declared.vec.Vec.{Vec}
 use Rattle.std.specs.Vec.{vec_ptr}
 use Rattle.std.specs.Mem.{type_size}
@@ -48,6 +48,10 @@ pub record IsLinked (base : Ptr) (count k : ℕ) (n : Node) : Type 0 where
 abbrev pub AllLinked : Ptr → List Node → Type 0
 AllLinked base ns = (k : ℕ) → k < length ns → IsLinked base (length ns) k (node_at ns k)
 
+-- a Vec has room for its elements, and for no more
+abbrev pub IsFull : {X Z : Type 0} → Vec X Z → Type 0
+IsFull v = vec_capacity v ≡ vec_len v
+
 -- ---- what the calls do
 
 abbrev pub with_order : List Cell → ℕ → Order → List Cell
@@ -91,6 +95,7 @@ closed_node base k n = record n { prev = place node_size base k; next = place no
 pub record IsClosed {Z : Type 0} (old new : Vec Node Z) (count : ℕ) : Type 0 where
   pub base : vec_ptr new ≡ vec_ptr old
   pub many : length new.items ≡ length old.items
+  pub room : vec_capacity new ≡ vec_capacity old
   pub in_block : 0 < count → InBlock (vec_ptr new)
   pub done : (k : ℕ) → k < count → node_at new.items k ≡ closed_node (vec_ptr new) k (node_at old.items k)
   pub rest : (k : ℕ) → count ≤ k → node_at new.items k ≡ node_at old.items k

@@ -1,5 +1,5 @@
 -- What is true of the fields of levels at every moment.
-use Rattle.std.specs.Prelude.{◌≡◌, ◌≢◌, ℕ, ◌+◌, ◌*◌, ◌<◌, ◌≤◌, List, length}
+use Rattle.std.specs.Prelude.{◌≡◌, ◌≢◌, ℕ, ◌+◌, ◌*◌, ◌<◌, List, length}
 use Rattle.std.specs.List.{AllByRecursion}
 use Rattle.price_level.specs.declared.row.LevelRow.{LevelRow}
 use Rattle.price_level.specs.declared.side.Step.{Step}
@@ -32,5 +32,5 @@ pub record IsKept (capacity instruments : ℕ) (table : List LevelRow) (all : Li
   pub room : HaveRoom capacity capacities
   pub free : AreFree capacity (rows_of table all) unused
   pub free_apart : AreApart unused
-  pub free_room : capacity ≤ free_capacity
+  pub free_room : free_capacity ≡ capacity
   pub count : length (rows_of table all) + length unused ≡ capacity

@@ -1,5 +1,5 @@
 -- The levels of all sides: those of buy and of sell of the first instrument, then those of the next.
-use Rattle.std.specs.Prelude.{◌≡◌, ℕ, ◌+◌, ◌*◌, ◌≤◌, List, [], ◌∷◌, ◌++◌, map, length, slice_index_or, Vec, vec_capacity}
+use Rattle.std.specs.Prelude.{◌≡◌, ℕ, ◌+◌, ◌*◌, List, [], ◌∷◌, ◌++◌, map, length, slice_index_or, Vec, vec_capacity}
 use Rattle.std.specs.declared.alloc.Global.{Global}
 use Prim.Native.Nat.{suc}
 use Rattle.std.specs.List.{AllByRecursion}
@@ -23,9 +23,9 @@ rooms sides = map vec_capacity sides
 abbrev pub list_at : List (List Step) → ℕ → List Step
 list_at all k = slice_index_or all k []
 
--- each of these has room for so many
+-- each of these has room for so many, and for no more
 abbrev pub HaveRoom : ℕ → List ℕ → Type 0
-HaveRoom n capacities = AllByRecursion (λ (c : ℕ). n ≤ c) capacities
+HaveRoom n capacities = AllByRecursion (λ (c : ℕ). c ≡ n) capacities
 
 -- so many sides without levels
 pub record AreEmpty (n capacity : ℕ) (all : List (List Step)) (capacities : List ℕ) : Type 0 where

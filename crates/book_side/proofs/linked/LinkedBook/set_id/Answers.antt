@@ -7,23 +7,23 @@ use Rattle.book_side.proofs.Became.{named}
 use Rattle.book_side.proofs.linked.LinkedBook.set_id.Goals as goal
 
 pub order-requires : goal.order-requires
-order-requires c = live c.self.invariant c.self.view_is c.args.slot.0 c.requires.live
+order-requires c = live c.self.invariant.0 c.self.view_is c.args.slot.0 c.requires.live
 
 pub set-requires : goal.set-requires
-set-requires c = live c.self.invariant c.self.view_is c.args.slot.0 c.requires.live
+set-requires c = live c.self.invariant.0 c.self.view_is c.args.slot.0 c.requires.live
 
 pub rename-requires-clause-present : goal.rename-requires-clause-present
-rename-requires-clause-present c = id-there c.self.invariant c.self.view_is c.args.slot.0 c.order.result.now c.requires.live c.order.ensures
+rename-requires-clause-present c = id-there c.self.invariant.0 c.self.view_is c.args.slot.0 c.order.result.now c.requires.live c.order.ensures
 
 pub rename-requires-clause-absent : goal.rename-requires-clause-absent
 rename-requires-clause-absent c =
-    let is = order-is c.self.invariant c.self.view_is c.args.slot.0 c.order.result.now c.requires.live c.order.ensures in
-    subst (λ (o : Order). map.get c.self.inside.ids.slots (key o.firm c.args.id) ≡ None) (sym is) (id-absent c.self.invariant c.self.view_is _ c.args.id c.requires.unnamed)
+    let is = order-is c.self.invariant.0 c.self.view_is c.args.slot.0 c.order.result.now c.requires.live c.order.ensures in
+    subst (λ (o : Order). map.get c.self.inside.ids.slots (key o.firm c.args.id) ≡ None) (sym is) (id-absent c.self.invariant.0 c.self.view_is _ c.args.id c.requires.unnamed)
 
 pub invariant_of-self : goal.invariant_of-self
 invariant_of-self c =
-    (named c.self.invariant c.self.view_is c.args.slot c.args.id c.order.result.now c.requires.live c.requires.unnamed c.order.ensures c.set.ensures.queues c.set.ensures.live c.rename.ensures).linked
+    ((named c.self.invariant.0 c.self.view_is c.args.slot c.args.id c.order.result.now c.requires.live c.requires.unnamed c.order.ensures c.set.ensures.queues c.set.ensures.live c.rename.ensures).linked, c.self.invariant.1)
 
 pub returns : goal.returns
 returns c =
-    (named c.self.invariant c.self.view_is c.args.slot c.args.id c.order.result.now c.requires.live c.requires.unnamed c.order.ensures c.set.ensures.queues c.set.ensures.live c.rename.ensures).view
+    (named c.self.invariant.0 c.self.view_is c.args.slot c.args.id c.order.result.now c.requires.live c.requires.unnamed c.order.ensures c.set.ensures.queues c.set.ensures.live c.rename.ensures).view

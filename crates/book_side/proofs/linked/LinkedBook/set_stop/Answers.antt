@@ -3,14 +3,14 @@ use Rattle.book_side.proofs.Became.{stop-changed}
 use Rattle.book_side.proofs.linked.LinkedBook.set_stop.Goals as goal
 
 pub set-requires : goal.set-requires
-set-requires c = waits-live c.self.invariant c.self.view_is c.args.slot.0 c.requires.waits
+set-requires c = waits-live c.self.invariant.0 c.self.view_is c.args.slot.0 c.requires.waits
 
 pub invariant_of-self : goal.invariant_of-self
 invariant_of-self c =
     let r = c.requires in
-    (stop-changed c.self.invariant c.self.view_is c.args.slot.0 c.args.order.now r.waits r.level r.firm r.id r.fit c.set.ensures.queues c.set.ensures.live).linked
+    ((stop-changed c.self.invariant.0 c.self.view_is c.args.slot.0 c.args.order.now r.waits r.level r.firm r.id r.fit c.set.ensures.queues c.set.ensures.live).linked, c.self.invariant.1)
 
 pub returns : goal.returns
 returns c =
     let r = c.requires in
-    (stop-changed c.self.invariant c.self.view_is c.args.slot.0 c.args.order.now r.waits r.level r.firm r.id r.fit c.set.ensures.queues c.set.ensures.live).view
+    (stop-changed c.self.invariant.0 c.self.view_is c.args.slot.0 c.args.order.now r.waits r.level r.firm r.id r.fit c.set.ensures.queues c.set.ensures.live).view

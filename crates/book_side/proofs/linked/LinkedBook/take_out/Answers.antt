@@ -1,4 +1,4 @@
-use Rattle.std.proofs.Common.{refl}
+use Rattle.std.proofs.Common.{◌∙◌, refl}
 use Rattle.plain_book.proofs.Levels.{HasSlot-left}
 use Rattle.book_side.proofs.Seen.{IsAtRow, rests-live, id-there, at-row}
 use Rattle.book_side.proofs.Became.{left}
@@ -6,17 +6,17 @@ use Rattle.book_side.proofs.linked.LinkedBook.take_out.Goals as goal
 use Rattle.book_side.proofs.linked.LinkedBook.take_out.Goals.{After-order-order}
 
 pub queue_of-queue-requires : goal.queue_of-queue-requires
-queue_of-queue-requires c = rests-live c.self.invariant c.self.view_is c.args.slot.0 c.requires
+queue_of-queue-requires c = rests-live c.self.invariant.0 c.self.view_is c.args.slot.0 c.requires
 
 pub order-order-requires : goal.order-order-requires
-order-order-requires c = rests-live c.self.invariant c.self.view_is c.args.slot.0 c.requires
+order-order-requires c = rests-live c.self.invariant.0 c.self.view_is c.args.slot.0 c.requires
 
 pub unlink-requires : goal.unlink-requires
-unlink-requires c = rests-live c.self.invariant c.self.view_is c.args.slot.0 c.requires
+unlink-requires c = rests-live c.self.invariant.0 c.self.view_is c.args.slot.0 c.requires
 
 -- the order and its level
-row : (c : After-order-order) → IsAtRow c.self.invariant c.self.view_is c.args.slot.0 c.queue_of-queue.result c.order-order.result.now
-row c = at-row c.self.invariant c.self.view_is c.args.slot.0 c.requires c.rules.ensures c.queue_of-queue.ensures c.order-order.ensures
+row : (c : After-order-order) → IsAtRow c.self.invariant.0 c.self.view_is c.args.slot.0 c.queue_of-queue.result c.order-order.result.now
+row c = at-row c.self.invariant.0 c.self.view_is c.args.slot.0 c.requires c.rules.ensures c.queue_of-queue.ensures c.order-order.ensures
 
 pub leave_level-requires : goal.leave_level-requires
 leave_level-requires c =
@@ -31,16 +31,16 @@ pub remove-requires : goal.remove-requires
 remove-requires c =
     let b = c.args.self.now in
     let s = c.args.slot.0 in
-    id-there c.self.invariant c.self.view_is s c.order-order.result.now (HasSlot-left s b.resting b.waiting c.requires) c.order-order.ensures
+    id-there c.self.invariant.0 c.self.view_is s c.order-order.result.now (HasSlot-left s b.resting b.waiting c.requires) c.order-order.ensures
 
 pub invariant_of-self : goal.invariant_of-self
 invariant_of-self c =
     let out = c.unlink.ensures in
     let top = c.drop_top.ensures in
-    (left c.self.invariant c.self.view_is c.args.slot.0 c.queue_of-queue.result c.order-order.result.now c.requires c.rules.ensures c.rules-2.ensures c.queue_of-queue.ensures c.order-order.ensures out.queues out.live c.leave_level.ensures c.remove.ensures top.length top.tops).linked
+    ((left c.self.invariant.0 c.self.view_is c.args.slot.0 c.queue_of-queue.result c.order-order.result.now c.requires c.rules.ensures c.rules-2.ensures c.queue_of-queue.ensures c.order-order.ensures out.queues out.live c.leave_level.ensures c.remove.ensures top.length top.tops).linked, c.drop_top.ensures.room ∙ c.self.invariant.1)
 
 pub returns : goal.returns
 returns c =
     let out = c.unlink.ensures in
     let top = c.drop_top.ensures in
-    (left c.self.invariant c.self.view_is c.args.slot.0 c.queue_of-queue.result c.order-order.result.now c.requires c.rules.ensures c.rules-2.ensures c.queue_of-queue.ensures c.order-order.ensures out.queues out.live c.leave_level.ensures c.remove.ensures top.length top.tops).view
+    (left c.self.invariant.0 c.self.view_is c.args.slot.0 c.queue_of-queue.result c.order-order.result.now c.requires c.rules.ensures c.rules-2.ensures c.queue_of-queue.ensures c.order-order.ensures out.queues out.live c.leave_level.ensures c.remove.ensures top.length top.tops).view

@@ -4,23 +4,23 @@ use Rattle.book_side.proofs.Became.{stop-left}
 use Rattle.book_side.proofs.linked.LinkedBook.take_stop.Goals as goal
 
 pub order-order-requires : goal.order-order-requires
-order-order-requires c = waits-live c.self.invariant c.self.view_is c.args.slot.0 c.requires
+order-order-requires c = waits-live c.self.invariant.0 c.self.view_is c.args.slot.0 c.requires
 
 pub unlink-requires : goal.unlink-requires
-unlink-requires c = waits-live c.self.invariant c.self.view_is c.args.slot.0 c.requires
+unlink-requires c = waits-live c.self.invariant.0 c.self.view_is c.args.slot.0 c.requires
 
 pub remove-requires : goal.remove-requires
 remove-requires c =
     let b = c.args.self.now in
     let s = c.args.slot.0 in
-    id-there c.self.invariant c.self.view_is s c.order-order.result.now (HasSlot-right s b.resting b.waiting c.requires) c.order-order.ensures
+    id-there c.self.invariant.0 c.self.view_is s c.order-order.result.now (HasSlot-right s b.resting b.waiting c.requires) c.order-order.ensures
 
 pub invariant_of-self : goal.invariant_of-self
 invariant_of-self c =
     let out = c.unlink.ensures in
-    (stop-left c.self.invariant c.self.view_is c.args.slot.0 c.order-order.result.now c.requires c.rules.ensures c.rules-2.ensures c.order-order.ensures out.queues out.live c.remove.ensures).linked
+    ((stop-left c.self.invariant.0 c.self.view_is c.args.slot.0 c.order-order.result.now c.requires c.rules.ensures c.rules-2.ensures c.order-order.ensures out.queues out.live c.remove.ensures).linked, c.self.invariant.1)
 
 pub returns : goal.returns
 returns c =
     let out = c.unlink.ensures in
-    (stop-left c.self.invariant c.self.view_is c.args.slot.0 c.order-order.result.now c.requires c.rules.ensures c.rules-2.ensures c.order-order.ensures out.queues out.live c.remove.ensures).view
+    (stop-left c.self.invariant.0 c.self.view_is c.args.slot.0 c.order-order.result.now c.requires c.rules.ensures c.rules-2.ensures c.order-order.ensures out.queues out.live c.remove.ensures).view

@@ -4,7 +4,7 @@ use Rattle.book_side.proofs.Seen.{rests-live, next-is}
 use Rattle.book_side.proofs.linked.LinkedBookBook.next.Goals as goal
 
 pub next-requires : goal.next-requires
-next-requires c = rests-live c.self.invariant c.self.view_is c.args.slot.0 c.requires
+next-requires c = rests-live c.self.invariant.0 c.self.view_is c.args.slot.0 c.requires
 
 pub returns : goal.returns
-returns c = next-is c.self.invariant c.self.view_is c.args.slot.0 (option_map slot_number c.next.result) c.requires c.rules.ensures c.next.ensures.value
+returns c = next-is c.self.invariant.0 c.self.view_is c.args.slot.0 (option_map slot_number c.next.result) c.requires c.rules.ensures c.next.ensures.value

@@ -1,4 +1,4 @@
-use Rattle.std.proofs.Common.{ℕ, ◌+◌, ◌<◌, ◌≤◌, ◌^◌, arith}
+use Rattle.std.proofs.Common.{◌∙◌, ℕ, ◌+◌, ◌<◌, ◌≤◌, ◌^◌, arith}
 use Rattle.plain_book.specs.Orders.{HasSlot}
 use Rattle.plain_book.specs.Book.{live_orders, book_placed}
 use Rattle.book_side.proofs.Seen.{id-absent}
@@ -8,14 +8,14 @@ use Rattle.book_side.proofs.linked.LinkedBookBook.place.Goals as goal
 use Rattle.book_side.proofs.linked.LinkedBookBook.place.Goals.{After-row-row, After-place_top}
 
 pub enter_level-queue-requires-clause-room : goal.enter_level-queue-requires-clause-room
-enter_level-queue-requires-clause-room c = rows-room c.self.invariant c.self.view_is c.requires.room
+enter_level-queue-requires-clause-room c = rows-room c.self.invariant.0 c.self.view_is c.requires.room
 
 pub push_back-slot-requires-clause-queue_in : goal.push_back-slot-requires-clause-queue_in
-push_back-slot-requires-clause-queue_in c = queue-there c.self.invariant c.self.view_is c.enter_level-queue.result c.args.order c.enter_level-queue.new.levels c.enter_level-queue.ensures c.rules.ensures c.requires.room c.requires.fit
+push_back-slot-requires-clause-queue_in c = queue-there c.self.invariant.0 c.self.view_is c.enter_level-queue.result c.args.order c.enter_level-queue.new.levels c.enter_level-queue.ensures c.rules.ensures c.requires.room c.requires.fit
 
 -- one order more, and m of its lots, fit into the sums
 more : (c : After-row-row) → (m : ℕ) → m ≤ c.args.order.leaves → (c.row-row.result.count + 1 < 2 ^ 32) × (c.row-row.result.shown + m < 2 ^ 64) × (c.row-row.result.leaves + m < 2 ^ 64)
-more c = sums-fit c.self.invariant c.self.view_is c.enter_level-queue.result c.args.order c.enter_level-queue.new.levels c.enter_level-queue.ensures c.rules.ensures c.requires.room c.requires.fit c.row-row.result c.row-row.ensures
+more c = sums-fit c.self.invariant.0 c.self.view_is c.enter_level-queue.result c.args.order c.enter_level-queue.new.levels c.enter_level-queue.ensures c.rules.ensures c.requires.room c.requires.fit c.row-row.result c.row-row.ensures
 
 pub overflow_add-row : goal.overflow_add-row
 overflow_add-row c = omega (arith, (more (goal.at.overflow_add-row c).After-row-row 0 (omega arith)).0)
@@ -27,13 +27,13 @@ pub overflow_add-row-3 : goal.overflow_add-row-3
 overflow_add-row-3 c = omega (arith, (more (goal.at.overflow_add-row-3 c).After-row-row c.from-2.result (omega (arith, c.from-2.ensures))).2)
 
 pub insert-requires-clause-absent : goal.insert-requires-clause-absent
-insert-requires-clause-absent c = id-absent c.self.invariant c.self.view_is c.args.order.firm c.args.order.id c.requires.unnamed
+insert-requires-clause-absent c = id-absent c.self.invariant.0 c.self.view_is c.args.order.firm c.args.order.id c.requires.unnamed
 
 placed : (c : After-place_top) → (HasSlot c.push_back-slot.result.0 (live_orders c.args.self.now) → ⊥)
     × AreParts c.self.inside.capacity c.self.inside.instruments c.push_back-slot.new.self c.insert.new.self c.set_sums.new.self c.place_top.new.tops.items (book_placed c.push_back-slot.result.0 c.args.order c.args.top_min c.args.self.now)
 placed c =
     let pushed = c.push_back-slot.ensures in
-    let new = came c.self.invariant c.self.view_is c.enter_level-queue.result c.args.order c.enter_level-queue.new.levels c.enter_level-queue.ensures c.rules.ensures c.requires.room c.requires.fit
+    let new = came c.self.invariant.0 c.self.view_is c.enter_level-queue.result c.args.order c.enter_level-queue.new.levels c.enter_level-queue.ensures c.rules.ensures c.requires.room c.requires.fit
     c.push_back-slot.new.self c.insert.new.self c.set_sums.new.self c.place_top.new.tops.items c.push_back-slot.result c.args.top_min c.first_shown-shown.result c.from.result c.from-2.result c.row-row.result c.is_new_best-best.result c.is_enough.result
     (record {
       first = c.first_shown-shown.ensures;
@@ -53,7 +53,7 @@ placed c =
     (new.fresh, new.now)
 
 pub invariant_of-self : goal.invariant_of-self
-invariant_of-self c = (placed (goal.at.invariant_of-self c).After-place_top).1.linked
+invariant_of-self c = ((placed (goal.at.invariant_of-self c).After-place_top).1.linked, c.place_top.ensures.room ∙ c.self.invariant.1)
 
 pub returns : goal.returns
 returns c =

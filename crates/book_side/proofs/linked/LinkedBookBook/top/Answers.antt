@@ -5,4 +5,4 @@ use Rattle.book_side.proofs.Seen.{top-is}
 use Rattle.book_side.proofs.linked.LinkedBookBook.top.Goals as goal
 
 pub returns : goal.returns
-returns c = c.top_at.ensures ∙ ap (λ (l : List SideTops). top_at l c.args.instrument c.args.side) c.deref.ensures.value ∙ top-is c.self.invariant c.self.view_is c.args.instrument c.args.side
+returns c = c.top_at.ensures ∙ ap (λ (l : List SideTops). top_at l c.args.instrument c.args.side) c.deref.ensures.value ∙ top-is c.self.invariant.0 c.self.view_is c.args.instrument c.args.side

@@ -3,4 +3,4 @@ use Rattle.book_side.proofs.Seen.{worse-is}
 use Rattle.book_side.proofs.linked.LinkedBookBook.worse.Goals as goal
 
 pub returns : goal.returns
-returns c = c.worse.ensures ∙ worse-is c.self.invariant c.self.view_is c.args.instrument c.args.side c.args.price
+returns c = c.worse.ensures ∙ worse-is c.self.invariant.0 c.self.view_is c.args.instrument c.args.side c.args.price

@@ -1,4 +1,4 @@
-use Rattle.std.proofs.Common.{◌<◌, ℕ, List, Vec, Global, length, get_or, set, vec_capacity, refl, sym, ap, subst, ◌∙◌, arith}
+use Rattle.std.proofs.Common.{◌<◌, ℕ, List, Vec, Global, length, get_or, set, vec_capacity, refl, sym, ap, subst, ◌∙◌}
 use Rattle.price_level.specs.declared.side.Step.{Step}
 use Rattle.price_level.specs.Rows.{new_row}
 use Rattle.price_level.specs.Inner.Steps.{AreWorstFirst, with_step}
@@ -13,14 +13,14 @@ pub add_step-requires-clause-ordered : goal.add_step-requires-clause-ordered
 add_step-requires-clause-ordered c =
     let n = side_number c.args.instrument c.args.side in
     subst (λ (v : List (Vec Step Global)). AreWorstFirst c.args.side (list_at (lists v) n)) (sym c.deref_mut.ensures.value)
-    (ordered c.self.invariant c.args.self.now c.self.view_is c.args.instrument c.args.side c.requires.listed (list_at (lists c.self.inside.sides.items) n) refl)
+    (ordered c.self.invariant.0 c.args.self.now c.self.view_is c.args.instrument c.args.side c.requires.listed (list_at (lists c.self.inside.sides.items) n) refl)
 
 pub add_step-requires-clause-room : goal.add_step-requires-clause-room
 add_step-requires-clause-room c =
     let n = side_number c.args.instrument c.args.side in
     let sides = c.self.inside.sides.items in
     subst (λ (v : List (Vec Step Global)). length (list_at (lists v) n) < get_or (rooms v) n 0) (sym c.deref_mut.ensures.value)
-    (room_at sides (length (list_at (lists sides) n)) c.self.inside.capacity n (side_less c.self.invariant c.args.self.now c.self.view_is c.args.instrument c.args.side c.requires.listed c.requires.room) (side_in_seen c.self.invariant c.args.self.now c.self.view_is c.args.instrument c.args.side c.requires.listed) c.self.invariant.room)
+    (room_at sides (length (list_at (lists sides) n)) c.self.inside.capacity n (side_less c.self.invariant.0 c.args.self.now c.self.view_is c.args.instrument c.args.side c.requires.listed c.requires.room) (side_in_seen c.self.invariant.0 c.args.self.now c.self.view_is c.args.instrument c.args.side c.requires.listed) c.self.invariant.0.room)
 
 pub invariant_of-self : goal.invariant_of-self
 invariant_of-self c =
@@ -31,9 +31,11 @@ invariant_of-self c =
     let put = c.add_step.ensures.lists ∙ ap (λ (v : List (Vec Step Global)). set (lists v) n (with_step c.args.side step (list_at (lists v) n))) c.deref_mut.ensures.value in
     let back = written l.sides c.add_step.new.sides n (with_step c.args.side step (list_at (lists l.sides.items) n)) put in
     let e = ap lists back ∙ put in
-    let f = ap rooms (back ∙ refl) ∙ c.add_step.ensures.rooms ∙ ap rooms c.deref_mut.ensures.value in
-    subst (λ (p : List (List Step) × List ℕ). IsKept l.capacity l.instruments (set l.rows.items c.in-Some.queue row) p.0 p.1 c.pop.new.self.items (vec_capacity c.pop.new.self)) (λ i. (sym e i, sym f i))
-    (kept_added c.self.invariant c.args.self.now c.self.view_is c.args.instrument c.args.side c.args.price c.in-Some.queue c.pop.new.self.items c.requires.listed c.requires.absent c.in-Some.ensures.items (vec_capacity c.pop.new.self) (omega (arith, c.self.invariant.free_room, c.in-Some.ensures.capacity)))
+    let f = ap rooms (back ∙ refl) ∙ c.add_step.ensures.rooms ∙ ap rooms c.deref_mut.ensures.value in (
+      subst (λ (p : List (List Step) × List ℕ). IsKept l.capacity l.instruments (set l.rows.items c.in-Some.queue row) p.0 p.1 c.pop.new.self.items (vec_capacity c.pop.new.self)) (λ i. (sym e i, sym f i))
+          (kept_added c.self.invariant.0 c.args.self.now c.self.view_is c.args.instrument c.args.side c.args.price c.in-Some.queue c.pop.new.self.items c.requires.listed c.requires.absent c.in-Some.ensures.items (vec_capacity c.pop.new.self) (c.in-Some.ensures.capacity ∙ c.self.invariant.0.free_room)),
+      c.self.invariant.1,
+    )
 
 pub returns : goal.returns
 returns c =
@@ -43,6 +45,6 @@ returns c =
     let put = c.add_step.ensures.lists ∙ ap (λ (v : List (Vec Step Global)). set (lists v) n (with_step c.args.side step (list_at (lists v) n))) c.deref_mut.ensures.value in
     let e = ap lists (written l.sides c.add_step.new.sides n (with_step c.args.side step (list_at (lists l.sides.items) n)) put) ∙ put in
     let row = new_row c.args.instrument c.args.side c.args.price c.in-Some.queue in
-    let a = subst (λ (all : List (List Step)). IsAdded c.self.invariant c.args.self.now c.self.view_is c.args.instrument c.args.side c.args.price c.in-Some.queue c.pop.new.self.items c.requires.listed c.requires.absent c.in-Some.ensures.items (rows_seen l.capacity l.instruments (set l.rows.items c.in-Some.queue row) all)) (sym e)
-    (is_added c.self.invariant c.args.self.now c.self.view_is c.args.instrument c.args.side c.args.price c.in-Some.queue c.pop.new.self.items c.requires.listed c.requires.absent c.in-Some.ensures.items) in
+    let a = subst (λ (all : List (List Step)). IsAdded c.self.invariant.0 c.args.self.now c.self.view_is c.args.instrument c.args.side c.args.price c.in-Some.queue c.pop.new.self.items c.requires.listed c.requires.absent c.in-Some.ensures.items (rows_seen l.capacity l.instruments (set l.rows.items c.in-Some.queue row) all)) (sym e)
+    (is_added c.self.invariant.0 c.args.self.now c.self.view_is c.args.instrument c.args.side c.args.price c.in-Some.queue c.pop.new.self.items c.requires.listed c.requires.absent c.in-Some.ensures.items) in
     record { fresh = a.fresh; below = a.below; placed = a.placed; rest = a.rest; has = a.has; row = a.row; count = a.count }

@@ -7,4 +7,4 @@ use Rattle.price_level.proofs.levels.Levels.best.Goals as goal
 pub returns : goal.returns
 returns c =
     let is = c.steps_of.ensures ∙ ap (λ (v : List (Vec Step Global)). list_at (lists v) (side_number c.args.instrument c.args.side)) c.deref.ensures.value in
-    c.best_price.ensures ∙ best c.self.invariant c.args.self.now c.self.view_is c.args.instrument c.args.side c.requires c.steps_of.result.now is
+    c.best_price.ensures ∙ best c.self.invariant.0 c.args.self.now c.self.view_is c.args.instrument c.args.side c.requires c.steps_of.result.now is

@@ -5,10 +5,10 @@ use Rattle.price_level.proofs.Seen.{queue_in, row_is}
 use Rattle.price_level.proofs.levels.Levels.row.Goals as goal
 
 pub index-requires : goal.index-requires
-index-requires c = omega (arith, queue_in c.self.invariant c.args.self.now c.self.view_is c.args.queue c.requires, c.self.inside.rows.ok.0)
+index-requires c = omega (arith, queue_in c.self.invariant.0 c.args.self.now c.self.view_is c.args.queue c.requires, c.self.inside.rows.ok.0)
 
 pub returns : goal.returns
 returns c =
-    let lt = queue_in c.self.invariant c.args.self.now c.self.view_is c.args.queue c.requires in
+    let lt = queue_in c.self.invariant.0 c.args.self.now c.self.view_is c.args.queue c.requires in
     get_or_read c.self.inside.rows.items c.args.queue c.index.result.now lt c.index.ensures no_row
-    ∙ row_is c.self.invariant c.args.self.now c.self.view_is c.args.queue c.requires
+    ∙ row_is c.self.invariant.0 c.args.self.now c.self.view_is c.args.queue c.requires
