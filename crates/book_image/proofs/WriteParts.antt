@@ -1,8 +1,7 @@
 -- The parts of an image: the orders and the parts of the instruments one after the other, the TOP orders, and the gap for a number.
 use Rattle.std.proofs.Common.{◌≡◌, ℕ, ◌+◌, ◌-◌, ◌*◌, ◌/◌, ◌<◌, ◌≤◌, Bool, true, false, cond, ◌||◌, List, [], ◌∷◌, ◌++◌, filter, length, take, get_or, add-one, Option, Some, None, refl, sym, ap, ◌∙◌, inl, inr, append_assoc, length-append, arith}
 use Prim.Native.Nat.{zero, suc}
-use Rattle.std.specs.Prelude.{nat_lt, ◌==◌, slice_get}
-use Rattle.std.proofs.lemmas.Option.{get_or_from_slice_get}
+use Rattle.std.specs.Prelude.{nat_lt, ◌==◌}
 use Rattle.std.proofs.Math.Seq.{take-suc}
 use Rattle.std.proofs.lemmas.Grind.{flat_map-append}
 use Rattle.gx_base.specs.declared.price.Price.{Price}
@@ -249,11 +248,11 @@ lines-next lines i h =
     ∙ flat_map-append number_bytes (take i lines) (get_or lines i 0 ∷ [])
     ∙ ap (λ (l : List ℕ). flat_map number_bytes (take i lines) ++ l) (append-nil (number_bytes (get_or lines i 0))))
 
-pub same-part : (state : State) (i : ℕ) (last : Option Price) (buy sell : ℕ) (b : Book) → b ≡ state.book → slice_get state.last i ≡ Some last
+pub same-part : (state : State) (i : ℕ) (last : Option Price) (buy sell : ℕ) (b : Book) → b ≡ state.book → last ≡ last_of i state.last
     → buy ≡ top_number i Buy b.resting → sell ≡ top_number i Sell b.resting
     → (last_bytes last ++ number_bytes buy) ++ number_bytes sell ≡ instrument_bytes state i
 same-part state i last buy sell b e l buy_is sell_is =
-    ap (λ (q : Option Price). (last_bytes q ++ number_bytes buy) ++ number_bytes sell) (sym (get_or_from_slice_get state.last i last None l))
+    ap (λ (q : Option Price). (last_bytes q ++ number_bytes buy) ++ number_bytes sell) l
     ∙ ap (λ (n : ℕ). (last_bytes (last_of i state.last) ++ number_bytes n) ++ number_bytes sell) (buy_is ∙ ap (λ (q : Book). top_number i Buy q.resting) e)
     ∙ ap (λ (n : ℕ). (last_bytes (last_of i state.last) ++ number_bytes (top_number i Buy state.book.resting)) ++ number_bytes n) (sell_is ∙ ap (λ (q : Book). top_number i Sell q.resting) e)
 

@@ -1,4 +1,4 @@
--- Who is marked as TOP: it stands at the best price of its side, and a sweep marks nobody.
+-- Who is marked as TOP: a sweep marks nobody, and neither does an order that leaves.
 use Rattle.std.proofs.Common.{◌≡◌, ◌≢◌, ℕ, Bool, true, false, cond, not, ◌&&◌, List, [], ◌∷◌, filter, refl, sym, ap, subst, ◌∙◌, inl, inr, Option, Some, None}
 use Rattle.std.specs.Prelude.{◌==◌}
 use Rattle.std.specs.List.{AllByRecursion}
@@ -9,7 +9,7 @@ use Rattle.gx_base.specs.declared.order.Order.{Order}
 use Rattle.gx_base.specs.declared.order.Side.{Side}
 use Rattle.step_config.specs.declared.step.Step.{Step}
 use Rattle.plain_book.specs.declared.entry.Entry.{Entry}
-use Rattle.plain_book.specs.Orders.{order_of, is_on, is_side, side_of, price_of, best_of, slot_of, top_of, without}
+use Rattle.plain_book.specs.Orders.{order_of, is_on, is_side, side_of, slot_of, top_of, without}
 use Rattle.plain_book.specs.Book.{Book, AllDiffer, EachPair, AllowsTop, IsRight}
 use Rattle.plain_book.specs.Match.{MatchState}
 use Rattle.plain_book.proofs.Levels.{same, is_side-same, is_side-refl, and-left, and-right, AllDiffer-front}
@@ -96,35 +96,6 @@ module _ (i : ℕ) (d : Side) where
         | true ↦ λ on. first on e.is_top refl
         | false ↦ λ off. ((λ _ on. not-both (is_on i d e) on off), rest)
       ] in go (is_on i d e) refl
-
-  -- the best price is that of each order of the side that is marked
-  abbrev AtBest : Option Price → Entry → Type 0
-  AtBest best e = e.is_top ≡ true → is_on i d e ≡ true → best ≡ Some e.order.price
-
-  marked-best : (es : List Entry) → EachPair AllowsTop es → AllByRecursion (AtBest (best_of i d es)) es
-  marked-best [] t = tt
-  marked-best (e ∷ es) t =
-      let S = side_of i d es in
-      let All = λ (o : Option Price). AllByRecursion (AtBest o) (e ∷ es) in
-      let go : (c : Bool) → is_on i d e ≡ c → All (price_of (cond c (e ∷ S) S)) = elim [
-        | true ↦ λ on. (
-          (λ _ _. refl),
-          all-with (AllowsTop e) (AtBest (Some e.order.price)) (λ x r m o. ap (λ (p : Price). Some p) (r m (on-both i d x e o on)).1) es t.0,
-        )
-        | false ↦ λ off. ((λ _ on. not-both (is_on i d e) on off), marked-best es t.1)
-      ] in go (is_on i d e) refl
-
-  top-best : (s : ℕ) (es : List Entry) → AllDiffer es → EachPair AllowsTop es → top_of i d es ≡ Some s → best_of i d es ≡ Some (order_of s es).price
-  top-best s es differ t h =
-      let A = AtBest (best_of i d es) in
-      let B = λ (e : Entry). order_of e.slot es ≡ e.order in
-      let P = λ (n : ℕ). best_of i d es ≡ Some (order_of n es).price in
-      top-holds P s es (all-with (λ e. A e × B e) (Marked P) (λ e k m on. k.0 m on ∙ ap (λ (o : Order). Some o.price) (sym k.1)) es
-      (all-both A B es (marked-best es t) (own-orders es differ))) h
-
--- TOP stands at the best price of its side
-pub top-at-best : (i : ℕ) (d : Side) (s : ℕ) (b : Book) → IsRight b → top_of i d b.resting ≡ Some s → best_of i d b.resting ≡ Some (order_of s b.resting).price
-top-at-best i d s b r h = top-best i d s b.resting (AllDiffer-front b.resting b.waiting r.differ) r.tops h
 
 -- where an order has left, TOP was TOP before
 pub top-left : (b : Book) (gone : ℕ) (i : ℕ) (d : Side) (s : ℕ) → IsRight b → top_of i d (without gone b.resting) ≡ Some s → top_of i d b.resting ≡ Some s

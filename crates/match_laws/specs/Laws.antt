@@ -1,16 +1,18 @@
--- What the laws of a match speak of: how much a step gives, and books that are not crossed.
-use Rattle.std.specs.Prelude.{◌≡◌, ℕ, min, true, int_lt, List, [], ◌∷◌, sum_by, Option}
+-- What the laws of a match speak of: the shares that a step trades, and books that are not crossed.
+use Rattle.std.specs.Prelude.{◌≡◌, ℕ, ◌≤◌, true, false, int_lt, List, [], ◌∷◌, sum_by}
 use Rattle.std.specs.List.{AllByRecursion}
 use Rattle.gx_base.specs.declared.order.Side.TheVariants.{Buy, Sell}
+use Rattle.gx_base.specs.declared.event.StepName.{StepName}
 use Rattle.gx_base.specs.declared.price.Price.{Price}
+use Rattle.step_config.specs.Rules.{name_of, is_fifo}
 use Rattle.step_config.specs.declared.step.Step.{Step}
-use Rattle.step_config.specs.declared.step.Step.TheVariants.{Top, Lmm, Split, ProRata, Leveling, Fifo}
 use Rattle.plain_book.specs.declared.entry.Entry.{Entry}
-use Rattle.plain_book.specs.Orders.{Level, level_of, opposite, top_of}
-use Rattle.plain_book.specs.Match.{MatchState, Share}
-use Rattle.plain_book.specs.Steps.{level_now, top_shares, lmm_shares, split_shares, prorata_shares, leveling_shares}
+use Rattle.plain_book.specs.Orders.{Level, level_of, HasSlot, order_of}
+use Rattle.plain_book.specs.Match.{MatchState, Share, trade_share, trade_shares}
+use Rattle.plain_book.specs.Steps.{level_now}
+use Rattle.level_sweep.specs.Sweep.{step_of}
 
--- ---- how much a step gives
+-- ---- the shares of a step
 
 -- the lots of some shares
 abbrev pub lots_of : List Share → ℕ
@@ -20,20 +22,25 @@ lots_of shares = sum_by (λ (s : Share). s.1) shares
 abbrev pub shown_by : List Entry → ℕ
 shown_by es = sum_by (λ (e : Entry). e.order.shown) es
 
--- The shares of a step, of q lots that are wanted, over a level whose side has this TOP. FIFO gives one share at a time, from
--- the head of the level as it then stands.
-abbrev pub shares_of : Step → Option ℕ → ℕ → List Entry → List Share
-shares_of (Top rule) top q es = top_shares rule.max top q es
-shares_of (Lmm shares) top q es = lmm_shares shares.items q es
-shares_of (Split percent) top q es = split_shares percent q es
-shares_of (ProRata least) top q es = prorata_shares least q es
-shares_of Leveling top q es = leveling_shares q es
-shares_of Fifo top q [] = []
-shares_of Fifo top q (e ∷ es) = (e.slot, min q e.order.shown) ∷ []
+-- a share that can be traded now: it is of an order at the price, and no more than this order shows and than is wanted
+pub record IsFit (price : Price) (share : Share) (m : MatchState) : Type 0 where
+  pub rests : HasSlot share.0 (level_now price m)
+  pub shown : share.1 ≤ (order_of share.0 (level_now price m)).shown
+  pub wanted : share.1 ≤ m.taker.order.leaves
 
--- those of a step that starts now, at a price
-abbrev pub shares_now : Step → Price → MatchState → List Share
-shares_now step price m = shares_of step (top_of m.taker.order.instrument (opposite m.taker.order.side) m.book.resting) m.taker.order.leaves (level_now price m)
+-- each of some shares can be traded once those before it were
+abbrev pub AreFit : StepName → Price → List Share → MatchState → Type 0
+AreFit step price [] m = Unit {0}
+AreFit step price (share ∷ shares) m = IsFit price share m × AreFit step price shares (trade_share step share.0 share.1 m)
+
+-- What a step does is to trade shares that are fit, one after the other, in each round of FIFO too. They are together no more
+-- than what is wanted as the step starts, and for each step but FIFO no more than what the level shows then.
+pub record TradesFitShares (step : Step) (price : Price) (m : MatchState) : Type 0 where
+  pub shares : List Share
+  pub traded : step_of step price m ≡ trade_shares (name_of step) shares m
+  pub fit : AreFit (name_of step) price shares m
+  pub wanted : lots_of shares ≤ m.taker.order.leaves
+  pub shown : is_fifo step ≡ false → lots_of shares ≤ shown_by (level_now price m)
 
 -- ---- crossed books
 

@@ -1,20 +1,31 @@
 //! Laws of a match. Their functions do nothing: what is proved is what their contracts say.
-ghost use Rattle.std.specs.Prelude.{◌≡◌, ◌≤◌, ℕ, List, Option, Some, None};
+ghost use Rattle.std.specs.Prelude.{◌≡◌, ◌≤◌, ◌+◌, ℕ, List, Option, Some, None, Ok};
 ghost use Rattle.gx_base.specs.declared.order.Side.{Side};
 ghost use Rattle.gx_base.specs.declared.price.Price.{Price};
 ghost use Rattle.step_config.specs.declared.step.Step.{Step};
+ghost use Rattle.product_file.specs.Products.{ProductLists};
+ghost use Rattle.fix_request.specs.declared.request.NewOrder.{NewOrder};
+ghost use Rattle.fix_request.specs.declared.request.ReplaceOrder.{ReplaceOrder};
 ghost use Rattle.step_config.specs.RightSteps.{IsRightStep, AreRightSteps};
-ghost use Rattle.plain_book.specs.Orders.{order_of, best_of, top_of};
-ghost use Rattle.plain_book.specs.Book.{Book, IsRight, book_placed, book_without};
+ghost use Rattle.plain_book.specs.declared.entry.Entry.{Entry};
+ghost use Rattle.plain_book.specs.Orders.{order_of, slot_named, top_of};
+ghost use Rattle.plain_book.specs.Book.{Book, IsRight, live_orders, book_placed, book_without};
 ghost use Rattle.plain_book.specs.Match.{MatchState};
 ghost use Rattle.plain_book.specs.Steps.{level_now, trade_head, fifo, IsLevelDone};
 ghost use Rattle.level_sweep.specs.Sweep.{level_match, next_price, sweep, IsSweepDone};
-ghost use Rattle.match_laws.specs.Laws.{lots_of, shown_by, shares_now, IsUncrossed};
+ghost use Rattle.order_kinds.specs.State.{State};
+ghost use Rattle.order_kinds.specs.NewOrders.{Terms, terms_of};
+ghost use Rattle.order_kinds.specs.Accepting.{new_step};
+ghost use Rattle.order_kinds.specs.Replaces.{replace_step};
+ghost use Rattle.order_kinds.specs.Stops.{Naming, next_stop, stop_entered, stops_entered, entered_with_stops};
+ghost use Rattle.match_laws.specs.Laws.{TradesFitShares, IsUncrossed};
+ghost use Rattle.match_laws.specs.Stops.{NoStopIsLeft, LeavesNoStop};
 
-/// The shares of a step add up to no more lots than are wanted, and to no more than the level shows.
+/// A step trades shares of the orders at its price, one after the other, in each round of FIFO too: each is no more than its
+/// order shows and than is wanted, as it is traded. Together they are no more than what is wanted as the step starts, and
+/// for each step but FIFO no more than what the level shows then.
 pub fn shares_fit()
-    ensures wanted { (step : Step) (price : Price) (m : MatchState) → IsRightStep step → IsRight m.book → lots_of (shares_now step price m) ≤ m.taker.order.leaves }
-    ensures shown { (step : Step) (price : Price) (m : MatchState) → IsRightStep step → IsRight m.book → lots_of (shares_now step price m) ≤ shown_by (level_now price m) }
+    ensures { (step : Step) (price : Price) (m : MatchState) → IsRightStep step → IsRight m.book → TradesFitShares step price m }
 {}
 
 /// FIFO without a count of rounds: where nothing is wanted or no order is left at the price, it does nothing; else the head
@@ -41,19 +52,35 @@ pub fn sweeps_end()
     ensures { (steps : List Step) (limit : Price) (m : MatchState) → AreRightSteps steps → IsRight m.book → IsSweepDone limit (sweep steps limit m).book (sweep steps limit m).taker }
 {}
 
-/// No sweep leaves a crossed book, and none is crossed where what is left of the incoming order then comes to rest.
+/// A book that is not crossed is not crossed after a sweep to the limit of the incoming order either, once what is left of
+/// that order has come to rest.
 pub fn no_book_is_crossed()
-    ensures swept { (steps : List Step) (limit : Price) (m : MatchState) → IsRight m.book → IsUncrossed m.book.resting → IsUncrossed (sweep steps limit m).book.resting }
-    ensures rested { (steps : List Step) (m : MatchState) (slot : ℕ) (top_min : Option ℕ) → AreRightSteps steps → IsRight m.book → IsUncrossed m.book.resting → let end = sweep steps m.taker.order.price m in 1 ≤ end.taker.order.leaves → IsUncrossed (book_placed slot end.taker.order top_min end.book).resting }
-{}
-
-/// The TOP order of a side stands at the side's best price.
-pub fn top_is_at_the_best_price()
-    ensures { (instrument : ℕ) (side : Side) (slot : ℕ) (b : Book) → IsRight b → top_of instrument side b.resting ≡ Some slot → best_of instrument side b.resting ≡ Some (order_of slot b.resting).price }
+    ensures { (steps : List Step) (m : MatchState) (slot : ℕ) (top_min : Option ℕ) → AreRightSteps steps → IsRight m.book → IsUncrossed m.book.resting → let end = sweep steps m.taker.order.price m in 1 ≤ end.taker.order.leaves → IsUncrossed (book_placed slot end.taker.order top_min end.book).resting }
 {}
 
 /// No order inherits TOP: who is TOP after a sweep, or after an order has left, was TOP before.
 pub fn nobody_inherits_top()
     ensures swept { (steps : List Step) (limit : Price) (m : MatchState) (instrument : ℕ) (side : Side) (slot : ℕ) → IsRight m.book → top_of instrument side (sweep steps limit m).book.resting ≡ Some slot → top_of instrument side m.book.resting ≡ Some slot }
     ensures left { (b : Book) (gone : ℕ) (instrument : ℕ) (side : Side) (slot : ℕ) → IsRight b → top_of instrument side (book_without gone b).resting ≡ Some slot → top_of instrument side b.resting ≡ Some slot }
+{}
+
+/// A cascade of stops without a count of rounds: if no waiting stop is marked, nothing is done; else the next stop is
+/// triggered and entered, and the cascade goes on.
+pub fn stops_go_on()
+    ensures none { (naming : Naming) (steps : List Step) (m : MatchState) → next_stop m ≡ None → stops_entered naming steps m ≡ m }
+    ensures next { (naming : Naming) (steps : List Step) (m : MatchState) (stop : Entry) → next_stop m ≡ Some stop → stops_entered naming steps m ≡ stops_entered (λ before. naming (before + 1)) steps (stop_entered (Some stop) (naming 0) steps m) }
+{}
+
+/// A cascade of stops ends only once no waiting stop is marked.
+pub fn stops_end()
+    ensures { (naming : Naming) (steps : List Step) (m : MatchState) → next_stop (stops_entered naming steps m) ≡ None }
+{}
+
+/// No message leaves a stop of its instrument waiting whose stop price one of its fills reaches: neither an order that is
+/// entered with the stops that follow, nor a new order that is accepted, nor a replace of a live order. Other messages have no
+/// fills.
+pub fn no_stop_is_left()
+    ensures entered { (naming : Naming) (steps : List Step) (m : MatchState) → let end = entered_with_stops naming steps m in NoStopIsLeft m.taker.order.instrument end.events end.book.waiting }
+    ensures accepted { (naming : Naming) (product : ProductLists) (new : NewOrder) (state : State) (terms : Terms) → terms_of product new state ≡ Ok terms → LeavesNoStop terms.instrument.number (new_step naming product new state) }
+    ensures replaced { (naming : Naming) (product : ProductLists) (request : ReplaceOrder) (state : State) (slot : ℕ) → let live = live_orders state.book in slot_named request.sender.firm request.old live ≡ Some slot → LeavesNoStop (order_of slot live).instrument (replace_step naming product request state) }
 {}

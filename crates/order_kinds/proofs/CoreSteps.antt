@@ -11,7 +11,7 @@ use Rattle.fix_request.specs.ValidRequests.{IsValidRequest}
 use Rattle.plain_book.specs.Book.{AllDiffer, live_orders}
 use Rattle.order_kinds.specs.State.{State, state_numbered}
 use Rattle.order_kinds.specs.Step.{with_message, request_step_as, request_step}
-use Rattle.order_kinds.specs.Cores.{FitsProduct, AreNumbered, TakesStep}
+use Rattle.order_kinds.specs.Cores.{FitsProduct, AreNumbered, TakesStep, PutsStep}
 use Rattle.order_kinds.specs.Stops.{by_number}
 use Rattle.order_kinds.specs.Inner.Apart.{StayApart}
 use Rattle.order_kinds.specs.Inner.Taking.{Takes}
@@ -46,6 +46,10 @@ module _ {E : Type 0} (m : EmitMeanings E) (product : ProductLists) (request : R
           emits = emits_as m before after made.1 (request_step product request (state_numbered counted)).1 (sym (ap (λ (r : State × List Event). r.1) step)) taken.emits;
           numbered = subst AreNumbered (sym taken.state) (step-numbered counted slots numbers naming product request taken.apart);
         }
+
+    -- the events of the step were put
+    pub puts-taken : PutsStep m product request old new before after
+    puts-taken = record { naming = taken.naming; state = taken.state; events = (request_step_as taken.naming product request (with_message old)).1; of_step = refl; emits = taken.emits }
 
     -- the core still fits the product
     pub fits-taken : FitsProduct product old → IsValidRequest product request → FitsProduct product new

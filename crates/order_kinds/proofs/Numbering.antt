@@ -21,9 +21,9 @@ use Rattle.level_sweep.proofs.Renamed.{live-numbered}
 use Rattle.product_file.specs.Products.{ProductLists}
 use Rattle.fix_request.specs.declared.request.NewOrder.{NewOrder}
 use Rattle.fix_request.specs.declared.request.ReplaceOrder.{ReplaceOrder}
-use Rattle.order_kinds.specs.Instruments.{ListedInstrument, instrument_of, price_at, protected_limit}
+use Rattle.order_kinds.specs.Instruments.{ListedInstrument, instrument_of, protected_limit}
 use Rattle.order_kinds.specs.State.{State, state_numbered}
-use Rattle.order_kinds.specs.OrderRules.{refused_where, is_quantity, has_off_tick, is_beyond_stop, is_reached_already, last_of, ◌>>=◌}
+use Rattle.order_kinds.specs.OrderRules.{refused_where, is_quantity, has_off_tick, has_bad_stop, is_stop_reached, last_of, ◌>>=◌}
 use Rattle.order_kinds.specs.NewOrders.{Terms, terms_of, limit_of, has_bad_min}
 use Rattle.order_kinds.specs.Replaces.{is_same_order, replace_terms}
 
@@ -68,8 +68,8 @@ terms_by product new last instrument live long found = do
   _ ← refused_where live fault.Duplicate
   _ ← refused_where (not (is_quantity new.quantity)) fault.Quantity
   _ ← refused_where (has_off_tick instrument new.price new.trigger) fault.Tick
-  _ ← refused_where (is_beyond_stop new.side (price_at new.price) (price_at new.trigger)) fault.StopLimit
-  _ ← refused_where (is_reached_already new.side (price_at new.trigger) (last_of instrument.number last)) fault.StopReached
+  _ ← refused_where (has_bad_stop new.kind new.side new.price new.trigger) fault.StopLimit
+  _ ← refused_where (is_stop_reached new.kind new.side new.trigger (last_of instrument.number last)) fault.StopReached
   _ ← refused_where (has_bad_min new) fault.MinQty
   _ ← refused_where (nat_lt new.quantity new.show) fault.Show
   _ ← refused_where (long == product.max_orders) fault.BookFull
@@ -105,8 +105,8 @@ replace_terms_by product request o last live = do
   _ ← refused_where (not (is_quantity request.quantity)) change.Quantity
   _ ← refused_where (nat_le request.quantity o.filled) change.Filled
   _ ← refused_where (has_off_tick instrument request.price request.trigger) change.Tick
-  _ ← refused_where (is_beyond_stop request.side (price_at request.price) (price_at request.trigger)) change.StopLimit
-  _ ← refused_where (is_reached_already request.side (price_at request.trigger) (last_of instrument.number last)) change.StopReached
+  _ ← refused_where (has_bad_stop request.kind request.side request.price request.trigger) change.StopLimit
+  _ ← refused_where (is_stop_reached request.kind request.side request.trigger (last_of instrument.number last)) change.StopReached
   _ ← refused_where (nat_lt request.quantity o.show) change.Show
   Ok instrument
 

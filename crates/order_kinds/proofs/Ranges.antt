@@ -17,7 +17,7 @@ use Rattle.fix_request.specs.ValidRequests.{IsWithinLimit, IsValidNew}
 use Rattle.plain_book.specs.Orders.{best_of, opposite}
 use Rattle.plain_book.specs.Book.{Book}
 use Rattle.order_kinds.specs.Instruments.{ListedInstrument, tick_of, price_at, greatest_price, within_range, beyond, protected_limit}
-use Rattle.order_kinds.specs.NewOrders.{Terms, terms_of, limit_of}
+use Rattle.order_kinds.specs.NewOrders.{Terms, terms_of, own_price, limit_of}
 use Rattle.order_kinds.specs.State.{State}
 use Rattle.order_kinds.specs.Cores.{IsInRange}
 use Rattle.order_kinds.proofs.Refusals.{new-passes}
@@ -59,13 +59,17 @@ protected-range rule side best = let tick = tick_of rule in in-range tick (beyon
 
 -- ---- what an accepted order has
 
-px-range : (px : Px) (limit : Price) → IsWithinLimit px → price_at px ≡ Some limit → IsInRange limit
-px-range (At price) limit within is =
-    let k : Some price ≡ Some limit = is in
-    let same : price ≡ limit = cc in
-    subst IsInRange same within
-px-range Absent limit within is = absurd (let k : None ≡ Some limit = is in cc)
-px-range Between limit within is = absurd (let k : None ≡ Some limit = is in cc)
+-- the price of a message, or another one in its place
+pub price-range : (px : Px) (other : Price) → IsWithinLimit px → IsInRange other → IsInRange (unwrap_or (price_at px) other)
+price-range (At price) other within range = within
+price-range Absent other within range = range
+price-range Between other within range = range
+
+own-range : (px : Px) (limit : Price) → IsWithinLimit px → Some (own_price px) ≡ Some limit → IsInRange limit
+own-range px limit within is =
+    let k : Some (own_price px) ≡ Some limit = is in
+    let same : own_price px ≡ limit = cc in
+    subst IsInRange same (price-range px (record { 0 = pos 0 }) within (omega arith))
 
 market-range : (rule : InstrumentRule) (side : Side) (best : Option Price) (limit : Price) → option_map (protected_limit rule side) best ≡ Some limit → IsInRange limit
 market-range rule side None limit is = absurd (let k : None ≡ Some limit = is in cc)
@@ -76,8 +80,8 @@ market-range rule side (Some best) limit is =
 
 limit-range : (kind : Kind) (instrument : ListedInstrument) (new : NewOrder) (book : Book) (limit : Price) → IsWithinLimit new.price → limit_of kind instrument new book ≡ Some limit → IsInRange limit
 limit-range Market instrument new book limit within is = market-range instrument.rule new.side (best_of instrument.number (opposite new.side) book.resting) limit is
-limit-range Limit instrument new book limit within is = px-range new.price limit within is
-limit-range StopLimit instrument new book limit within is = px-range new.price limit within is
+limit-range Limit instrument new book limit within is = own-range new.price limit within is
+limit-range StopLimit instrument new book limit within is = own-range new.price limit within is
 
 -- the instrument of an accepted order is listed, and its limit is within the price range
 pub record AreListedTerms (product : ProductLists) (terms : Terms) : Type 0 where
@@ -91,11 +95,3 @@ terms-listed product new state terms valid is =
       instrument = named-number product new.named terms.instrument valid.named passes.named;
       limit = limit-range new.kind terms.instrument new state.book terms.limit valid.price passes.limit;
     }
-
--- ---- the prices of a message
-
--- the price of a message, or another one in its place
-pub price-range : (px : Px) (other : Price) → IsWithinLimit px → IsInRange other → IsInRange (unwrap_or (price_at px) other)
-price-range (At price) other within range = within
-price-range Absent other within range = range
-price-range Between other within range = range

@@ -10,8 +10,8 @@ use Rattle.fix_request.specs.declared.request.ReplaceOrder.{ReplaceOrder}
 use Rattle.plain_book.specs.Orders.{is_live}
 use Rattle.plain_book.specs.Book.{live_orders}
 use Rattle.order_kinds.specs.State.{State}
-use Rattle.order_kinds.specs.Instruments.{ListedInstrument, instrument_of, price_at}
-use Rattle.order_kinds.specs.OrderRules.{◌>>=◌, refused_where, is_quantity, has_off_tick, is_beyond_stop, is_reached_already, last_of}
+use Rattle.order_kinds.specs.Instruments.{ListedInstrument, instrument_of}
+use Rattle.order_kinds.specs.OrderRules.{◌>>=◌, refused_where, is_quantity, has_off_tick, has_bad_stop, is_stop_reached, last_of}
 use Rattle.order_kinds.specs.NewOrders.{has_bad_min, limit_of, Terms, terms_of}
 use Rattle.order_kinds.specs.Replaces.{is_same_order, replace_terms}
 
@@ -33,8 +33,8 @@ pub record PassesAsNew (product : ProductLists) (new : NewOrder) (state : State)
   pub unnamed : is_live new.sender.firm new.id (live_orders state.book) ≡ false
   pub quantity : not (is_quantity new.quantity) ≡ false
   pub tick : has_off_tick terms.instrument new.price new.trigger ≡ false
-  pub stop : is_beyond_stop new.side (price_at new.price) (price_at new.trigger) ≡ false
-  pub reached : is_reached_already new.side (price_at new.trigger) (last_of terms.instrument.number state.last) ≡ false
+  pub stop : has_bad_stop new.kind new.side new.price new.trigger ≡ false
+  pub reached : is_stop_reached new.kind new.side new.trigger (last_of terms.instrument.number state.last) ≡ false
   pub least : has_bad_min new ≡ false
   pub show : nat_lt new.quantity new.show ≡ false
   pub room : (length (live_orders state.book) == product.max_orders) ≡ false
@@ -46,8 +46,8 @@ new-passes product new state terms h =
     let unnamed = refused-then (is_live new.sender.firm new.id (live_orders state.book)) fault.Duplicate _ terms found.2 in
     let quantity = refused-then (not (is_quantity new.quantity)) fault.Quantity _ terms unnamed.1 in
     let tick = refused-then (has_off_tick found.0 new.price new.trigger) fault.Tick _ terms quantity.1 in
-    let stop = refused-then (is_beyond_stop new.side (price_at new.price) (price_at new.trigger)) fault.StopLimit _ terms tick.1 in
-    let reached = refused-then (is_reached_already new.side (price_at new.trigger) (last_of found.0.number state.last)) fault.StopReached _ terms stop.1 in
+    let stop = refused-then (has_bad_stop new.kind new.side new.price new.trigger) fault.StopLimit _ terms tick.1 in
+    let reached = refused-then (is_stop_reached new.kind new.side new.trigger (last_of found.0.number state.last)) fault.StopReached _ terms stop.1 in
     let least = refused-then (has_bad_min new) fault.MinQty _ terms reached.1 in
     let show = refused-then (nat_lt new.quantity new.show) fault.Show _ terms least.1 in
     let room = refused-then (length (live_orders state.book) == product.max_orders) fault.BookFull _ terms show.1 in
@@ -78,8 +78,8 @@ pub record PassesAsReplace (product : ProductLists) (request : ReplaceOrder) (o 
   pub quantity : not (is_quantity request.quantity) ≡ false
   pub filled : nat_le request.quantity o.filled ≡ false
   pub tick : has_off_tick on request.price request.trigger ≡ false
-  pub stop : is_beyond_stop request.side (price_at request.price) (price_at request.trigger) ≡ false
-  pub reached : is_reached_already request.side (price_at request.trigger) (last_of on.number state.last) ≡ false
+  pub stop : has_bad_stop request.kind request.side request.price request.trigger ≡ false
+  pub reached : is_stop_reached request.kind request.side request.trigger (last_of on.number state.last) ≡ false
   pub show : nat_lt request.quantity o.show ≡ false
 
 pub replace-passes : (product : ProductLists) (request : ReplaceOrder) (o : Order) (state : State) (on : ListedInstrument) → replace_terms product request o state ≡ Ok on → PassesAsReplace product request o state on
@@ -90,8 +90,8 @@ replace-passes product request o state on h =
     let quantity = refused-then (not (is_quantity request.quantity)) change.Quantity _ on unnamed.1 in
     let filled = refused-then (nat_le request.quantity o.filled) change.Filled _ on quantity.1 in
     let tick = refused-then (has_off_tick found.0 request.price request.trigger) change.Tick _ on filled.1 in
-    let stop = refused-then (is_beyond_stop request.side (price_at request.price) (price_at request.trigger)) change.StopLimit _ on tick.1 in
-    let reached = refused-then (is_reached_already request.side (price_at request.trigger) (last_of found.0.number state.last)) change.StopReached _ on stop.1 in
+    let stop = refused-then (has_bad_stop request.kind request.side request.price request.trigger) change.StopLimit _ on tick.1 in
+    let reached = refused-then (is_stop_reached request.kind request.side request.trigger (last_of found.0.number state.last)) change.StopReached _ on stop.1 in
     let show = refused-then (nat_lt request.quantity o.show) change.Show _ on reached.1 in
     let is : Ok found.0 ≡ Ok on = show.1 in
     let here : found.0 ≡ on = cc in

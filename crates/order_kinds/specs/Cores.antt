@@ -14,7 +14,8 @@ use Rattle.plain_book.specs.Book.{AllDiffer, live_orders}
 use Rattle.plain_book.specs.Numbers.{book_numbered}
 use Rattle.order_kinds.specs.declared.core_state.TheConstants.{MOST_MESSAGES}
 use Rattle.order_kinds.specs.State.{State, state_numbered}
-use Rattle.order_kinds.specs.Step.{with_message, request_step}
+use Rattle.order_kinds.specs.Stops.{Naming}
+use Rattle.order_kinds.specs.Step.{with_message, request_step_as, request_step}
 
 -- ---- the counters
 
@@ -66,6 +67,15 @@ pub record TakesStep {E : Type 0} (m : EmitMeanings E) (product : ProductLists) 
   pub state : state_numbered new ≡ (request_step product request (with_message (state_numbered old))).0
   pub emits : Emits m before after (request_step product request (with_message (state_numbered old))).1
   pub numbered : AreNumbered new
+
+-- A core took the step with some names of the orders that come to rest or wait, whatever their numbers are: its state is the
+-- one after the request, which counts as a message, and the events of this step were put, one after the other.
+pub record PutsStep {E : Type 0} (m : EmitMeanings E) (product : ProductLists) (request : Request) (old new : State) (before after : E) : Type 0 where
+  pub naming : Naming
+  pub state : new ≡ (request_step_as naming product request (with_message old)).0
+  pub events : List Event
+  pub of_step : events ≡ (request_step_as naming product request (with_message old)).1
+  pub emits : Emits m before after events
 
 -- some events were put, one after the other
 pub record PutsEvents {E : Type 0} (m : EmitMeanings E) (before after : E) : Type 0 where

@@ -1,5 +1,5 @@
 -- New orders: which are refused, and the order that is accepted. The rules, their order and their words are our own.
-use Rattle.std.specs.Prelude.{ℕ, Bool, true, false, not, ◌&&◌, ◌||◌, ◌==◌, nat_lt, length, Option, option_map, Result, Ok, ok_or}
+use Rattle.std.specs.Prelude.{ℕ, Bool, true, false, not, ◌&&◌, ◌||◌, ◌==◌, nat_lt, length, pos, Option, Some, option_map, unwrap_or, Result, Ok, ok_or}
 use Rattle.gx_base.specs.declared.price.Price.{Price}
 use Rattle.gx_base.specs.declared.order.Kind.TheVariants.{Limit, Market, StopLimit}
 use Rattle.gx_base.specs.declared.order.Kind.{Kind}
@@ -10,11 +10,12 @@ use Rattle.gx_base.specs.declared.event.NewFault.{NewFault}
 use Rattle.gx_base.specs.declared.event.NewFault.TheVariants as fault
 use Rattle.product_file.specs.Products.{ProductLists}
 use Rattle.fix_request.specs.declared.request.NewOrder.{NewOrder}
+use Rattle.fix_request.specs.declared.request.Px.{Px}
 use Rattle.plain_book.specs.Orders.{is_live, best_of, opposite}
 use Rattle.plain_book.specs.Book.{Book, live_orders}
 use Rattle.order_kinds.specs.Instruments.{ListedInstrument, instrument_of, price_at, protected_limit}
 use Rattle.order_kinds.specs.State.{State}
-use Rattle.order_kinds.specs.OrderRules.{◌>>=◌, refused_where, is_quantity, has_off_tick, is_beyond_stop, is_reached_already, last_of, stop_price}
+use Rattle.order_kinds.specs.OrderRules.{◌>>=◌, refused_where, is_quantity, has_off_tick, has_bad_stop, is_stop_reached, last_of, stop_price}
 
 -- ---- rules that refuse
 
@@ -29,11 +30,16 @@ may_rest Fok = false
 abbrev pub has_bad_min : NewOrder → Bool
 has_bad_min new = nat_lt new.quantity new.min || (may_rest new.life && nat_lt 0 new.min)
 
--- the price at which an order is entered: its own, or for a market order the protected limit, if there is a market
+-- the price of a message of a limit order, which has one
+abbrev pub own_price : Px → Price
+own_price px = unwrap_or (price_at px) (record { 0 = pos 0 })
+
+-- The price at which an order is entered: its own, or for a market order the protected limit. There is none exactly if it is
+-- a market order and no order rests on the other side.
 abbrev pub limit_of : Kind → ListedInstrument → NewOrder → Book → Option Price
 limit_of Market instrument new book = option_map (protected_limit instrument.rule new.side) (best_of instrument.number (opposite new.side) book.resting)
-limit_of Limit instrument new book = price_at new.price
-limit_of StopLimit instrument new book = price_at new.price
+limit_of Limit instrument new book = Some (own_price new.price)
+limit_of StopLimit instrument new book = Some (own_price new.price)
 
 -- what an accepted order has besides the message: its instrument, and its limit
 pub record Terms : Type 0 where
@@ -47,8 +53,8 @@ terms_of product new state = do
   _ ← refused_where (is_live new.sender.firm new.id (live_orders state.book)) fault.Duplicate
   _ ← refused_where (not (is_quantity new.quantity)) fault.Quantity
   _ ← refused_where (has_off_tick instrument new.price new.trigger) fault.Tick
-  _ ← refused_where (is_beyond_stop new.side (price_at new.price) (price_at new.trigger)) fault.StopLimit
-  _ ← refused_where (is_reached_already new.side (price_at new.trigger) (last_of instrument.number state.last)) fault.StopReached
+  _ ← refused_where (has_bad_stop new.kind new.side new.price new.trigger) fault.StopLimit
+  _ ← refused_where (is_stop_reached new.kind new.side new.trigger (last_of instrument.number state.last)) fault.StopReached
   _ ← refused_where (has_bad_min new) fault.MinQty
   _ ← refused_where (nat_lt new.quantity new.show) fault.Show
   _ ← refused_where (length (live_orders state.book) == product.max_orders) fault.BookFull

@@ -3,6 +3,8 @@ use Rattle.std.specs.Prelude.{ℕ, Bool, false, not, ◌&&◌, ◌||◌, nat_le,
 use Rattle.gx_base.specs.declared.limits.TheConstants.{MOST_LOTS}
 use Rattle.gx_base.specs.declared.price.Price.{Price}
 use Rattle.gx_base.specs.declared.order.Side.{Side}
+use Rattle.gx_base.specs.declared.order.Kind.{Kind}
+use Rattle.gx_base.specs.declared.order.Kind.TheVariants.{Limit, Market, StopLimit}
 use Rattle.fix_request.specs.declared.request.Px.{Px}
 use Rattle.plain_book.specs.Orders.{is_better}
 use Rattle.order_kinds.specs.Instruments.{ListedInstrument, tick_of, is_off_tick, price_at}
@@ -39,6 +41,12 @@ abbrev pub is_beyond_stop : Side → Option Price → Option Price → Bool
 is_beyond_stop side (Some price) (Some stop) = is_better side stop.0 price.0
 is_beyond_stop side _ _ = false
 
+-- a stop limit order whose price is on the wrong side of its stop price; no order of another kind
+abbrev pub has_bad_stop : Kind → Side → Px → Px → Bool
+has_bad_stop StopLimit side price stop = is_beyond_stop side (price_at price) (price_at stop)
+has_bad_stop Limit side price stop = false
+has_bad_stop Market side price stop = false
+
 -- a trade price reaches a stop price: it is not below that of a buy, not above that of a sell
 abbrev pub is_reached : Side → Price → Price → Bool
 is_reached side stop price = not (is_better side stop.0 price.0)
@@ -48,6 +56,12 @@ abbrev pub is_reached_already : Side → Option Price → Option Price → Bool
 is_reached_already side (Some stop) (Some last) = is_reached side stop last
 is_reached_already side _ _ = false
 
--- the last trade price of an instrument, if there was a trade
+-- a stop limit order whose stop price the last trade price reaches, if there was a trade; no order of another kind
+abbrev pub is_stop_reached : Kind → Side → Px → Option Price → Bool
+is_stop_reached StopLimit side stop last = is_reached_already side (price_at stop) last
+is_stop_reached Limit side stop last = false
+is_stop_reached Market side stop last = false
+
+-- the last trade price of an instrument, if there was a trade; none of an instrument that is not listed
 abbrev pub last_of : ℕ → List (Option Price) → Option Price
 last_of instrument last = slice_index_or last instrument None

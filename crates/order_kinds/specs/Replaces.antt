@@ -22,7 +22,7 @@ use Rattle.plain_book.specs.Book.{live_orders, book_without, book_changed, chang
 use Rattle.plain_book.specs.Match.{MatchState, match_start, report, report_counted, next_head}
 use Rattle.order_kinds.specs.Instruments.{ListedInstrument, instrument_of, price_at}
 use Rattle.order_kinds.specs.State.{State}
-use Rattle.order_kinds.specs.OrderRules.{◌>>=◌, refused_where, is_quantity, has_off_tick, is_beyond_stop, is_reached_already, last_of}
+use Rattle.order_kinds.specs.OrderRules.{◌>>=◌, refused_where, is_quantity, has_off_tick, has_bad_stop, is_stop_reached, last_of}
 use Rattle.order_kinds.specs.Reports.{unchanged}
 use Rattle.order_kinds.specs.Stops.{Naming, come_in}
 use Rattle.order_kinds.specs.Accepting.{after_match}
@@ -49,8 +49,8 @@ replace_terms product request o state = do
   _ ← refused_where (not (is_quantity request.quantity)) fault.Quantity
   _ ← refused_where (nat_le request.quantity o.filled) fault.Filled
   _ ← refused_where (has_off_tick instrument request.price request.trigger) fault.Tick
-  _ ← refused_where (is_beyond_stop request.side (price_at request.price) (price_at request.trigger)) fault.StopLimit
-  _ ← refused_where (is_reached_already request.side (price_at request.trigger) (last_of instrument.number state.last)) fault.StopReached
+  _ ← refused_where (has_bad_stop request.kind request.side request.price request.trigger) fault.StopLimit
+  _ ← refused_where (is_stop_reached request.kind request.side request.trigger (last_of instrument.number state.last)) fault.StopReached
   _ ← refused_where (nat_lt request.quantity o.show) fault.Show
   Ok instrument
 

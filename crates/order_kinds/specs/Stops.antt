@@ -82,7 +82,8 @@ abbrev pub stop_rounds : ℕ → Naming → List Step → MatchState → MatchSt
 stop_rounds zero naming steps m = m
 stop_rounds (suc n) naming steps m = let before = stop_rounds n naming steps m in stop_entered (next_stop before) (naming n) steps before
 
--- Until none is marked, the next stop is triggered and entered. As many rounds as stops wait are enough.
+-- Until none is marked, the next stop is triggered and entered: the laws `stops_go_on` and `stops_end` say it so. Each round
+-- takes one stop out, so as many rounds as stops wait are enough.
 abbrev pub stops_entered : Naming → List Step → MatchState → MatchState
 stops_entered naming steps m = stop_rounds (length m.book.waiting) naming steps m
 

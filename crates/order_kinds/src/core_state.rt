@@ -1,16 +1,18 @@
 //! The core: the state of the engine over a book, and what each request does to it.
-ghost use Rattle.std.specs.Prelude.{◌≡◌, ◌^◌, ◌≤◌, ◌<◌, ◌+◌, IsTrue, IfSome, length, replicate, slice_get, slice_set, Some, None};
+ghost use Rattle.std.specs.Prelude.{◌≡◌, ◌^◌, ◌≤◌, ◌<◌, ◌+◌, IsTrue, IfSome, length, replicate, slice_set, None};
 ghost use Rattle.std.specs.Borrow.{Lends, sem};
 ghost use Rattle.fix_request.specs.ValidRequests.{IsValidRequest};
 ghost use Rattle.plain_book.specs.Book.{empty_book, book_cleared};
 ghost use Rattle.order_kinds.specs.State.{empty_desk, empty_state};
+ghost use Rattle.order_kinds.specs.OrderRules.{last_of};
 ghost use Rattle.order_kinds.specs.Step.{is_passed, request_step_as};
-ghost use Rattle.order_kinds.specs.Cores.{AreCounters, IsInRange, FitsProduct, AreNumbered, TakesStep, PutsEvents};
+ghost use Rattle.order_kinds.specs.Cores.{AreCounters, IsInRange, FitsProduct, AreNumbered, TakesStep, PutsStep};
 ghost use Rattle.order_kinds.specs.Inner.Apart.{StayApart};
 ghost use Rattle.order_kinds.specs.Inner.Taking.{Takes, CountsRose, IsCounted};
 
 use crate::accepting::apply_new;
 use crate::cancels::{apply_cancel, refuse_message};
+use crate::order_rules::last_of;
 use crate::replaces::apply_replace;
 use crate::state::{EngineState, LastPrices, set_last_price};
 use arrayvec::ArrayVec;
@@ -99,8 +101,9 @@ impl<B: Book> Core<B> {
         // Where order numbers differ, this is the step of the engine, whatever the book and the emitter.
         ensures step { AreNumbered self.old → TakesStep E.meanings product.now request.now self.old self.new out.old out.new }
 
-        // Over any book its events are put one after the other, and none for a session message.
-        ensures puts { PutsEvents E.meanings out.old out.new }
+        // Whatever numbers the orders have, this is that step with some names of the orders that come to rest or wait. So
+        // exactly its events are put, one after the other, and none for a session message.
+        ensures puts { PutsStep E.meanings product.now request.now self.old self.new out.old out.new }
         ensures silent { IsTrue (is_passed request.now) → out.new ≡ out.old }
 
         ensures count { self.new.desk.messages ≡ self.old.desk.messages + 1 }
@@ -142,12 +145,11 @@ impl<B: Book> Core<B> {
         self.state.desk.messages
     }
 
-    /// The last trade price of an instrument. `None` exactly where it has none.
+    /// The last trade price of an instrument. `None` exactly if it has none, as one that is not listed.
     pub fn last(&self, instrument: u8) -> Option<Price>
-        requires { instrument < length self.now.last }
-        ensures { slice_get self.now.last instrument ≡ Some result }
+        ensures { result ≡ last_of instrument self.now.last }
     {
-        self.state.last.as_slice()[instrument as usize]
+        last_of(instrument, &self.state.last)
     }
 
     /// Sets the counters, and nothing else.

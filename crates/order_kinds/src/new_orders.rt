@@ -3,16 +3,16 @@ ghost use Rattle.std.specs.Prelude.{◌≡◌, ◌<◌};
 ghost use Rattle.fix_request.specs.ValidRequests.{IsValidNew};
 ghost use Rattle.plain_book.specs.Orders.{is_live};
 ghost use Rattle.plain_book.specs.Book.{live_orders};
-ghost use Rattle.order_kinds.specs.NewOrders.{may_rest, has_bad_min, least_of, limit_of, terms_of, order_on};
+ghost use Rattle.order_kinds.specs.NewOrders.{may_rest, has_bad_min, least_of, own_price, limit_of, terms_of, order_on};
 ghost use Rattle.order_kinds.specs.Cores.{FitsProduct};
 ghost use Rattle.order_kinds.specs.Inner.Terms.{listed_instrument, terms_seen, map_terms, IsRule, ArePricesInRange};
 
 use crate::instruments::{Instrument, price_at, protected_limit};
 use crate::order_rules::{
-    has_off_tick, is_beyond_stop, is_quantity, is_reached_already, last_of, stop_price,
+    has_bad_stop, has_off_tick, is_quantity, is_stop_reached, last_of, stop_price,
 };
 use crate::state::EngineState;
-use fix_request::NewOrder;
+use fix_request::{NewOrder, Px};
 use gx_base::{Kind, Life, NewFault, Order, Price, ShortId};
 use plain_book::{Book, opposite_side};
 use product_file::Product;
@@ -55,8 +55,15 @@ pub(crate) fn has_id<B: Book>(book: &B, firm: u8, id: &ShortId) -> bool
     book.find(firm, id).is_some()
 }
 
-/// The price at which a new order is entered: its own, or for a market order the protected limit. `None` for a market
-/// order exactly where the other side is empty.
+/// The price of a limit order's message, which has one.
+fn own_price(px: Px) -> Price
+    ensures { result ≡ own_price px }
+{
+    price_at(px).unwrap_or(Price(0))
+}
+
+/// The price at which a new order is entered: its own, or for a market order the protected limit. `None` exactly if it is a
+/// market order and no order rests on the other side.
 fn limit_of<B: Book>(book: &B, instrument: &Instrument<'_>, new: &NewOrder) -> Option<Price>
     requires rule { IsRule instrument.now.rule.now }
     requires listed { instrument.now.number < (B.book book.now).instruments }
@@ -69,7 +76,7 @@ fn limit_of<B: Book>(book: &B, instrument: &Instrument<'_>, new: &NewOrder) -> O
             let best = book.best(instrument.number, side)?;
             Some(protected_limit(instrument.rule, new.side, best))
         }
-        Kind::Limit | Kind::StopLimit => price_at(new.price),
+        Kind::Limit | Kind::StopLimit => Some(own_price(new.price)),
     }
 }
 
@@ -96,11 +103,11 @@ impl<'a> Terms<'a> {
         if has_off_tick(&instrument, new.price, new.trigger) {
             return Err(NewFault::Tick);
         }
-        let stop = price_at(new.trigger);
-        if is_beyond_stop(new.side, price_at(new.price), stop) {
+        if has_bad_stop(new.kind, new.side, new.price, new.trigger) {
             return Err(NewFault::StopLimit);
         }
-        if is_reached_already(new.side, stop, last_of(instrument.number, &state.last)) {
+        let last = last_of(instrument.number, &state.last);
+        if is_stop_reached(new.kind, new.side, new.trigger, last) {
             return Err(NewFault::StopReached);
         }
         if has_bad_min(new) {

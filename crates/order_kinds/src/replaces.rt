@@ -15,7 +15,7 @@ ghost use Rattle.order_kinds.specs.Inner.Taking.{Takes, CountsRose, IsCounted};
 use crate::accepting::bring_in;
 use crate::instruments::{Instrument, price_at};
 use crate::new_orders::has_id;
-use crate::order_rules::{has_off_tick, is_beyond_stop, is_quantity, is_reached_already, last_of};
+use crate::order_rules::{has_bad_stop, has_off_tick, is_quantity, is_stop_reached, last_of};
 use crate::reports::RefusedChange;
 use crate::state::EngineState;
 use fix_request::{Px, ReplaceOrder};
@@ -108,11 +108,11 @@ fn terms_of<'a, B: Book>(
     if has_off_tick(&instrument, request.price, request.trigger) {
         return Err(ChangeFault::Tick);
     }
-    let stop = price_at(request.trigger);
-    if is_beyond_stop(request.side, price_at(request.price), stop) {
+    if has_bad_stop(request.kind, request.side, request.price, request.trigger) {
         return Err(ChangeFault::StopLimit);
     }
-    if is_reached_already(request.side, stop, last_of(instrument.number, &state.last)) {
+    let last = last_of(instrument.number, &state.last);
+    if is_stop_reached(request.kind, request.side, request.trigger, last) {
         return Err(ChangeFault::StopReached);
     }
     if request.quantity < order.show {

@@ -1,8 +1,6 @@
-use Rattle.match_laws.proofs.Lots.{shares-wanted, shares-shown}
+use Rattle.level_sweep.proofs.Showing.{showing-right}
+use Rattle.match_laws.proofs.Lots.{trades-fit}
 use Rattle.match_laws.proofs.laws.shares_fit.Goals as goal
 
-pub returns-clause-wanted : goal.returns-clause-wanted
-returns-clause-wanted c = shares-wanted
-
-pub returns-clause-shown : goal.returns-clause-shown
-returns-clause-shown c = shares-shown
+pub returns : goal.returns
+returns c step price m right book = trades-fit price m (showing-right m.book book) step right

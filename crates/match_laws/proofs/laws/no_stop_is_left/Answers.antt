@@ -1,0 +1,11 @@
+use Rattle.match_laws.proofs.StopsLeft.{no-stop-left, new-left, replaced-left}
+use Rattle.match_laws.proofs.laws.no_stop_is_left.Goals as goal
+
+pub returns-clause-entered : goal.returns-clause-entered
+returns-clause-entered c = λ naming steps m. no-stop-left steps naming m
+
+pub returns-clause-accepted : goal.returns-clause-accepted
+returns-clause-accepted c = λ naming product new state terms is. new-left naming product new state terms is
+
+pub returns-clause-replaced : goal.returns-clause-replaced
+returns-clause-replaced c = λ naming product request state slot is. replaced-left naming product request state slot is
