@@ -53,6 +53,22 @@ journal_begins text limit records image journal = record {
   in_limit = journal.in_limit;
 }
 
+-- and so with none of them
+pub journal_begins_none : (text : List ℕ) (limit : ℕ) (records : List Record) (image : List ℕ) → IsJournal text limit records image → BeginsWithRecords text limit [] image
+journal_begins_none text limit records image journal =
+    let front = journal_front text [] in
+    let all = flat_map open_record records in
+    record {
+      rest = all ++ journal.gate ∷ journal.behind;
+      is =
+          journal.is
+          ∙ ap (λ (l : List ℕ). l ++ journal.gate ∷ journal.behind) (front-split text [] records)
+          ∙ append_assoc front all (journal.gate ∷ journal.behind);
+      gate_inside = omega (arith, length-append all (journal.gate ∷ journal.behind));
+      sized = tt;
+      in_limit = omega (arith, journal.in_limit, ap length (front-split text [] records), length-append front all);
+    }
+
 -- the byte of the gate behind the records
 gate_byte : (front : List ℕ) (image : List ℕ) (gate : ℕ) (behind : List ℕ) → image ≡ front ++ gate ∷ behind → get_or image (length front) 0 ≡ gate
 gate_byte front image gate behind is = ap (λ (l : List ℕ). get_or l (length front) 0) is ∙ get_or_at front gate behind 0 (length front) refl

@@ -13,6 +13,7 @@ mod Replaying
 mod Looks
 mod Starting
 mod Passes
+mod FewBytes
 mod Counting
 mod RightImages
 mod ReplayedOne

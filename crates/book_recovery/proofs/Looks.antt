@@ -6,7 +6,7 @@ use Rattle.match_journal.specs.Causes.{ReadsAtMost, LooksOnly}
 use Rattle.match_journal.specs.LookLaws.{keeps_itself, looks_then, looks_more}
 use Rattle.book_recovery.specs.Recovering.{ReadsOnly}
 
-none_read : (count : Option ℕ) → ReadsAtMost 0 count count
+pub none_read : (count : Option ℕ) → ReadsAtMost 0 count count
 none_read None = tt
 none_read (Some n) = (omega arith, omega arith)
 

@@ -1,5 +1,5 @@
 -- One answer of a recovery fits an image.
-use Rattle.std.proofs.Common.{◌≡◌, ◌≢◌, ◌⊎◌, inl, inr, ⊎_elim, ℕ, List, [], ◌∷◌, ◌++◌, length, get_or, take, drop, Option, Some, None, Result, Ok, Err, refl, sym, subst, ◌∙◌, ap, ap₂, append_assoc, append-nil}
+use Rattle.std.proofs.Common.{◌≡◌, ◌≢◌, ◌≤◌, ◌⊎◌, inl, inr, ⊎_elim, ℕ, List, [], ◌∷◌, ◌++◌, length, get_or, take, drop, Option, Some, None, Result, Ok, Err, refl, sym, subst, ◌∙◌, ap, ap₂, arith, append_assoc, append-nil, length-append}
 use Rattle.std.specs.List.{flat_map, AllByRecursion}
 use Rattle.std.proofs.lemmas.List.{append_cancel_left}
 use Rattle.match_journal.specs.Journal.{IsJournal, IsRecord, Record, journal_front, header, open_record}
@@ -71,6 +71,16 @@ bad_behind text limit ps image at journal bad ([], is) =
     gate_closed text limit ps image journal (ap (λ (l : List Record). get_or image (length (journal_front text l)) 0) (sym (is ∙ append-nil ps)) ∙ bad.bad.opened)
 bad_behind text limit ps image at journal bad (p ∷ more, is) =
     not_both image limit (length (journal_front text ps)) _ (good_head text limit ps p more image (subst (λ (l : List Record). BeginsWithRecords text limit l image) is bad.begins)) (gate_closed text limit ps image journal)
+
+-- and no more good heads than records
+pub no_more_heads : (text : List ℕ) (limit : ℕ) (ps before : List Record) (image : List ℕ) → IsJournal text limit ps image → BeginsWithRecords text limit before image → length before ≤ length ps
+no_more_heads text limit ps before image journal begins =
+    ⊎_elim (λ t. none_behind t) (λ t. omega (arith, ap length t.1, length-append before t.0)) (begins_along text limit ps before image (journal_begins text limit ps image journal) begins)
+  where
+    none_behind : IsBehind ps before → length before ≤ length ps
+    none_behind ([], is) = omega (arith, ap length (is ∙ append-nil ps))
+    none_behind (p ∷ more, is) =
+        absurd (not_both image limit (length (journal_front text ps)) _ (good_head text limit ps p more image (subst (λ (l : List Record). BeginsWithRecords text limit l image) is begins)) (gate_closed text limit ps image journal))
 
 bad_before : (text : List ℕ) (limit : ℕ) (ps : List Record) (image : List ℕ) (at : ℕ) → IsJournal text limit ps image → (bad : HasBadHeadAt text limit image at) → IsBehind bad.before ps → ⊥
 bad_before text limit ps image at journal bad ([], is) = bad_behind text limit ps image at journal bad ([], sym (append-nil ps ∙ is ∙ append-nil bad.before))

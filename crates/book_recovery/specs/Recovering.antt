@@ -1,11 +1,12 @@
 -- What recovery does and answers.
-use Rattle.std.specs.Prelude.{◌≡◌, ℕ, ◌≤◌, List, [], length, Option, Some, None, Result, Ok, Err, vec_len}
+use Rattle.std.specs.Prelude.{◌≡◌, ℕ, ◌+◌, ◌*◌, ◌≤◌, List, [], length, flat_map, Option, Some, None, Result, Ok, Err}
+use Rattle.std.specs.Box.{boxed_slice_len}
 use Rattle.gx_station.specs.Stations.{StationMeanings}
 use Rattle.product_file.specs.Products.{ProductLists}
 use Rattle.order_kinds.specs.State.{State, state_numbered}
 use Rattle.order_kinds.specs.Cores.{AreNumbered}
 use Rattle.book_image.specs.Image.{image_len}
-use Rattle.match_journal.specs.Journal.{Record}
+use Rattle.match_journal.specs.Journal.{Record, open_record}
 use Rattle.match_journal.specs.Appending.{IsJournalTo}
 use Rattle.match_journal.specs.Causes.{LooksOnly}
 use Rattle.book_recovery.specs.Records.{state_kept, from_last_image, image_gate, messages_in, count_behind_all, AreGoodRecords, AreTrueRecords}
@@ -22,7 +23,7 @@ pub record ReadsOnly {S : Type 0} (m : StationMeanings S) (old new : S) : Type 0
 
 -- there is room for each right book image of a product
 abbrev pub HasRoomFor : ProductLists → Scratch → Type 0
-HasRoomFor product scratch = image_len (length product.names.instruments) product.max_orders ≤ vec_len scratch.payload
+HasRoomFor product scratch = image_len (length product.names.instruments) product.max_orders ≤ boxed_slice_len scratch.payload
 
 -- the state is that of the engine after these messages, but for the slots of the orders, and order numbers differ
 pub record IsStateAfter (product : ProductLists) (messages : List (List ℕ)) (state : State) : Type 0 where
@@ -34,6 +35,11 @@ pub record IsStateAfter (product : ProductLists) (messages : List (List ℕ)) (s
 abbrev pub first_read : Option ℕ → ℕ → ℕ
 first_read None first = first
 first_read (Some image_at) first = image_at
+
+-- How many bytes of a journal with these records are read at most to recover from it: six for each gate behind the header, also
+-- the closed one, and once the records from the last book image on.
+abbrev pub most_to_recover : List Record → ℕ
+most_to_recover records = 6 * (length records + 1) + length (flat_map open_record (from_last_image records))
 
 -- The image is a journal up to this gate, no record of which is bad from the last book image on, and these were replayed. Where
 -- each book image in it is that of the state after the messages before it, this is the state after all messages.

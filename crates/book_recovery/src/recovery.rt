@@ -2,6 +2,7 @@
 ghost use Rattle.std.specs.Prelude.{◌≡◌, ℕ, ◌+◌, ◌-◌, ◌*◌, ◌^◌, ◌<◌, ◌≤◌, List, [], false, true, length, Some, OnOk, IfOk, IsErrOf};
 ghost use Rattle.gx_station.specs.Counts.{Rose};
 ghost use Rattle.match_journal.specs.Causes.{ReadsAtMost};
+ghost use Rattle.match_journal.specs.Journal.{IsJournal, Record};
 ghost use Rattle.match_journal.specs.Opening.{IsOpened};
 ghost use Rattle.match_journal.specs.Standing.{IsStanding, moved};
 ghost use Rattle.match_journal.specs.declared.limits.TheConstants.{LEAST_LIMIT};
@@ -9,7 +10,7 @@ ghost use Rattle.order_kinds.specs.State.{empty_state};
 ghost use Rattle.order_kinds.specs.Cores.{FitsProduct};
 ghost use Rattle.order_kinds.specs.declared.core_state.TheConstants.{MOST_MESSAGES};
 ghost use Rattle.book_recovery.specs.BadPlaces.{BeginsWithRecords};
-ghost use Rattle.book_recovery.specs.Recovering.{ReadsOnly, HasRoomFor, first_read, Recovers};
+ghost use Rattle.book_recovery.specs.Recovering.{ReadsOnly, HasRoomFor, first_read, most_to_recover, Recovers};
 ghost use Rattle.book_recovery.specs.Inner.Starting.{BeginsAt};
 ghost use Rattle.book_recovery.specs.Inner.Counting.{Counts};
 
@@ -76,6 +77,10 @@ fn read_heads<S: Station>(station: &mut S, journal: &mut Journal) -> Result<Head
     requires not_lost { journal.old.is_lost ≡ false }
     ensures reads { ReadsOnly S.meanings station.old station.new }
     ensures bytes { IfOk result (λ heads. ReadsAtMost (6 * (heads.entries + 1)) (S.meanings.bytes_read station.old) (S.meanings.bytes_read station.new)) }
+    // Six for each head that is met, also the one at which a call fails.
+    ensures few_bytes { (text image : List ℕ) (records : List Record) → S.meanings.holds station.old ≡ Some image → length image ≡ journal.old.known
+        → IsJournal text journal.old.limit records image → journal.old.first ≡ 13 + length text
+        → ReadsAtMost (6 * (length records + 1)) (S.meanings.bytes_read station.old) (S.meanings.bytes_read station.new) }
     ensures reach { S.meanings.reach station.new ≡ S.meanings.reach station.old }
     ensures store { IsErrOf result RecoverFault.Store → Rose (S.meanings.store_faults station.old) (S.meanings.store_faults station.new) }
     ensures none { (IsErrOf result RecoverFault.Store → ⊥) → S.meanings.store_faults station.new ≡ S.meanings.store_faults station.old }
@@ -138,6 +143,10 @@ pub fn recover<S: Station, B: Book>(
     ensures counts { IfOk result (λ recovered. recovered.messages ≡ core.new.desk.messages) }
     // At most six bytes for each gate that is met, and once more all from the last book image, or the first gate, to the last gate.
     ensures bytes { IfOk result (λ recovered. ReadsAtMost (6 * (recovered.entries + 1) + (journal.new.gate - first_read recovered.image_at journal.old.first)) (S.meanings.bytes_read station.old) (S.meanings.bytes_read station.new)) }
+    // No more of a journal with these records, whatever is answered.
+    ensures few_bytes { (text image : List ℕ) (records : List Record) → S.meanings.holds station.old ≡ Some image → length image ≡ journal.old.known
+        → IsJournal text journal.old.limit records image → journal.old.first ≡ 13 + length text
+        → ReadsAtMost (most_to_recover records) (S.meanings.bytes_read station.old) (S.meanings.bytes_read station.new) }
     ensures recovers { (text image : List ℕ) → S.meanings.holds station.old ≡ Some image → length image ≡ journal.old.known → LEAST_LIMIT ≤ journal.old.limit → IsOpened text image → journal.old.first ≡ 13 + length text
         → Recovers product.now text journal.old.limit image journal.new.gate core.new result }
 {

@@ -1,11 +1,11 @@
 //! Replaying the records from the last book image on.
-ghost use Rattle.std.specs.Prelude.{◌≡◌, ℕ, ◌+◌, ◌-◌, ◌<◌, ◌≤◌, ◌↔◌, List, [], length, vec_len, false, true, Some, Ok, IsTrue, OnOk, IsErr, IsErrOf};
+ghost use Rattle.std.specs.Prelude.{◌≡◌, ℕ, ◌+◌, ◌-◌, ◌<◌, ◌≤◌, ◌↔◌, List, [], length, flat_map, false, true, Some, Ok, IsTrue, OnOk, IsErr, IsErrOf};
 ghost use Rattle.gx_station.specs.Counts.{Rose};
 ghost use Rattle.gx_station.specs.StoreCalls.{OnStore};
 ghost use Rattle.fix_frame.specs.Stream.{messages_of};
 ghost use Rattle.book_image.specs.Image.{image_len};
 ghost use Rattle.match_journal.specs.Causes.{ReadsAtMost, LooksOnly};
-ghost use Rattle.match_journal.specs.Journal.{IsJournal, Record, journal_front};
+ghost use Rattle.match_journal.specs.Journal.{IsJournal, Record, journal_front, open_record};
 ghost use Rattle.match_journal.specs.Standing.{IsStanding, Fits, moved};
 ghost use Rattle.match_journal.specs.Walking.{Walks};
 ghost use Rattle.match_journal.specs.declared.entry.EntryKind.TheVariants.{Frames};
@@ -14,7 +14,7 @@ ghost use Rattle.order_kinds.specs.State.{empty_state, state_numbered};
 ghost use Rattle.order_kinds.specs.Step.{state_after};
 ghost use Rattle.order_kinds.specs.Cores.{FitsProduct, AreNumbered};
 ghost use Rattle.order_kinds.specs.declared.core_state.TheConstants.{MOST_MESSAGES};
-ghost use Rattle.book_recovery.specs.Records.{before_last_image, AreGoodFrames};
+ghost use Rattle.book_recovery.specs.Records.{before_last_image, from_last_image, AreGoodFrames};
 ghost use Rattle.book_recovery.specs.Recovering.{ReadsOnly, HasRoomFor};
 ghost use Rattle.book_recovery.specs.Inner.Starting.{CanBegin, begins_from};
 ghost use Rattle.book_recovery.specs.Inner.Replays.{payload_at, record_at, ReadsImage, ReplaysOne, ReplaysAll};
@@ -67,25 +67,24 @@ pub(crate) fn read_frames<S: Station>(
     station: &mut S,
     journal: &mut Journal,
     entry: &Entry,
-    payload: &mut Vec<u8>,
+    payload: &mut [u8],
     framer: &mut Framer,
 ) -> Result<(), StoreFault>
     requires reach { journal.old.known ≤ S.meanings.reach station.old }
     requires entry { Fits journal.old.known journal.old.limit entry.now }
     requires frames { entry.now.kind ≡ Frames }
-    requires room { MOST_PAYLOAD ≤ vec_len payload.old }
+    requires room { MOST_PAYLOAD ≤ length payload.old }
     ensures looks { LooksOnly S.meanings station.old station.new entry.now.length }
     ensures reach { S.meanings.reach station.new ≡ S.meanings.reach station.old }
     ensures on_store { OnStore S.meanings station.old station.new result }
     ensures stays { journal.new ≡ journal.old }
-    ensures room { vec_len payload.new ≡ vec_len payload.old }
     ensures given { OnOk result (framer.new.given ≡ []) }
     ensures size { OnOk result (length framer.new.rest ≡ entry.now.length) }
     ensures bytes { OnOk result ((image : List ℕ) → S.meanings.holds station.old ≡ Some image → framer.new.rest ≡ payload_at image entry.now) }
 {
     let length = entry.length as usize;
-    journal.read_entry(station, entry, &mut payload.as_mut_slice()[0..length])?;
-    hold(framer, &payload.as_slice()[..length]);
+    journal.read_entry(station, entry, &mut payload[0..length])?;
+    hold(framer, &payload[..length]);
     Ok(())
 }
 
@@ -95,12 +94,12 @@ pub(crate) fn read_image_record<S: Station, B: Book>(
     station: &mut S,
     journal: &mut Journal,
     product: &Product,
-    payload: &mut Vec<u8>,
+    payload: &mut [u8],
     core: &mut Core<B>,
     entry: &Entry,
 ) -> Result<(), RecoverFault>
     requires new { core.old ≡ empty_state product.now }
-    requires room { image_len (length product.now.names.instruments) product.now.max_orders ≤ vec_len payload.old }
+    requires room { image_len (length product.now.names.instruments) product.now.max_orders ≤ length payload.old }
     requires reach { journal.old.known ≤ S.meanings.reach station.old }
     requires entry { Fits journal.old.known journal.old.limit entry.now }
     ensures looks { LooksOnly S.meanings station.old station.new entry.now.length }
@@ -108,7 +107,6 @@ pub(crate) fn read_image_record<S: Station, B: Book>(
     ensures store { IsErrOf result RecoverFault.Store → Rose (S.meanings.store_faults station.old) (S.meanings.store_faults station.new) }
     ensures none { (IsErrOf result RecoverFault.Store → ⊥) → S.meanings.store_faults station.new ≡ S.meanings.store_faults station.old }
     ensures stays { journal.new ≡ journal.old }
-    ensures room { vec_len payload.new ≡ vec_len payload.old }
     ensures few { OnOk result (core.new.desk.messages < MOST_MESSAGES) }
     ensures fits { FitsProduct product.now core.new }
     ensures new { IsErr result → core.new ≡ core.old }
@@ -119,11 +117,11 @@ pub(crate) fn read_image_record<S: Station, B: Book>(
     if length > payload.len() {
         return Err(RecoverFault::Bad(entry.at));
     }
-    let read = journal.read_entry(station, entry, &mut payload.as_mut_slice()[0..length]);
+    let read = journal.read_entry(station, entry, &mut payload[0..length]);
     if read.is_err() {
         return Err(RecoverFault::Store);
     }
-    match read_image(&payload.as_slice()[..length], product, core) {
+    match read_image(&payload[..length], product, core) {
         Ok(()) => Ok(()),
         Err(_) => Err(RecoverFault::Bad(entry.at)),
     }
@@ -198,6 +196,10 @@ pub(crate) fn replay_records<S: Station, B: Book>(
     ensures reads { ReadsOnly S.meanings station.old station.new }
     // Each payload once, each head but the first, and at most six bytes at the last gate.
     ensures bytes { OnOk result (ReadsAtMost (journal.new.gate - begins_from journal.old start) (S.meanings.bytes_read station.old) (S.meanings.bytes_read station.new)) }
+    // Never beyond the last gate, whatever is answered.
+    ensures few_bytes { (text image : List ℕ) (records : List Record) → S.meanings.holds station.old ≡ Some image → length image ≡ journal.old.known
+        → IsJournal text journal.old.limit records image → Walks image journal.old.limit (length (journal_front text (before_last_image records))) (Ok start)
+        → ReadsAtMost (length (flat_map open_record (from_last_image records))) (S.meanings.bytes_read station.old) (S.meanings.bytes_read station.new) }
     ensures reach { S.meanings.reach station.new ≡ S.meanings.reach station.old }
     ensures store { IsErrOf result RecoverFault.Store → Rose (S.meanings.store_faults station.old) (S.meanings.store_faults station.new) }
     ensures none { (IsErrOf result RecoverFault.Store → ⊥) → S.meanings.store_faults station.new ≡ S.meanings.store_faults station.old }

@@ -74,7 +74,7 @@ fn apply_made<B: Book>(
 ) -> Result<(), Fail>
     requires fits { FitsProduct product.now core.old }
 {
-    let mut source = MakerSource::new(rt.alloc(), product, 3, MESSAGES)?;
+    let mut source = MakerSource::new(product, 3, MESSAGES);
     let mut framer = Framer::new(rt.alloc())?;
     let mut into = [0; LEAST_READ];
     for _read in 0..MESSAGES {

@@ -6,6 +6,7 @@ use Rattle.std.proofs.lemmas.Option.{same_Some}
 use Rattle.gx_base.specs.declared.event.Event.{Event}
 use Rattle.gx_station.specs.Stations.{StationMeanings}
 use Rattle.gx_station.specs.Honest.{IsHonestNow}
+use Rattle.gx_station.specs.Quiet.{quiet_itself}
 use Rattle.fix_frame.specs.Grammar.{IsFrameFront}
 use Rattle.product_file.specs.Products.{ProductLists, IsRightProduct}
 use Rattle.product_file.specs.ProductTexts.{product_of}
@@ -39,20 +40,21 @@ use Rattle.globex_run.specs.FullJournals.{IsFull}
 use Rattle.globex_run.specs.Refusals.{HasBadRecordFor, IsRefusal, IsRefused, RefusesExactly, CanStart}
 use Rattle.globex_run.specs.RunResult.{CommandResult, CommandEnded, RunEnded, EndedUnread, first_messages}
 use Rattle.globex_run.specs.Journals.{AnswersImage}
-use Rattle.globex_run.specs.Headline.{Premises, InputPremises, SendsExactlyTheReports, EndsOtherwise, RunLeavesCrashPrefixes, RunBeforeTheFirstSync, KeepsEveryReported, KeepsARecordPerRead, ReadsFew, CanBeServed, IsServed}
+use Rattle.globex_run.specs.Headline.{Premises, InputPremises, SendsExactlyTheReports, EndsOtherwise, RunLeavesCrashPrefixes, RunBeforeTheFirstSync, KeepsEveryReported, AddsMessages, KeepsARecordPerRead, ReadsFew, CanBeServed, IsServed}
 use Rattle.globex_run.specs.Drills.{made_bytes, KeepsAndSumsUp, DrillEndsOtherwise, DrillLeavesCrashPrefixes, DrillBeforeTheFirstSync, CanBeDrilled}
 use Rattle.globex_run.specs.Checkpoints.{AddsImage, KeepsTheSame, CheckpointLeavesCrashPrefixes, CheckpointBeforeTheFirstSync, HasNoRoomForImage, CanBeCheckpointed}
 use Rattle.globex_run.specs.Prints.{PrintsAs, outcome_printed, outcome_sent}
-use Rattle.globex_run.specs.Inner.Drilling.{DrillResult, DrillsMade, DrillAnswers, outcome_summed}
+use Rattle.globex_run.specs.Inner.Drilling.{DrillResult, DrillsMade, outcome_summed}
 use Rattle.globex_run.specs.Inner.Checkpointing.{EndsCheckpoint, CheckpointResult, IsCheckpointEnding}
 use Rattle.globex_run.specs.Inner.Executing.{Executes, HasCauses, Runs}
 use Rattle.globex_run.specs.declared.outcome.Outcome.{Outcome}
 use Rattle.globex_run.specs.declared.ending.Ending.{Ending}
 use Rattle.globex_run.specs.declared.ending.Ending.TheVariants.{Done, ReadFault, StoreFault, SendFault, BadFrame, Truncated, NotAJournal, JournalBad, ProductDiffers, Full}
 use Rattle.globex_run.proofs.Told.{outside_of}
+use Rattle.globex_run.proofs.Executed.{quiet-reads}
 use Rattle.globex_run.proofs.Runs.{short-text, few-of-product, told-product, run-exactly, run-otherwise, run-every-moment, run-first-sync, run-every-message, run-balanced, run-full, run-record-per-read, run-reads-few, run-all}
 use Rattle.globex_run.proofs.FewReads.{drill-reads}
-use Rattle.globex_run.proofs.Drills.{empty_front, drill-all, drill-otherwise, drill-moments, drill-first-sync, drill-full}
+use Rattle.globex_run.proofs.Drills.{empty_front, drill-all, drill-otherwise, drill-adds, drill-moments, drill-first-sync, drill-full}
 use Rattle.globex_run.proofs.CheckpointHeadlines.{not-among, not-done, adds-image as checkpoint-adds, the-same as checkpoint-keeps, every-moment as checkpoint-moments, first-sync as checkpoint-first-sync, few-read as checkpoint-reads, image-full as checkpoint-full}
 use Rattle.globex_run.proofs.Complete.{served}
 use Rattle.globex_run.proofs.Endings.{when_done}
@@ -104,6 +106,32 @@ module _ (product : ProductLists) (text image : List ℕ) (kept : List (List ℕ
       others)
       refused
 
+-- ---- want of memory, or not
+
+pub by-memory : {A : Type 0} (status : ℕ) → (status ≡ 1 → A) → (status ≢ 1 → A) → A
+by-memory status lacks has = elim (eqb_tells status 1) [
+  | inl one ↦ lacks one.1
+  | inr other ↦ has other.1
+]
+
+-- it, or what holds of every other status
+pub unless-memory : {A : Type 0} (status : ℕ) → (status ≢ 1 → A) → (status ≡ 1) ⊎ A
+unless-memory status has = by-memory status (λ one. inl one) (λ other. inr (has other))
+
+never-prints : (status : ℕ) → (status ≡ 7) ⊎ ((status ≡ 8) ⊎ (status ≡ 12)) → status ≢ 1
+never-prints status never one = ⊎_elim (λ seven. omega (arith, seven, one)) (λ more. ⊎_elim (λ eight. omega (arith, eight, one)) (λ twelve. omega (arith, twelve, one)) more) never
+
+-- a status that a command does not end with is another
+pub never-lacks : (command : Command) (status : ℕ) → NeverEndsWith command status → status ≢ 1
+never-lacks Run status never one = never
+never-lacks (Drill first count) status never one = ⊎_elim (λ seven. omega (arith, seven, one)) (λ eight. omega (arith, eight, one)) never
+never-lacks Checkpoint status never one = ⊎_elim (λ six. omega (arith, six, one)) (λ more. ⊎_elim (λ seven. omega (arith, seven, one)) (λ eight. omega (arith, eight, one)) more) never
+never-lacks Steps status never one = ⊎_elim (λ five. omega (arith, five, one)) (λ more. omega (arith, more, one)) never
+never-lacks Replay status never one = never-prints status never one
+never-lacks Book status never one = never-prints status never one
+never-lacks Fills status never one = never-prints status never one
+never-lacks Ledger status never one = never-prints status never one
+
 -- ---- a product was taken, and its text lent to the command
 
 module _ {P I S : Type 0} (m : StationMeanings S) (p q : SourceAt P) (i j : SourceAt I) (old new : S) (outcome : Outcome) (text lent : List ℕ) (same : lent ≡ text) (product : ProductLists) (took : IsProductText p q text) (gives : product_of text ≡ Ok product) where
@@ -128,6 +156,15 @@ module _ {P I S : Type 0} (m : StationMeanings S) (p q : SourceAt P) (i j : Sour
   no-memory command causes one =
       let streams : exit.streams ≡ entry.streams = (causes.memory one).0 in
       (ap (λ (s : Streams I S). s.input.object) streams, ap (λ (s : Streams I S). s.station.object) streams, few-of-product p q text product took gives)
+
+  -- a command for which there was no memory only read
+  pub reads-none : (command : Command) → Causes command → outcome.status ≡ 1 → ReadsAndSends m old new
+  reads-none command causes one =
+      subst (λ (s : S). ReadsAndSends m old s) (sym (no-memory command causes one).1) (quiet-reads m old old (quiet_itself m old))
+
+  -- and sent nothing
+  pub sends-none : (command : Command) → Causes command → outcome.status ≡ 1 → (m.sent new ≡ m.sent old) × (outcome.status ≢ 6)
+  sends-none command causes one = (ap m.sent (no-memory command causes one).1, λ six. omega (arith, six, one))
 
   -- what is kept balances
   pub balances : (command : Command) → Causes command → (given : ProductPremises entry exit outcome.status) → (kept : List (List ℕ)) → IsBalanced given.product kept
@@ -169,8 +206,8 @@ module _ {P I S : Type 0} (m : StationMeanings S) (p q : SourceAt P) (i j : Sour
         pub every-message : IsHonestNow m old → KeepsEveryReported m entry exit outcome given read
         every-message now = run-every-message m p q i j old new Any ran.then outcome text lent same product took gives ran.session given read now
 
-        pub balanced : IsBalanced given.product (given.kept ++ first_messages outcome.messages read.taken)
-        balanced = run-balanced m p q i j old new Any ran.then outcome text lent same product took gives ran.session given read
+        pub balanced : (count : ℕ) → IsBalanced given.product (given.kept ++ first_messages count read.taken)
+        balanced count = run-balanced m p q i j old new Any ran.then outcome text lent same product took gives ran.session given read count
 
       pub full : (given : ProductPremises entry exit outcome.status) (read : InputPremises i j) → m.is_honest old → (image : List ℕ) (records : List Record) → m.holds old ≡ Some image → Keeps given.text given.product.journal_limit records image → outcome.status ≡ 12
           → IsFull given.product given.text image records exit.streams.station outcome read.taken
@@ -188,19 +225,22 @@ module _ {P I S : Type 0} (m : StationMeanings S) (p q : SourceAt P) (i j : Sour
     -- ---- a drill
 
     module _ (first count : ℕ) (asks : asked ≡ Some (Drill first count)) where
-      drilled : (told : List ℕ) (lists : ProductLists) → p.left ≡ Some told → product_of told ≡ Ok lists → DrillAnswers m lists told first count old new outcome
+      drilled : (told : List ℕ) (lists : ProductLists) → p.left ≡ Some told → product_of told ≡ Ok lists → DrillsMade m lists told first count old new outcome
       drilled told lists known are =
-          told-product p q text lent same product took gives (λ (l : ProductLists) (bytes : List ℕ). DrillAnswers m l bytes first count old new outcome) told lists known are (did-as (Drill first count) asks).0
+          told-product p q text lent same product took gives (λ (l : ProductLists) (bytes : List ℕ). DrillsMade m l bytes first count old new outcome) told lists known are (did-as (Drill first count) asks).0
 
       module _ (given : Premises m entry exit outcome.status) where
         made : DrillsMade m given.product given.text first count old new outcome
-        made = ⊎_elim (λ none. absurd (given.memory (ap (λ (o : Outcome). o.status) none.0))) (λ made. made) (drilled given.text given.product given.text_known given.gives)
+        made = drilled given.text given.product given.text_known given.gives
 
         pub sums-up : outcome.status ≡ 0 → KeepsAndSumsUp m entry exit outcome given first count
         sums-up none = drill-all m p q i j old new outcome given first count made.whole made.end made.did none
 
         pub drill-ends : outcome.status ≢ 0 → DrillEndsOtherwise m entry exit outcome given first count
         drill-ends other = drill-otherwise m p q i j old new outcome given first count made.whole made.end made.did other
+
+        pub drill-adds-messages : AddsMessages m entry exit outcome given
+        drill-adds-messages = drill-adds m p q i j old new outcome given first count made.whole made.end made.did
 
         pub drill-every-moment : DrillLeavesCrashPrefixes m entry exit outcome given first count
         drill-every-moment = drill-moments m p q i j old new outcome given first count made.whole made.end made.did
@@ -209,14 +249,12 @@ module _ {P I S : Type 0} (m : StationMeanings S) (p q : SourceAt P) (i j : Sour
         drill-before-sync now = drill-first-sync m p q i j old new outcome given first count made.whole made.end made.did now
 
         pub drill-few-read : ReadsFew m entry exit outcome given
-        drill-few-read other = drill-reads m given.product given.text _ made.end old new outcome made.did given.image given.kept given.honest given.image_known given.startable other
+        drill-few-read = drill-reads m given.product given.text _ made.end old new outcome made.did given.image given.kept given.honest given.image_known given.startable
 
       pub drill-has-no-room : (given : ProductPremises entry exit outcome.status) → m.is_honest old → (image : List ℕ) (records : List Record) → m.holds old ≡ Some image → Keeps given.text given.product.journal_limit records image → outcome.status ≡ 12
           → IsFull given.product given.text image records exit.streams.station outcome (made_bytes given.product first count)
-      drill-has-no-room given honest image records known keeps twelve = ⊎_elim
-          (λ none. absurd (given.memory (ap (λ (o : Outcome). o.status) none.0)))
-          (λ made. drill-full m given.product given.text image records first count old new outcome made honest known keeps twelve)
-          (drilled given.text given.product given.text_known given.gives)
+      drill-has-no-room given honest image records known keeps twelve =
+          drill-full m given.product given.text image records first count old new outcome (drilled given.text given.product given.text_known given.gives) honest known keeps twelve
 
       -- where there is room and no fault comes, all is kept and summed up
       module _ (can : CanBeDrilled m entry first count) (quiet : IsQuiet entry exit) where
@@ -289,8 +327,8 @@ module _ {P I S : Type 0} (m : StationMeanings S) (p q : SourceAt P) (i j : Sour
             | inr other ↦ absurd (other.1 (ended-whole other.1))
           ]
 
-        pub all-drilled : (outcome.status ≡ 1) ⊎ (outcome.status ≡ 0)
-        all-drilled = ⊎_elim (λ none. inl (ap (λ (o : Outcome). o.status) none.0)) (λ made. inr (made-all made)) (drilled can.text can.product can.text_known can.gives)
+        pub all-drilled : outcome.status ≡ 0
+        all-drilled = made-all (drilled can.text can.product can.text_known can.gives)
 
     -- ---- a checkpoint
 
@@ -468,6 +506,25 @@ module _ {P I S : Type 0} (m : StationMeanings S) (p q : SourceAt P) (i j : Sour
         serving = ran.session.serving;
       }
 
+      -- no message of a drill is counted where its journal is refused
+      drill-counts : (first count : ℕ) → DrillsMade m product lent first count old new outcome → IsRefusal outcome.status → outcome.messages ≡ 0
+      drill-counts first count made refusal = elim (eqb_tells made.did.served.status 0) [
+        | inl none ↦ let sums = made.did.sums_up none.1 in absurd (not-summed sums.result sums.outcome_is)
+        | inr other ↦
+            let same : outcome ≡ made.did.served = (made.did.otherwise other.1).1 in
+            ap (λ (o : Outcome). o.messages) same
+            ∙ none-counted {I = MadeStream} {S = S} (streams_at {S = S} maker_meanings m (record { left = made_stream product first count; reads = 0 }) old) (streams_at {S = S} maker_meanings m made.end made.did.mid) made.did.served made.did.session.ending made.did.session.serving.taken made.did.session.is made.did.session.serving.ends (subst (λ (o : Outcome). IsRefusal o.status) same refusal)
+      ]
+        where
+          not-summed : (result : Result (Unit {0}) SendFailed) → outcome ≡ outcome_summed made.did.served.messages result → ⊥
+          not-summed (Ok t) is = not-refusal outcome.status 0 (ap (λ (o : Outcome). o.status) is) (λ e. cc e) (λ e. cc e) (λ e. cc e) refusal
+          not-summed (Err fault) is = not-refusal outcome.status 6 (ap (λ (o : Outcome). o.status) is) (λ e. cc e) (λ e. cc e) (λ e. cc e) refusal
+
+      -- nor of a checkpoint
+      checkpoint-none : CheckpointResult m product lent old new outcome → IsRefusal outcome.status → outcome.messages ≡ 0
+      checkpoint-none did refusal =
+          did.none (λ done. when_done (λ (e : Ending). outcome ≡ outcome_of e outcome.messages → ⊥) (λ is. not-refusal outcome.status 0 (ap (λ (o : Outcome). o.status) is) (λ e. cc e) (λ e. cc e) (λ e. cc e) refusal) did.ending done did.is)
+
       module _ (first count : ℕ) (input : exit.streams.input ≡ entry.streams.input) (made : DrillsMade m product lent first count old new outcome) where
         abbrev Fits : Ending → Type 0
         Fits ending = IfSome entry.streams.station.image (λ image. AnswersImage product text image ending)
@@ -488,8 +545,8 @@ module _ {P I S : Type 0} (m : StationMeanings S) (p q : SourceAt P) (i j : Sour
         fits-done (Full place) is none fits = fits
 
         ended-by : (result : Result (Unit {0}) SendFailed) → outcome ≡ outcome_summed made.did.served.messages result → Fits Done → EndedUnread entry exit outcome text product
-        ended-by (Ok t) is fits = record { ending = Done; is = is ∙ ap (λ (n : ℕ). outcome_of Done n) (sym (ap (λ (o : Outcome). o.messages) is)); image = fits; input = input }
-        ended-by (Err fault) is fits = record { ending = SendFault; is = is ∙ ap (λ (n : ℕ). outcome_of SendFault n) (sym (ap (λ (o : Outcome). o.messages) is)); image = fits; input = input }
+        ended-by (Ok t) is fits = record { ending = Done; is = is ∙ ap (λ (n : ℕ). outcome_of Done n) (sym (ap (λ (o : Outcome). o.messages) is)); image = fits; none = drill-counts first count made; input = input }
+        ended-by (Err fault) is fits = record { ending = SendFault; is = is ∙ ap (λ (n : ℕ). outcome_of SendFault n) (sym (ap (λ (o : Outcome). o.messages) is)); image = fits; none = drill-counts first count made; input = input }
 
         drill-ended : EndedUnread entry exit outcome text product
         drill-ended = elim (eqb_tells made.did.served.status 0) [
@@ -502,6 +559,7 @@ module _ {P I S : Type 0} (m : StationMeanings S) (p q : SourceAt P) (i j : Sour
                 ending = made.did.session.ending;
                 is = subst (λ (o : Outcome). o ≡ outcome_of made.did.session.ending o.messages) (sym same) made.did.session.is;
                 image = fits;
+                none = drill-counts first count made;
                 input = input;
               }
         ]
@@ -511,12 +569,13 @@ module _ {P I S : Type 0} (m : StationMeanings S) (p q : SourceAt P) (i j : Sour
         ending = did.ending;
         is = did.is;
         image = subst (λ (l : List ℕ). IfSome entry.streams.station.image (λ image. AnswersImage product l image did.ending)) same did.image;
+        none = checkpoint-none did;
         input = input;
       }
 
       ended : (x : Command) → Did x → outcome.status ≢ 1 → CommandEnded entry exit outcome text product x
       ended Run did told = ran-ended did
-      ended (Drill first count) drilled told = ⊎_elim (λ none. absurd (told (ap (λ (o : Outcome). o.status) none.0))) (λ made. drill-ended first count drilled.1 made) drilled.0
+      ended (Drill first count) drilled told = drill-ended first count drilled.1 drilled.0
       ended Checkpoint did told = checkpoint-ended did.1 did.0
       ended Replay printed told = printed.input
       ended Book printed told = printed.input
@@ -525,7 +584,7 @@ module _ {P I S : Type 0} (m : StationMeanings S) (p q : SourceAt P) (i j : Sour
       ended Steps printed told = printed.input
 
       pub told-ended : outcome.status ≢ 1 → CommandResult entry exit outcome c
-      told-ended told = inr (inr (record { text = text; taken = took; product = product; gives = gives; ended = ended c (did-as c asks) told }))
+      told-ended told = inr (inr (record { text = text; taken = took; product = product; gives = gives; product_right = causes.product_right; ended = ended c (did-as c asks) told }))
 
       -- ---- what is refused
 
@@ -534,25 +593,6 @@ module _ {P I S : Type 0} (m : StationMeanings S) (p q : SourceAt P) (i j : Sour
 
       at-image : (image : List ℕ) → entry.streams.station.image ≡ Some image → (ending : Ending) → IfSome entry.streams.station.image (λ image. AnswersText image ending) → AnswersText image ending
       at-image image known ending told = subst (λ (o : Option (List ℕ)). IfSome o (λ image. AnswersText image ending)) known told
-
-      -- no message of a drill is counted where its journal is refused
-      drill-counts : (first count : ℕ) → DrillsMade m product lent first count old new outcome → IsRefusal outcome.status → outcome.messages ≡ 0
-      drill-counts first count made refusal = elim (eqb_tells made.did.served.status 0) [
-        | inl none ↦ let sums = made.did.sums_up none.1 in absurd (not-summed sums.result sums.outcome_is)
-        | inr other ↦
-            let same : outcome ≡ made.did.served = (made.did.otherwise other.1).1 in
-            ap (λ (o : Outcome). o.messages) same
-            ∙ none-counted {I = MadeStream} {S = S} (streams_at {S = S} maker_meanings m (record { left = made_stream product first count; reads = 0 }) old) (streams_at {S = S} maker_meanings m made.end made.did.mid) made.did.served made.did.session.ending made.did.session.serving.taken made.did.session.is made.did.session.serving.ends (subst (λ (o : Outcome). IsRefusal o.status) same refusal)
-      ]
-        where
-          not-summed : (result : Result (Unit {0}) SendFailed) → outcome ≡ outcome_summed made.did.served.messages result → ⊥
-          not-summed (Ok t) is = not-refusal outcome.status 0 (ap (λ (o : Outcome). o.status) is) (λ e. cc e) (λ e. cc e) (λ e. cc e) refusal
-          not-summed (Err fault) is = not-refusal outcome.status 6 (ap (λ (o : Outcome). o.status) is) (λ e. cc e) (λ e. cc e) (λ e. cc e) refusal
-
-      -- nor of a checkpoint
-      checkpoint-none : CheckpointResult m product lent old new outcome → IsRefusal outcome.status → outcome.messages ≡ 0
-      checkpoint-none did refusal =
-          did.none (λ done. when_done (λ (e : Ending). outcome ≡ outcome_of e outcome.messages → ⊥) (λ is. not-refusal outcome.status 0 (ap (λ (o : Outcome). o.status) is) (λ e. cc e) (λ e. cc e) (λ e. cc e) refusal) did.ending done did.is)
 
       text-short : length text ≤ 65536
       text-short = short-text text product gives
@@ -570,17 +610,14 @@ module _ {P I S : Type 0} (m : StationMeanings S) (p q : SourceAt P) (i j : Sour
             let ended = ran-ended did in
             by-ending Run product text image text-short (one_place product text product.journal_limit image) outcome (λ at bad. bad) (λ at bad. bad)
             ended.ending ended.is (none-counted _ _ outcome ended.ending ended.serving.taken ended.is ended.serving.ends) (at-image image known ended.ending ended.image)
-        refuses-by (Drill first count) opens drilled told = ⊎_elim
-            (λ none. absurd (told (ap (λ (o : Outcome). o.status) none.0)))
-            (λ made.
-            let ended = drill-ended first count drilled.1 made in
+        refuses-by (Drill first count) opens drilled told =
+            let ended = drill-ended first count drilled.1 drilled.0 in
             by-ending (Drill first count) product text image text-short (one_place product text product.journal_limit image) outcome (λ at bad. bad) (λ at bad. bad)
-            ended.ending ended.is (drill-counts first count made) (at-image image known ended.ending ended.image))
-            drilled.0
+            ended.ending ended.is ended.none (at-image image known ended.ending ended.image)
         refuses-by Checkpoint opens did told =
             let ended = checkpoint-ended did.1 did.0 in
             by-ending Checkpoint product text image text-short (one_place product text product.journal_limit image) outcome (λ at bad. bad) (λ at bad. bad)
-            ended.ending ended.is (checkpoint-none did.0) (at-image image known ended.ending ended.image)
+            ended.ending ended.is ended.none (at-image image known ended.ending ended.image)
         refuses-by Book opens did told =
             let form = formed Book did in
             by-book Book product text image text-short (one_place product text product.journal_limit image) outcome (λ at bad. bad) (λ at bad. bad) m old new form.answer form.outcome_is (form.prints image known).prints

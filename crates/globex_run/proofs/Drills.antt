@@ -20,6 +20,7 @@ use Rattle.order_kinds.specs.State.{State}
 use Rattle.order_kinds.specs.Step.{state_after, events_from}
 use Rattle.plain_book.specs.Book.{live_orders}
 use Rattle.match_journal.specs.Journal.{Record}
+use Rattle.match_journal.specs.declared.limits.TheConstants.{MOST_PAYLOAD}
 use Rattle.match_journal.specs.Classes.{Keeps}
 use Rattle.book_recovery.specs.Records.{messages_in, state_kept, from_last_image, count_behind_all}
 use Rattle.book_recovery.specs.Kept.{KeepsMessages}
@@ -35,7 +36,7 @@ use Rattle.gx_station.specs.Quiet.{Sends}
 use Rattle.fix_frame.specs.FrameLaws.{frame_least}
 use Rattle.globex_run.specs.Journals.{records_length, end_of_journal}
 use Rattle.globex_run.specs.RunResult.{EndsAs, first_messages}
-use Rattle.globex_run.specs.Headline.{Premises, KeepsNow, KeepsCounted, IsCrashPrefix}
+use Rattle.globex_run.specs.Headline.{Premises, AddsMessages, KeepsNow, KeepsCounted, IsCrashPrefix}
 use Rattle.globex_run.specs.Drills.{summary, summary_of_all, KeepsAndSumsUp, DrillEndsOtherwise, DrillLeavesCrashPrefixes, DrillBeforeTheFirstSync}
 use Rattle.globex_run.specs.Inner.Recording.{lines_from}
 use Rattle.globex_run.specs.Inner.Sessions.{IsAllServed, SessionFrom}
@@ -48,6 +49,7 @@ use Rattle.globex_run.specs.declared.ending.Ending.TheVariants.{Done, ReadFault,
 use Rattle.globex_run.proofs.Headlines as headline
 use Rattle.globex_run.proofs.Complete.{broken_more}
 use Rattle.globex_run.proofs.FullJournals.{session-full}
+use Rattle.globex_run.proofs.ReadRecords.{KeepsNoMore, keeps_no_more, whole-front}
 use Rattle.globex_run.proofs.Reported.{front-between}
 use Rattle.globex_run.proofs.SentReports.{sends_at_most}
 use Rattle.globex_run.proofs.Told.{outside_of}
@@ -291,12 +293,17 @@ module _ {P I S : Type 0} (m : StationMeanings S) (p q : SourceAt P) (i j : Sour
               now-same same (first_messages served.messages taken) (take outcome.messages (messages_of stream)) (counted-same few ∙ ap (λ (n : ℕ). take n (messages_of stream)) (sym count))
               (kept.keeps (λ five. other (status ∙ five)));
           keeps_more = λ five.
-              let more = kept.keeps_more (sym status ∙ five) in (
-                more.0,
-                omega (arith, more.1, count),
-                omega (arith, more.2, fewer stream taken end.left whole parts),
-                now-same same (take more.0 (messages_of taken)) (take more.0 (messages_of stream)) (sym (front-same stream taken end.left whole parts more.0 more.2)) more.3,
-              );
+              let more = kept.keeps_more (sym status ∙ five) in
+              let are : take more.count (messages_of taken) ≡ take more.count (messages_of stream) = sym (front-same stream taken end.left whole parts more.count more.within) in
+              record {
+                count = more.count;
+                counted = omega (arith, more.counted, count);
+                within = omega (arith, more.within, fewer stream taken end.left whole parts);
+                keeps = now-same same (take more.count (messages_of taken)) (take more.count (messages_of stream)) are more.keeps;
+                one_record =
+                    subst (λ (n : ℕ). length (concat (drop n (take more.count (messages_of stream)))) ≤ MOST_PAYLOAD) (sym count)
+                    (subst (λ (l : List (List ℕ)). length (concat (drop served.messages l)) ≤ MOST_PAYLOAD) are more.one_record);
+              };
         }
       where
         now-same : m.holds new ≡ m.holds mid → (xs ys : List (List ℕ)) → xs ≡ ys → KeepsNow m before after served given-then (messages_of taken) sums xs → KeepsNow m entry exit outcome given (messages_of stream) sums ys
@@ -492,6 +499,21 @@ module _ {P I S : Type 0} (m : StationMeanings S) (p q : SourceAt P) (i j : Sour
             part = λ here. at-most;
           }
 
+    -- ---- which records were added
+
+    keeping : KeepsNoMore m given.text given.product.journal_limit mid given.startable.records from.added
+    keeping = keeps_no_more m tally_publisher_meanings.text given.product given.text before.streams after.streams served.messages given.startable.records given.kept from.added from.behind did.session.ending from.ends
+
+    -- the summary is sent, and the image stays
+    adds-of : m.holds new ≡ m.holds mid → AddsMessages m entry exit outcome given
+    adds-of same = record {
+      image = keeping.holds.image;
+      image_known = same ∙ keeping.holds.read;
+      added = keeping.more;
+      keeps = keeping.holds.has;
+      whole = whole-front keeping.more keeping.rest from.added keeping.are from.whole;
+    }
+
     -- ---- the clauses, one by one
 
     -- whether the session came to its end
@@ -517,6 +539,13 @@ module _ {P I S : Type 0} (m : StationMeanings S) (p q : SourceAt P) (i j : Sour
     drill-otherwise other = elim either [
       | inl zero ↦ summed-part zero (sums-up zero).result (sums-up zero).outcome_is other
       | inr stopped ↦ otherwise-stopped stopped
+    ]
+
+    -- no image was added
+    pub drill-adds : AddsMessages m entry exit outcome given
+    drill-adds = elim either [
+      | inl zero ↦ adds-of (sums-up zero).sends.quiet.holds
+      | inr stopped ↦ adds-of (ap m.holds (did.otherwise stopped).0)
     ]
 
     -- at every moment

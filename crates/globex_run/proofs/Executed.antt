@@ -6,23 +6,27 @@ use Rattle.std.proofs.lemmas.Option.{same_Some}
 use Rattle.gx_base.specs.declared.event.Event.{Event}
 use Rattle.gx_station.specs.Counts.{Rose, HasCause}
 use Rattle.gx_station.specs.Stations.{StationMeanings}
-use Rattle.gx_station.specs.Quiet.{Quiet}
+use Rattle.gx_station.specs.Quiet.{Quiet, Sends}
 use Rattle.fix_frame.specs.Grammar.{IsFrameFront}
 use Rattle.fix_frame.specs.Stream.{rest_of}
 use Rattle.product_file.specs.Products.{ProductLists, IsRightProduct}
 use Rattle.order_kinds.specs.State.{State}
 use Rattle.order_maker.specs.Stream.{maker_meanings, made_stream}
 use Rattle.exec_report.specs.declared.texts.SendFault.{SendFault as SendFailed}
+use Rattle.book_print.specs.StepText.{steps_text}
 use Rattle.book_print.specs.Publishers.{LineForm}
 use Rattle.journal_print.specs.Reading.{ReadsAndSends}
-use Rattle.command_words.specs.declared.command.Command.TheVariants.{Drill}
+use Rattle.command_words.specs.declared.command.Command.{Command}
+use Rattle.command_words.specs.declared.command.Command.TheVariants.{Run, Replay, Book, Fills, Ledger, Steps, Drill, Checkpoint}
 use Rattle.globex_run.specs.Outside.{SourceAt, StationAt, Streams, streams_at, station_at}
 use Rattle.globex_run.specs.Outcomes.{outcome_of, is_outcome}
+use Rattle.globex_run.specs.Words.{OpensJournal}
+use Rattle.globex_run.specs.Prints.{outcome_sent}
 use Rattle.globex_run.specs.RunResult.{EndsAs}
 use Rattle.globex_run.specs.Inner.Serving.{CausedBy}
 use Rattle.globex_run.specs.Inner.Sessions.{SessionResult}
-use Rattle.globex_run.specs.Inner.Drilling.{DrillResult, DrillsMade, DrillAnswers, outcome_summed}
-use Rattle.globex_run.specs.Inner.Executing.{HasCauses}
+use Rattle.globex_run.specs.Inner.Drilling.{DrillResult, DrillsMade, outcome_summed}
+use Rattle.globex_run.specs.Inner.Executing.{HasCauses, Prints, ListsSteps}
 use Rattle.globex_run.specs.declared.outcome.Outcome.{Outcome}
 use Rattle.globex_run.specs.declared.ending.Ending.{Ending}
 use Rattle.globex_run.specs.declared.ending.Ending.TheVariants.{Done, ReadFault, StoreFault, SendFault, BadFrame, Truncated, NotAJournal, JournalBad, ProductDiffers, Full}
@@ -239,33 +243,104 @@ module _ {S : Type 0} (m : StationMeanings S) (product : ProductLists) (text : L
           frames = λ either. absurd (⊎_elim (λ e. omega (arith, e, status)) (λ e. omega (arith, e, status)) either);
         }
 
-    made-causes : Causes
-    made-causes = elim (eqb_tells did.served.status 0) [
+    pub drill-causes : Causes
+    drill-causes = elim (eqb_tells did.served.status 0) [
       | inl none ↦ let sums = did.sums_up none.1 in causes-summed none.1 sums.result sums.outcome_is sums.sends.quiet sums.sends.cause
       | inr some ↦ causes-stopped some.1
     ]
 
--- or nothing was made
-pub drill-causes : {I S : Type 0} (m : StationMeanings S) (product : ProductLists) (text : List ℕ) (first count : ℕ) (old new : S) (outcome : Outcome) (before after : Streams I S) (at_before : before.station ≡ station_at m old) (at_after : after.station ≡ station_at m new) (input : after.input ≡ before.input) → IsRightProduct product
-    → DrillAnswers m product text first count old new outcome → HasCauses m product text before after outcome (Drill first count)
-drill-causes m product text first count old new outcome before after at_before at_after input right (inr made) = made-causes m product text first count old new outcome made before after at_before at_after input
-drill-causes {I = I} {S = S} m product text first count old new outcome before after at_before at_after input right (inl none) =
-    let status : outcome.status ≡ 1 = ap (λ (o : Outcome). o.status) none.0 in
-    let station : after.station ≡ before.station = at_after ∙ ap (station_at m) none.1 ∙ sym at_before in
-    record {
-      right = right;
-      outcome_is = ap is_outcome none.0 ∙ refl;
-      words = λ e. omega (arith, e, status);
-      product_right = λ e. omega (arith, e, status);
-      memory = λ e. (same-streams before after input station, ap (λ (o : Outcome). o.messages) none.0);
-      read = λ e. absurd (omega (arith, e, status));
-      no_read = λ other. ap (λ (x : SourceAt I). x.faults) input;
-      store = λ e. absurd (omega (arith, e, status));
-      no_store = λ other. ap (λ (s : StationAt S). s.store_faults) station;
-      send = λ e. absurd (omega (arith, e, status));
-      no_send = λ other. ap (λ (s : StationAt S). s.send_faults) station;
-      frames = λ either. absurd (⊎_elim (λ e. omega (arith, e, status)) (λ e. omega (arith, e, status)) either);
-    }
-  where
-    same-streams : (before after : Streams I S) → after.input ≡ before.input → after.station ≡ before.station → after ≡ before
-    same-streams before after input station = λ i. record { input = input i; station = station i }
+-- ---- the steps of a product, sent from a buffer of their own
+
+module _ {I S : Type 0} (m : StationMeanings S) (product : ProductLists) (text : List ℕ) (old new : S) (outcome : Outcome) (before after : Streams I S) (at_before : before.station ≡ station_at m old) (at_after : after.station ≡ station_at m new) (input : after.input ≡ before.input) (right : IsRightProduct product) where
+  same-streams : after.station ≡ before.station → after ≡ before
+  same-streams station = λ i. record { input = input i; station = station i }
+
+  store-counts : m.store_faults new ≡ m.store_faults old → after.station.store_faults ≡ before.station.store_faults
+  store-counts same = ap (λ (s : StationAt S). s.store_faults) at_after ∙ same ∙ sym (ap (λ (s : StationAt S). s.store_faults) at_before)
+
+  send-counts : m.send_faults new ≡ m.send_faults old → after.station.send_faults ≡ before.station.send_faults
+  send-counts same = ap (λ (s : StationAt S). s.send_faults) at_after ∙ same ∙ sym (ap (λ (s : StationAt S). s.send_faults) at_before)
+
+  send-rose : Rose (m.send_faults old) (m.send_faults new) → Rose before.station.send_faults after.station.send_faults
+  send-rose rose =
+      subst (λ (a : ℕ). Rose a after.station.send_faults) (sym (ap (λ (s : StationAt S). s.send_faults) at_before))
+      (subst (λ (b : ℕ). Rose (m.send_faults old) b) (sym (ap (λ (s : StationAt S). s.send_faults) at_after)) rose)
+
+  abbrev StepsCauses : Type 0
+  StepsCauses = HasCauses m product text before after outcome Steps
+
+  -- there was no memory for them
+  lacks-causes : outcome ≡ record { status = 1; at = 0; messages = 0 } → new ≡ old → StepsCauses
+  lacks-causes is same =
+      let status : outcome.status ≡ 1 = ap (λ (o : Outcome). o.status) is in
+      let station : after.station ≡ before.station = at_after ∙ ap (station_at m) same ∙ sym at_before in
+      record {
+        right = right;
+        outcome_is = ap is_outcome is ∙ refl;
+        words = λ e. omega (arith, e, status);
+        product_right = λ e. omega (arith, e, status);
+        memory = λ e. (same-streams station, ap (λ (o : Outcome). o.messages) is);
+        read = λ e. absurd (omega (arith, e, status));
+        no_read = λ other. ap (λ (x : SourceAt I). x.faults) input;
+        store = λ e. absurd (omega (arith, e, status));
+        no_store = λ other. ap (λ (s : StationAt S). s.store_faults) station;
+        send = λ e. absurd (omega (arith, e, status));
+        no_send = λ other. ap (λ (s : StationAt S). s.send_faults) station;
+        frames = λ either. absurd (⊎_elim (λ e. omega (arith, e, status)) (λ e. omega (arith, e, status)) either);
+      }
+
+  sent-causes : (result : Result (Unit {0}) SendFailed) → outcome ≡ outcome_sent result → Sends m old new (steps_text product) result → StepsCauses
+  sent-causes (Ok t) is sends =
+      let status : outcome.status ≡ 0 = ap (λ (o : Outcome). o.status) is in
+      record {
+        right = right;
+        outcome_is = ap is_outcome is ∙ refl;
+        words = λ e. omega (arith, e, status);
+        product_right = λ e. omega (arith, e, status);
+        memory = λ e. absurd (omega (arith, e, status));
+        read = λ e. absurd (omega (arith, e, status));
+        no_read = λ other. ap (λ (x : SourceAt I). x.faults) input;
+        store = λ e. absurd (omega (arith, e, status));
+        no_store = λ other. store-counts sends.quiet.store_faults;
+        send = λ e. absurd (omega (arith, e, status));
+        no_send = λ other. send-counts sends.cause.ok;
+        frames = λ either. absurd (⊎_elim (λ e. omega (arith, e, status)) (λ e. omega (arith, e, status)) either);
+      }
+  sent-causes (Err fault) is sends =
+      let status : outcome.status ≡ 6 = ap (λ (o : Outcome). o.status) is in
+      record {
+        right = right;
+        outcome_is = ap is_outcome is ∙ refl;
+        words = λ e. omega (arith, e, status);
+        product_right = λ e. omega (arith, e, status);
+        memory = λ e. absurd (omega (arith, e, status));
+        read = λ e. absurd (omega (arith, e, status));
+        no_read = λ other. ap (λ (x : SourceAt I). x.faults) input;
+        store = λ e. absurd (omega (arith, e, status));
+        no_store = λ other. store-counts sends.quiet.store_faults;
+        send = λ e. send-rose sends.cause.failed;
+        no_send = λ other. absurd (other status);
+        frames = λ either. absurd (⊎_elim (λ e. omega (arith, e, status)) (λ e. omega (arith, e, status)) either);
+      }
+
+  pub listed-causes : ListsSteps m product old new outcome → StepsCauses
+  listed-causes listed = ⊎_elim (λ none. lacks-causes none.0 none.1) (λ printed. sent-causes printed.result printed.outcome_is printed.sends) listed
+
+-- but for want of memory, they were printed
+pub listed-prints : {I S : Type 0} (m : StationMeanings S) (product : ProductLists) (text : List ℕ) (old new : S) (outcome : Outcome) (source : SourceAt I)
+    → ListsSteps m product old new outcome → outcome.status ≢ 1 → Prints m product text (record { input = source; station = station_at m old }) (record { input = source; station = station_at m new }) outcome Steps
+listed-prints m product text old new outcome source listed there = ⊎_elim
+    (λ none. absurd (there (ap (λ (o : Outcome). o.status) none.0)))
+    (λ printed. record { form = printed; reads = quiet-reads m old new printed.sends.quiet; input = refl })
+    listed
+
+-- a command that opens no journal is `steps`
+pub only-steps : (command : Command) → (OpensJournal command → ⊥) → command ≡ Steps
+only-steps Steps none = refl
+only-steps Run none = absurd (none tt)
+only-steps (Drill first count) none = absurd (none tt)
+only-steps Checkpoint none = absurd (none tt)
+only-steps Replay none = absurd (none tt)
+only-steps Book none = absurd (none tt)
+only-steps Fills none = absurd (none tt)
+only-steps Ledger none = absurd (none tt)

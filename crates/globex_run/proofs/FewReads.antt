@@ -19,22 +19,21 @@ use Rattle.globex_run.specs.Inner.Drilling.{DrillResult}
 use Rattle.globex_run.specs.declared.outcome.Outcome.{Outcome}
 use Rattle.globex_run.specs.declared.ending.Ending.{Ending}
 
--- a session whose status is not that of the store's fault did not end by it
+-- how a session read its journal
 pub session-reads : {I S : Type 0} (m : StationMeanings S) (line : LineForm) (product : ProductLists) (text : List ℕ) (before after : Streams I S) (Published : List Event → Type 0) (then : State) (outcome : Outcome) → SessionResult m line product text before after Published then outcome
-    → (image : List ℕ) (kept : List (List ℕ)) → m.is_honest before.station.object → before.station.image ≡ Some image → (startable : KeepsMessages product text kept image) → outcome.status ≢ 5
+    → (image : List ℕ) (kept : List (List ℕ)) → m.is_honest before.station.object → before.station.image ≡ Some image → (startable : KeepsMessages product text kept image)
     → ReadsAtMost (most_read startable.records) (m.bytes_read before.station.object) (m.bytes_read after.station.object)
-session-reads m line product text before after Published then outcome session image kept honest read startable other =
-    (session.from image kept honest read startable).bytes (λ is. other (ap (λ (o : Outcome). o.status) session.is ∙ ap (λ (e : Ending). (outcome_of e outcome.messages).status) is))
+session-reads m line product text before after Published then outcome session image kept honest read startable = (session.from image kept honest read startable).bytes
 
 -- the summary of a drill is sent, and nothing is read for it
 pub drill-reads : {S : Type 0} (m : StationMeanings S) (product : ProductLists) (text : List ℕ) (made rest : MadeStream) (old new : S) (outcome : Outcome) → DrillResult m product text made rest old new outcome
-    → (image : List ℕ) (kept : List (List ℕ)) → m.is_honest old → m.holds old ≡ Some image → (startable : KeepsMessages product text kept image) → outcome.status ≢ 5
+    → (image : List ℕ) (kept : List (List ℕ)) → m.is_honest old → m.holds old ≡ Some image → (startable : KeepsMessages product text kept image)
     → ReadsAtMost (most_read startable.records) (m.bytes_read old) (m.bytes_read new)
-drill-reads m product text made rest old new outcome did image kept honest read startable other =
+drill-reads m product text made rest old new outcome did image kept honest read startable =
     let Counted = λ (events : List Event). did.publisher ≡ tally_publisher_meanings.after (record { tally = no_tally }) events in
     let first = session-reads m tally_publisher_meanings.text product text (streams_at maker_meanings m made old) (streams_at maker_meanings m rest did.mid) Counted did.then did.served did.session image kept honest read startable in
-    let then = λ (same : m.bytes_read new ≡ m.bytes_read did.mid) (held : did.served.status ≢ 5). subst (λ (count : Option ℕ). ReadsAtMost (most_read startable.records) (m.bytes_read old) count) (sym same) (first held) in
+    let then = λ (same : m.bytes_read new ≡ m.bytes_read did.mid). subst (λ (count : Option ℕ). ReadsAtMost (most_read startable.records) (m.bytes_read old) count) (sym same) first in
     elim (eqb_tells did.served.status 0) [
-      | inl none ↦ then (did.sums_up none.1).sends.quiet.bytes_read (λ five. omega (arith, five, none.1))
-      | inr some ↦ then (ap m.bytes_read (did.otherwise some.1).0) (λ five. other (ap (λ (o : Outcome). o.status) (did.otherwise some.1).1 ∙ five))
+      | inl none ↦ then (did.sums_up none.1).sends.quiet.bytes_read
+      | inr some ↦ then (ap m.bytes_read (did.otherwise some.1).0)
     ]

@@ -86,7 +86,7 @@ module _ {I S : Type 0} (inputs : SourceMeanings I) (m : StationMeanings S) (lin
         behind = [];
         are = refl;
         reads = inl (omega arith);
-        bytes = λ no. absurd (no refl);
+        bytes = opens.bytes;
         whole = tt;
         part = subst (λ o. IsKnownPrefix o (sent_and (m.sent old) [])) (sym silent) (known_more (m.sent old) []);
         adds = opening_adds [] new opens.moments;
@@ -94,6 +94,7 @@ module _ {I S : Type 0} (inputs : SourceMeanings I) (m : StationMeanings S) (lin
           served = [];
           others = [];
           are = refl;
+          one = omega arith;
           sent = silent ∙ sent_and_itself (m.sent old);
           keeps = inl (holds_weaker m _ _ new (λ left here. subst (λ (rs : List Record). Keeps text product.journal_limit rs left) same here.keeps) opens.keeps);
           messages = refl;
@@ -169,6 +170,7 @@ module _ {I S : Type 0} (inputs : SourceMeanings I) (m : StationMeanings S) (lin
       served = ends.served;
       others = ends.last ∷ [];
       are = ends.are;
+      one = omega arith;
       sent = ends.sent numbered ∙ sent_as (messages_in ends.served);
       keeps = holds_either m _ _ new (holds_weaker m _ _ new (λ left. ⊎_elim (λ journal. inl (inl journal)) (λ journal. inr (inl journal))) (ends.keeps text records most opens.at_end));
       messages = omega (arith, ends.count, counted);
@@ -211,7 +213,7 @@ module _ {I S : Type 0} (inputs : SourceMeanings I) (m : StationMeanings S) (lin
       behind = behind;
       are = refl;
       reads = reads;
-      bytes = λ no. subst (λ (count : Option ℕ). ReadsAtMost (most_read records) (m.bytes_read old) count) (sym bytes) opens.bytes;
+      bytes = subst (λ (count : Option ℕ). ReadsAtMost (most_read records) (m.bytes_read old) count) (sym bytes) opens.bytes;
       whole = serves.whole;
       part = part;
       adds = adds;

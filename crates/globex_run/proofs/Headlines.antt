@@ -1,7 +1,8 @@
 -- What a session keeps of the messages that it took, and what a crash leaves, in messages.
-use Rattle.std.proofs.Common.{◌≡◌, ◌⊎◌, inl, inr, ⊎_elim, ℕ, ◌<◌, ◌≤◌, List, [], ◌++◌, length, take, drop, Option, Some, refl, sym, ap, subst, ◌∙◌, length-append, take-append-drop, arith}
+use Rattle.std.proofs.Common.{◌≡◌, ◌⊎◌, inl, inr, ⊎_elim, ℕ, ◌+◌, ◌<◌, ◌≤◌, List, [], ◌∷◌, ◌++◌, length, take, drop, Option, Some, refl, sym, ap, subst, ◌∙◌, length-append, take-append-drop, arith}
 use Rattle.std.proofs.lemmas.Bool.{cases_lt}
-use Rattle.std.proofs.lemmas.List.{append-nil}
+use Rattle.std.proofs.lemmas.List.{append-nil, drop-take}
+use Rattle.std.proofs.Math.Seq.{drop-append_seam}
 use Rattle.std.proofs.lemmas.Option.{same_Some}
 use Rattle.gx_base.specs.KnownBytes.{IsPrefix}
 use Rattle.gx_base.specs.declared.event.Event.{Event}
@@ -23,12 +24,40 @@ use Rattle.globex_run.specs.Inner.Recording.{lines_from, IsRecordCrash}
 use Rattle.globex_run.specs.Inner.Sessions.{IsFrontServed, SessionFrom}
 use Rattle.globex_run.specs.declared.outcome.Outcome.{Outcome}
 use Rattle.globex_run.specs.declared.ending.Ending.{Ending}
-use Rattle.match_journal.specs.Journal.{Record}
+use Rattle.match_journal.specs.Journal.{Record, IsRecord, most_payload}
+use Rattle.match_journal.specs.declared.limits.TheConstants.{MOST_PAYLOAD}
+use Rattle.match_journal.specs.declared.entry.EntryKind.{EntryKind}
+use Rattle.std.specs.List.{concat, AllByRecursion}
 use Rattle.plain_book.proofs.Pairs.{all-front}
+use Rattle.book_order.proofs.Each.{all-back}
 use Rattle.globex_run.proofs.Folds.{messages_in-append}
 use Rattle.globex_run.proofs.KeptMore.{keeps-frames}
-use Rattle.globex_run.proofs.Additions.{first_served, within_served}
+use Rattle.globex_run.proofs.Additions.{first_served, within_served, records_joined}
 use Rattle.globex_run.proofs.Told.{outside_of}
+
+-- ---- the messages of one record at most
+
+-- behind the first of so many there are none
+none-more : (n : ℕ) (messages : List (List ℕ)) → length (concat (drop n (take n messages))) ≤ MOST_PAYLOAD
+none-more n messages =
+    let same : n ≡ n + 0 = omega arith in
+    let none : drop n (take n messages) ≡ [] = ap (λ (k : ℕ). drop n (take k messages)) same ∙ drop-take n 0 messages in
+    subst (λ (l : List (List ℕ)). length (concat l) ≤ MOST_PAYLOAD) (sym none) (omega arith)
+
+-- the records added behind others are sized as records are
+sized-behind : (text : List ℕ) (limit : ℕ) (records added : List Record) (image : List ℕ) → Keeps text limit (records ++ added) image → AllByRecursion IsRecord added
+sized-behind text limit records added image keeps = ⊎_elim
+    (λ journal. all-back IsRecord records added journal.sized)
+    (λ unfinished. all-back IsRecord records added (subst (λ (l : List Record). AllByRecursion IsRecord l) (sym unfinished.0) tt))
+    keeps
+
+-- the messages of one whole record have no more bytes than it
+few-in-one : (records : List Record) → length records ≤ 1 → AreWhole records → AllByRecursion IsRecord records → length (concat (messages_in records)) ≤ MOST_PAYLOAD
+few-in-one [] one whole are = omega arith
+few-in-one (r ∷ []) one whole are =
+    let few : length r.payload ≤ MOST_PAYLOAD = subst (λ (k : EntryKind). length r.payload ≤ most_payload k) whole.0.frames are.0.few in
+    omega (arith, few, ap (λ (l : List ℕ). length l) (records_joined (r ∷ []) whole), ap (λ (l : List ℕ). length l) (append-nil r.payload))
+few-in-one (r ∷ (s ∷ records)) one whole are = absurd (omega (arith, one))
 
 module _ {P I S : Type 0} (m : StationMeanings S) (p q : SourceAt P) (i j : SourceAt I) (old new : S) (line : LineForm) (Published : List Event → Type 0) (then : State) (outcome : Outcome) where
   abbrev entry : Outside P I S
@@ -179,7 +208,7 @@ module _ {P I S : Type 0} (m : StationMeanings S) (p q : SourceAt P) (i j : Sour
 
     -- all that were counted are kept
     pub keeps-counted : (ending : Ending) (from : From ending) → outcome.messages ≤ length (messages_of taken) → KeepsNow m entry exit outcome given (messages_of taken) sends counted → KeepsCounted m entry exit outcome given (messages_of taken) sends
-    keeps-counted ending from some keeps = record { some = some; keeps = λ other. keeps; keeps_more = λ five. (outcome.messages, omega arith, some, keeps) }
+    keeps-counted ending from some keeps = record { some = some; keeps = λ other. keeps; keeps_more = λ five. record { count = outcome.messages; counted = omega arith; within = some; keeps = keeps; one_record = none-more outcome.messages (messages_of taken) } }
 
     -- at a failed append the last record may be kept
     pub keeps-front : (ending : Ending) (from : From ending) → outcome.status ≡ 5 → outcome.messages ≤ length (messages_of taken) → IsFrontServed m line given.product given.text entry.streams exit.streams given.startable.records given.kept from.added outcome.messages → KeepsCounted m entry exit outcome given (messages_of taken) sends
@@ -195,12 +224,27 @@ module _ {P I S : Type 0} (m : StationMeanings S) (p q : SourceAt P) (i j : Sour
           keeps = λ other. absurd (other five);
           keeps_more = λ here.
               elim front.keeps [
-                | inl few ↦ (outcome.messages, omega arith, some, keeps_now ending from served others front.are counted same few)
-                | inr entire ↦ (
-                  all,
-                  omega (arith, more, front.messages, length-append (messages_in served) (messages_in others)),
-                  within ending from from.added [] (all_parts ending from),
-                  keeps_now ending from from.added [] (all_parts ending from) (first_messages all taken) whole entire,
-                )
+                | inl few ↦ record {
+                  count = outcome.messages;
+                  counted = omega arith;
+                  within = some;
+                  keeps = keeps_now ending from served others front.are counted same few;
+                  one_record = none-more outcome.messages (messages_of taken);
+                }
+                | inr entire ↦ record {
+                  count = all;
+                  counted = omega (arith, more, front.messages, length-append (messages_in served) (messages_in others));
+                  within = within ending from from.added [] (all_parts ending from);
+                  keeps = keeps_now ending from from.added [] (all_parts ending from) (first_messages all taken) whole entire;
+                  one_record =
+                      subst (λ (l : List (List ℕ)). length (concat (drop outcome.messages l)) ≤ MOST_PAYLOAD)
+                      (sym (whole ∙ ap messages_in front.are ∙ messages_in-append served others))
+                      (subst (λ (l : List (List ℕ)). length (concat l) ≤ MOST_PAYLOAD)
+                      (sym (ap (λ (n : ℕ). drop n (messages_in served ++ messages_in others)) front.messages ∙ drop-append_seam (messages_in served) (messages_in others)))
+                      (few-in-one others front.one
+                      (all-back IsWhole served others (subst (λ (l : List Record). AreWhole l) front.are from.whole))
+                      (all-back IsRecord served others (subst (λ (l : List Record). AllByRecursion IsRecord l) front.are
+                      (sized-behind given.text given.product.journal_limit given.startable.records from.added entire.image entire.has)))));
+                }
               ];
         }

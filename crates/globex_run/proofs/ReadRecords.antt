@@ -1,39 +1,47 @@
--- One record for each read: how many records the image keeps beyond those of entry.
-use Rattle.std.proofs.Common.{⊎_elim, inl, inr, ℕ, ◌-◌, ◌≤◌, List, ◌++◌, length, ap, arith, length-append}
+-- Which records the image keeps beyond those of entry, and how many: one for each read.
+use Rattle.std.proofs.Common.{◌≡◌, ⊎_elim, inl, inr, ℕ, ◌≤◌, List, [], ◌++◌, length, sym, ap, subst, arith, length-append}
+use Rattle.std.proofs.lemmas.List.{append-nil}
 use Rattle.gx_station.specs.Stations.{StationMeanings}
 use Rattle.match_journal.specs.Journal.{Record}
 use Rattle.match_journal.specs.Classes.{Keeps}
 use Rattle.match_journal.specs.Steps.{HoldsOne}
+use Rattle.book_recovery.specs.Records.{IsWhole, AreWhole}
 use Rattle.product_file.specs.Products.{ProductLists}
 use Rattle.book_print.specs.Publishers.{LineForm}
 use Rattle.gx_base.specs.declared.event.Event.{Event}
 use Rattle.order_kinds.specs.State.{State}
 use Rattle.globex_run.specs.Outside.{SourceAt, Outside, Streams}
-use Rattle.globex_run.specs.Headline.{Premises, KeepsARecordPerRead}
+use Rattle.globex_run.specs.Headline.{Premises, AddsMessages, KeepsARecordPerRead}
 use Rattle.globex_run.specs.Inner.Sessions.{EndsSession, SessionFrom}
 use Rattle.globex_run.specs.declared.ending.Ending.{Ending}
 use Rattle.globex_run.specs.declared.ending.Ending.TheVariants.{Done, ReadFault, StoreFault, SendFault, BadFrame, Truncated, NotAJournal, JournalBad, ProductDiffers, Full}
 use Rattle.globex_run.specs.declared.outcome.Outcome.{Outcome}
+use Rattle.plain_book.proofs.Pairs.{all-front}
 use Rattle.globex_run.proofs.Told.{outside_of}
 
--- the image keeps these records, and then at most as many as were added
-record KeepsNoMore {S : Type 0} (m : StationMeanings S) (text : List ℕ) (limit : ℕ) (now : S) (records added : List Record) : Type 0 where
-  more : List Record
-  few : length more ≤ length added
-  holds : HoldsOne m (Keeps text limit (records ++ more)) now
+-- the first of whole records are whole
+pub whole-front : (more rest added : List Record) → added ≡ more ++ rest → AreWhole added → AreWhole more
+whole-front more rest added are whole = all-front IsWhole more rest (subst (λ (l : List Record). AreWhole l) are whole)
+
+-- the image keeps these records, and then the first of those added
+pub record KeepsNoMore {S : Type 0} (m : StationMeanings S) (text : List ℕ) (limit : ℕ) (now : S) (records added : List Record) : Type 0 where
+  pub more : List Record
+  pub rest : List Record
+  pub are : added ≡ more ++ rest
+  pub holds : HoldsOne m (Keeps text limit (records ++ more)) now
 
 module _ {I S : Type 0} (m : StationMeanings S) (line : LineForm) (product : ProductLists) (text : List ℕ) (before after : Streams I S) (count : ℕ) (records : List Record) (kept : List (List ℕ)) (added : List Record) (behind : List ℕ) where
   abbrev Keeping : Type 0
   Keeping = KeepsNoMore m text product.journal_limit after.station.object records added
 
   all_added : HoldsOne m (Keeps text product.journal_limit (records ++ added)) after.station.object → Keeping
-  all_added holds = record { more = added; few = omega arith; holds = holds }
+  all_added holds = record { more = added; rest = []; are = sym (append-nil added); holds = holds }
 
-  keeps_no_more : (ending : Ending) → EndsSession m line product text before after ending count records kept added behind → Keeping
+  pub keeps_no_more : (ending : Ending) → EndsSession m line product text before after ending count records kept added behind → Keeping
   keeps_no_more Done ends = all_added ends.keeps
   keeps_no_more (ReadFault place) ends = all_added ends.keeps
   keeps_no_more StoreFault ends = ⊎_elim
-      (λ holds. record { more = ends.served; few = omega (arith, ap (λ (l : List Record). length l) ends.are, length-append ends.served ends.others); holds = holds })
+      (λ holds. record { more = ends.served; rest = ends.others; are = ends.are; holds = holds })
       (λ holds. all_added holds)
       ends.keeps
   keeps_no_more SendFault ends = all_added ends.keeps
@@ -51,16 +59,24 @@ module _ {P I S : Type 0} (m : StationMeanings S) (p q : SourceAt P) (i j : Sour
   abbrev exit : Outside P I S
   exit = outside_of m q j new
 
-  pub record-per-read : (given : Premises m entry exit outcome.status) (taken : List ℕ) (ending : Ending) → SessionFrom m line given.product given.text entry.streams exit.streams Published then given.image given.startable.records given.kept taken ending outcome.messages → KeepsARecordPerRead m entry exit outcome given
-  record-per-read given taken ending from =
-      let first = given.startable.records in
-      let keeping = keeps_no_more m line given.product given.text entry.streams exit.streams outcome.messages first given.kept from.added from.behind ending from.ends in
-      let count = length (first ++ keeping.more) - length first in
-      let few : count ≤ length from.added = omega (arith, keeping.few, length-append first keeping.more) in
-      record {
-        image = keeping.holds.image;
-        image_known = keeping.holds.read;
-        records = first ++ keeping.more;
-        keeps = keeping.holds.has;
-        few = ⊎_elim (λ within. inl (omega (arith, within, few))) (λ last. inr last) from.reads;
-      }
+  module _ (given : Premises m entry exit outcome.status) (taken : List ℕ) (ending : Ending) (from : SessionFrom m line given.product given.text entry.streams exit.streams Published then given.image given.startable.records given.kept taken ending outcome.messages) where
+    pub keeping : KeepsNoMore m given.text given.product.journal_limit new given.startable.records from.added
+    keeping = keeps_no_more m line given.product given.text entry.streams exit.streams outcome.messages given.startable.records given.kept from.added from.behind ending from.ends
+
+    abbrev pub adds-messages : AddsMessages m entry exit outcome given
+    adds-messages = record {
+      image = keeping.holds.image;
+      image_known = keeping.holds.read;
+      added = keeping.more;
+      keeps = keeping.holds.has;
+      whole = whole-front keeping.more keeping.rest from.added keeping.are from.whole;
+    }
+
+    few-added : length keeping.more ≤ length from.added
+    few-added = omega (arith, ap (λ (l : List Record). length l) keeping.are, length-append keeping.more keeping.rest)
+
+    pub record-per-read : KeepsARecordPerRead m entry exit outcome given
+    record-per-read = record {
+      adds = adds-messages;
+      few = ⊎_elim (λ within. inl (omega (arith, within, few-added))) (λ last. inr last) from.reads;
+    }

@@ -3,7 +3,7 @@ ghost use Rattle.std.specs.Prelude.{◌≡◌, ◌⊎◌, ◌≤◌, ℕ, List, 
 ghost use Rattle.gx_station.specs.Honest.{KeepsImage};
 ghost use Rattle.product_file.specs.declared.limits.TheConstants.{LONGEST_TEXT};
 ghost use Rattle.globex_run.specs.Inner.Buffers.{AreNew};
-ghost use Rattle.globex_run.specs.Inner.Drilling.{DrillResult, DrillAnswers, outcome_summed};
+ghost use Rattle.globex_run.specs.Inner.Drilling.{DrillResult, DrillsMade, outcome_summed};
 
 use crate::buffers::Buffers;
 use crate::outcome::{Outcome, Status};
@@ -15,7 +15,6 @@ use maker_laws::names_are_right;
 use order_maker::MakerSource;
 use plain_book::Book;
 use product_file::Product;
-use std::alloc::Global;
 
 /// How a drill ends that has kept all its messages, by what became of its summary.
 fn outcome_summed(messages: u64, sent: Result<(), SendFault>) -> Outcome
@@ -60,9 +59,8 @@ fn run_drill<S: Station>(
     outcome_summed(outcome.messages, sent)
 }
 
-/// A drill of `count` messages that are made from `first` on; want of memory for them is status 1, and touches nothing.
+/// A drill of `count` messages that are made from `first` on.
 pub fn drill<S: Station>(
-    alloc: Global,
     product: &Product,
     text: &[u8],
     buffers: &mut Buffers,
@@ -72,14 +70,12 @@ pub fn drill<S: Station>(
 ) -> Outcome
     requires short { length text.now ≤ LONGEST_TEXT }
     requires new { AreNew product.now buffers.old }
-    ensures answers { DrillAnswers S.meanings product.now text.now first count station.old station.new result }
+    ensures drills { DrillsMade S.meanings product.now text.now first count station.old station.new result }
     ensures stays { (image : List ℕ) → S.meanings.holds station.old ≡ Some image → (result.status ≡ 9) ⊎ ((result.status ≡ 10) ⊎ (result.status ≡ 11)) → KeepsImage S.meanings station.old station.new }
     ensures refused { (result.status ≡ 9) ⊎ ((result.status ≡ 10) ⊎ (result.status ≡ 11)) → S.meanings.sent station.new ≡ S.meanings.sent station.old }
 {
     product.limits();
     names_are_right(product);
-    match MakerSource::new(alloc, product, first, count) {
-        Ok(mut made) => run_drill(product, text, buffers, &mut made, station),
-        Err(_) => Status::NoMemory.outcome(0, 0),
-    }
+    let mut made = MakerSource::new(product, first, count);
+    run_drill(product, text, buffers, &mut made, station)
 }

@@ -7,6 +7,7 @@ mod drill;
 mod ending;
 mod execute;
 mod give_frames;
+mod journal_use;
 mod open;
 mod outcome;
 mod printing;
@@ -17,6 +18,7 @@ mod serve;
 mod serve_record;
 mod session;
 
+pub use journal_use::{opens_journal, writes_journal};
 pub use outcome::Outcome;
 pub use reopening::execute_behind_a_crash;
 pub use run::globex;

@@ -9,12 +9,13 @@ ghost use Rattle.book_recovery.specs.Kept.{HasKept};
 ghost use Rattle.journal_print.specs.Reading.{ReadsAndSends};
 ghost use Rattle.command_words.specs.declared.command.Command.{Command};
 ghost use Rattle.command_words.specs.declared.command.Command.TheVariants as command;
+ghost use Rattle.report_laws.specs.Sums.{IsReadBalanced};
 ghost use Rattle.globex_run.specs.Words.{AsksFor, AsksForNone, IsWriting, IsPrinting, OpensJournal, NeverEndsWith};
 ghost use Rattle.globex_run.specs.Outside.{source_at, outside_at, IsQuiet};
 ghost use Rattle.globex_run.specs.Outcomes.{is_outcome};
-ghost use Rattle.globex_run.specs.ProductTexts.{TakesAtMost, ProductPremises};
+ghost use Rattle.globex_run.specs.ProductTexts.{TakesAtMost, AnswersProduct, ProductPremises};
 ghost use Rattle.globex_run.specs.RunResult.{CommandResult, first_messages};
-ghost use Rattle.globex_run.specs.Headline.{Premises, InputPremises, SendsExactlyTheReports, EndsOtherwise, RunLeavesCrashPrefixes, RunBeforeTheFirstSync, KeepsEveryReported, KeepsARecordPerRead, ReadsFew, CanBeServed, IsServed};
+ghost use Rattle.globex_run.specs.Headline.{Premises, InputPremises, SendsExactlyTheReports, EndsOtherwise, RunLeavesCrashPrefixes, RunBeforeTheFirstSync, KeepsEveryReported, AddsMessages, KeepsARecordPerRead, ReadsFew, CanBeServed, IsServed};
 ghost use Rattle.globex_run.specs.Drills.{made_bytes, KeepsAndSumsUp, DrillEndsOtherwise, DrillLeavesCrashPrefixes, DrillBeforeTheFirstSync, CanBeDrilled};
 ghost use Rattle.globex_run.specs.Checkpoints.{AddsImage, KeepsTheSame, CheckpointLeavesCrashPrefixes, CheckpointBeforeTheFirstSync, HasNoRoomForImage, CanBeCheckpointed};
 ghost use Rattle.globex_run.specs.Prints.{PrintsAs};
@@ -22,7 +23,6 @@ ghost use Rattle.globex_run.specs.Refusals.{IsRefusal, RefusesExactly, CanStart}
 ghost use Rattle.globex_run.specs.FullJournals.{IsFull};
 ghost use Rattle.globex_run.specs.Inner.Statuses.{outcome_without, outcome_of_words};
 
-use crate::buffers::Buffers;
 use crate::execute::execute;
 use crate::outcome::{Outcome, Status};
 use crate::product_text::{NoProduct, take_product};
@@ -81,6 +81,9 @@ pub fn globex<P: Source, I: Source, S: Station>(
     ensures words { result.status ≡ 2 → AsksForNone words.now }
     ensures no_command { AsksForNone words.now → (result.status ≡ 2) ⊎ (result.status ≡ 1) }
 
+    // The product's text alone decides on 3: it comes exactly if the text breaks a rule.
+    ensures product { let before = outside_at P.meanings I.meanings S.meanings product.old input.old station.old in let after = outside_at P.meanings I.meanings S.meanings product.new input.new station.new in (text : List ℕ) → before.product.left ≡ Some text → AnswersProduct before after result text }
+
     // `run`. The headline, sentence by sentence, under its premises: what was sent and is kept at status 0, and at any other ending;
     // and what a crash could leave at every moment since entry.
     ensures exactly_the_reports { let before = outside_at P.meanings I.meanings S.meanings product.old input.old station.old in let after = outside_at P.meanings I.meanings S.meanings product.new input.new station.new in AsksFor words.now command.Run → (given : Premises S.meanings before after result.status) → (read : InputPremises before.streams.input after.streams.input) → result.status ≡ 0 → SendsExactlyTheReports S.meanings before after result given read }
@@ -89,15 +92,16 @@ pub fn globex<P: Source, I: Source, S: Station>(
     ensures before_the_first_sync { let before = outside_at P.meanings I.meanings S.meanings product.old input.old station.old in let after = outside_at P.meanings I.meanings S.meanings product.new input.new station.new in AsksFor words.now command.Run → (given : Premises S.meanings before after result.status) → (read : InputPremises before.streams.input after.streams.input) → RunBeforeTheFirstSync S.meanings before after result given read }
     ensures with_every_message { let before = outside_at P.meanings I.meanings S.meanings product.old input.old station.old in let after = outside_at P.meanings I.meanings S.meanings product.new input.new station.new in AsksFor words.now command.Run → (given : Premises S.meanings before after result.status) → (read : InputPremises before.streams.input after.streams.input) → KeepsEveryReported S.meanings before after result given read }
 
-    // All whole frames at hand share one record.
+    // All whole frames at hand share one record, and no book image is added.
     ensures record_per_read { let before = outside_at P.meanings I.meanings S.meanings product.old input.old station.old in let after = outside_at P.meanings I.meanings S.meanings product.new input.new station.new in AsksFor words.now command.Run → (given : Premises S.meanings before after result.status) → KeepsARecordPerRead S.meanings before after result given }
 
     // How much of the journal is read: its opening, six bytes for each gate behind the header of the image of entry, and once its
     // records from the last book image on.
     ensures few_bytes { let before = outside_at P.meanings I.meanings S.meanings product.old input.old station.old in let after = outside_at P.meanings I.meanings S.meanings product.new input.new station.new in AsksFor words.now command.Run → (given : Premises S.meanings before after result.status) → ReadsFew S.meanings before after result given }
 
-    // The quantities in the reports of all messages that are kept, the earlier ones and those of this call, add up.
-    ensures balanced { let before = outside_at P.meanings I.meanings S.meanings product.old input.old station.old in let after = outside_at P.meanings I.meanings S.meanings product.new input.new station.new in AsksFor words.now command.Run → (given : Premises S.meanings before after result.status) → (read : InputPremises before.streams.input after.streams.input) → IsBalanced given.product (given.kept ++ first_messages result.messages read.taken) }
+    // The quantities in the reports of all messages that are kept, the earlier ones and those of this call, add up: of those counted,
+    // and of as many more as the journal may keep at 5.
+    ensures balanced { let before = outside_at P.meanings I.meanings S.meanings product.old input.old station.old in let after = outside_at P.meanings I.meanings S.meanings product.new input.new station.new in AsksFor words.now command.Run → (given : Premises S.meanings before after result.status) → (read : InputPremises before.streams.input after.streams.input) → (count : ℕ) → IsBalanced given.product (given.kept ++ first_messages count read.taken) }
 
     // The journal is full only where the next message has no room in it, or cannot be counted: whatever records it keeps at entry.
     ensures full { let before = outside_at P.meanings I.meanings S.meanings product.old input.old station.old in let after = outside_at P.meanings I.meanings S.meanings product.new input.new station.new in AsksFor words.now command.Run → (given : ProductPremises before after result.status) (read : InputPremises before.streams.input after.streams.input) → S.meanings.is_honest station.old → (image : List ℕ) (records : List Record) → before.streams.station.image ≡ Some image → Keeps given.text given.product.journal_limit records image → result.status ≡ 12 → IsFull given.product given.text image records after.streams.station result read.taken }
@@ -105,10 +109,11 @@ pub fn globex<P: Source, I: Source, S: Station>(
     // A good run succeeds: where memory is given, no fault comes, and there is room, the input is served to its end.
     ensures all_served { let before = outside_at P.meanings I.meanings S.meanings product.old input.old station.old in let after = outside_at P.meanings I.meanings S.meanings product.new input.new station.new in AsksFor words.now command.Run → (can : CanBeServed S.meanings before) → IsQuiet before after → (result.status ≡ 1) ⊎ IsServed can.bytes result.status }
 
-    // `drill`: all made messages are kept, and then their summary is sent; nothing else is. The crash clauses are those of a run,
-    // with the made messages for the messages read, and the summary for their reports.
+    // `drill`: all made messages are kept, and then their summary is sent; nothing else is, and no book image is added. The crash
+    // clauses are those of a run, with the made messages for the messages read, and the summary for their reports.
     ensures sums_up { let before = outside_at P.meanings I.meanings S.meanings product.old input.old station.old in let after = outside_at P.meanings I.meanings S.meanings product.new input.new station.new in (first count : ℕ) → AsksFor words.now (command.Drill first count) → (given : Premises S.meanings before after result.status) → result.status ≡ 0 → KeepsAndSumsUp S.meanings before after result given first count }
     ensures drill_ends_otherwise { let before = outside_at P.meanings I.meanings S.meanings product.old input.old station.old in let after = outside_at P.meanings I.meanings S.meanings product.new input.new station.new in (first count : ℕ) → AsksFor words.now (command.Drill first count) → (given : Premises S.meanings before after result.status) → result.status ≢ 0 → DrillEndsOtherwise S.meanings before after result given first count }
+    ensures drill_adds_messages { let before = outside_at P.meanings I.meanings S.meanings product.old input.old station.old in let after = outside_at P.meanings I.meanings S.meanings product.new input.new station.new in (first count : ℕ) → AsksFor words.now (command.Drill first count) → (given : Premises S.meanings before after result.status) → AddsMessages S.meanings before after result given }
     ensures drill_at_every_moment { let before = outside_at P.meanings I.meanings S.meanings product.old input.old station.old in let after = outside_at P.meanings I.meanings S.meanings product.new input.new station.new in (first count : ℕ) → AsksFor words.now (command.Drill first count) → (given : Premises S.meanings before after result.status) → DrillLeavesCrashPrefixes S.meanings before after result given first count }
     ensures drill_before_the_first_sync { let before = outside_at P.meanings I.meanings S.meanings product.old input.old station.old in let after = outside_at P.meanings I.meanings S.meanings product.new input.new station.new in (first count : ℕ) → AsksFor words.now (command.Drill first count) → (given : Premises S.meanings before after result.status) → DrillBeforeTheFirstSync S.meanings before after result given first count }
     ensures drill_few_bytes { let before = outside_at P.meanings I.meanings S.meanings product.old input.old station.old in let after = outside_at P.meanings I.meanings S.meanings product.new input.new station.new in (first count : ℕ) → AsksFor words.now (command.Drill first count) → (given : Premises S.meanings before after result.status) → ReadsFew S.meanings before after result given }
@@ -134,6 +139,9 @@ pub fn globex<P: Source, I: Source, S: Station>(
 
     // What is kept balances, whatever the messages are: those that `replay` and `ledger` read.
     ensures kept_balanced { let before = outside_at P.meanings I.meanings S.meanings product.old input.old station.old in let after = outside_at P.meanings I.meanings S.meanings product.new input.new station.new in (given : ProductPremises before after result.status) → (image : List ℕ) → before.streams.station.image ≡ Some image → (kept : List (List ℕ)) → HasKept given.product given.text kept image → IsBalanced given.product kept }
+
+    // So does what the bytes of the reports say, read as messages are read: of any messages, with the ledger's lines and its total.
+    ensures reports_balanced { let before = outside_at P.meanings I.meanings S.meanings product.old input.old station.old in let after = outside_at P.meanings I.meanings S.meanings product.new input.new station.new in (given : ProductPremises before after result.status) → (messages : List (List ℕ)) → IsReadBalanced given.product messages }
 
     // Each command: what it took from the product's source, and `run` from the input, and why it ended there, for all statuses but 1.
     // It says what the image of entry is at 9, 10 and 11 of `run`, `drill` and `checkpoint`, and at 12 of `run` what follows.
@@ -176,16 +184,5 @@ pub fn globex<P: Source, I: Source, S: Station>(
         Ok(taken) => taken,
         Err(reason) => return outcome_without(reason),
     };
-    let Ok(mut buffers) = Buffers::new(alloc, command, &taken.product) else {
-        return Status::NoMemory.outcome(0, 0);
-    };
-    execute(
-        alloc,
-        command,
-        &taken.product,
-        &taken.text,
-        &mut buffers,
-        input,
-        station,
-    )
+    execute(alloc, command, &taken.product, &taken.text, input, station)
 }

@@ -1,5 +1,5 @@
 //! Serving the input: frames in, reports out, one record for each read.
-ghost use Rattle.std.specs.Prelude.{◌≡◌, ◌+◌, ◌^◌, ◌<◌, ◌≤◌, ◌≢◌, [], true, IsTrue, vec_len, length};
+ghost use Rattle.std.specs.Prelude.{◌≡◌, ◌+◌, ◌^◌, ◌<◌, ◌≤◌, ◌≢◌, [], true, IsTrue, length};
 ghost use Rattle.fix_frame.specs.declared.framer.TheConstants.{ROOM};
 ghost use Rattle.fix_frame.specs.declared.place.TheConstants.{FRONT_LIMIT};
 ghost use Rattle.order_kinds.specs.State.{state_numbered};
@@ -23,19 +23,19 @@ use product_file::Product;
 /// Reads once, as much as the framer has room for, and feeds what was read.
 fn take_more<I: Source>(
     framer: &mut Framer,
-    chunk: &mut Vec<u8>,
+    chunk: &mut [u8],
     input: &mut I,
 ) -> Result<usize, Failed>
-    requires chunk { vec_len chunk.old ≡ ROOM }
+    requires chunk { length chunk.old ≡ ROOM }
     requires room { length framer.old.rest < FRONT_LIMIT }
     requires offset { framer.old.offset < 2 ^ 62 }
     ensures takes { TakesMore (source_at I.meanings input.old) (source_at I.meanings input.new) framer.old framer.new result }
-    ensures chunk { vec_len chunk.new ≡ ROOM }
+    ensures chunk { length chunk.new ≡ ROOM }
 {
     let room = ROOM - framer.rest();
-    match input.read(&mut chunk.as_mut_slice()[0..room]) {
+    match input.read(&mut chunk[0..room]) {
         Ok(n) => {
-            let _ = framer.feed(&chunk.as_slice()[..n]);
+            let _ = framer.feed(&chunk[..n]);
             Ok(n)
         }
         Err(fault) => Err(fault),
@@ -55,7 +55,7 @@ pub fn serve<P: Publisher, B: Book, I: Source, S: Station>(
     core: &mut Core<B>,
     journal: &mut Journal,
     framer: &mut Framer,
-    chunk: &mut Vec<u8>,
+    chunk: &mut [u8],
     buffer: &mut ReportBuffer,
     input: &mut I,
     station: &mut S,
@@ -67,7 +67,7 @@ pub fn serve<P: Publisher, B: Book, I: Source, S: Station>(
     requires few { core.old.desk.messages < MOST_MESSAGES }
     requires fits { FitsProduct product.now core.old }
     requires framer { IsEmptyFramer framer.old }
-    requires chunk { vec_len chunk.old ≡ ROOM }
+    requires chunk { length chunk.old ≡ ROOM }
     requires buffer { buffer.old ≡ [] }
     ensures silent { IsTrue P.meanings.is_silent → result ≢ Ending.SendFault }
     ensures empty { IsDone result → buffer.new ≡ [] }

@@ -53,7 +53,7 @@ pub fn serve_session<P: Publisher, I: Source, S: Station>(
         core,
         &mut journal,
         framer,
-        chunk,
+        chunk.as_mut_slice(),
         reports,
         input,
         station,

@@ -1,5 +1,5 @@
 //! A source of made messages.
-ghost use Rattle.std.specs.Prelude.{◌≡◌, ◌+◌, ◌^◌, ◌<◌, ◌≤◌, ◌++◌, ◌==◌, if◌then◌else◌, length, take, IfOk, IsOk};
+ghost use Rattle.std.specs.Prelude.{◌≡◌, ◌≢◌, ◌+◌, ◌^◌, ◌<◌, ◌≤◌, [], ◌++◌, ◌==◌, if◌then◌else◌, length, take, IfOk, IsOk};
 ghost use Rattle.gx_station.specs.Counts.{counted};
 ghost use Rattle.gx_station.specs.Sources.{Takes};
 ghost use Rattle.order_maker.specs.Stream.{MadeStream, maker_meanings, made_stream, frames_from};
@@ -9,7 +9,6 @@ use crate::made::draw_message;
 use gx_base::LONGEST_LINE;
 use gx_station::{Failed, LEAST_READ, Source};
 use product_file::Product;
-use std::alloc::{AllocError, Global};
 use std::marker::Model;
 
 /// Where a stream stands: the number of the next message, how many are left, and the state of the draws.
@@ -43,37 +42,33 @@ impl<'a> Model for MakerSource<'a> {
 }
 
 impl<'a> MakerSource<'a> {
-    /// The stream of `count` messages of a product, with `first` as the first state. Takes no memory, so it is
-    /// never an `Err`.
-    pub fn new(
-        _alloc: Global,
-        product: &'a Product,
-        first: u32,
-        count: u32,
-    ) -> Result<MakerSource<'a>, AllocError>
-        ensures { IfOk result (λ s. s ≡ record { left = made_stream product.now first count; reads = 0 }) }
+    /// The stream of `count` messages of a product, with `first` as the first state. It takes no memory, nor does a read.
+    pub fn new(product: &'a Product, first: u32, count: u32) -> MakerSource<'a>
+        ensures { result ≡ record { left = made_stream product.now first count; reads = 0 } }
     {
         let stand = Stand {
             number: 1,
             left: u64::from(count),
             state: first,
         };
-        Ok(MakerSource {
+        MakerSource {
             product,
             stand,
             reads: 0,
-        })
+        }
     }
 }
 
 impl<'a> Source for MakerSource<'a> {
     ghost meanings = { maker_meanings };
 
-    /// As the trait says. It places whole frames, as many as are sure to fit, and never fails.
+    /// As the trait says. It never fails, and places whole frames, as many as are sure to fit: while one is left, less than
+    /// `LONGEST_LINE` bytes stay unused.
     fn read(&mut self, into: &mut [u8]) -> Result<usize, Failed>
         requires { LEAST_READ ≤ length into.old }
         ensures takes { Takes maker_meanings self.old self.new into.new result }
         ensures no_fault { IsOk result }
+        ensures full { IfOk result (λ count. self.new.left ≢ [] → length into.new < count + LONGEST_LINE) }
     {
         let count = place_frames(self.product, &mut self.stand, into);
         self.reads = count_read(self.reads, count);
@@ -100,6 +95,7 @@ fn place_frames(product: &Product, stand: &mut Stand, into: &mut [u8]) -> usize
     ensures frames { frames_from product.now stand.old.state stand.old.number stand.old.left
         ≡ take result into.new ++ frames_from product.now stand.new.state stand.new.number stand.new.left }
     ensures end { result ≡ 0 → stand.old.left ≡ 0 }
+    ensures full { stand.new.left ≢ 0 → length into.new < result + LONGEST_LINE }
     ensures few { stand.new.number + stand.new.left ≤ 2 ^ 32 }
 {
     let mut end = 0;

@@ -43,7 +43,3 @@ module _ {S : Type 0} (m : StationMeanings S) (product : ProductLists) (text : L
     pub whole : rest_of (made_stream product first count) ≡ []
     pub end : MadeStream
     pub did : DrillResult m product text (record { left = made_stream product first count; reads = 0 }) end old new outcome
-
-  -- or there was no memory for them, and nothing was touched
-  abbrev pub DrillAnswers : Type 0
-  DrillAnswers = ((outcome ≡ record { status = 1; at = 0; messages = 0 }) × (new ≡ old)) ⊎ DrillsMade

@@ -63,7 +63,7 @@ module _ {S : Type 0} (m : StationMeanings S) (product : ProductLists) (text : L
     pub keeps : HoldsOne m (IsOpening text product.journal_limit records image) new
     pub at_end : IfOk result (λ journal. RestsAtEnd m text product.journal_limit records journal.gate (max (length image) MOST_UNFINISHED) new)
     pub is_state : IfOk result (λ journal. IsStateAfter product (messages_in records) state)
-    pub bytes : IfOk result (λ journal. ReadsAtMost (most_read records) (m.bytes_read old) (m.bytes_read new))
+    pub bytes : ReadsAtMost (most_read records) (m.bytes_read old) (m.bytes_read new)
 
   -- The journal of an image that keeps these records was opened, good or true or not: nothing is pending behind them, and those from the
   -- last book image on are counted.
@@ -84,11 +84,12 @@ module _ {I S : Type 0} (m : StationMeanings S) (line : LineForm) (product : Pro
     pub keeps : KeepsRecords (records ++ added)
     pub messages : count ≡ length (messages_in added)
 
-  -- of the records added the first ones are kept and their messages reported; the others may be kept
+  -- of the records added the first ones are kept and their messages reported; one more may be kept
   pub record IsFrontServed (records : List Record) (kept : List (List ℕ)) (added : List Record) (count : ℕ) : Type 0 where
     pub served : List Record
     pub others : List Record
     pub are : added ≡ served ++ others
+    pub one : length others ≤ 1
     pub sent : after.station.sent ≡ sent_and before.station.sent (lines_from line product (state_kept product kept) (messages_in served))
     pub keeps : KeepsRecords (records ++ served) ⊎ KeepsRecords (records ++ added)
     pub messages : count ≡ length (messages_in served)
@@ -121,10 +122,6 @@ module _ {I S : Type 0} (m : StationMeanings S) (line : LineForm) (product : Pro
     pub settled : IsSettled m after.station.object
     pub short : length image ≤ most
 
-  -- unless a call on the store failed, no more was read than such a journal is read
-  abbrev pub ReadsFewBytes : Ending → List Record → Type 0
-  ReadsFewBytes last records = (last ≡ ending.StoreFault → ⊥) → ReadsAtMost (most_read records) (m.bytes_read before.station.object) (m.bytes_read after.station.object)
-
   -- From an image that keeps these records: which records were added, what was sent and is kept, and what a crash leaves.
   pub record SessionFrom (Published : List Event → Type 0) (then : State) (image : List ℕ) (records : List Record) (kept : List (List ℕ)) (taken : List ℕ) (ending : Ending) (count : ℕ) : Type 0 where
     pub right : IsRightProduct product
@@ -132,7 +129,7 @@ module _ {I S : Type 0} (m : StationMeanings S) (line : LineForm) (product : Pro
     pub behind : List ℕ
     pub are : taken ≡ bytes_in added ++ behind
     pub reads : AreWithinReads before.input after.input (length added)
-    pub bytes : ReadsFewBytes ending records
+    pub bytes : ReadsAtMost (most_read records) (m.bytes_read before.station.object) (m.bytes_read after.station.object)
     pub whole : AreWhole added
     pub part : IsKnownPrefix after.station.sent (sent_and before.station.sent (lines_from line product (state_kept product kept) (messages_in added)))
     pub adds : AddsOnly m before.station.object after.station.object (IsRecordCrash line product (state_kept product kept) text product.journal_limit records added (length image) before.station.sent)

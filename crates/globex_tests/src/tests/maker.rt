@@ -14,7 +14,7 @@ const STREAM: [&str; 3] = [
 #[test]
 fn makes_the_first_messages(rt: HostRuntime) {
     let product = read_product(rt.alloc(), PRODUCT.as_bytes()).expect(&rt, "a product");
-    let mut source = MakerSource::new(rt.alloc(), &product, 1, 3).expect(&rt, "memory");
+    let mut source = MakerSource::new(&product, 1, 3);
     let mut into = [0; LEAST_READ];
     let count = source.read(&mut into).expect(&rt, "messages");
     let stream = join(rt.alloc(), &STREAM).expect(&rt, "memory");

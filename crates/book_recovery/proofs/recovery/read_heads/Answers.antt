@@ -6,6 +6,8 @@ use Rattle.match_journal.specs.declared.standing.Standing.{Standing}
 use Rattle.book_recovery.specs.BadPlaces.{HasBadHeadAt}
 use Rattle.book_recovery.specs.Inner.Counting.{AreRecords}
 use Rattle.book_recovery.proofs.Looks.{looks_by, reads_of}
+use Rattle.book_recovery.proofs.Images.{journal_begins_none}
+use Rattle.book_recovery.proofs.FewBytes.{heads_read}
 use Rattle.book_recovery.proofs.Starting.{begins_then}
 use Rattle.book_recovery.proofs.Standings.{moved_then, some_moved, none_moved, entry_found}
 use Rattle.book_recovery.proofs.Counting.{entries_more, counting_more, counting_done, counting_bad, head_found, gate_found, bad_found}
@@ -58,3 +60,21 @@ returns-in-Err-Bad-clause-counts g c = λ text image read known begins first.
     let walks = c.in-Err-Bad.ensures.walks image (before.looks.keeps.holds ∙ read) (known ∙ sym (ap (λ (s : Standing). s.known) before.same)) in
     let bad = bad_found image _ _ c.in-Err-Bad.field-0 c.in-Err-Bad.at c.in-Err-Bad.field-0-is walks in
     subst (HasBadHeadAt text _ image) (sym c.in-Err-Bad.at-is) (counting_bad text _ image _ _ at _ (subst (λ k. IsBadHead image k c.heads.journal.gate c.in-Err-Bad.at) (ap (λ (s : Standing). s.limit) before.same) bad))
+
+pub returns-in-Ok-None-clause-few_bytes : goal.returns-in-Ok-None-clause-few_bytes
+returns-in-Ok-None-clause-few_bytes g c = λ text image records read known journal first.
+    let before = c.heads.invariant in
+    let at = before.counting text image read known (journal_begins_none text c.args.journal.now.limit records image journal) first in
+    heads_read g.S.Station.meanings text image c.args.journal.now.limit c.heads.journal.gate records c.heads.heads c.args.station.now c.heads.station c.next_entry.new.station journal at before.looks c.next_entry.ensures.looks
+
+pub returns-in-Err-Store-clause-few_bytes : goal.returns-in-Err-Store-clause-few_bytes
+returns-in-Err-Store-clause-few_bytes g c = λ text image records read known journal first.
+    let before = c.heads.invariant in
+    let at = before.counting text image read known (journal_begins_none text c.args.journal.now.limit records image journal) first in
+    heads_read g.S.Station.meanings text image c.args.journal.now.limit c.heads.journal.gate records c.heads.heads c.args.station.now c.heads.station c.next_entry.new.station journal at before.looks c.next_entry.ensures.looks
+
+pub returns-in-Err-Bad-clause-few_bytes : goal.returns-in-Err-Bad-clause-few_bytes
+returns-in-Err-Bad-clause-few_bytes g c = λ text image records read known journal first.
+    let before = c.heads.invariant in
+    let at = before.counting text image read known (journal_begins_none text c.args.journal.now.limit records image journal) first in
+    heads_read g.S.Station.meanings text image c.args.journal.now.limit c.heads.journal.gate records c.heads.heads c.args.station.now c.heads.station c.next_entry.new.station journal at before.looks c.next_entry.ensures.looks

@@ -4,9 +4,10 @@ use Rattle.match_journal.specs.LookLaws.{reads_more, reads_then as bytes_then}
 use Rattle.match_journal.specs.declared.standing.Standing.{Standing}
 use Rattle.match_journal.specs.Journal.{journal_front}
 use Rattle.book_recovery.specs.Records.{before_last_image}
-use Rattle.book_recovery.specs.Recovering.{first_read}
+use Rattle.book_recovery.specs.Recovering.{first_read, most_to_recover}
 use Rattle.book_recovery.specs.Inner.Starting.{begins_from}
-use Rattle.book_recovery.proofs.Images.{opened_begins}
+use Rattle.book_recovery.proofs.FewBytes.{passes_read}
+use Rattle.book_recovery.proofs.Images.{opened_begins, journal_begins_none}
 use Rattle.book_recovery.proofs.Starting.{begins_first}
 use Rattle.book_recovery.proofs.Looks.{reads_then}
 use Rattle.book_recovery.proofs.Passes.{stopped_counting, stopped_replaying, recovered, replays_after}
@@ -50,3 +51,19 @@ returns-clause-bytes g c =
 
 pub replay_records-requires-clause-start : goal.replay_records-requires-clause-start
 replay_records-requires-clause-start g c = c.in_ok-heads.ensures.start.can
+
+pub returns-in_err-heads-clause-few_bytes : goal.returns-in_err-heads-clause-few_bytes
+returns-in_err-heads-clause-few_bytes g c = λ text image records read known journal first.
+    reads_more (6 * (length records + 1)) (most_to_recover records) _ _ (omega arith) (c.read_heads.ensures.few_bytes text image records read known journal first)
+
+pub returns-in_err-replay_records-clause-few_bytes : goal.returns-in_err-replay_records-clause-few_bytes
+returns-in_err-replay_records-clause-few_bytes g c = λ text image records read known journal first.
+    let counted = c.in_ok-heads.ensures.counts text image read known (journal_begins_none text c.args.journal.now.limit records image journal) first in
+    passes_read text image c.args.journal.now c.read_heads.new.journal records c.in_ok-heads.heads _ _ _ _ c.read_heads.ensures.same journal known counted (c.read_heads.ensures.few_bytes text image records read known journal first)
+    (λ known' journal' walks'. c.replay_records.ensures.few_bytes text image records (c.read_heads.ensures.reads.looks.keeps.holds ∙ read) known' journal' walks')
+
+pub returns-clause-few_bytes : goal.returns-clause-few_bytes
+returns-clause-few_bytes g c = λ text image records read known journal first.
+    let counted = c.in_ok-heads.ensures.counts text image read known (journal_begins_none text c.args.journal.now.limit records image journal) first in
+    passes_read text image c.args.journal.now c.read_heads.new.journal records c.in_ok-heads.heads _ _ _ _ c.read_heads.ensures.same journal known counted (c.read_heads.ensures.few_bytes text image records read known journal first)
+    (λ known' journal' walks'. c.replay_records.ensures.few_bytes text image records (c.read_heads.ensures.reads.looks.keeps.holds ∙ read) known' journal' walks')

@@ -5,11 +5,11 @@ use Rattle.book_recovery.proofs.Payloads.{payload-length, front_of}
 use Rattle.book_recovery.proofs.RightImages.{right-length, few-read, image-read, image-wrong}
 use Rattle.book_recovery.proofs.replay.read_image_record.Goals as goal
 
-pub returns-then-length-len-clause-reads : goal.returns-then-length-len-clause-reads
-returns-then-length-len-clause-reads g c = λ image read known.
+pub returns-then-length-payload-clause-reads : goal.returns-then-length-payload-clause-reads
+returns-then-length-payload-clause-reads g c = λ image read known.
     let payload = payload_at image c.args.entry.now in
     let size = payload-length image c.args.journal.now.known c.args.journal.now.limit c.args.entry.now c.requires.entry known in
-    (λ right. omega (arith, right-length c.args.product.now payload right, size, c.if-length-len.true, c.len.ensures, c.requires.room), refl)
+    (λ right. omega (arith, right-length c.args.product.now payload right, size, c.if-length-payload.true, c.requires.room), refl)
 
 pub returns-in-Ok-clause-none : goal.returns-in-Ok-clause-none
 returns-in-Ok-clause-none g c = λ fine. on_ok c.read_entry-read.result (sym c.is_err.ensures.value ∙ c.if-is_err.false) c.read_entry-read.ensures.on_store.cause.ok
@@ -21,7 +21,7 @@ pub returns-in-Ok-clause-reads : goal.returns-in-Ok-clause-reads
 returns-in-Ok-clause-reads g c = λ image read known.
     let bytes = on_ok c.read_entry-read.result (sym c.is_err.ensures.value ∙ c.if-is_err.false) c.read_entry-read.ensures.bytes image read in
     let size = ap length bytes ∙ payload-length image c.args.journal.now.known c.args.journal.now.limit c.args.entry.now c.requires.entry known in
-    let same = front_of c.read_entry-read.new.into _ _ _ _ _ c.as_slice.ensures.value size (omega (arith, c.if-length-len.false, c.len.ensures)) ∙ bytes in
+    let same = front_of c.read_entry-read.new.into _ _ size ∙ bytes in
     image-read _ c.args.product.now _ (payload_at image c.args.entry.now) c.read_image.new.core same c.in-Ok.ensures.reads c.in-Ok.ensures.state
 
 pub returns-in-Err-clause-none : goal.returns-in-Err-clause-none
@@ -31,5 +31,5 @@ pub returns-in-Err-clause-reads : goal.returns-in-Err-clause-reads
 returns-in-Err-clause-reads g c = λ image read known.
     let bytes = on_ok c.read_entry-read.result (sym c.is_err.ensures.value ∙ c.if-is_err.false) c.read_entry-read.ensures.bytes image read in
     let size = ap length bytes ∙ payload-length image c.args.journal.now.known c.args.journal.now.limit c.args.entry.now c.requires.entry known in
-    let same = front_of c.read_entry-read.new.into _ _ _ _ _ c.as_slice.ensures.value size (omega (arith, c.if-length-len.false, c.len.ensures)) ∙ bytes in
+    let same = front_of c.read_entry-read.new.into _ _ size ∙ bytes in
     (image-wrong _ c.args.product.now _ (payload_at image c.args.entry.now) c.in-Err.field-0 same c.in-Err.ensures.reads, refl)

@@ -8,8 +8,9 @@ use Rattle.match_journal.specs.declared.entry.Entry.{Entry}
 use Rattle.book_recovery.specs.Records.{before_last_image}
 use Rattle.book_recovery.specs.Inner.Replays.{AreReplayed}
 use Rattle.book_recovery.specs.Inner.Starting.{CanBegin, begins_from}
-use Rattle.book_recovery.proofs.Looks.{looks_by, reads_of}
-use Rattle.book_recovery.proofs.Starting.{none_begun, can_begin, begins_at, first_next, none_replayed}
+use Rattle.book_recovery.proofs.FewBytes.{next_within, gate_read, payload_read}
+use Rattle.book_recovery.proofs.Looks.{none_read, looks_by, reads_of}
+use Rattle.book_recovery.proofs.Starting.{none_begun, can_begin, begins_at, start_head, first_next, none_replayed}
 use Rattle.book_recovery.proofs.Standings.{moved_itself, moved_then, some_moved, none_moved, entry_found}
 use Rattle.book_recovery.proofs.Replaying.{IsReplaying, replaying_first, journal_left, replaying_more, replaying_done, next_found, none_found, none_bad}
 use Rattle.book_recovery.proofs.Passes.{stopped_one}
@@ -147,3 +148,50 @@ returns-in-Err-Bad-clause-replays g c = λ text image records read known journal
     let left = journal_left product text image c.records.journal.limit records c.records.journal.gate c.records.core at (subst (λ k. IsJournal text k records image) (sym limit) journal) in
     let told = c.in-Err-Bad.ensures.in_order text image (before_last_image records ++ at.done) at.left (before.looks.keeps.holds ∙ read) (known ∙ sym (ap (λ (s : Standing). s.known) before.same)) left at.place in
     none_bad product text image c.args.journal.now.limit (before_last_image records ++ at.done) at.left c.next_entry.new.self.gate c.in-Err-Bad.field-0 c.in-Err-Bad.at c.in-Err-Bad.field-0-is told
+
+-- ---- how much is read, whatever is answered
+
+pub returns-in_default-clause-few_bytes : goal.returns-in_default-clause-few_bytes
+returns-in_default-clause-few_bytes g c = λ text image records read known journal walks. reads_more 0 _ _ _ (omega arith) (none_read _)
+
+pub returns-in_err-replay_entry-clause-few_bytes : goal.returns-in_err-replay_entry-clause-few_bytes
+returns-in_err-replay_entry-clause-few_bytes g c = λ text image records read known journal walks.
+    let product = c.args.product.now in
+    let at = replaying_first product text records (length (journal_front text (before_last_image records))) c.args.core.now refl c.requires.new in
+    let next = first_next text image c.args.journal.now.limit records c.args.start journal walks _ c.in-Some.first c.in-Some.is refl in
+    reads_more _ _ _ _ (omega (arith, next_within product text image records _ c.args.core.now at _ c.in-Some.first next)) c.replay_entry.ensures.looks.bytes_read
+
+pub returns-in_err-replay_entry-in-Ok-Some-clause-few_bytes : goal.returns-in_err-replay_entry-in-Ok-Some-clause-few_bytes
+returns-in_err-replay_entry-in-Ok-Some-clause-few_bytes g c = λ text image records read known journal walks.
+    let product = c.args.product.now in
+    let before = c.records.invariant in
+    let at = before.replaying text image records read known journal walks in
+    let held = before.looks.keeps.holds ∙ read in
+    let limit = ap (λ (s : Standing). s.limit) before.same in
+    let long = known ∙ sym (ap (λ (s : Standing). s.known) before.same) in
+    let left = journal_left product text image c.records.journal.limit records c.records.journal.gate c.records.core at (subst (λ k. IsJournal text k records image) (sym limit) journal) in
+    let told = c.in-Ok-Some.ensures.in_order text image (before_last_image records ++ at.done) at.left held long left at.place in
+    let found = next_found text image (before_last_image records ++ at.done) at.left _ c.in-Ok-Some.field-0 c.in-Ok-Some.entry c.in-Ok-Some.field-0-is told in
+    let begins = begins_at c.args.journal.now c.args.start c.in-Some.first c.in-Some.is ∙ (start_head text image c.args.journal.now.limit records c.args.start journal walks c.in-Some.first c.in-Some.is).at_is in
+    payload_read product text image records c.records.journal.gate c.records.core at g.S.Station.meanings _ _ _ _ begins before.from before.looks c.next_entry.ensures.looks _ _ c.in-Ok-Some.entry found c.replay_entry-in-Ok-Some.ensures.looks
+
+pub returns-in-Ok-None-clause-few_bytes : goal.returns-in-Ok-None-clause-few_bytes
+returns-in-Ok-None-clause-few_bytes g c = λ text image records read known journal walks.
+    let before = c.records.invariant in
+    let at = before.replaying text image records read known journal walks in
+    let begins = begins_at c.args.journal.now c.args.start c.in-Some.first c.in-Some.is ∙ (start_head text image c.args.journal.now.limit records c.args.start journal walks c.in-Some.first c.in-Some.is).at_is in
+    gate_read c.args.product.now text image records c.records.journal.gate c.records.core at g.S.Station.meanings _ _ _ _ begins before.from before.looks c.next_entry.ensures.looks
+
+pub returns-in-Err-Store-clause-few_bytes : goal.returns-in-Err-Store-clause-few_bytes
+returns-in-Err-Store-clause-few_bytes g c = λ text image records read known journal walks.
+    let before = c.records.invariant in
+    let at = before.replaying text image records read known journal walks in
+    let begins = begins_at c.args.journal.now c.args.start c.in-Some.first c.in-Some.is ∙ (start_head text image c.args.journal.now.limit records c.args.start journal walks c.in-Some.first c.in-Some.is).at_is in
+    gate_read c.args.product.now text image records c.records.journal.gate c.records.core at g.S.Station.meanings _ _ _ _ begins before.from before.looks c.next_entry.ensures.looks
+
+pub returns-in-Err-Bad-clause-few_bytes : goal.returns-in-Err-Bad-clause-few_bytes
+returns-in-Err-Bad-clause-few_bytes g c = λ text image records read known journal walks.
+    let before = c.records.invariant in
+    let at = before.replaying text image records read known journal walks in
+    let begins = begins_at c.args.journal.now c.args.start c.in-Some.first c.in-Some.is ∙ (start_head text image c.args.journal.now.limit records c.args.start journal walks c.in-Some.first c.in-Some.is).at_is in
+    gate_read c.args.product.now text image records c.records.journal.gate c.records.core at g.S.Station.meanings _ _ _ _ begins before.from before.looks c.next_entry.ensures.looks

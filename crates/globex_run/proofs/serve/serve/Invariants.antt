@@ -1,4 +1,4 @@
-use Rattle.std.proofs.Common.{◌≡◌, ◌<◌, ◌≤◌, ◌+◌, ◌-◌, ◌*◌, List, [], true, length, vec_len}
+use Rattle.std.proofs.Common.{◌≡◌, ◌<◌, ◌≤◌, ◌+◌, ◌-◌, ◌*◌, List, [], true, length}
 use Rattle.fix_frame.specs.Grammar.{IsUnfinished}
 use Rattle.gx_base.specs.declared.event.Event.{Event}
 use Rattle.order_kinds.specs.Cores.{FitsProduct, AreNumbered}
@@ -23,7 +23,7 @@ invariant-turns g l =
       few : l.core.desk.messages < 16777216;
       fits : FitsProduct l.product l.core;
       numbered : AreNumbered l.fn.core → AreNumbered l.core;
-      chunk : vec_len l.chunk ≡ 8192;
+      chunk : length l.chunk ≡ 8192;
       buffer : l.buffer ≡ [];
       offset : l.framer.offset ≤ l.journal.gate;
     }

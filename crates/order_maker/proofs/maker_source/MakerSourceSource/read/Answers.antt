@@ -3,6 +3,11 @@ use Rattle.order_maker.specs.Stream.{frames_from}
 use Rattle.order_maker.proofs.Streams.{frames-none}
 use Rattle.order_maker.proofs.maker_source.MakerSourceSource.read.Goals as goal
 
+pub returns-clause-full : goal.returns-clause-full
+returns-clause-full c = λ some.
+    let stand = c.place_frames-count.new.stand in
+    c.place_frames-count.ensures.full (λ zero. some (frames-none c.self.inside.product.now stand.state stand.number stand.left zero))
+
 pub returns-clause-takes : goal.returns-clause-takes
 returns-clause-takes c =
     let product = c.self.inside.product.now in
