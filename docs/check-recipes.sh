@@ -1,0 +1,810 @@
+#!/bin/bash
+# Runs each recipe of docs/OPERATING.md with a built program, and compares what it prints with the page.
+#
+#     docs/check-recipes.sh PROGRAM [ID]..
+#
+# A recipe is a heading with an ID. Its blocks marked `sh` are run in their order, in one shell, in a new folder that a function
+# here prepares. A block without a mark after one of these is what that one prints. A function here then looks at what is left. The
+# IDs that are no recipe try what the page says of the program. Without an ID all are tried. Ends with 1 and names them if some
+# differ. Needs the GNU tools, Python 3.11 and tools/; as root it also mounts a small file system in memory.
+set -u
+
+top=$(CDPATH='' cd -- "$(dirname -- "$0")/.." && pwd) || exit 1
+tools=$top/tools
+page=$top/docs/OPERATING.md
+checks=(two-runs closed-streams wrong-words no-blocking size-limit read-only strange-journals removed-journal socket-endings)
+
+if [ $# -lt 1 ] || [ ! -x "$1" ]; then
+    echo "check-recipes: usage: docs/check-recipes.sh PROGRAM [ID].." >&2
+    exit 1
+fi
+globex=$(realpath -- "$1")
+shift
+work=$(mktemp -d) || exit 1
+tidy() {
+    local folder
+    for folder in $(awk -v work="$work/" 'index($2, work) == 1 { print $2 }' /proc/mounts); do umount -- "$folder"; done
+    rm -rf -- "$work"
+}
+trap tidy EXIT
+trap 'exit 1' HUP INT TERM
+export top tools globex LC_ALL=C
+
+# ---- taking recipes out of the page
+
+recipes() {
+    sed -n 's/^### `\([a-z-]*\)`.*/\1/p' "$page"
+}
+
+# A recipe as a shell script. What block number N prints goes to LOG/N.out, and what the page says of it is LOG/N.want.
+script_of() {
+    awk -v id="$1" -v logs="$2" '
+        /^##/ { inside = index($0, "### `" id "`") == 1 }
+        !inside { next }
+        /^ *```sh$/ { number++; indent = index($0, "`") - 1; kind = "run"; print "{"; next }
+        /^ *```$/ && kind == "run" { printf "} >%s/%d.out 2>&1\n", logs, number; kind = "ran"; next }
+        /^ *```$/ && kind == "ran" { printf "cat >%s/%d.want <<\"END OF BLOCK\"\n", logs, number; kind = "want"; next }
+        /^ *```$/ && kind == "want" { print "END OF BLOCK"; kind = ""; next }
+        kind == "run" || kind == "want" { print substr($0, indent + 1); next }
+        kind == "ran" && /[^ ]/ { kind = "" }
+    ' "$page"
+}
+
+# ---- what the functions share
+
+said=0
+fail() {
+    echo "    $*" >&2
+    said=1
+}
+
+expect() {
+    [ "$1" = "$2" ] || fail "$3: $1, and not $2"
+}
+
+same() {
+    cmp -- "$1" "$2" >&2 || fail "$1 is not $2"
+}
+
+# The product of an example in the folder, and its orders.
+take_example() {
+    cp -- "$top/examples/$1/product.toml" product.toml
+    "$tools/frames" make "$top/examples/$1/orders.txt" >orders
+}
+
+# So many made messages of the product in the folder, from a first number.
+made() {
+    local folder
+    folder=$(mktemp -d "$work/made.XXXXXX")
+    cp product.toml "$folder"
+    (cd "$folder" && "$globex" drill --first "$1" --count "$2" >/dev/null && "$tools/journal" messages journal.gxj)
+}
+
+count_before() {
+    if [ -e journal.gxj ]; then "$tools/journal" count journal.gxj; else echo 0; fi >before
+}
+
+# Runs over `orders`, and expects a status.
+serve() {
+    count_before
+    "$globex" run <orders >>sent 2>>errors
+    expect $? "${1:-0}" 'the status of the run'
+}
+
+# An earlier session of 100 messages, and 400 further ones in `orders`.
+two_sessions() {
+    take_example F
+    made 1 100 >orders
+    serve
+    cp orders earlier
+    made 2 400 >orders
+    count_before
+}
+
+# Waits until a file has more than so many bytes.
+wait_for() {
+    local turn
+    for turn in $(seq 200); do
+        [ "$(wc -c <"$1")" -gt "$2" ] && return
+        sleep 0.02
+    done
+    fail "nothing came to $1"
+}
+
+# The journal keeps just what was handed in, once, and `sent` has just its reports.
+nothing_lost_or_doubled() {
+    "$tools/journal" messages journal.gxj >kept
+    cat "$@" | cmp - kept >&2 || fail 'the journal does not keep just the messages that were handed in'
+    "$globex" replay | cmp - sent >&2 || fail 'sent is not what replay sends'
+}
+
+in_bytes() {
+    wc -c <"$1"
+}
+
+# ---- recipes: how the folder is prepared, and what is left
+
+prepare_first-run() { :; }
+look_first-run() {
+    "$tools/frames" show sent | cmp - "$top/examples/F/reports.txt" >&2 || fail 'these are not the stored reports'
+}
+
+prepare_session() {
+    two_sessions
+    cp orders input
+}
+look_session() {
+    expect "$(cat "$log/3.out")" 400 'messages kept'
+    nothing_lost_or_doubled earlier input
+}
+
+prepare_live() {
+    take_example F
+    rm orders
+}
+look_live() {
+    expect "$("$tools/frames" count sent)" 4 'reports'
+    nothing_lost_or_doubled orders
+}
+
+prepare_locked() {
+    take_example F
+    mkfifo in
+    "$globex" run <in >sent &
+    echo $! >pid
+    exec 3>in
+    cat orders >&3
+    wait_for sent 100
+    cp journal.gxj was
+}
+look_locked() {
+    same journal.gxj was
+    expect "$(cat "$log/2.out")" "$(cat pid)" 'who has the lock'
+    kill -9 "$(cat pid)"
+    wait "$(cat pid)" 2>/dev/null
+    exec 3>&-
+    "$globex" checkpoint || fail 'the lock outlives its process'
+}
+
+prepare_checkpoint() {
+    take_example F
+    serve
+}
+look_checkpoint() {
+    "$globex" replay | cmp - sent >&2 || fail 'a checkpoint changes what replay sends'
+}
+
+prepare_copy() {
+    take_example F
+    serve
+}
+look_copy() {
+    same backup/journal.gxj journal.gxj
+}
+
+prepare_product-of-a-journal() {
+    take_example F
+    serve
+    cp product.toml was
+    echo '# changed' >>product.toml
+    "$globex" book >/dev/null 2>&1
+    expect $? 11 'the status over a changed product'
+}
+look_product-of-a-journal() {
+    same product.toml was
+}
+
+prepare_unknown-keys() {
+    cp "$top/examples/O/product.toml" product.toml
+    sed -i 's/^journal_limit/journal_limt/; s/^top_min/top_mim/; $a max_orders = 5' product.toml
+}
+look_unknown-keys() {
+    local example
+    for example in "$top"/examples/*/product.toml "$top/crates/globex_cli/data/product.toml"; do
+        cp "$example" product.toml
+        rm -f "$log"/*.out "$log"/*.want
+        bash "$log.sh"
+        expect "$(cat "$log/1.out")" '' "unknown keys of $example"
+    done
+    rm -f "$log"/*.out "$log"/*.want
+}
+
+prepare_trial() {
+    cp "$top/crates/globex_cli/data/product.toml" product.toml
+}
+look_trial() {
+    [ ! -e journal.gxj ] || fail 'the trial has touched the session'
+}
+
+# Each way in which a run may end early.
+situations_go_on='killed read store send cut unopened all'
+prepare_go-on() {
+    local status=0 sent_before
+    two_sessions
+    cp orders input
+    sent_before=$(in_bytes sent)
+    case $1 in
+    killed)
+        mkfifo in
+        "$globex" run <in >>sent 2>>errors &
+        exec 3>in
+        head -c 20000 orders >&3
+        wait_for sent "$sent_before"
+        kill -9 $!
+        wait $! 2>/dev/null
+        exec 3>&-
+        ;;
+    read)
+        no_blocking in 30000 >status
+        expect "$(cat status)" 4 'the status of a run whose input does not block'
+        ;;
+    store)
+        (
+            trap '' XFSZ
+            ulimit -f 30
+            "$globex" run <orders 2>>errors
+            echo $? >status
+        ) | cat >>sent
+        expect "$(cat status)" 5 'the status of a run whose file may not grow'
+        ;;
+    send)
+        (
+            "$globex" run <orders 2>>errors
+            echo $? >status
+        ) | head -c 3000 >>sent
+        expect "$(cat status)" 6 'the status of a run whose reader is gone'
+        ;;
+    cut)
+        head -c 20011 orders >part
+        "$globex" run <part >>sent 2>>errors
+        expect $? 8 'the status of a run whose input is cut'
+        ;;
+    unopened)
+        # A record was written and synced, and the crash came before its gate was opened.
+        local gate
+        gate=$(($(in_bytes journal.gxj) - 1))
+        head -c 3000 orders >part
+        "$globex" run <part >/dev/null 2>&1
+        printf '\000' | dd of=journal.gxj bs=1 seek="$gate" conv=notrunc status=none
+        ;;
+    all)
+        "$globex" run <orders >>sent
+        expect $? 0 'the status of a whole run'
+        ;;
+    esac
+}
+look_go-on() {
+    nothing_lost_or_doubled earlier input
+    "$globex" ledger >/dev/null || fail 'ledger does not read the journal'
+}
+
+prepare_bad-frame() {
+    take_example F
+    cp orders right
+    # The checksum of the fourth of five messages.
+    LC_ALL=C sed -i 's/10=166/10=165/' orders
+    serve 7
+}
+look_bad-frame() {
+    nothing_lost_or_doubled right
+}
+
+prepare_disk-full() {
+    sound=$PWD/sound
+    export sound
+    mkdir sound disk
+    if [ "$(id -u)" = 0 ] && mount -t tmpfs -o size=128k tmpfs disk 2>/dev/null; then
+        cd disk || return
+        cp "$top/examples/F/product.toml" .
+        made 1 100 >../orders
+        cp ../orders ../earlier
+        count_before
+        "$globex" run <../orders >../sent
+        expect $? 0 'the status of a first run'
+        made 2 1500 >../orders
+        count_before
+        "$globex" run <../orders >>../sent 2>errors
+        expect $? 5 'the status over a full disk'
+        cp ../orders ../input
+        # The other files of the session are on that disk, too.
+        mount -o remount,size=4m . && mv ../orders ../sent .
+        return
+    fi
+    echo '    a file that may not grow stands in for the disk: not root, or no mount'
+    prepare_go-on store
+}
+look_disk-full() {
+    cp earlier input "$sound/session"
+    cd "$sound/session" || return
+    run_script go-on "$log.next"
+    nothing_lost_or_doubled earlier input
+}
+
+prepare_wrong-end-of-output() {
+    take_example F
+    serve
+    cp sent was
+    head -c 1500 was >sent
+    head -c 300 /dev/zero >>sent
+}
+look_wrong-end-of-output() {
+    same sent was
+}
+
+prepare_longer-output() {
+    local older
+    take_example Q
+    cp orders all
+    head -c "$("$tools/frames" offset 4 all)" all >orders
+    serve
+    cp journal.gxj older
+    "$tools/frames" skip 4 all >orders
+    serve
+    mv older journal.gxj
+    mv all orders
+}
+look_longer-output() {
+    nothing_lost_or_doubled orders
+}
+
+prepare_bad-end() {
+    take_example F
+    serve
+    cp orders first
+    # A copy that was made during a write: the gate is open, and the record is not whole.
+    made 3 10 >orders
+    serve
+    head -c $(($(in_bytes journal.gxj) - 200)) journal.gxj >part && mv part journal.gxj
+    "$globex" book >/dev/null 2>&1
+    expect $? 10 'the status over a bad end'
+}
+look_bad-end() {
+    local place
+    "$tools/journal" messages journal.gxj | cmp - first >&2 || fail 'the journal does not keep the messages before the bad end'
+    mkdir by-hand && cp product.toml by-hand/ && cp damaged.gxj by-hand/journal.gxj
+    place=$(cd by-hand && "$globex" replay 2>&1 >/dev/null | cut -d ' ' -f 5)
+    head -c "$place" damaged.gxj >cut.gxj && printf '\000' >>cut.gxj
+    same cut.gxj journal.gxj
+    "$globex" book >/dev/null || fail 'book does not read the journal'
+}
+
+prepare_bad-image() {
+    local gate
+    take_example F
+    serve
+    gate=$(($(in_bytes journal.gxj) - 1))
+    "$globex" checkpoint
+    made 3 3 >orders
+    serve
+    # The count of resting orders, which is at 577 of the image.
+    printf '\001' | dd of=journal.gxj bs=1 seek=$((gate + 6 + 577)) conv=notrunc status=none
+    "$globex" book >/dev/null 2>&1
+    expect $? 10 'the status over a bad image'
+    "$globex" run </dev/null 2>&1 >/dev/null | grep -q "at $gate " || fail 'the place is not the gate of the image'
+}
+look_bad-image() {
+    "$globex" run </dev/null || fail 'run does not read the journal'
+    "$globex" book >/dev/null || fail 'book does not read the journal'
+}
+
+# A journal that is full in the middle of a session, and a product with the least limit.
+full_session() {
+    cp "$top/crates/globex_cli/data/product.toml" product.toml
+    sed -i 's/^firms.*/&\njournal_limit = 131072/' product.toml
+    made_of_more 1 300 >orders
+    serve
+    cp orders earlier
+    made_of_more 2 1200 >orders
+    cp orders input
+    serve 12
+}
+
+# Made messages that have no room in a journal of this product.
+made_of_more() {
+    local folder
+    folder=$(mktemp -d "$work/made.XXXXXX")
+    sed 's/^journal_limit.*/journal_limit = 16777216/' product.toml >"$folder/product.toml"
+    (cd "$folder" && "$globex" drill --first "$1" --count "$2" >/dev/null && "$tools/journal" messages journal.gxj)
+}
+
+prepare_full-grow() {
+    full_session
+}
+look_full-grow() {
+    nothing_lost_or_doubled earlier input
+}
+
+prepare_full-anew() {
+    cat >product.toml <<'END'
+exchange = "GX"
+firms = ["AAA", "BBB", "CCC", "DDD"]
+
+[[instrument]]
+name = "ESZ4"
+decimals = 2
+tick = 1
+protection = 2
+algorithm = "A"
+END
+    "$tools/frames" make --product product.toml >orders <<'END'
+35=D|49=AAA|56=GX|34=1|52=20240102-09:30:00|11=a1|55=ESZ4|54=2|38=40|40=2|44=100.05|59=1|210=10|
+35=D|49=AAA|56=GX|34=2|52=20240102-09:30:01|11=a1|55=ESZ4|54=2|38=50|40=2|44=100.05|59=1|210=7|
+35=D|49=CCC|56=GX|34=1|52=20240102-09:30:02|11=c1|55=ESZ4|54=2|38=26|40=2|44=100.05|59=0|
+35=G|49=AAA|56=GX|34=3|52=20240102-09:30:03|11=a2|41=a1|55=ESZ4|54=2|38=82|40=2|44=100.04|
+35=G|49=AAA|56=GX|34=4|52=20240102-09:30:04|11=a3|41=a2|55=ESZ4|54=2|38=82|40=2|44=100.05|
+35=D|49=DDD|56=GX|34=1|52=20240102-09:30:05|11=d1|55=ESZ4|54=1|38=9|40=4|44=100.20|99=100.10|59=3|110=4|
+35=D|49=BBB|56=GX|34=1|52=20240102-09:30:06|11=b1|55=ESZ4|54=1|38=18|40=2|44=100.05|59=0|
+35=D|49=AAA|56=GX|34=5|52=20240102-09:30:07|11=a4|55=ESZ4|54=2|38=2|40=2|44=100.00|59=0|
+35=D|49=BBB|56=GX|34=2|52=20240102-09:30:08|11=b3|55=ESZ4|54=1|38=5|40=1|59=0|
+END
+    serve
+    "$globex" book >first.txt
+}
+look_full-anew() {
+    cat first.txt entries.txt new.txt >"$log.books"
+    "$tools/journal" check journal.gxj --product product.toml >/dev/null || fail 'the new journal is not good'
+    expect "$("$globex" replay | "$tools/frames" show | grep -c '|150=8|')" 0 'entries refused'
+}
+
+prepare_dispute() {
+    take_example Q
+    serve
+}
+look_dispute() { :; }
+
+prepare_socket() {
+    take_example F
+    cp orders input
+}
+look_socket() {
+    socket_turn serve 0
+    nothing_lost_or_doubled input
+    cat orders-* | cmp - input >&2 || fail 'what came in is not kept'
+}
+
+# ---- what the page says of the program
+
+two-runs() {
+    local run word status
+    take_example F
+    mkfifo in
+    "$globex" run <in >sent 2>errors &
+    run=$!
+    exec 3>in
+    head -c "$("$tools/frames" offset 2 orders)" orders >&3
+    wait_for sent 100
+    cp journal.gxj was
+    for word in run 'drill --first 1 --count 1' checkpoint; do
+        "$globex" $word <orders >out 2>>errors
+        expect $? 5 "the status of $word beside a run"
+        expect "$(in_bytes out)" 0 "what $word sends beside a run"
+        same journal.gxj was
+    done
+    for word in replay fills ledger book steps; do
+        "$globex" $word >/dev/null
+        expect $? 0 "the status of $word beside a run"
+    done
+    "$tools/frames" skip 2 orders >&3
+    exec 3>&-
+    wait $run
+    expect $? 0 'the status of the first run'
+    nothing_lost_or_doubled orders
+    # After kill -9 the lock is free.
+    "$globex" run <in >/dev/null 2>&1 &
+    run=$!
+    exec 3>in
+    for status in 1 2 3 4 5 6 7 8 9 10; do
+        "$globex" checkpoint 2>/dev/null
+        [ $? = 5 ] && break
+        sleep 0.1
+    done
+    kill -9 $run
+    wait $run 2>/dev/null
+    "$globex" run </dev/null || fail 'the lock outlives a process that was killed'
+    exec 3>&-
+    nothing_lost_or_doubled orders
+}
+
+# Each command with each of the standard streams closed or not, over no journal and over one with messages.
+closed-streams() {
+    local command closed kept status
+    take_example F
+    mkdir with without
+    cp product.toml orders with
+    cp product.toml orders without
+    (cd with && "$globex" run <orders >/dev/null)
+    cp with/journal.gxj kept.gxj
+    for kept in with without; do
+        for command in run replay book fills ledger steps checkpoint 'drill --first 1 --count 3'; do
+            for closed in 0 1 2 01 02 12 012; do
+                (try_closed)
+            done
+        done
+    done
+    [ ! -e failed ] || said=1
+}
+
+try_closed() {
+    local words='' wanted=0 before=0 has
+    said=0
+    rm -f "$kept/journal.gxj"
+    [ $kept = without ] || { cp kept.gxj "$kept/journal.gxj" && before=5; }
+    cd $kept || return
+    case $closed in *0*) words="$words <&-" ;; esac
+    case $closed in *1*) words="$words >&-" ;; esac
+    case $closed in *2*) words="$words 2>&-" ;; esac
+    eval "\"\$globex\" $command <orders >../out 2>../err $words"
+    status=$?
+    case $command:$closed in
+    run:*0*) wanted=4 ;;
+    checkpoint:*) ;;
+    *:*1*)
+        wanted=6
+        # Nothing is sent of a journal without messages.
+        case $kept:$command in without:replay | without:fills) wanted=0 ;; esac
+        ;;
+    esac
+    what="$command, closed $closed, $kept a journal"
+    expect $status $wanted "$what: the status"
+    same product.toml ../product.toml
+    same orders ../orders
+    has=$before
+    case $command:$wanted in
+    run:0 | run:6) has=$((before + 5)) ;;
+    drill*) has=$((before + 3)) ;;
+    esac
+    case $kept:$command in
+    with:replay | with:book | with:fills | with:ledger | with:steps) same journal.gxj ../kept.gxj ;;
+    without:replay | without:book | without:fills | without:ledger) [ ! -s journal.gxj ] || fail "$what: bytes in the journal" ;;
+    without:steps) [ ! -e journal.gxj ] || fail "$what: a journal was made" ;;
+    *)
+        expect "$("$tools/journal" count journal.gxj)" $has "$what: messages kept"
+        "$tools/journal" check journal.gxj --product product.toml >/dev/null || fail "$what: the journal is not good"
+        ;;
+    esac
+    [ "$wanted" = 0 ] || case $closed in
+    *2*) ;;
+    *) grep -q "^globex: status $wanted " ../err || fail "$what: no status line" ;;
+    esac
+    expect "$(ls | grep -vx -e product.toml -e orders -e journal.gxj)" '' "$what: other files"
+    [ $said = 0 ] || touch ../failed
+}
+
+wrong-words() {
+    local words
+    for words in '' nothing --help 'run book' drill 'drill --first 1' 'steps --first 1' 'run --count 1' Run; do
+        "$globex" $words </dev/null >out 2>/dev/null
+        expect $? 2 "the status of the words '$words'"
+        expect "$(ls)" out "files after the words '$words'"
+    done
+    take_example F
+    "$globex" steps >/dev/null || fail 'steps does not read the product'
+    [ ! -e journal.gxj ] || fail 'steps makes a journal'
+}
+
+# A run over `orders` whose input or output does not block. Prints its status. Of the input the first bytes are there.
+no_blocking() {
+    python3 - "$globex" "$@" <<'END'
+import os, subprocess, sys
+program, side, count = sys.argv[1], sys.argv[2], int(sys.argv[3])
+ours, theirs = os.pipe() if side == "out" else reversed(os.pipe())
+os.set_blocking(theirs, False)
+with open("orders", "rb") as orders, open("sent", "ab") as sent, open("errors", "ab") as errors:
+    if side == "in":
+        os.write(ours, orders.read(count))
+        done = subprocess.run([program, "run"], stdin=theirs, stdout=sent, stderr=errors)
+    else:
+        done = subprocess.run([program, "run"], stdin=orders, stdout=theirs, stderr=errors)
+        os.close(theirs)
+        while part := os.read(ours, 65536):
+            sent.write(part)
+print(done.returncode)
+END
+}
+
+no-blocking() {
+    two_sessions
+    expect "$(no_blocking in 30000)" 4 'the status if the input does not block'
+    two_sessions_anew
+    expect "$(no_blocking out 0)" 6 'the status if the output does not block'
+}
+
+two_sessions_anew() {
+    rm -f journal.gxj sent errors
+    two_sessions
+}
+
+size-limit() {
+    two_sessions
+    (
+        ulimit -f 30
+        "$globex" run <orders 2>err | cat >/dev/null
+        exit "${PIPESTATUS[0]}"
+    ) 2>/dev/null
+    expect $? 153 'the status beyond ulimit -f'
+    [ ! -s err ] || fail 'a status line beyond ulimit -f'
+    "$globex" run </dev/null || fail 'the journal is not good beyond ulimit -f'
+}
+
+read-only() {
+    local word somebody=()
+    take_example F
+    serve
+    chmod 755 "$work" .
+    chmod 444 journal.gxj product.toml orders
+    cp "$globex" ./program && chmod 755 program
+    [ "$(id -u)" != 0 ] || somebody=(setpriv --reuid=65534 --regid=65534 --clear-groups)
+    for word in run replay fills ledger book checkpoint; do
+        "${somebody[@]}" ./program $word <orders >/dev/null 2>&1
+        expect $? 5 "the status of $word over a read-only journal"
+    done
+}
+
+# A journal that is no plain file.
+strange-journals() {
+    local kind word status
+    take_example F
+    for kind in pipe folder null full; do
+        for word in replay book run checkpoint; do
+            rm -rf journal.gxj
+            case $kind in
+            pipe) mkfifo journal.gxj ;;
+            folder) mkdir journal.gxj ;;
+            null) ln -s /dev/null journal.gxj ;;
+            full) ln -s /dev/full journal.gxj ;;
+            esac
+            timeout 5 "$globex" $word <orders >out 2>err
+            status=$?
+            case $kind:$word in
+            folder:* | *:run | *:checkpoint) expect $status 5 "the status of $word over a $kind" ;;
+            *) expect $status 0 "the status of $word over a $kind" ;;
+            esac
+        done
+    done
+}
+
+# The name is taken away, or the file is cut, while a run goes on.
+removed-journal() {
+    local run
+    take_example F
+    mkfifo in
+    "$globex" run <in >sent 2>errors &
+    run=$!
+    exec 3>in
+    head -c "$("$tools/frames" offset 2 orders)" orders >&3
+    wait_for sent 100
+    rm journal.gxj
+    "$tools/frames" skip 2 orders >&3
+    exec 3>&-
+    wait $run
+    expect $? 0 'the status of a run whose journal was removed'
+    [ ! -e journal.gxj ] || fail 'the journal is there again'
+}
+
+# A connection served by `serve` or by the program itself: sends `input`, closes or waits, and prints what it sees.
+socket_turn() {
+    python3 - "$1" "$globex" input >turn <<'END'
+import socket, subprocess, sys
+way, program, name = sys.argv[1:4]
+with open(name, "rb") as file:
+    data = file.read()
+listener = socket.create_server(("127.0.0.1", 0))
+client = socket.create_connection(listener.getsockname())
+served, _ = listener.accept()
+listener.close()
+words = ["./serve"] if way == "serve" else [program, "run"]
+with open("errors", "ab") as errors:
+    child = subprocess.Popen(words, stdin=served, stdout=served, stderr=errors)
+served.close()
+client.settimeout(10)
+got, end = b"", "end"
+try:
+    client.sendall(data)
+    if way == "serve":
+        client.shutdown(socket.SHUT_WR)
+    while part := client.recv(65536):
+        got += part
+except OSError as fault:
+    end = type(fault).__name__
+print(end, child.wait(), len(got))
+END
+    read -r end status bytes <turn
+    expect "$status" "$2" 'the status of what serves the connection'
+}
+
+socket-endings() {
+    local end status bytes
+    take_example F
+    cp orders input
+    printf 'no frame at all' >>input
+    socket_turn program 7
+    echo "    7: the client sees $end after $bytes bytes of reports"
+    rm journal.gxj
+    full_session
+    socket_turn program 12
+    echo "    12: the client sees $end after $bytes bytes of reports"
+}
+
+# ---- all of them
+
+# Runs the commands of a recipe in this folder, with its logs in a folder of their own.
+run_script() {
+    mkdir "$2" || return
+    script_of "$1" "$2" >"$2.sh"
+    bash "$2.sh"
+}
+
+# Compares what the blocks printed with the page, and looks for what no command should say.
+compare_blocks() {
+    local want out
+    for want in "$log"/*.want; do
+        [ -e "$want" ] || continue
+        out=${want%.want}.out
+        cmp -s "$want" "$out" || {
+            fail "block $(basename "${want%.want}") printed this, by diff from the page:"
+            diff "$want" "$out" | sed 's/^/        /' >&2
+        }
+    done
+    grep -lE 'command not found|No such file|usage:|Traceback|syntax error' "$log"/*.out 2>/dev/null | while read -r out; do
+        echo "    $(basename "$out"): $(grep -m 1 -E 'command not found|No such file|usage:|Traceback|syntax error' "$out")"
+    done >"$log.complaints"
+    [ ! -s "$log.complaints" ] || fail "$(cat "$log.complaints")"
+}
+
+try_recipe() {
+    local folder=$work/$1${2:+-$2}
+    log=$folder.log
+    said=0
+    mkdir "$folder" && cd "$folder" || return 1
+    "prepare_$1" "${2:-}"
+    run_script "$1" "$log"
+    [ -n "${2:-}" ] || compare_blocks
+    cd "$folder" || return 1
+    "look_$1"
+    exec 3>&-
+    return $said
+}
+
+try_check() {
+    local folder=$work/check-$1
+    said=0
+    mkdir "$folder" && cd "$folder" || return 1
+    "$1"
+    return $said
+}
+
+differs=()
+try() {
+    local id=$1 situation
+    if [[ " ${checks[*]} " == *" $id "* ]]; then
+        (try_check "$id") || differs+=("$id")
+        echo "$id"
+        return
+    fi
+    if ! declare -F "prepare_$id" >/dev/null; then
+        echo "    no function here prepares it" >&2
+        differs+=("$id")
+        return
+    fi
+    if [ "$id" = go-on ]; then
+        for situation in ${situations_go_on}; do
+            (try_recipe "$id" "$situation") || differs+=("$id ($situation)")
+        done
+    else
+        (try_recipe "$id") || differs+=("$id")
+    fi
+    echo "$id"
+}
+
+if [ $# -eq 0 ]; then
+    # shellcheck disable=SC2046
+    set -- $(recipes) "${checks[@]}"
+fi
+for id in "$@"; do
+    try "$id"
+done
+if [ ${#differs[@]} -gt 0 ]; then
+    printf 'check-recipes: %s differs\n' "${differs[@]}" >&2
+    exit 1
+fi
+echo "check-recipes: $# recipes and checks, all as docs/OPERATING.md says"
