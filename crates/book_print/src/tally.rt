@@ -5,16 +5,17 @@ ghost use Rattle.order_kinds.specs.Balance.{filled_in};
 ghost use Rattle.book_print.specs.TallyText.{no_tally, tally_line, fills_in};
 
 use crate::pieces::{LONGEST_PIECE, end_line, number, send_line};
-use exec_report::{ReportBuffer, SendFault};
-use gx_base::{Emit, Event};
+use exec_report::{LineForm, ReportBuffer, SendFault};
+use gx_base::{Event, Names};
 use gx_station::Station;
+use product_file::Product;
 
 /// How many bytes the summary has at most, which is six pieces.
 const LONGEST_SUMMARY: usize = 6 * LONGEST_PIECE;
 
-/// Counts events, and never fails. A count that would pass the end of its type stays there. What is seen is the three counts.
+/// Counts of events. One that would pass the end of its type stays there.
 #[derive(Clone, Copy, Debug, Default, PartialEq, Eq)]
-pub struct TallyEmit {
+pub struct Tally {
     /// Events of all kinds.
     pub reports: u64,
     /// Fills, which are two for each trade.
@@ -23,14 +24,14 @@ pub struct TallyEmit {
     pub lots: u64,
 }
 
-impl TallyEmit {
+impl Tally {
     ghost use Rattle.book_print.specs.TallyText.{no_tally};
 
     /// All counts 0.
-    pub fn new() -> TallyEmit
+    pub fn new() -> Tally
         ensures { result ≡ no_tally }
     {
-        TallyEmit {
+        Tally {
             reports: 0,
             fills: 0,
             lots: 0,
@@ -58,29 +59,31 @@ fn fills_in(event: &Event) -> u64
     }
 }
 
-impl Emit for TallyEmit {
-    ghost use Rattle.book_print.specs.Tallies.{tally_meanings};
+/// A drill as a form: nothing is printed, and the events are counted.
+impl LineForm for Tally {
+    ghost use Rattle.book_print.specs.Printing.{tally_form};
 
-    ghost meanings = { tally_meanings };
+    ghost meanings = { tally_form };
 
-    fn put(&mut self, event: &Event) {
+    fn write(&self, _event: &Event, _names: &Names, _into: &mut [u8]) -> usize {
+        0
+    }
+
+    fn keep(&mut self, event: &Event) {
         self.reports = self.reports.saturating_add(1);
         self.fills = self.fills.saturating_add(fills_in(event));
         self.lots = self.lots.saturating_add(filled_in(event));
     }
 
-    fn failed(&self) -> bool {
-        false
+    fn note(&mut self, _product: &Product, _frame: &[u8]) {}
+
+    fn write_ending(&self, _live: u64, _into: &mut [u8]) -> usize {
+        0
     }
 }
 
 /// Writes the summary of a drill, and answers how many bytes it has.
-fn write_summary(
-    messages: u64,
-    tally: &TallyEmit,
-    live: u32,
-    into: &mut [u8; LONGEST_SUMMARY],
-) -> usize
+fn write_summary(messages: u64, tally: &Tally, live: u32, into: &mut [u8; LONGEST_SUMMARY]) -> usize
     ensures line { take result into.new ≡ tally_line messages tally.now live }
     ensures short { result ≤ LONGEST_SUMMARY }
 {
@@ -96,7 +99,7 @@ fn write_summary(
 /// count of send faults rose, and a part is sent then.
 pub fn print_tally<S: Station>(
     messages: u64,
-    tally: &TallyEmit,
+    tally: &Tally,
     live: u32,
     buffer: &mut ReportBuffer,
     station: &mut S,

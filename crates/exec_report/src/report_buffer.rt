@@ -1,17 +1,17 @@
 //! Reports that wait to be sent.
 ghost use Rattle.std.specs.Prelude.{◌≡◌, ◌+◌, ◌≤◌, ◌↔◌, ◌++◌, ◌==◌, [], IsTrue, IfOk, length, vec_len, vec_capacity};
 ghost use Rattle.std.specs.Bool.{OnTrue, OnFalse};
-ghost use Rattle.gx_base.specs.Line.{line_of};
 
-use gx_base::{Event, LONGEST_LINE, Names, append, write_line_into};
+use crate::line_form::{LONGEST_PRINTED, LineForm};
+use gx_base::{Event, Names, append};
 use std::alloc::{AllocError, Global};
 use std::marker::Model;
 
 /// How many bytes of lines may wait to be sent (our own rule).
 pub const MOST_WAITING: usize = 65_536;
 
-/// How many bytes a buffer has room for: those that may wait, and one line behind them.
-pub const BUFFER_ROOM: usize = MOST_WAITING + LONGEST_LINE;
+/// How many bytes a buffer has room for: those that may wait, and what a form prints of one event behind them.
+pub const BUFFER_ROOM: usize = MOST_WAITING + LONGEST_PRINTED;
 
 /// Report lines that wait to be sent, one behind the other, at most `MOST_WAITING` bytes. Contracts see it as these bytes.
 #[derive(Drop)]
@@ -48,13 +48,13 @@ impl ReportBuffer {
 
     /// Writes the line of an event behind the bytes that wait, and answers whether there was room for it. Where there
     /// was none, nothing is added.
-    pub(crate) fn add_line(&mut self, event: &Event, names: &Names) -> bool
-        ensures fits { IsTrue result ↔ (length self.old + length (line_of names.now event.now) ≤ MOST_WAITING) }
-        ensures added { OnTrue result (self.new ≡ self.old ++ line_of names.now event.now) }
+    pub(crate) fn add_line<F: LineForm>(&mut self, form: &F, event: &Event, names: &Names) -> bool
+        ensures fits { IsTrue result ↔ (length self.old + length (F.meanings.text form.now names.now event.now) ≤ MOST_WAITING) }
+        ensures added { OnTrue result (self.new ≡ self.old ++ F.meanings.text form.now names.now event.now) }
         ensures full { OnFalse result (self.new ≡ self.old) }
-        ensures short { length (line_of names.now event.now) ≤ LONGEST_LINE }
+        ensures short { length (F.meanings.text form.now names.now event.now) ≤ LONGEST_PRINTED }
     {
-        let count = write_line_into(event, names, &mut self.bytes[self.len..]);
+        let count = form.write(event, names, &mut self.bytes[self.len..]);
         if count > MOST_WAITING - self.len {
             return false;
         }

@@ -1,5 +1,6 @@
 -- What the command of the words came to, from how it was executed.
-use Rattle.std.proofs.Common.{◌≡◌, ◌≢◌, ◌⊎◌, inl, inr, ⊎_elim, ℕ, ◌++◌, ◌≤◌, List, length, Option, Some, Result, Ok, Err, refl, sym, ap, subst, ◌∙◌, arith}
+use Rattle.globex_run.specs.Inner.Keeping.{KeepsEvents}
+use Rattle.std.proofs.Common.{[], ◌≡◌, ◌≢◌, ◌⊎◌, inl, inr, ⊎_elim, ℕ, ◌++◌, ◌≤◌, List, length, Option, Some, Result, Ok, Err, refl, sym, ap, subst, ◌∙◌, arith}
 use Rattle.std.specs.Prelude.{IfSome}
 use Rattle.std.proofs.lemmas.Bool.Decides.{eqb_tells}
 use Rattle.std.proofs.lemmas.Option.{same_Some}
@@ -8,6 +9,7 @@ use Rattle.gx_station.specs.Stations.{StationMeanings}
 use Rattle.gx_station.specs.Honest.{IsHonestNow}
 use Rattle.gx_station.specs.Quiet.{quiet_itself}
 use Rattle.fix_frame.specs.Grammar.{IsFrameFront}
+use Rattle.fix_frame.specs.Stream.{messages_of}
 use Rattle.product_file.specs.Products.{ProductLists, IsRightProduct}
 use Rattle.product_file.specs.ProductTexts.{product_of}
 use Rattle.order_kinds.specs.Balance.{IsBalanced}
@@ -21,9 +23,9 @@ use Rattle.book_recovery.specs.Kept.{KeepsMessages}
 use Rattle.book_recovery.specs.BadPlaces.{HasBadRecordAt, IsBadPlace}
 use Rattle.book_recovery.proofs.OneWay.{no_bad_place, no_bad_record, one_place, one_bad_record}
 use Rattle.book_recovery.proofs.FromLastImage.{good-from-last}
-use Rattle.book_print.specs.Publishers.{LineForm}
+use Rattle.exec_report.specs.Forms.{LineText}
 use Rattle.book_print.specs.TallyText.{no_tally}
-use Rattle.book_print.specs.Publishing.{tally_publisher_meanings}
+use Rattle.book_print.specs.Printing.{tally_form}
 use Rattle.order_maker.specs.Stream.{MadeStream, maker_meanings, made_stream}
 use Rattle.exec_report.specs.declared.texts.SendFault.{SendFault as SendFailed}
 use Rattle.journal_print.specs.Reading.{ReadsAndSends}
@@ -40,14 +42,21 @@ use Rattle.globex_run.specs.FullJournals.{IsFull}
 use Rattle.globex_run.specs.Refusals.{HasBadRecordFor, IsRefusal, IsRefused, RefusesExactly, CanStart}
 use Rattle.globex_run.specs.RunResult.{CommandResult, CommandEnded, RunEnded, EndedUnread, first_messages}
 use Rattle.globex_run.specs.Journals.{AnswersImage}
-use Rattle.globex_run.specs.Headline.{Premises, InputPremises, SendsExactlyTheReports, EndsOtherwise, RunLeavesCrashPrefixes, RunBeforeTheFirstSync, KeepsEveryReported, AddsMessages, KeepsARecordPerRead, ReadsFew, CanBeServed, IsServed}
+use Rattle.globex_run.specs.Headline.{new_reports, Premises, InputPremises, SendsExactlyTheReports, EndsOtherwise, RunLeavesCrashPrefixes, RunBeforeTheFirstSync, KeepsEveryReported, AddsMessages, KeepsARecordPerRead, ReadsFew, CanBeServed, IsServed}
 use Rattle.globex_run.specs.Drills.{made_bytes, KeepsAndSumsUp, DrillEndsOtherwise, DrillLeavesCrashPrefixes, DrillBeforeTheFirstSync, CanBeDrilled}
 use Rattle.globex_run.specs.Checkpoints.{AddsImage, KeepsTheSame, CheckpointLeavesCrashPrefixes, CheckpointBeforeTheFirstSync, HasNoRoomForImage, CanBeCheckpointed}
 use Rattle.globex_run.specs.Prints.{PrintsAs, outcome_printed, outcome_sent}
 use Rattle.globex_run.specs.Inner.Drilling.{DrillResult, DrillsMade, outcome_summed}
 use Rattle.globex_run.specs.Inner.Checkpointing.{EndsCheckpoint, CheckpointResult, IsCheckpointEnding}
 use Rattle.globex_run.specs.Inner.Executing.{Executes, HasCauses, Runs}
+use Rattle.globex_run.specs.Calls.{Call}
+use Rattle.globex_run.specs.Works.{Given, Reads, work_of, CanBeDone}
+use Rattle.globex_run.specs.Drills.{summary, made_messages, summary_of_all}
+use Rattle.globex_run.specs.Checkpoints.{sends_nothing}
+use Rattle.globex_run.specs.Promises.{DoesAll, EndsAsTold, LeavesAFront, LeavesTheEntry, KeepsWhatIsSent, AddsMessagesAlone, AddsARecordPerRead, ReadsItOnce, IsFullForMessages, IsFullForImage, SendsNothing, EndsWellWhereItCan, PrintsItsText, Balances, EndsWhereTold, RefusesWhatItMust, OpensAgain, HasItsStatuses}
 use Rattle.globex_run.specs.declared.outcome.Outcome.{Outcome}
+use Rattle.globex_run.proofs.EverySent.{every-sent, all-grows, fronts-of, entry-or-fronts}
+use Rattle.globex_run.proofs.Reported.{fewer-reports}
 use Rattle.globex_run.specs.declared.ending.Ending.{Ending}
 use Rattle.globex_run.specs.declared.ending.Ending.TheVariants.{Done, ReadFault, StoreFault, SendFault, BadFrame, Truncated, NotAJournal, JournalBad, ProductDiffers, Full}
 use Rattle.globex_run.proofs.Told.{outside_of}
@@ -131,6 +140,22 @@ never-lacks Replay status never one = never-prints status never one
 never-lacks Book status never one = never-prints status never one
 never-lacks Fills status never one = never-prints status never one
 never-lacks Ledger status never one = never-prints status never one
+
+-- ---- a command that can be done has a product
+
+-- its text, and the product that it gives
+abbrev IsTold : {P I S : Type 0} → Outside P I S → Type 0
+IsTold before = (text : List ℕ) × (product : ProductLists) × (before.product.left ≡ Some text) × (product_of text ≡ Ok product)
+
+pub product-told : {P I S : Type 0} (m : StationMeanings S) (before : Outside P I S) (asked : Command) → CanBeDone m before asked → IsTold before
+product-told m before Run can = (can.text, can.product, can.text_known, can.gives)
+product-told m before (Drill first count) can = (can.text, can.product, can.text_known, can.gives)
+product-told m before Checkpoint can = (can.text, can.product, can.text_known, can.gives)
+product-told m before Replay can = (can.text, can.product, can.text_known, can.gives)
+product-told m before Book can = (can.text, can.product, can.text_known, can.gives)
+product-told m before Fills can = (can.text, can.product, can.text_known, can.gives)
+product-told m before Ledger can = (can.text, can.product, can.text_known, can.gives)
+product-told m before Steps can = (can.text, can.product, can.text_known, can.gives)
 
 -- ---- a product was taken, and its text lent to the command
 
@@ -317,7 +342,7 @@ module _ {P I S : Type 0} (m : StationMeanings S) (p q : SourceAt P) (i j : Sour
           ended-whole : result.served.status ≢ 0 → result.served.status ≡ 0
           ended-whole other =
               let same = result.otherwise other in
-              none-left (served m p q (source_at maker_meanings at_first) (source_at maker_meanings made.end) old result.mid tally_publisher_meanings.text (λ (events : List Event). result.publisher ≡ tally_publisher_meanings.after (record { tally = no_tally }) events) result.then result.served
+              none-left (served m p q (source_at maker_meanings at_first) (source_at maker_meanings made.end) old result.mid (tally_form.text no_tally) (λ (events : List Event). KeepsEvents tally_form no_tally result.tally events) result.then result.served
               can-be-served (subst (λ (s : S). IsQuiet from-made (outside_of m q (source_at maker_meanings made.end) s)) same.0 quiet-made) result.session.serving.taken made.end.left refl (same_Some stream (result.session.serving.taken ++ made.end.left) result.session.serving.took)
               result.session.ending result.session.is result.session.cause result.session.serving.ends (result.session.from can.image can.kept can.honest can.image_known can.startable))
 
@@ -451,7 +476,7 @@ module _ {P I S : Type 0} (m : StationMeanings S) (p q : SourceAt P) (i j : Sour
           short : length can.text ≤ 65536
           short = short-text can.text can.product can.gives
 
-          events-printed : (line : LineForm) (whole : List (List ℕ) → List ℕ) (answer : Result ℕ Unprinted) → outcome ≡ outcome_printed answer → PrintsEvents m can.product can.text image old new line whole answer → outcome.status ≡ 0
+          events-printed : (line : LineText) (whole : List (List ℕ) → List ℕ) (answer : Result ℕ Unprinted) → outcome ≡ outcome_printed answer → PrintsEvents m can.product can.text image old new line whole answer → outcome.status ≡ 0
           events-printed line whole (Ok n) is printed = ap (λ (o : Outcome). o.status) is
           events-printed line whole (Err unprinted.Store) is printed = absurd (quiet-print.0 (ap (λ (o : Outcome). o.status) is))
           events-printed line whole (Err unprinted.Send) is printed = absurd (quiet-print.1 (ap (λ (o : Outcome). o.status) is))
@@ -712,3 +737,151 @@ module _ {P I S : Type 0} (m : StationMeanings S) (p q : SourceAt P) (i j : Sour
 
       pub never-ends : NeverEndsWith c outcome.status → ⊥
       never-ends never = ending-by c (did-as c asks) (causes-as c asks) never
+
+  -- ---- the same, of every command: what it did is known where there was memory
+
+  module _ (asked : Option Command) (command : Command) (is : asked ≡ Some command) (did : outcome.status ≢ 1 → Did command) (causes : Causes command) where
+    abbrev pub the-call : Call P I S
+    the-call = record { station = m; asked = asked; before = entry; after = exit; outcome = outcome }
+
+    pub does-all : DoesAll the-call
+    does-all Run asks writing given read none = exactly asked command is (did given.memory) causes asks given read none
+    does-all (Drill first count) asks writing given read none = sums-up asked command is (did given.memory) causes first count asks given none
+    does-all Checkpoint asks writing given read none = record { adds = adds-image asked command is (did given.memory) causes asks given none; keeps = keeps-the-same asked command is (did given.memory) causes asks given }
+    does-all Replay asks writing given read none = absurd writing
+    does-all Book asks writing given read none = absurd writing
+    does-all Fills asks writing given read none = absurd writing
+    does-all Ledger asks writing given read none = absurd writing
+    does-all Steps asks writing given read none = absurd writing
+
+    pub ends-as-told : EndsAsTold the-call
+    ends-as-told Run asks writing given read other = otherwise asked command is (did given.memory) causes asks given read
+    ends-as-told (Drill first count) asks writing given read other = drill-ends asked command is (did given.memory) causes first count asks given other
+    ends-as-told Checkpoint asks writing given read other = keeps-the-same asked command is (did given.memory) causes asks given
+    ends-as-told Replay asks writing given read other = absurd writing
+    ends-as-told Book asks writing given read other = absurd writing
+    ends-as-told Fills asks writing given read other = absurd writing
+    ends-as-told Ledger asks writing given read other = absurd writing
+    ends-as-told Steps asks writing given read other = absurd writing
+
+    pub leaves-a-front : LeavesAFront the-call
+    leaves-a-front Run asks writing given read = fronts-of the-call given (messages_of read.taken) (λ messages. new_reports given.product given.kept messages) (every-moment asked command is (did given.memory) causes asks given read)
+    leaves-a-front (Drill first count) asks writing given read = fronts-of the-call given (made_messages given.product first count) (λ messages. summary_of_all given.product given.kept (made_messages given.product first count) messages) (drill-every-moment asked command is (did given.memory) causes first count asks given)
+    leaves-a-front Checkpoint asks writing given read = fronts-of the-call given [] sends_nothing (checkpoint-every-moment asked command is (did given.memory) causes asks given)
+    leaves-a-front Replay asks writing given read = absurd writing
+    leaves-a-front Book asks writing given read = absurd writing
+    leaves-a-front Fills asks writing given read = absurd writing
+    leaves-a-front Ledger asks writing given read = absurd writing
+    leaves-a-front Steps asks writing given read = absurd writing
+
+    pub leaves-the-entry : (m.is_honest old → IsHonestNow m old) → LeavesTheEntry the-call
+    leaves-the-entry now Run asks writing given read = entry-or-fronts the-call given (messages_of read.taken) (λ messages. new_reports given.product given.kept messages) (first-sync asked command is (did given.memory) causes asks given read (now given.honest))
+    leaves-the-entry now (Drill first count) asks writing given read = entry-or-fronts the-call given (made_messages given.product first count) (λ messages. summary_of_all given.product given.kept (made_messages given.product first count) messages) (drill-before-sync asked command is (did given.memory) causes first count asks given (now given.honest))
+    leaves-the-entry now Checkpoint asks writing given read = entry-or-fronts the-call given [] sends_nothing (checkpoint-before-sync asked command is (did given.memory) causes asks given (now given.honest))
+    leaves-the-entry now Replay asks writing given read = absurd writing
+    leaves-the-entry now Book asks writing given read = absurd writing
+    leaves-the-entry now Fills asks writing given read = absurd writing
+    leaves-the-entry now Ledger asks writing given read = absurd writing
+    leaves-the-entry now Steps asks writing given read = absurd writing
+
+    -- more is sent of more messages
+    sends-grow : (given : Given the-call) (c : Command) (read : Reads the-call c) (a b : ℕ) → a ≤ b → length ((work_of the-call given c read).sends a) ≤ length ((work_of the-call given c read).sends b)
+    sends-grow given Run read a b le = fewer-reports given.product given.kept (messages_of read.taken) a b le
+    sends-grow given (Drill first count) read a b le = let made = made_messages given.product first count in all-grows (summary given.product given.kept made) made a b le
+    sends-grow given Checkpoint read a b le = omega arith
+    sends-grow given Replay read a b le = omega arith
+    sends-grow given Book read a b le = omega arith
+    sends-grow given Fills read a b le = omega arith
+    sends-grow given Ledger read a b le = omega arith
+    sends-grow given Steps read a b le = omega arith
+
+    pub keeps-what-is-sent : (m.is_honest old → IsHonestNow m old) → KeepsWhatIsSent the-call
+    keeps-what-is-sent now c asks writing given read = every-sent the-call (work_of the-call given c read) (sends-grow given c read) (leaves-the-entry now c asks writing given read)
+
+    pub reads-it-once : ReadsItOnce the-call
+    reads-it-once Run asks writing given = few-read asked command is (did given.memory) causes asks given
+    reads-it-once (Drill first count) asks writing given = drill-few-read asked command is (did given.memory) causes first count asks given
+    reads-it-once Checkpoint asks writing given = checkpoint-few-read asked command is (did given.memory) causes asks given
+    reads-it-once Replay asks writing given = absurd writing
+    reads-it-once Book asks writing given = absurd writing
+    reads-it-once Fills asks writing given = absurd writing
+    reads-it-once Ledger asks writing given = absurd writing
+    reads-it-once Steps asks writing given = absurd writing
+
+    pub adds-messages-alone : AddsMessagesAlone the-call
+    adds-messages-alone Run asks serves given = (each-read asked command is (did given.memory) causes asks given).adds
+    adds-messages-alone (Drill first count) asks serves given = drill-adds-messages asked command is (did given.memory) causes first count asks given
+    adds-messages-alone Checkpoint asks serves given = absurd serves
+    adds-messages-alone Replay asks serves given = absurd serves
+    adds-messages-alone Book asks serves given = absurd serves
+    adds-messages-alone Fills asks serves given = absurd serves
+    adds-messages-alone Ledger asks serves given = absurd serves
+    adds-messages-alone Steps asks serves given = absurd serves
+
+    pub adds-a-record-per-read : AddsARecordPerRead the-call
+    adds-a-record-per-read asks given = each-read asked command is (did given.memory) causes asks given
+
+    pub sends-nothing-then : SendsNothing the-call
+    sends-nothing-then Checkpoint asks serves = by-memory outcome.status
+        (λ one. ((sends-none command causes one).0, λ other. (causes.memory one).1))
+        (λ there. ((checkpoint-sends-nothing asked command is (did there) causes asks).0, λ other. checkpoint-counts asked command is (did there) causes asks other))
+    sends-nothing-then Run asks serves = absurd serves
+    sends-nothing-then (Drill first count) asks serves = absurd serves
+    sends-nothing-then Replay asks serves = absurd serves
+    sends-nothing-then Book asks serves = absurd serves
+    sends-nothing-then Fills asks serves = absurd serves
+    sends-nothing-then Ledger asks serves = absurd serves
+    sends-nothing-then Steps asks serves = absurd serves
+
+    pub is-full-for-image : IsFullForImage the-call
+    is-full-for-image asks given twelve = image-full asked command is (did given.memory) causes asks given twelve
+
+    pub is-full-for-messages : IsFullForMessages the-call
+    is-full-for-messages Run asks writing given read honest image records known keeps twelve = full asked command is (did given.memory) causes asks given read honest image records known keeps twelve
+    is-full-for-messages (Drill first count) asks writing given read honest image records known keeps twelve = drill-has-no-room asked command is (did given.memory) causes first count asks given honest image records known keeps twelve
+    is-full-for-messages Checkpoint asks writing given read honest image records known keeps twelve = absurd writing
+    is-full-for-messages Replay asks writing given read honest image records known keeps twelve = absurd writing
+    is-full-for-messages Book asks writing given read honest image records known keeps twelve = absurd writing
+    is-full-for-messages Fills asks writing given read honest image records known keeps twelve = absurd writing
+    is-full-for-messages Ledger asks writing given read honest image records known keeps twelve = absurd writing
+    is-full-for-messages Steps asks writing given read honest image records known keeps twelve = absurd writing
+
+    pub ends-well : EndsWellWhereItCan the-call
+    ends-well Run asks can quiet = unless-memory outcome.status (λ there. all-served asked command is (did there) causes asks can quiet)
+    ends-well (Drill first count) asks can quiet = unless-memory outcome.status (λ there. all-drilled asked command is (did there) causes first count asks can quiet)
+    ends-well Checkpoint asks can quiet = unless-memory outcome.status (λ there. all-checkpointed asked command is (did there) causes asks can quiet)
+    ends-well Replay asks can quiet = unless-memory outcome.status (λ there. all-printed asked command is (did there) causes Replay asks can quiet tt)
+    ends-well Book asks can quiet = unless-memory outcome.status (λ there. all-printed asked command is (did there) causes Book asks can quiet tt)
+    ends-well Fills asks can quiet = unless-memory outcome.status (λ there. all-printed asked command is (did there) causes Fills asks can quiet tt)
+    ends-well Ledger asks can quiet = unless-memory outcome.status (λ there. all-printed asked command is (did there) causes Ledger asks can quiet tt)
+    ends-well Steps asks can quiet = unless-memory outcome.status (λ there. all-printed asked command is (did there) causes Steps asks can quiet tt)
+
+    pub prints-its-text : PrintsItsText the-call
+    prints-its-text c asks given = prints asked command is (did given.memory) causes c asks given
+
+    pub ends-where-told : EndsWhereTold the-call
+    ends-where-told c asks told = told-ended asked command is (did told) causes c asks told
+
+    pub refuses-what-it-must : RefusesWhatItMust the-call
+    refuses-what-it-must c asks opens given image known = refuses asked command is (did given.memory) causes c asks opens given image known
+
+    pub opens-it-again : OpensAgain the-call
+    opens-it-again c asks can refusal = opens-again asked command is (did (λ one. not-refusal outcome.status 1 one (λ e. cc e) (λ e. cc e) (λ e. cc e) refusal)) causes c asks can refusal
+
+    pub has-its-statuses : HasItsStatuses the-call
+    has-its-statuses c asks never = never-ends asked command is (did (never-lacks c outcome.status never)) causes c asks never
+
+    pub all-balance : Balances the-call
+    all-balance given messages = balances command causes given messages
+
+    -- ---- what holds of a command, whether or not there was memory
+
+    pub only-reads : (c : Command) → asked ≡ Some c → IsPrinting c → ReadsAndSends m old new
+    only-reads c asks printing = by-memory outcome.status
+        (λ one. reads-none command causes one)
+        (λ there. reads-only asked command is (did there) causes c asks printing)
+
+    pub leaves-the-input : (c : Command) → asked ≡ Some c → (c ≡ Run → ⊥) → j.object ≡ i.object
+    leaves-the-input c asks other = by-memory outcome.status
+        (λ one. (no-memory command causes one).0)
+        (λ there. input-untouched asked command is (did there) causes c asks other)

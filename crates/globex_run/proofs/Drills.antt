@@ -1,4 +1,5 @@
 -- What a drill keeps, sends and leaves, from what its session and its summary did.
+use Rattle.globex_run.specs.Inner.Keeping.{KeepsEvents}
 use Rattle.std.proofs.Common.{◌≡◌, ◌≢◌, ◌⊎◌, inl, inr, ⊎_elim, ℕ, ◌+◌, ◌<◌, ◌≤◌, ◌==◌, Bool, true, cond, List, [], ◌∷◌, ◌++◌, length, take, drop, flat_map, Option, Some, None, Result, Ok, Err, refl, sym, ap, subst, ◌∙◌, length-append, length-drop, append_assoc, arith}
 use Rattle.std.specs.List.{concat}
 use Rattle.std.proofs.lemmas.Bool.Decides.{nat_tests, eqb_tells}
@@ -26,9 +27,9 @@ use Rattle.book_recovery.specs.Records.{messages_in, state_kept, from_last_image
 use Rattle.book_recovery.specs.Kept.{KeepsMessages}
 use Rattle.order_maker.specs.Stream.{MadeStream, maker_meanings, made_stream}
 use Rattle.book_print.specs.TallyText.{no_tally, tally_line, tally_of}
-use Rattle.book_print.specs.Publishing.{tally_publisher_meanings}
-use Rattle.book_print.specs.declared.publisher.TallyPublisher.{TallyPublisher}
-use Rattle.book_print.specs.declared.tally.TallyEmit.{TallyEmit}
+use Rattle.book_print.specs.Printing.{tally_form}
+use Rattle.book_print.specs.declared.tally.Tally.{Tally}
+use Rattle.book_print.specs.declared.tally.Tally.{Tally}
 use Rattle.globex_run.specs.Outside.{SourceAt, Outside, source_at, station_at, streams_at}
 use Rattle.globex_run.specs.Outcomes.{outcome_of}
 use Rattle.exec_report.specs.declared.texts.SendFault.{SendFault as SendFailed}
@@ -56,10 +57,10 @@ use Rattle.globex_run.proofs.Told.{outside_of}
 use Rattle.globex_run.proofs.Endings.{status_of, when_done}
 
 -- nothing is sent of any events
-no_lines : (product : ProductLists) (state : State) (messages : List (List ℕ)) → lines_from tally_publisher_meanings.text product state messages ≡ []
+no_lines : (product : ProductLists) (state : State) (messages : List (List ℕ)) → lines_from (tally_form.text no_tally) product state messages ≡ []
 no_lines product state messages = none (events_from product state messages)
   where
-    none : (events : List Event) → flat_map (tally_publisher_meanings.text product.names) events ≡ []
+    none : (events : List Event) → flat_map ((tally_form.text no_tally) product.names) events ≡ []
     none [] = refl
     none (event ∷ events) = none events
 
@@ -78,13 +79,13 @@ unsent (Some s) out lines none between =
     nil (x ∷ xs) e = absurd (omega (arith, e))
 
 -- an output is what was sent, and nothing more
-nothing_more : (product : ProductLists) (state : State) (sent : Option (List ℕ)) (sends' : List (List ℕ) → List ℕ) (messages : List (List ℕ)) (out : List ℕ) → IsBetween sent out (sent_and sent (lines_from tally_publisher_meanings.text product state messages))
+nothing_more : (product : ProductLists) (state : State) (sent : Option (List ℕ)) (sends' : List (List ℕ) → List ℕ) (messages : List (List ℕ)) (out : List ℕ) → IsBetween sent out (sent_and sent (lines_from (tally_form.text no_tally) product state messages))
     → (front : List ℕ) × IsPrefix front (sends' messages) × (Some out ≡ sent_and sent front)
 nothing_more product state sent sends' messages out between =
-    ([], record { rest = sends' messages; is = refl }, unsent sent out (lines_from tally_publisher_meanings.text product state messages) (no_lines product state messages) between)
+    ([], record { rest = sends' messages; is = refl }, unsent sent out (lines_from (tally_form.text no_tally) product state messages) (no_lines product state messages) between)
 
 -- what was sent, where it is what was sent and no lines
-still_sent : (product : ProductLists) (state : State) (messages : List (List ℕ)) (before after : Option (List ℕ)) → after ≡ sent_and before (lines_from tally_publisher_meanings.text product state messages) → after ≡ before
+still_sent : (product : ProductLists) (state : State) (messages : List (List ℕ)) (before after : Option (List ℕ)) → after ≡ sent_and before (lines_from (tally_form.text no_tally) product state messages) → after ≡ before
 still_sent product state messages before after is = is ∙ ap (λ (l : List ℕ). sent_and before l) (no_lines product state messages) ∙ sent_and_none before
 
 -- all of them are sent, where they are all
@@ -147,7 +148,7 @@ module _ {P I S : Type 0} (m : StationMeanings S) (p q : SourceAt P) (i j : Sour
     served = did.served
 
     abbrev Counted : List Event → Type 0
-    Counted events = did.publisher ≡ tally_publisher_meanings.after (record { tally = no_tally }) events
+    Counted events = KeepsEvents tally_form no_tally did.tally events
 
     -- the outside of the session
     abbrev before : Outside P MadeStream S
@@ -186,7 +187,7 @@ module _ {P I S : Type 0} (m : StationMeanings S) (p q : SourceAt P) (i j : Sour
 
     -- what it came to from the image of entry
     abbrev From : Ending → Type 0
-    From ending = SessionFrom m tally_publisher_meanings.text given.product given.text before.streams after.streams Counted did.then given.image given.startable.records given.kept taken ending served.messages
+    From ending = SessionFrom m (tally_form.text no_tally) given.product given.text before.streams after.streams Counted did.then given.image given.startable.records given.kept taken ending served.messages
 
     from : From did.session.ending
     from = did.session.from given.image given.kept given.honest given.image_known given.startable
@@ -276,7 +277,7 @@ module _ {P I S : Type 0} (m : StationMeanings S) (p q : SourceAt P) (i j : Sour
     session-moments : AddsOnly m old mid (IsCrashPrefix m entry exit outcome given (messages_of stream) sums)
     session-moments =
         adds_weaker m old mid _ _ (λ h left out at. crash-same left out at)
-        (headline.every-moment m p q (source_at maker_meanings at_first) (source_at maker_meanings end) old mid tally_publisher_meanings.text Counted did.then served given-then taken sums did.session.ending from
+        (headline.every-moment m p q (source_at maker_meanings at_first) (source_at maker_meanings end) old mid (tally_form.text no_tally) Counted did.then served given-then taken sums did.session.ending from
         (λ messages out between. nothing_more given.product (state_kept given.product given.kept) (m.sent old) sums (messages_in messages) out between))
 
     -- ---- what is kept
@@ -319,12 +320,12 @@ module _ {P I S : Type 0} (m : StationMeanings S) (p q : SourceAt P) (i j : Sour
       pub kept : KeepsNow m before after served given-then (messages_of taken) sums (first_messages served.messages taken)
       pub silent : m.sent mid ≡ m.sent old
 
-    did-all : (ending : Ending) (here : From ending) → here.added ≡ from.added → IsAllServed m tally_publisher_meanings.text given.product given.text before.streams after.streams given.startable.records given.kept here.added served.messages → DidAll
+    did-all : (ending : Ending) (here : From ending) → here.added ≡ from.added → IsAllServed m (tally_form.text no_tally) given.product given.text before.streams after.streams given.startable.records given.kept here.added served.messages → DidAll
     did-all ending here same all =
-        let first = headline.first m p q (source_at maker_meanings at_first) (source_at maker_meanings end) old mid tally_publisher_meanings.text Counted did.then served given-then taken sums ending here here.added [] (sym (append-nil here.added)) served.messages all.messages in
+        let first = headline.first m p q (source_at maker_meanings at_first) (source_at maker_meanings end) old mid (tally_form.text no_tally) Counted did.then served given-then taken sums ending here here.added [] (sym (append-nil here.added)) served.messages all.messages in
         record {
           counted = all.messages ∙ ap (λ (l : List Record). length (messages_in l)) same;
-          kept = headline.keeps_now m p q (source_at maker_meanings at_first) (source_at maker_meanings end) old mid tally_publisher_meanings.text Counted did.then served given-then taken sums ending here here.added [] (sym (append-nil here.added)) (first_messages served.messages taken) first all.keeps;
+          kept = headline.keeps_now m p q (source_at maker_meanings at_first) (source_at maker_meanings end) old mid (tally_form.text no_tally) Counted did.then served given-then taken sums ending here here.added [] (sym (append-nil here.added)) (first_messages served.messages taken) first all.keeps;
           silent = still_sent given.product (state_kept given.product given.kept) (messages_in here.added) (m.sent old) (m.sent mid) all.sent;
         }
 
@@ -345,12 +346,12 @@ module _ {P I S : Type 0} (m : StationMeanings S) (p q : SourceAt P) (i j : Sour
       stopped-by : (ending : Ending) (here : From ending) → here.added ≡ from.added → served ≡ outcome_of ending served.messages → Ended ending → KeepsCounted m before after served given-then (messages_of taken) sums × (m.sent mid ≡ m.sent old)
       stopped-by Done here same is how = absurd (stopped (status_of served Done is))
       stopped-by StoreFault here same is how = (
-        headline.keeps-front m p q (source_at maker_meanings at_first) (source_at maker_meanings end) old mid tally_publisher_meanings.text Counted did.then served given-then taken sums StoreFault here (status_of served StoreFault is) few-served here.ends,
+        headline.keeps-front m p q (source_at maker_meanings at_first) (source_at maker_meanings end) old mid (tally_form.text no_tally) Counted did.then served given-then taken sums StoreFault here (status_of served StoreFault is) few-served here.ends,
         still_sent given.product (state_kept given.product given.kept) (messages_in here.ends.served) (m.sent old) (m.sent mid) here.ends.sent,
       )
       stopped-by (Full place) here same is how =
           let all = did-all (Full place) here same here.ends.0 in
-          (headline.keeps-counted m p q (source_at maker_meanings at_first) (source_at maker_meanings end) old mid tally_publisher_meanings.text Counted did.then served given-then taken sums (Full place) here few-served all.kept, all.silent)
+          (headline.keeps-counted m p q (source_at maker_meanings at_first) (source_at maker_meanings end) old mid (tally_form.text no_tally) Counted did.then served given-then taken sums (Full place) here few-served all.kept, all.silent)
       stopped-by (ReadFault place) here same is how = absurd (not-ended (λ none. none) (λ e. cc e) (λ at e. cc e) how)
       stopped-by SendFault here same is how = absurd (not-ended (λ none. none) (λ e. cc e) (λ at e. cc e) how)
       stopped-by (BadFrame place) here same is how = absurd (not-ended (λ none. none) (λ e. cc e) (λ at e. cc e) how)
@@ -376,7 +377,7 @@ module _ {P I S : Type 0} (m : StationMeanings S) (p q : SourceAt P) (i j : Sour
     -- ---- the session came to its end, and the summary was sent
 
     module _ (zero : served.status ≡ 0) where
-      sums-up : SumsUp m mid new did.publisher did.then served.messages outcome
+      sums-up : SumsUp m mid new did.tally did.then served.messages outcome
       sums-up = did.sums_up zero
 
       is-done : IsDone did.session.ending
@@ -408,23 +409,23 @@ module _ {P I S : Type 0} (m : StationMeanings S) (p q : SourceAt P) (i j : Sour
       -- the messages of the records are the made ones
       made-in : messages_in from.added ≡ messages_of stream
       made-in =
-          sym (headline.first m p q (source_at maker_meanings at_first) (source_at maker_meanings end) old mid tally_publisher_meanings.text Counted did.then served given-then taken sums did.session.ending from from.added [] (sym (append-nil from.added)) served.messages at-end.all.counted)
+          sym (headline.first m p q (source_at maker_meanings at_first) (source_at maker_meanings end) old mid (tally_form.text no_tally) Counted did.then served given-then taken sums did.session.ending from from.added [] (sym (append-nil from.added)) served.messages at-end.all.counted)
           ∙ take_all served.messages (messages_of taken) (omega (arith, at-end.all_counted))
           ∙ ap messages_of (sym at-end.all_taken)
 
       -- the line is the summary
-      line-is : tally_line served.messages did.publisher.tally (length (live_orders did.then.book)) ≡ summary given.product given.kept (messages_of stream)
+      line-is : tally_line served.messages did.tally (length (live_orders did.then.book)) ≡ summary given.product given.kept (messages_of stream)
       line-is =
           let state = state_kept given.product given.kept in
-          ap (λ (n : ℕ). tally_line n did.publisher.tally (length (live_orders did.then.book))) all-count
-          ∙ ap (λ (t : TallyEmit). tally_line (length (messages_of stream)) t (length (live_orders did.then.book))) (ap (λ (t : TallyPublisher). t.tally) (from.published is-done) ∙ ap (λ (l : List (List ℕ)). tally_of (events_from given.product state l)) made-in)
+          ap (λ (n : ℕ). tally_line n did.tally (length (live_orders did.then.book))) all-count
+          ∙ ap (λ (t : Tally). tally_line (length (messages_of stream)) t (length (live_orders did.then.book))) (from.published is-done (λ form p frame. refl) ∙ ap (λ (l : List (List ℕ)). tally_of (events_from given.product state l)) made-in)
           ∙ ap (λ (s : State). tally_line (length (messages_of stream)) (tally_of (events_from given.product state (messages_of stream))) (length (live_orders s.book))) (from.is_state is-done ∙ ap (λ (l : List (List ℕ)). state_after given.product state l) made-in)
 
       -- no more of it was sent than all, behind what had been sent
       at-most : IsKnownPrefix (m.sent new) (sent_and (m.sent old) (summary given.product given.kept (messages_of stream)))
       at-most =
           subst (λ (o : Option (List ℕ)). IsKnownPrefix (m.sent new) (sent_and o (summary given.product given.kept (messages_of stream)))) at-end.all.silent
-          (subst (λ (l : List ℕ). IsKnownPrefix (m.sent new) (sent_and (m.sent mid) l)) line-is (sends_at_most m mid new (tally_line served.messages did.publisher.tally (length (live_orders did.then.book))) sums-up.result sums-up.sends))
+          (subst (λ (l : List ℕ). IsKnownPrefix (m.sent new) (sent_and (m.sent mid) l)) line-is (sends_at_most m mid new (tally_line served.messages did.tally (length (live_orders did.then.book))) sums-up.result sums-up.sends))
 
       -- all made messages are kept
       keeps-at : (image : List ℕ) → m.holds mid ≡ Some image → KeepsMessages given.product given.text (given.kept ++ messages_of stream) image
@@ -470,7 +471,7 @@ module _ {P I S : Type 0} (m : StationMeanings S) (p q : SourceAt P) (i j : Sour
           adds_then m old mid new _ _ (λ h left out pair. summary-crash left out (session-moments.honest h) pair.0 pair.1) session-moments sums-up.sends.quiet.moments
 
       -- by what became of the summary
-      summed-all : (result : Result (Unit {0}) SendFailed) → outcome ≡ outcome_summed served.messages result → Sends m mid new (tally_line served.messages did.publisher.tally (length (live_orders did.then.book))) result → outcome.status ≡ 0 → KeepsAndSumsUp m entry exit outcome given first count
+      summed-all : (result : Result (Unit {0}) SendFailed) → outcome ≡ outcome_summed served.messages result → Sends m mid new (tally_line served.messages did.tally (length (live_orders did.then.book))) result → outcome.status ≡ 0 → KeepsAndSumsUp m entry exit outcome given first count
       summed-all (Ok t) is sent none = record {
         sent =
             sent.all
@@ -502,7 +503,7 @@ module _ {P I S : Type 0} (m : StationMeanings S) (p q : SourceAt P) (i j : Sour
     -- ---- which records were added
 
     keeping : KeepsNoMore m given.text given.product.journal_limit mid given.startable.records from.added
-    keeping = keeps_no_more m tally_publisher_meanings.text given.product given.text before.streams after.streams served.messages given.startable.records given.kept from.added from.behind did.session.ending from.ends
+    keeping = keeps_no_more m (tally_form.text no_tally) given.product given.text before.streams after.streams served.messages given.startable.records given.kept from.added from.behind did.session.ending from.ends
 
     -- the summary is sent, and the image stays
     adds-of : m.holds new ≡ m.holds mid → AddsMessages m entry exit outcome given
@@ -557,7 +558,7 @@ module _ {P I S : Type 0} (m : StationMeanings S) (p q : SourceAt P) (i j : Sour
 
     -- before the first sync
     pub drill-first-sync : IsHonestNow m old → DrillBeforeTheFirstSync m entry exit outcome given first count
-    drill-first-sync now = headline.first-sync m p q i j old new tally_publisher_meanings.text Counted did.then outcome given stream sums (record { rest = sums []; is = refl }) drill-moments now
+    drill-first-sync now = headline.first-sync m p q i j old new (tally_form.text no_tally) Counted did.then outcome given stream sums (record { rest = sums []; is = refl }) drill-moments now
 
 -- ---- the next message has no room, or cannot be counted
 
@@ -609,6 +610,6 @@ module _ {S : Type 0} (m : StationMeanings S) (product : ProductLists) (text ima
     | inr other ↦
         let same = made.did.otherwise other.1 in
         full-of-all same.0 same.1
-        (session-full m tally_publisher_meanings.text product made.did.session.right text image records keeps (streams_at {S = S} maker_meanings m (record { left = all_made; reads = 0 }) old) (streams_at {S = S} maker_meanings m made.end made.did.mid) refl made.did.served made.did.session.serving.taken _ made.did.then made.did.session refl honest known
+        (session-full m (tally_form.text no_tally) product made.did.session.right text image records keeps (streams_at {S = S} maker_meanings m (record { left = all_made; reads = 0 }) old) (streams_at {S = S} maker_meanings m made.end made.did.mid) refl made.did.served made.did.session.serving.taken _ made.did.then made.did.session refl honest known
         (sym (ap (λ (o : Outcome). o.status) same.1) ∙ twelve))
   ]

@@ -14,7 +14,7 @@ use Rattle.order_kinds.specs.State.{State}
 use Rattle.order_maker.specs.Stream.{maker_meanings, made_stream}
 use Rattle.exec_report.specs.declared.texts.SendFault.{SendFault as SendFailed}
 use Rattle.book_print.specs.StepText.{steps_text}
-use Rattle.book_print.specs.Publishers.{LineForm}
+use Rattle.exec_report.specs.Forms.{LineText}
 use Rattle.journal_print.specs.Reading.{ReadsAndSends}
 use Rattle.command_words.specs.declared.command.Command.{Command}
 use Rattle.command_words.specs.declared.command.Command.TheVariants.{Run, Replay, Book, Fills, Ledger, Steps, Drill, Checkpoint}
@@ -34,7 +34,7 @@ use Rattle.globex_run.proofs.Complete.{broken_more}
 use Rattle.globex_run.proofs.Drills.{empty_front}
 
 -- a session, whatever was published
-pub any-published : {I S : Type 0} (m : StationMeanings S) (line : LineForm) (product : ProductLists) (text : List ℕ) (before after : Streams I S) (Published : List Event → Type 0) (then : State) (outcome : Outcome)
+pub any-published : {I S : Type 0} (m : StationMeanings S) (line : LineText) (product : ProductLists) (text : List ℕ) (before after : Streams I S) (Published : List Event → Type 0) (then : State) (outcome : Outcome)
     → SessionResult m line product text before after Published then outcome → SessionResult m line product text before after (λ (events : List Event). Unit {0}) then outcome
 any-published m line product text before after Published then outcome session = record {
   right = session.right;

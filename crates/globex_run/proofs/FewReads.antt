@@ -1,4 +1,5 @@
 -- How much of the journal is read, where no call on the store failed.
+use Rattle.globex_run.specs.Inner.Keeping.{KeepsEvents}
 use Rattle.std.proofs.Common.{◌≡◌, ◌≢◌, inl, inr, ℕ, List, Option, Some, sym, ap, subst, ◌∙◌, arith}
 use Rattle.std.proofs.lemmas.Bool.Decides.{eqb_tells}
 use Rattle.gx_base.specs.declared.event.Event.{Event}
@@ -8,9 +9,9 @@ use Rattle.product_file.specs.Products.{ProductLists}
 use Rattle.order_kinds.specs.State.{State}
 use Rattle.order_maker.specs.Stream.{MadeStream, maker_meanings}
 use Rattle.book_recovery.specs.Kept.{KeepsMessages}
-use Rattle.book_print.specs.Publishers.{LineForm}
+use Rattle.exec_report.specs.Forms.{LineText}
 use Rattle.book_print.specs.TallyText.{no_tally}
-use Rattle.book_print.specs.Publishing.{tally_publisher_meanings}
+use Rattle.book_print.specs.Printing.{tally_form}
 use Rattle.globex_run.specs.Outside.{Streams, streams_at}
 use Rattle.globex_run.specs.Outcomes.{outcome_of}
 use Rattle.globex_run.specs.Journals.{most_read}
@@ -20,7 +21,7 @@ use Rattle.globex_run.specs.declared.outcome.Outcome.{Outcome}
 use Rattle.globex_run.specs.declared.ending.Ending.{Ending}
 
 -- how a session read its journal
-pub session-reads : {I S : Type 0} (m : StationMeanings S) (line : LineForm) (product : ProductLists) (text : List ℕ) (before after : Streams I S) (Published : List Event → Type 0) (then : State) (outcome : Outcome) → SessionResult m line product text before after Published then outcome
+pub session-reads : {I S : Type 0} (m : StationMeanings S) (line : LineText) (product : ProductLists) (text : List ℕ) (before after : Streams I S) (Published : List Event → Type 0) (then : State) (outcome : Outcome) → SessionResult m line product text before after Published then outcome
     → (image : List ℕ) (kept : List (List ℕ)) → m.is_honest before.station.object → before.station.image ≡ Some image → (startable : KeepsMessages product text kept image)
     → ReadsAtMost (most_read startable.records) (m.bytes_read before.station.object) (m.bytes_read after.station.object)
 session-reads m line product text before after Published then outcome session image kept honest read startable = (session.from image kept honest read startable).bytes
@@ -30,8 +31,8 @@ pub drill-reads : {S : Type 0} (m : StationMeanings S) (product : ProductLists) 
     → (image : List ℕ) (kept : List (List ℕ)) → m.is_honest old → m.holds old ≡ Some image → (startable : KeepsMessages product text kept image)
     → ReadsAtMost (most_read startable.records) (m.bytes_read old) (m.bytes_read new)
 drill-reads m product text made rest old new outcome did image kept honest read startable =
-    let Counted = λ (events : List Event). did.publisher ≡ tally_publisher_meanings.after (record { tally = no_tally }) events in
-    let first = session-reads m tally_publisher_meanings.text product text (streams_at maker_meanings m made old) (streams_at maker_meanings m rest did.mid) Counted did.then did.served did.session image kept honest read startable in
+    let Counted = λ (events : List Event). KeepsEvents tally_form no_tally did.tally events in
+    let first = session-reads m (tally_form.text no_tally) product text (streams_at maker_meanings m made old) (streams_at maker_meanings m rest did.mid) Counted did.then did.served did.session image kept honest read startable in
     let then = λ (same : m.bytes_read new ≡ m.bytes_read did.mid). subst (λ (count : Option ℕ). ReadsAtMost (most_read startable.records) (m.bytes_read old) count) (sym same) first in
     elim (eqb_tells did.served.status 0) [
       | inl none ↦ then (did.sums_up none.1).sends.quiet.bytes_read

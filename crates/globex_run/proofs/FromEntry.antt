@@ -20,7 +20,7 @@ use Rattle.product_file.specs.declared.limits.TheConstants.{LEAST_JOURNAL}
 use Rattle.product_file.specs.Products.{ProductLists, IsRightProduct}
 use Rattle.order_kinds.specs.State.{State, state_numbered}
 use Rattle.order_kinds.specs.Cores.{AreNumbered}
-use Rattle.book_print.specs.Publishers.{LineForm}
+use Rattle.exec_report.specs.Forms.{LineText}
 use Rattle.gx_base.specs.declared.event.Event.{Event}
 use Rattle.order_kinds.specs.Step.{state_after, events_from}
 use Rattle.globex_run.specs.Outside.{Streams, AreWithinReads, streams_at}
@@ -52,7 +52,7 @@ holds_either m P Q s holds = ⊎_elim
 holds_weaker : {S : Type 0} (m : StationMeanings S) (P Q : List ℕ → Type 0) (s : S) → ((image : List ℕ) → P image → Q image) → HoldsOne m P s → HoldsOne m Q s
 holds_weaker m P Q s weaker holds = record { image = holds.image; read = holds.read; has = weaker holds.image holds.has }
 
-module _ {I S : Type 0} (inputs : SourceMeanings I) (m : StationMeanings S) (line : LineForm) (Published : List Event → Type 0) (product : ProductLists) (text image : List ℕ) (records : List Record) (kept : List (List ℕ)) (old : S) (right : IsRightProduct product) where
+module _ {I S : Type 0} (inputs : SourceMeanings I) (m : StationMeanings S) (line : LineText) (Published : List Event → Type 0) (product : ProductLists) (text image : List ℕ) (records : List Record) (kept : List (List ℕ)) (old : S) (right : IsRightProduct product) where
   large : LEAST_JOURNAL ≤ product.journal_limit
   large = right.least_limit
 
@@ -228,7 +228,7 @@ pub where_told : (told : Option (List ℕ)) (P : List ℕ → Type 0) → ((imag
 where_told None P says = tt
 where_told (Some image) P says = says image refl
 
-module _ {I S : Type 0} (inputs : SourceMeanings I) (m : StationMeanings S) (line : LineForm) (Published : List Event → Type 0) (product : ProductLists) (text : List ℕ) (old : S) where
+module _ {I S : Type 0} (inputs : SourceMeanings I) (m : StationMeanings S) (line : LineText) (Published : List Event → Type 0) (product : ProductLists) (text : List ℕ) (old : S) where
   -- opening raised no count of faults
   pub caused_by : (ending : Ending) (mid : S) (input : I) (after : Streams I S) → m.store_faults mid ≡ m.store_faults old → m.send_faults mid ≡ m.send_faults old → CausedBy ending (streams_at inputs m input mid) after → CausedBy ending (streams_at inputs m input old) after
   caused_by Done mid input after store send cause = (cause.0, cause.1 ∙ store, cause.2 ∙ send)
@@ -306,7 +306,7 @@ refused_by (unopened.Bad at) outcome is refused = tt
 refused_by (unopened.ProductDiffers at) outcome is refused = tt
 
 -- serving counts no fewer messages than before
-pub no_fewer : {I S : Type 0} (m : StationMeanings S) (Numbered : Type 0) (line : LineForm) (product : ProductLists) (limit : ℕ) (mid after : Streams I S) (gate end : ℕ) (state then : State) (added : List Record) (behind : List ℕ) (ending : Ending) → EndsServing m Numbered line product limit mid after gate end state then ending added behind
+pub no_fewer : {I S : Type 0} (m : StationMeanings S) (Numbered : Type 0) (line : LineText) (product : ProductLists) (limit : ℕ) (mid after : Streams I S) (gate end : ℕ) (state then : State) (added : List Record) (behind : List ℕ) (ending : Ending) → EndsServing m Numbered line product limit mid after gate end state then ending added behind
     → state.desk.messages ≤ then.desk.messages
 no_fewer m Numbered line product limit mid after gate end state then added behind Done ends = omega (arith, ends.0.count)
 no_fewer m Numbered line product limit mid after gate end state then added behind (ReadFault place) ends = omega (arith, ends.0.count)
@@ -334,7 +334,7 @@ RestsAs m product text old mid core journal = (image : List ℕ) (records : List
 abbrev pub OpensAs : {S : Type 0} → StationMeanings S → ProductLists → List ℕ → S → S → State → Result Standing Unopened → Type 0
 OpensAs m product text old mid core result = (image : List ℕ) (records : List Record) → m.is_honest old → m.holds old ≡ Some image → Keeps text product.journal_limit records image → AreGoodRecords product 0 records → AreTrueRecords product [] records → Opens m product text old mid image records core result
 
-module _ {I S : Type 0} (inputs : SourceMeanings I) (m : StationMeanings S) (line : LineForm) (Published : List Event → Type 0) (product : ProductLists) (text : List ℕ) (old mid : S) (input : I) (core : State) (right : IsRightProduct product) (silent : SendsNothing m old mid) where
+module _ {I S : Type 0} (inputs : SourceMeanings I) (m : StationMeanings S) (line : LineText) (Published : List Event → Type 0) (product : ProductLists) (text : List ℕ) (old mid : S) (input : I) (core : State) (right : IsRightProduct product) (silent : SendsNothing m old mid) where
   pub unopened_session : (after : State) (reason : Unopened) (outcome : Outcome) → outcome ≡ outcome_of (ending_without reason) 0 → (reason ≡ unopened.Store → Rose (m.store_faults old) (m.store_faults mid)) → ((reason ≡ unopened.Store → ⊥) → m.store_faults mid ≡ m.store_faults old)
       → ((image : List ℕ) → m.holds old ≡ Some image → AnswersImage product text image (ending_without reason)) → OpensAs m product text old mid core (Err reason) → SessionResult m line product text (streams_at inputs m input old) (streams_at inputs m input mid) Published after outcome
   unopened_session after reason outcome is store none answers opens =

@@ -16,7 +16,7 @@ use Rattle.match_journal.specs.StepLaws.{adds_weaker}
 use Rattle.order_kinds.specs.State.{State}
 use Rattle.book_recovery.specs.Records.{IsWhole, AreWhole, messages_in, state_kept}
 use Rattle.book_recovery.specs.Kept.{KeepsMessages}
-use Rattle.book_print.specs.Publishers.{LineForm}
+use Rattle.exec_report.specs.Forms.{LineText}
 use Rattle.globex_run.specs.Outside.{SourceAt, Outside}
 use Rattle.globex_run.specs.RunResult.{first_messages}
 use Rattle.globex_run.specs.Headline.{Premises, KeepsNow, KeepsCounted, IsCrashPrefix, LeavesCrashPrefixes, LeftSinceEntry, IsAsAtEntry, BeforeTheFirstSync, KeepsEverySent, HasSentBehind}
@@ -59,7 +59,7 @@ few-in-one (r ∷ []) one whole are =
     omega (arith, few, ap (λ (l : List ℕ). length l) (records_joined (r ∷ []) whole), ap (λ (l : List ℕ). length l) (append-nil r.payload))
 few-in-one (r ∷ (s ∷ records)) one whole are = absurd (omega (arith, one))
 
-module _ {P I S : Type 0} (m : StationMeanings S) (p q : SourceAt P) (i j : SourceAt I) (old new : S) (line : LineForm) (Published : List Event → Type 0) (then : State) (outcome : Outcome) where
+module _ {P I S : Type 0} (m : StationMeanings S) (p q : SourceAt P) (i j : SourceAt I) (old new : S) (line : LineText) (Published : List Event → Type 0) (then : State) (outcome : Outcome) where
   abbrev entry : Outside P I S
   entry = outside_of m p i old
 

@@ -7,7 +7,7 @@ use Rattle.match_journal.specs.Classes.{Keeps}
 use Rattle.match_journal.specs.Steps.{HoldsOne}
 use Rattle.book_recovery.specs.Records.{IsWhole, AreWhole}
 use Rattle.product_file.specs.Products.{ProductLists}
-use Rattle.book_print.specs.Publishers.{LineForm}
+use Rattle.exec_report.specs.Forms.{LineText}
 use Rattle.gx_base.specs.declared.event.Event.{Event}
 use Rattle.order_kinds.specs.State.{State}
 use Rattle.globex_run.specs.Outside.{SourceAt, Outside, Streams}
@@ -30,7 +30,7 @@ pub record KeepsNoMore {S : Type 0} (m : StationMeanings S) (text : List ℕ) (l
   pub are : added ≡ more ++ rest
   pub holds : HoldsOne m (Keeps text limit (records ++ more)) now
 
-module _ {I S : Type 0} (m : StationMeanings S) (line : LineForm) (product : ProductLists) (text : List ℕ) (before after : Streams I S) (count : ℕ) (records : List Record) (kept : List (List ℕ)) (added : List Record) (behind : List ℕ) where
+module _ {I S : Type 0} (m : StationMeanings S) (line : LineText) (product : ProductLists) (text : List ℕ) (before after : Streams I S) (count : ℕ) (records : List Record) (kept : List (List ℕ)) (added : List Record) (behind : List ℕ) where
   abbrev Keeping : Type 0
   Keeping = KeepsNoMore m text product.journal_limit after.station.object records added
 
@@ -52,7 +52,7 @@ module _ {I S : Type 0} (m : StationMeanings S) (line : LineForm) (product : Pro
   keeps_no_more (ProductDiffers place) ends = absurd ends
   keeps_no_more (Full place) ends = all_added ends.0.keeps
 
-module _ {P I S : Type 0} (m : StationMeanings S) (p q : SourceAt P) (i j : SourceAt I) (old new : S) (line : LineForm) (Published : List Event → Type 0) (then : State) (outcome : Outcome) where
+module _ {P I S : Type 0} (m : StationMeanings S) (p q : SourceAt P) (i j : SourceAt I) (old new : S) (line : LineText) (Published : List Event → Type 0) (then : State) (outcome : Outcome) where
   abbrev entry : Outside P I S
   entry = outside_of m p i old
 

@@ -10,5 +10,11 @@ pub mod Checkpoints
 pub mod Prints
 pub mod Refusals
 pub mod FullJournals
+pub mod Calls
+pub mod Steps
+pub mod Works
+pub mod Promises
+pub mod OfRuns
+pub mod Amending
 pub mod Reopening
 pub mod Inner

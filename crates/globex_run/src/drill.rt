@@ -8,7 +8,7 @@ ghost use Rattle.globex_run.specs.Inner.Drilling.{DrillResult, DrillsMade, outco
 use crate::buffers::Buffers;
 use crate::outcome::{Outcome, Status};
 use crate::session::serve_session;
-use book_print::{TallyEmit, TallyPublisher, print_tally};
+use book_print::{Tally, print_tally};
 use exec_report::SendFault;
 use gx_station::Station;
 use maker_laws::names_are_right;
@@ -38,20 +38,19 @@ fn run_drill<S: Station>(
     requires short { length text.now ≤ LONGEST_TEXT }
     requires new { AreNew product.now buffers.old }
     ensures drills { DrillResult S.meanings product.now text.now made.old made.new station.old station.new result }
-    ensures stays { (image : List ℕ) → S.meanings.holds station.old ≡ Some image → (result.status ≡ 9) ⊎ ((result.status ≡ 10) ⊎ (result.status ≡ 11)) → KeepsImage S.meanings station.old station.new }
+    ensures stays { (image : List ℕ) → S.meanings.holds station.old ≡ Some image → (result.status ≡ 9) ⊎ ((result.status ≡ 10) ⊎ (result.status ≡ 11))
+        → KeepsImage S.meanings station.old station.new }
     ensures refused { (result.status ≡ 9) ⊎ ((result.status ≡ 10) ⊎ (result.status ≡ 11)) → S.meanings.sent station.new ≡ S.meanings.sent station.old }
 {
-    let mut publisher = TallyPublisher {
-        tally: TallyEmit::new(),
-    };
-    let outcome = serve_session(&mut publisher, product, text, buffers, made, station);
+    let mut tally = Tally::new();
+    let outcome = serve_session(&mut tally, product, text, buffers, made, station);
     if !outcome.is_ok() {
         return outcome;
     }
     let live = buffers.core.book().live();
     let sent = print_tally(
         outcome.messages,
-        &publisher.tally,
+        &tally,
         live,
         &mut buffers.reports,
         station,
@@ -71,7 +70,8 @@ pub fn drill<S: Station>(
     requires short { length text.now ≤ LONGEST_TEXT }
     requires new { AreNew product.now buffers.old }
     ensures drills { DrillsMade S.meanings product.now text.now first count station.old station.new result }
-    ensures stays { (image : List ℕ) → S.meanings.holds station.old ≡ Some image → (result.status ≡ 9) ⊎ ((result.status ≡ 10) ⊎ (result.status ≡ 11)) → KeepsImage S.meanings station.old station.new }
+    ensures stays { (image : List ℕ) → S.meanings.holds station.old ≡ Some image → (result.status ≡ 9) ⊎ ((result.status ≡ 10) ⊎ (result.status ≡ 11))
+        → KeepsImage S.meanings station.old station.new }
     ensures refused { (result.status ≡ 9) ⊎ ((result.status ≡ 10) ⊎ (result.status ≡ 11)) → S.meanings.sent station.new ≡ S.meanings.sent station.old }
 {
     product.limits();

@@ -17,11 +17,11 @@ use crate::journal_use::opens_journal;
 use crate::outcome::{Outcome, Status};
 use crate::printing::{outcome_printed, outcome_sent};
 use crate::session::serve_session;
-use book_print::{ReportPublisher, print_steps};
+use book_print::{FillForm, Totals, print_steps};
 use command_words::Command;
-use exec_report::ReportBuffer;
+use exec_report::{ReportBuffer, ReportForm};
 use gx_station::{Source, Station};
-use journal_print::{print_fills, print_kept_book, print_ledger, print_reports};
+use journal_print::{print_events, print_kept_book};
 use maker_laws::names_are_right;
 use product_file::Product;
 use report_laws::reports_balance;
@@ -48,10 +48,13 @@ pub fn execute<I: Source, S: Station>(
     station: &mut S,
 ) -> Outcome
     requires short { length text.now ≤ LONGEST_TEXT }
-    ensures executes { result.status ≢ 1 → Executes S.meanings product.now text.now (streams_at I.meanings S.meanings input.old station.old) (streams_at I.meanings S.meanings input.new station.new) result command }
-    ensures causes { HasCauses S.meanings product.now text.now (streams_at I.meanings S.meanings input.old station.old) (streams_at I.meanings S.meanings input.new station.new) result command }
+    ensures executes { result.status ≢ 1 → Executes S.meanings product.now text.now (streams_at I.meanings S.meanings input.old station.old)
+        (streams_at I.meanings S.meanings input.new station.new) result command }
+    ensures causes { HasCauses S.meanings product.now text.now (streams_at I.meanings S.meanings input.old station.old)
+        (streams_at I.meanings S.meanings input.new station.new) result command }
     ensures reports { (messages : List (List ℕ)) → IsReadBalanced product.now messages }
-    ensures stays { (image : List ℕ) → IsWriting command → S.meanings.holds station.old ≡ Some image → IsRefusal result.status → KeepsImage S.meanings station.old station.new }
+    ensures stays { (image : List ℕ) → IsWriting command → S.meanings.holds station.old ≡ Some image → IsRefusal result.status
+        → KeepsImage S.meanings station.old station.new }
     ensures refused { IsWriting command → IsRefusal result.status → S.meanings.sent station.new ≡ S.meanings.sent station.old }
 {
     product.limits();
@@ -80,20 +83,24 @@ fn execute_with<I: Source, S: Station>(
     requires short { length text.now ≤ LONGEST_TEXT }
     requires new { AreNew product.now buffers.old }
     requires spare { ReadsEachRecord command → buffers.old.spare ≡ Some (empty_state product.now) }
-    ensures executes { Executes S.meanings product.now text.now (streams_at I.meanings S.meanings input.old station.old) (streams_at I.meanings S.meanings input.new station.new) result command }
-    ensures causes { HasCauses S.meanings product.now text.now (streams_at I.meanings S.meanings input.old station.old) (streams_at I.meanings S.meanings input.new station.new) result command }
-    ensures stays { (image : List ℕ) → IsWriting command → S.meanings.holds station.old ≡ Some image → IsRefusal result.status → KeepsImage S.meanings station.old station.new }
+    ensures executes { Executes S.meanings product.now text.now (streams_at I.meanings S.meanings input.old station.old)
+        (streams_at I.meanings S.meanings input.new station.new) result command }
+    ensures causes { HasCauses S.meanings product.now text.now (streams_at I.meanings S.meanings input.old station.old)
+        (streams_at I.meanings S.meanings input.new station.new) result command }
+    ensures stays { (image : List ℕ) → IsWriting command → S.meanings.holds station.old ≡ Some image → IsRefusal result.status
+        → KeepsImage S.meanings station.old station.new }
     ensures refused { IsWriting command → IsRefusal result.status → S.meanings.sent station.new ≡ S.meanings.sent station.old }
 {
     product.limits();
     match command {
-        Command::Run => serve_session(&mut ReportPublisher, product, text, buffers, input, station),
+        Command::Run => serve_session(&mut ReportForm, product, text, buffers, input, station),
         Command::Drill { first, count } => { drill(product, text, buffers, first, count, station) }
         Command::Replay => {
             let Some(spare) = &mut buffers.spare else {
                 unreachable!()
             };
-            outcome_printed(print_reports(
+            outcome_printed(print_events(
+                &mut ReportForm,
                 product,
                 text,
                 &mut buffers.scratch,
@@ -107,7 +114,8 @@ fn execute_with<I: Source, S: Station>(
             let Some(spare) = &mut buffers.spare else {
                 unreachable!()
             };
-            outcome_printed(print_fills(
+            outcome_printed(print_events(
+                &mut FillForm,
                 product,
                 text,
                 &mut buffers.scratch,
@@ -121,7 +129,8 @@ fn execute_with<I: Source, S: Station>(
             let Some(spare) = &mut buffers.spare else {
                 unreachable!()
             };
-            outcome_printed(print_ledger(
+            outcome_printed(print_events(
+                &mut Totals::new(),
                 product,
                 text,
                 &mut buffers.scratch,

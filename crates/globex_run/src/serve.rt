@@ -6,13 +6,13 @@ ghost use Rattle.order_kinds.specs.State.{state_numbered};
 ghost use Rattle.order_kinds.specs.Cores.{FitsProduct, AreNumbered};
 ghost use Rattle.order_kinds.specs.declared.core_state.TheConstants.{MOST_MESSAGES};
 ghost use Rattle.globex_run.specs.Outside.{source_at, streams_at};
+ghost use Rattle.globex_run.specs.Inner.Keeping.{KeepsEvents};
 ghost use Rattle.globex_run.specs.Inner.Serving.{TakesMore, CausedBy, IsDone, ServesInput, IsEmptyFramer};
 
 use crate::ending::Ending;
 use crate::give_frames::{Behind, give_frames};
 use crate::serve_record::serve_record;
-use book_print::Publisher;
-use exec_report::ReportBuffer;
+use exec_report::{LineForm, ReportBuffer};
 use fix_frame::{FRONT_LIMIT, Framer, ROOM};
 use gx_station::{Failed, LEAST_READ, Source, Station};
 use match_journal::Journal;
@@ -47,10 +47,10 @@ fn take_more<I: Source>(
 /// events are published. It ends since each record lengthens the journal towards its limit, and each read that does not end the
 /// input takes at least one byte into a bounded buffer.
 ///
-/// Where the order numbers of the core differ, the state, what is sent and the publisher are those of the engine's events. Over
+/// Where the order numbers of the core differ, the state, what is sent and the form are those of the engine's events. Over
 /// any other core that fits, the records are kept as well, and their messages are counted.
-pub fn serve<P: Publisher, B: Book, I: Source, S: Station>(
-    publisher: &mut P,
+pub fn serve<F: LineForm, B: Book, I: Source, S: Station>(
+    form: &mut F,
     product: &Product,
     core: &mut Core<B>,
     journal: &mut Journal,
@@ -69,11 +69,13 @@ pub fn serve<P: Publisher, B: Book, I: Source, S: Station>(
     requires framer { IsEmptyFramer framer.old }
     requires chunk { length chunk.old ≡ ROOM }
     requires buffer { buffer.old ≡ [] }
-    ensures silent { IsTrue P.meanings.is_silent → result ≢ Ending.SendFault }
+    ensures silent { IsTrue F.meanings.is_silent → result ≢ Ending.SendFault }
     ensures empty { IsDone result → buffer.new ≡ [] }
     ensures bytes_read { S.meanings.bytes_read station.new ≡ S.meanings.bytes_read station.old }
     ensures cause { CausedBy result (streams_at I.meanings S.meanings input.old station.old) (streams_at I.meanings S.meanings input.new station.new) }
-    ensures serves { ServesInput S.meanings (AreNumbered core.old) P.meanings.text product.now journal.old.limit (streams_at I.meanings S.meanings input.old station.old) (streams_at I.meanings S.meanings input.new station.new) journal.old.gate journal.new.gate (state_numbered core.old) (state_numbered core.new) (λ events. publisher.new ≡ P.meanings.after publisher.old events) result }
+    ensures serves { ServesInput S.meanings (AreNumbered core.old) (F.meanings.text form.old) product.now journal.old.limit
+        (streams_at I.meanings S.meanings input.old station.old) (streams_at I.meanings S.meanings input.new station.new) journal.old.gate journal.new.gate
+        (state_numbered core.old) (state_numbered core.new) (λ events. KeepsEvents F.meanings form.old form.new events) result }
 {
     product.limits();
     'turns: loop {
@@ -87,9 +89,7 @@ pub fn serve<P: Publisher, B: Book, I: Source, S: Station>(
         }
         let most = MOST_MESSAGES - 1 - core.messages();
         let behind = give_frames(framer, journal.room(), most);
-        if let Err(reason) = serve_record(
-            publisher, product, core, journal, framer, buffer, station,
-        ) {
+        if let Err(reason) = serve_record(form, product, core, journal, framer, buffer, station) {
             return reason.ending();
         }
         match behind {

@@ -6,11 +6,12 @@ ghost use Rattle.order_kinds.specs.State.{state_numbered};
 ghost use Rattle.order_kinds.specs.Cores.{FitsProduct, AreNumbered};
 ghost use Rattle.order_kinds.specs.declared.core_state.TheConstants.{MOST_MESSAGES};
 ghost use Rattle.book_recovery.specs.Records.{messages_in};
+ghost use Rattle.globex_run.specs.Inner.Keeping.{KeepsEvents};
 ghost use Rattle.globex_run.specs.Inner.Serving.{record_of, AnswersFrames};
 
 use crate::ending::Ending;
-use book_print::Publisher;
-use exec_report::ReportBuffer;
+use book_print::publish;
+use exec_report::{LineForm, ReportBuffer};
 use fix_frame::Framer;
 use gx_station::Station;
 use match_journal::{AppendFault, EntryKind, Journal};
@@ -44,10 +45,10 @@ impl Unserved {
 /// Keeps the frames that a framer has given in one record, then applies their messages, and then publishes their events; or says
 /// why not. Where it has given none, nothing is done.
 ///
-/// Where the order numbers of the core differ, the state, what is sent and the publisher are those of the engine's events. Over
+/// Where the order numbers of the core differ, the state, what is sent and the form are those of the engine's events. Over
 /// any other core that fits, the record is kept as well, and its messages are counted.
-pub fn serve_record<P: Publisher, B: Book, S: Station>(
-    publisher: &mut P,
+pub fn serve_record<F: LineForm, B: Book, S: Station>(
+    form: &mut F,
     product: &Product,
     core: &mut Core<B>,
     journal: &mut Journal,
@@ -64,9 +65,13 @@ pub fn serve_record<P: Publisher, B: Book, S: Station>(
     requires empty { buffer.old ≡ [] }
     ensures limit { journal.new.limit ≡ journal.old.limit }
     ensures bytes_read { S.meanings.bytes_read station.new ≡ S.meanings.bytes_read station.old }
-    ensures answers { AnswersFrames S.meanings (AreNumbered core.old) P.meanings.text product.now journal.old.limit station.old station.new journal.old.gate journal.new.gate (state_numbered core.old) (state_numbered core.new) framer.now.given result }
-    ensures published { AreNumbered core.old → OnOk result (publisher.new ≡ P.meanings.after publisher.old (events_from product.now (state_numbered core.old) (messages_in (record_of framer.now.given)))) }
-    ensures silent { IsTrue P.meanings.is_silent → result ≢ Err Unserved.SendFault }
+    ensures answers { AnswersFrames S.meanings (AreNumbered core.old)
+        (F.meanings.text form.old) product.now journal.old.limit station.old station.new journal.old.gate journal.new.gate (state_numbered core.old)
+        (state_numbered core.new) framer.now.given result }
+    ensures published { AreNumbered core.old → OnOk result (KeepsEvents F.meanings form.old form.new
+        (events_from product.now (state_numbered core.old) (messages_in (record_of framer.now.given)))) }
+    ensures text { F.meanings.text form.new ≡ F.meanings.text form.old }
+    ensures silent { IsTrue F.meanings.is_silent → result ≢ Err Unserved.SendFault }
     ensures at_end { OnOk result (journal.new.is_at_end ≡ true) }
     ensures reach { OnOk result (journal.new.known ≤ S.meanings.reach station.new) }
     ensures in_limit { OnOk result (journal.new.gate < journal.new.limit) }
@@ -84,7 +89,7 @@ pub fn serve_record<P: Publisher, B: Book, S: Station>(
         Err(AppendFault::Full) => unreachable!(),
         Err(AppendFault::Store) => return Err(Unserved::StoreFault),
     }
-    match publisher.publish(product, core, framer, buffer, station) {
+    match publish(form, product, core, framer, buffer, station) {
         Ok(()) => Ok(()),
         Err(_) => Err(Unserved::SendFault),
     }

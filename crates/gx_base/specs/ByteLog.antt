@@ -1,5 +1,5 @@
 -- What a `ByteEmit` and a `NullEmit` stand for.
-use Rattle.std.specs.Prelude.{◌≡◌, ℕ, ◌+◌, ◌<◌, Bool, true, false, List, [], ◌++◌, length, Some, refl}
+use Rattle.std.specs.Prelude.{◌≡◌, ℕ, ◌+◌, ◌<◌, Bool, true, false, List, [], ◌++◌, length, refl}
 use Rattle.std.proofs.Common.{inl, inr, sym, ◌∙◌, ap, subst}
 use Rattle.std.proofs.lemmas.Bool.{cases_Bool, true≢false}
 use Rattle.gx_base.specs.NameLists.{NameLists}
@@ -22,9 +22,12 @@ with_line names bytes event = bytes ++ line_of names event
 
 abbrev pub null_meanings : EmitMeanings NullEmit
 null_meanings = record {
-  seen = λ _. Some [];
-  after = λ _ _ _. [];
+  Seen = Unit {0};
+  seen = λ _. tt;
+  after = λ _ _ _. tt;
   has_failed = λ _. false;
+  IsPart = λ _ _. Unit {0};
+  part_itself = λ _. tt;
   Later = λ _ _. Unit {0};
   later_itself = λ _. tt;
   later_then = λ _ _ _ _ _. tt;
@@ -68,9 +71,12 @@ log_then a b c first second = record {
 
 abbrev pub byte_meanings : EmitMeanings ByteLog
 byte_meanings = record {
-  seen = λ e. Some e.bytes;
+  Seen = List ℕ;
+  seen = λ e. e.bytes;
   after = λ e. with_line e.names;
   has_failed = λ e. e.full;
+  IsPart = IsPrefix;
+  part_itself = prefix_itself;
   Later = IsLaterLog;
   later_itself = log_itself;
   later_then = log_then;

@@ -1,23 +1,32 @@
 -- What was printed of the journal in an image, by the answer.
-use Rattle.std.specs.Prelude.{◌≡◌, ◌⊎◌, ℕ, List, length, flat_map, Result, Ok, Err}
+use Rattle.std.specs.Prelude.{◌≡◌, ◌⊎◌, ℕ, ◌≤◌, List, ◌++◌, length, flat_map, Result, Ok, Err}
 use Rattle.gx_base.specs.KnownBytes.{IsKnownPrefix}
 use Rattle.gx_station.specs.Stations.{StationMeanings, sent_and}
 use Rattle.product_file.specs.Products.{ProductLists}
 use Rattle.match_journal.specs.Journal.{Record}
 use Rattle.match_journal.specs.Classes.{IsForeignAt, HasBadHeader, HasOtherText}
 use Rattle.match_journal.specs.Opening.{IsOpened}
+use Rattle.order_kinds.specs.declared.core_state.TheConstants.{MOST_MESSAGES}
+use Rattle.order_kinds.specs.Balance.{total_open}
 use Rattle.order_kinds.specs.Step.{events_of}
 use Rattle.book_recovery.specs.Records.{state_kept, messages_in}
 use Rattle.book_recovery.specs.Kept.{HasKept, HasTrueKept, CanBeRecovered}
 use Rattle.book_recovery.specs.BadPlaces.{AreFirstRecords, HasBadRecordAt, IsBadPlace}
 use Rattle.book_print.specs.BookText.{book_text}
-use Rattle.book_print.specs.Publishers.{LineForm}
+use Rattle.exec_report.specs.Forms.{LineText, FormMeanings, behind}
 use Rattle.journal_print.specs.declared.unprinted.Unprinted.{Unprinted}
 use Rattle.journal_print.specs.declared.unprinted.Unprinted.TheVariants as unprinted
 
--- the lines of these messages
-abbrev pub lines_in : LineForm → ProductLists → List (List ℕ) → List ℕ
+-- the lines of the events of these messages
+abbrev pub lines_in : LineText → ProductLists → List (List ℕ) → List ℕ
 lines_in line product messages = flat_map (line product.names) (events_of product messages)
+
+module _ {F : Type 0} (f : FormMeanings F) where
+  -- all that a form prints of these messages: the lines of their events, and its ending behind them
+  abbrev pub printed_whole : F → ProductLists → List (List ℕ) → List ℕ
+  printed_whole form product messages =
+      lines_in (f.text form) product messages
+      ++ f.ending (behind f form product messages (events_of product messages)) (total_open (state_kept product messages).book)
 
 module _ {S : Type 0} (m : StationMeanings S) (product : ProductLists) (text image : List ℕ) (old new : S) where
   -- nothing was sent
@@ -25,33 +34,35 @@ module _ {S : Type 0} (m : StationMeanings S) (product : ProductLists) (text ima
   SentNothing = m.sent new ≡ m.sent old
 
   -- a part was sent of the lines of the messages in the first records, none of them bad
-  pub record SentPart (line : LineForm) : Type 0 where
+  pub record SentPart (line : LineText) : Type 0 where
     pub records : List Record
     pub first : AreFirstRecords product text product.journal_limit records image
     pub sent : IsKnownPrefix (m.sent new) (sent_and (m.sent old) (lines_in line product (messages_in records)))
 
-  -- a part was sent of what is printed of the messages kept
+  -- a part was sent of what is printed of the messages kept, which are no more than a core takes
   pub record SentPartOfAll (whole : List (List ℕ) → List ℕ) : Type 0 where
     pub messages : List (List ℕ)
     pub kept : HasKept product text messages image
+    pub few : length messages ≤ MOST_MESSAGES
     pub sent : IsKnownPrefix (m.sent new) (sent_and (m.sent old) (whole messages))
 
-  -- all was sent that is printed of the messages kept, and these were counted
+  -- all was sent that is printed of the messages kept, and these were counted; they are no more than a core takes
   pub record SentAll (whole : List (List ℕ) → List ℕ) (count : ℕ) : Type 0 where
     pub messages : List (List ℕ)
     pub kept : HasKept product text messages image
+    pub few : length messages ≤ MOST_MESSAGES
     pub sent : m.sent new ≡ sent_and (m.sent old) (whole messages)
     pub count_is : count ≡ length messages
 
   -- a record is bad, and the lines of the messages in all records before it were sent
-  pub record SentToBadRecord (line : LineForm) (at : ℕ) : Type 0 where
+  pub record SentToBadRecord (line : LineText) (at : ℕ) : Type 0 where
     pub opened : IsOpened text image
     pub bad : HasBadRecordAt product text product.journal_limit image at
     pub sent : m.sent new ≡ sent_and (m.sent old) (lines_in line product (messages_in bad.before))
 
   -- What was printed of the events of all messages, line by line, and what is printed of them as a whole. No two of these answers
   -- but for a fault of the outside fit one image, so each comes exactly where it fits.
-  abbrev pub PrintsEvents : LineForm → (List (List ℕ) → List ℕ) → Result ℕ Unprinted → Type 0
+  abbrev pub PrintsEvents : LineText → (List (List ℕ) → List ℕ) → Result ℕ Unprinted → Type 0
   PrintsEvents line whole (Ok count) = SentAll whole count
   PrintsEvents line whole (Err unprinted.Store) = SentNothing ⊎ SentPart line
   PrintsEvents line whole (Err unprinted.Send) = SentPart line ⊎ SentPartOfAll whole

@@ -1,4 +1,5 @@
 -- A drill: the made messages are served, nothing is sent of them, and where all of them are kept their summary is sent.
+use Rattle.globex_run.specs.Inner.Keeping.{KeepsEvents}
 use Rattle.std.specs.Prelude.{◌≡◌, ◌≢◌, ◌⊎◌, ℕ, List, [], length, Result, Ok, Err}
 use Rattle.gx_station.specs.Stations.{StationMeanings}
 use Rattle.gx_station.specs.Quiet.{Sends}
@@ -9,8 +10,8 @@ use Rattle.order_kinds.specs.State.{State}
 use Rattle.order_maker.specs.Stream.{MadeStream, maker_meanings, made_stream}
 use Rattle.exec_report.specs.declared.texts.SendFault.{SendFault}
 use Rattle.book_print.specs.TallyText.{no_tally, tally_line}
-use Rattle.book_print.specs.Publishing.{tally_publisher_meanings}
-use Rattle.book_print.specs.declared.publisher.TallyPublisher.{TallyPublisher}
+use Rattle.book_print.specs.Printing.{tally_form}
+use Rattle.book_print.specs.declared.tally.Tally.{Tally}
 use Rattle.globex_run.specs.Outside.{streams_at}
 use Rattle.globex_run.specs.Inner.Sessions.{SessionResult}
 use Rattle.globex_run.specs.declared.outcome.Outcome.{Outcome}
@@ -21,21 +22,21 @@ outcome_summed count (Ok t) = record { status = 0; at = 0; messages = count }
 outcome_summed count (Err fault) = record { status = 6; at = 0; messages = count }
 
 -- the summary of so many messages was sent, or a part of it
-pub record SumsUp {S : Type 0} (m : StationMeanings S) (old new : S) (publisher : TallyPublisher) (then : State) (count : ℕ) (outcome : Outcome) : Type 0 where
+pub record SumsUp {S : Type 0} (m : StationMeanings S) (old new : S) (tally : Tally) (then : State) (count : ℕ) (outcome : Outcome) : Type 0 where
   pub result : Result (Unit {0}) SendFault
-  pub sends : Sends m old new (tally_line count publisher.tally (length (live_orders then.book))) result
+  pub sends : Sends m old new (tally_line count tally (length (live_orders then.book))) result
   pub outcome_is : outcome ≡ outcome_summed count result
 
 module _ {S : Type 0} (m : StationMeanings S) (product : ProductLists) (text : List ℕ) (made rest : MadeStream) (old new : S) where
   pub record DrillResult (outcome : Outcome) : Type 0 where
     pub mid : S
-    pub publisher : TallyPublisher
+    pub tally : Tally
     pub then : State
     pub served : Outcome
-    pub session : SessionResult m tally_publisher_meanings.text product text (streams_at maker_meanings m made old) (streams_at maker_meanings m rest mid) (λ events. publisher ≡ tally_publisher_meanings.after (record { tally = no_tally }) events) then served
+    pub session : SessionResult m (tally_form.text no_tally) product text (streams_at maker_meanings m made old) (streams_at maker_meanings m rest mid) (λ events. KeepsEvents tally_form no_tally tally events) then served
     pub silent : served.status ≢ 6
     pub otherwise : served.status ≢ 0 → (new ≡ mid) × (outcome ≡ served)
-    pub sums_up : served.status ≡ 0 → SumsUp m mid new publisher then served.messages outcome
+    pub sums_up : served.status ≡ 0 → SumsUp m mid new tally then served.messages outcome
 
 module _ {S : Type 0} (m : StationMeanings S) (product : ProductLists) (text : List ℕ) (first count : ℕ) (old new : S) (outcome : Outcome) where
   -- the messages of these numbers were made, whole, and served

@@ -19,7 +19,7 @@ use Rattle.product_file.specs.Products.{ProductLists, IsRightProduct}
 use Rattle.gx_base.specs.declared.event.Event.{Event}
 use Rattle.order_kinds.specs.State.{State}
 use Rattle.order_kinds.specs.Step.{state_after, events_from}
-use Rattle.book_print.specs.Publishers.{LineForm}
+use Rattle.exec_report.specs.Forms.{LineText}
 use Rattle.globex_run.specs.Outside.{Streams, AreWithinReads}
 use Rattle.globex_run.specs.Outcomes.{outcome_of}
 use Rattle.globex_run.specs.Journals.{AnswersImage, bytes_in, length_of_records, most_read}
@@ -73,7 +73,7 @@ module _ {S : Type 0} (m : StationMeanings S) (product : ProductLists) (text : L
 
 -- ---- a session, from its opening on
 
-module _ {I S : Type 0} (m : StationMeanings S) (line : LineForm) (product : ProductLists) (text : List ℕ) (before after : Streams I S) where
+module _ {I S : Type 0} (m : StationMeanings S) (line : LineText) (product : ProductLists) (text : List ℕ) (before after : Streams I S) where
   -- a read gives an image that keeps these records
   abbrev pub KeepsRecords : List Record → Type 0
   KeepsRecords records = HoldsOne m (Keeps text product.journal_limit records) after.station.object

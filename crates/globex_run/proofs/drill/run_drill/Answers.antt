@@ -1,3 +1,4 @@
+use Rattle.globex_run.specs.Inner.Keeping.{KeepsEvents}
 use Rattle.std.proofs.Common.{◌≡◌, ◌==◌, ℕ, true, arith, List, length, refl, sym, ap, subst, ◌∙◌}
 use Rattle.std.proofs.lemmas.Bool.Decides.{nat_tests}
 use Rattle.gx_station.specs.Quiet.{Sends}
@@ -5,9 +6,9 @@ use Rattle.gx_base.specs.declared.event.Event.{Event}
 use Rattle.order_maker.specs.Stream.{maker_meanings}
 use Rattle.plain_book.specs.Book.{Book, live_orders}
 use Rattle.order_kinds.specs.State.{state_numbered}
-use Rattle.book_print.specs.Publishing.{tally_publisher_meanings}
+use Rattle.book_print.specs.Printing.{tally_form}
 use Rattle.book_print.specs.TallyText.{tally_line}
-use Rattle.book_print.specs.declared.tally.TallyEmit.{TallyEmit}
+use Rattle.book_print.specs.declared.tally.Tally.{Tally}
 use Rattle.globex_run.specs.Outside.{streams_at}
 use Rattle.globex_run.specs.Inner.Sessions.{SessionResult}
 use Rattle.globex_run.proofs.Drilled.{live-numbered}
@@ -21,14 +22,14 @@ pub returns-then-not-is_ok-clause-drills : goal.returns-then-not-is_ok-clause-dr
 returns-then-not-is_ok-clause-drills g c =
     let m = g.S.Station.meanings in
     let served = c.serve_session-outcome.result in
-    let publisher = c.serve_session-outcome.new.publisher in
+    let tally = c.serve_session-outcome.new.form in
     let then = state_numbered c.serve_session-outcome.new.buffers.core in
     record {
       mid = c.serve_session-outcome.new.station;
-      publisher = publisher;
+      tally = tally;
       then = then;
       served = served;
-      session = subst (λ (t : TallyEmit). SessionResult m tally_publisher_meanings.text c.args.product.now c.args.text.now (streams_at maker_meanings m c.args.made.now c.args.station.now) (streams_at maker_meanings m c.serve_session-outcome.new.input c.serve_session-outcome.new.station) (λ (events : List Event). publisher ≡ tally_publisher_meanings.after (record { tally = t }) events) then served) c.new.ensures c.serve_session-outcome.ensures.session;
+      session = subst (λ (t : Tally). SessionResult m (tally_form.text t) c.args.product.now c.args.text.now (streams_at maker_meanings m c.args.made.now c.args.station.now) (streams_at maker_meanings m c.serve_session-outcome.new.input c.serve_session-outcome.new.station) (λ (events : List Event). KeepsEvents tally_form t tally events) then served) c.new-tally.ensures c.serve_session-outcome.ensures.session;
       silent = c.serve_session-outcome.ensures.silent refl;
       otherwise = λ other. (refl, refl);
       sums_up = λ ok. let is : c.is_ok.result ≡ true = c.is_ok.ensures ∙ ap (λ (n : ℕ). n == 0) ok in absurd (let no = c.if-not-is_ok.true in cc);
@@ -38,19 +39,19 @@ pub returns-clause-drills : goal.returns-clause-drills
 returns-clause-drills g c =
     let m = g.S.Station.meanings in
     let served = c.serve_session-outcome.result in
-    let publisher = c.serve_session-outcome.new.publisher in
+    let tally = c.serve_session-outcome.new.form in
     let then = state_numbered c.serve_session-outcome.new.buffers.core in
     record {
       mid = c.serve_session-outcome.new.station;
-      publisher = publisher;
+      tally = tally;
       then = then;
       served = served;
-      session = subst (λ (t : TallyEmit). SessionResult m tally_publisher_meanings.text c.args.product.now c.args.text.now (streams_at maker_meanings m c.args.made.now c.args.station.now) (streams_at maker_meanings m c.serve_session-outcome.new.input c.serve_session-outcome.new.station) (λ (events : List Event). publisher ≡ tally_publisher_meanings.after (record { tally = t }) events) then served) c.new.ensures c.serve_session-outcome.ensures.session;
+      session = subst (λ (t : Tally). SessionResult m (tally_form.text t) c.args.product.now c.args.text.now (streams_at maker_meanings m c.args.made.now c.args.station.now) (streams_at maker_meanings m c.serve_session-outcome.new.input c.serve_session-outcome.new.station) (λ (events : List Event). KeepsEvents tally_form t tally events) then served) c.new-tally.ensures c.serve_session-outcome.ensures.session;
       silent = c.serve_session-outcome.ensures.silent refl;
       otherwise = λ other. absurd (other (zero_tested served.status (sym c.is_ok.ensures ∙ c.if-not-is_ok.false)));
       sums_up = λ ok. record {
         result = c.print_tally-sent.result;
-        sends = subst (λ (n : ℕ). Sends m c.serve_session-outcome.new.station c.print_tally-sent.new.station (tally_line served.messages publisher.tally n) c.print_tally-sent.result)
+        sends = subst (λ (n : ℕ). Sends m c.serve_session-outcome.new.station c.print_tally-sent.new.station (tally_line served.messages tally n) c.print_tally-sent.result)
             (c.live-live.ensures ∙ ap (λ (b : Book). length (live_orders b)) c.book.ensures ∙ live-numbered c.serve_session-outcome.new.buffers.core.book) c.print_tally-sent.ensures.sends;
         outcome_is = c.outcome_summed.ensures;
       };

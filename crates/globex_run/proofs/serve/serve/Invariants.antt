@@ -1,3 +1,4 @@
+use Rattle.globex_run.specs.Inner.Keeping.{KeepsEvents}
 use Rattle.std.proofs.Common.{◌≡◌, ◌<◌, ◌≤◌, ◌+◌, ◌-◌, ◌*◌, List, [], true, length}
 use Rattle.fix_frame.specs.Grammar.{IsUnfinished}
 use Rattle.gx_base.specs.declared.event.Event.{Event}
@@ -12,7 +13,8 @@ invariant-turns g l =
     let m = g.S.Station.meanings in
     let inputs = g.I.Source.meanings in
     record {
-      turn : IsServing m (AreNumbered l.fn.core) g.P.Publisher.meanings.text l.product l.fn.journal.limit (streams_at inputs m l.fn.input l.fn.station) 0 (source_at inputs l.input) l.station l.fn.journal.gate l.journal.gate (state_numbered l.fn.core) (state_numbered l.core) l.framer (λ (events : List Event). l.publisher ≡ g.P.Publisher.meanings.after l.fn.publisher events);
+      turn : IsServing m (AreNumbered l.fn.core) (g.F.LineForm.meanings.text l.fn.form) l.product l.fn.journal.limit (streams_at inputs m l.fn.input l.fn.station) 0 (source_at inputs l.input) l.station l.fn.journal.gate l.journal.gate (state_numbered l.fn.core) (state_numbered l.core) l.framer (λ (events : List Event). KeepsEvents g.F.LineForm.meanings l.fn.form l.form events);
+      text : g.F.LineForm.meanings.text l.form ≡ g.F.LineForm.meanings.text l.fn.form;
       front : IsUnfinished l.framer.rest;
       short : length l.framer.rest < 4096;
       limit : l.journal.limit ≡ l.fn.journal.limit;

@@ -1,0 +1,148 @@
+-- What `globex` promises, clause by clause, of a call.
+use Rattle.std.specs.Prelude.{◌≡◌, ◌≢◌, ◌⊎◌, ℕ, List, Some, None}
+use Rattle.gx_station.specs.Counts.{Rose}
+use Rattle.gx_station.specs.Honest.{KeepsImage}
+use Rattle.match_journal.specs.Journal.{Record}
+use Rattle.match_journal.specs.Classes.{Keeps}
+use Rattle.order_kinds.specs.Balance.{IsBalanced}
+use Rattle.report_laws.specs.Sums.{IsReadBalanced}
+use Rattle.command_words.specs.declared.command.Command.{Command}
+use Rattle.command_words.specs.declared.command.Command.TheVariants.{Run, Checkpoint}
+use Rattle.globex_run.specs.Calls.{Call}
+use Rattle.globex_run.specs.Outside.{IsQuiet}
+use Rattle.globex_run.specs.Words.{IsWriting, OpensJournal, NeverEndsWith}
+use Rattle.globex_run.specs.ProductTexts.{ProductPremises, AnswersProduct}
+use Rattle.globex_run.specs.RunResult.{CommandResult}
+use Rattle.globex_run.specs.Steps.{LeavesFronts, LeavesEntryOrFronts, KeepsEverySent}
+use Rattle.globex_run.specs.Headline.{AddsMessages, KeepsARecordPerRead, ReadsFew}
+use Rattle.globex_run.specs.Checkpoints.{HasNoRoomForImage}
+use Rattle.globex_run.specs.Prints.{PrintsAs}
+use Rattle.globex_run.specs.Refusals.{IsRefusal, RefusesExactly, CanStart}
+use Rattle.globex_run.specs.FullJournals.{IsFull}
+use Rattle.globex_run.specs.Works.{Given, Reads, work_of, DoneBy, EndedBy, Serves, ServesNone, bytes_for, CanBeDone, EndsWell}
+
+module _ {P I S : Type 0} (c : Call P I S) where
+  -- of each command, if it was asked for
+  abbrev pub OfEach : (Command → Type 0) → Type 0
+  OfEach Holds = (asked : Command) → c.asked ≡ Some asked → Holds asked
+
+  -- of each command that writes, under the premises
+  abbrev pub OfEachWriting : ((given : Given c) (asked : Command) → Reads c asked → Type 0) → Type 0
+  OfEachWriting Holds = OfEach (λ asked. IsWriting asked → (given : Given c) (read : Reads c asked) → Holds given asked read)
+
+  -- ---- the headline, sentence by sentence, of `run` and of each other command that writes
+
+  -- Status 0: what is sent of all messages was sent, and all of them are kept, or an image was added.
+  abbrev pub DoesAll : Type 0
+  DoesAll = OfEachWriting (λ given asked read. c.outcome.status ≡ 0 → DoneBy c given asked read)
+
+  -- Any other ending: of which messages something was sent, and which are kept.
+  abbrev pub EndsAsTold : Type 0
+  EndsAsTold = OfEachWriting (λ given asked read. c.outcome.status ≢ 0 → EndedBy c given asked read)
+
+  -- At every moment: a crash leaves a front of the steps, kept, and what had been sent is a front of what is sent of them.
+  abbrev pub LeavesAFront : Type 0
+  LeavesAFront = OfEachWriting (λ given asked read. LeavesFronts c (work_of c given asked read))
+
+  -- Before the first sync: or what a crash at entry could leave already, with the output of entry.
+  abbrev pub LeavesTheEntry : Type 0
+  LeavesTheEntry = OfEachWriting (λ given asked read. LeavesEntryOrFronts c (work_of c given asked read))
+
+  -- With every message: where a byte of what is sent of a step was sent, it is kept.
+  abbrev pub KeepsWhatIsSent : Type 0
+  KeepsWhatIsSent = OfEachWriting (λ given asked read. KeepsEverySent c (work_of c given asked read))
+
+  -- ---- what else holds of commands that write
+
+  -- A command that serves messages adds records of messages alone, and no book image.
+  abbrev pub AddsMessagesAlone : Type 0
+  AddsMessagesAlone = OfEach (λ asked. Serves c asked → (given : Given c) → AddsMessages c.station c.before c.after c.outcome given)
+
+  -- All whole frames at hand share one record.
+  abbrev pub AddsARecordPerRead : Type 0
+  AddsARecordPerRead = c.asked ≡ Some Run → (given : Given c) → KeepsARecordPerRead c.station c.before c.after c.outcome given
+
+  -- How much of the journal is read.
+  abbrev pub ReadsItOnce : Type 0
+  ReadsItOnce = OfEach (λ asked. IsWriting asked → (given : Given c) → ReadsFew c.station c.before c.after c.outcome given)
+
+  -- 12, of a command that serves messages: the next one has no room in the journal, or cannot be counted; whatever the journal keeps.
+  abbrev pub IsFullForMessages : Type 0
+  IsFullForMessages = OfEach (λ asked. Serves c asked → (given : ProductPremises c.before c.after c.outcome.status) (read : Reads c asked)
+      → c.station.is_honest c.before.streams.station.object → (image : List ℕ) (records : List Record) → c.before.streams.station.image ≡ Some image
+      → Keeps given.text given.product.journal_limit records image → c.outcome.status ≡ 12
+      → IsFull given.product given.text image records c.after.streams.station c.outcome (bytes_for c given asked read))
+
+  -- 12, of a checkpoint: the image has no room.
+  abbrev pub IsFullForImage : Type 0
+  IsFullForImage = c.asked ≡ Some Checkpoint → (given : Given c) → c.outcome.status ≡ 12 → HasNoRoomForImage c.station c.before c.after c.outcome given
+
+  -- A command that writes, and serves no message, sends nothing, and counts messages at status 0 alone.
+  abbrev pub SendsNothing : Type 0
+  SendsNothing = OfEach (λ asked. ServesNone c asked → (c.after.streams.station.sent ≡ c.before.streams.station.sent) × (c.outcome.status ≢ 0 → c.outcome.messages ≡ 0))
+
+  -- ---- every command
+
+  -- Where memory is given, no fault comes, and there is room, it ends well.
+  abbrev pub EndsWellWhereItCan : Type 0
+  EndsWellWhereItCan = OfEach (λ asked. (can : CanBeDone c.station c.before asked) → IsQuiet c.before c.after
+      → (c.outcome.status ≡ 1) ⊎ EndsWell c.station c.before asked can c.outcome.status)
+
+  -- What is printed, whatever the answer.
+  abbrev pub PrintsItsText : Type 0
+  PrintsItsText = OfEach (λ asked. (given : ProductPremises c.before c.after c.outcome.status)
+      → PrintsAs c.station given.product given.text c.before.streams.station c.after.streams.station c.outcome asked)
+
+  -- The reports of any messages add up: those that are kept, and those of this call.
+  abbrev pub Balances : Type 0
+  Balances = (given : ProductPremises c.before c.after c.outcome.status) (messages : List (List ℕ)) → IsBalanced given.product messages
+
+  -- So does what the bytes of their reports say, read as messages are read, with the ledger's lines and its total.
+  abbrev pub BalancesAsRead : Type 0
+  BalancesAsRead = (given : ProductPremises c.before c.after c.outcome.status) (messages : List (List ℕ)) → IsReadBalanced given.product messages
+
+  -- What was taken from the product's source and the input, and why it ended there, for all statuses but 1.
+  abbrev pub EndsWhereTold : Type 0
+  EndsWhereTold = OfEach (λ asked. c.outcome.status ≢ 1 → CommandResult c.before c.after c.outcome asked)
+
+  -- 9, 10 and 11 come exactly where the image of entry is such.
+  abbrev pub RefusesWhatItMust : Type 0
+  RefusesWhatItMust = OfEach (λ asked. OpensJournal asked → (given : ProductPremises c.before c.after c.outcome.status) (image : List ℕ)
+      → c.before.streams.station.image ≡ Some image → RefusesExactly asked given.product given.text image c.outcome)
+
+  -- An image from which a run can start is refused by no command.
+  abbrev pub OpensAgain : Type 0
+  OpensAgain = OfEach (λ asked. CanStart c.before asked → IsRefusal c.outcome.status → ⊥)
+
+  abbrev pub HasItsStatuses : Type 0
+  HasItsStatuses = OfEach (λ asked. NeverEndsWith asked c.outcome.status → ⊥)
+
+  -- The words alone decide on 2: it comes exactly where they are no command, but for want of memory.
+  abbrev pub AnswersWords : Type 0
+  AnswersWords = (c.outcome.status ≡ 2 → c.asked ≡ None) × (c.asked ≡ None → (c.outcome.status ≡ 2) ⊎ (c.outcome.status ≡ 1))
+
+  -- The product's text alone decides on 3: it comes exactly where the text breaks a rule.
+  abbrev pub AnswersProductText : Type 0
+  AnswersProductText = (text : List ℕ) → c.before.product.left ≡ Some text → AnswersProduct c.before c.after c.outcome text
+
+  -- What is refused stays as it is, and a command that writes sends nothing then.
+  abbrev pub LeavesWhatItRefuses : Type 0
+  LeavesWhatItRefuses = OfEach (λ asked. IsWriting asked → IsRefusal c.outcome.status → (c.after.streams.station.sent ≡ c.before.streams.station.sent)
+      × ((image : List ℕ) → c.before.streams.station.image ≡ Some image → KeepsImage c.station c.before.streams.station.object c.after.streams.station.object))
+
+  -- ---- a fault of the outside is answered only where its count rose, and else no count does
+
+  abbrev pub TellsReadFaults : Type 0
+  TellsReadFaults =
+      (c.outcome.status ≡ 4 → Rose c.before.product.faults c.after.product.faults ⊎ ((c.asked ≡ Some Run) × Rose c.before.streams.input.faults c.after.streams.input.faults))
+      × (c.outcome.status ≢ 4 → (c.after.product.faults ≡ c.before.product.faults) × (c.after.streams.input.faults ≡ c.before.streams.input.faults))
+
+  abbrev pub TellsStoreFaults : Type 0
+  TellsStoreFaults =
+      (c.outcome.status ≡ 5 → Rose c.before.streams.station.store_faults c.after.streams.station.store_faults)
+      × (c.outcome.status ≢ 5 → c.after.streams.station.store_faults ≡ c.before.streams.station.store_faults)
+
+  abbrev pub TellsSendFaults : Type 0
+  TellsSendFaults =
+      (c.outcome.status ≡ 6 → Rose c.before.streams.station.send_faults c.after.streams.station.send_faults)
+      × (c.outcome.status ≢ 6 → c.after.streams.station.send_faults ≡ c.before.streams.station.send_faults)
