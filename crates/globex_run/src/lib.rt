@@ -1,7 +1,6 @@
 //! A run: messages in, reports out, and each message kept in a journal before it is answered. The other commands stand beside it.
 #![tactic(auto)]
 
-mod as_before;
 mod buffers;
 mod checkpoint;
 mod drill;
@@ -20,7 +19,6 @@ mod serve;
 mod serve_record;
 mod session;
 
-pub use as_before::globex_as_before;
 pub use headline::globex_for_run;
 pub use journal_use::{opens_journal, writes_journal};
 pub use outcome::Outcome;
