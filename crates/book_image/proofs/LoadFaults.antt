@@ -34,9 +34,6 @@ use Rattle.book_image.specs.Reading.{entry_of, numbers_at, last_at, desk_of_imag
 use Rattle.book_image.specs.Inner.Loading.{order_in, orders_from, AreRightResting, AreRightWaiting, AreRightTops, AreRightLasts, IsRightBook}
 use Rattle.book_image.proofs.LoadLists.{rows-as, all-from}
 
-not-both : {A : Type 0} (b : Bool) → b ≡ true → b ≡ false → A
-not-both b h k = absurd (true≢false (sym h ∙ k))
-
 -- ---- no fault
 
 none-then : {F : Type 0} (fault : Option F) (rest : List (Option F)) → first_fault (fault ∷ rest) ≡ None → (fault ≡ None) × (first_fault rest ≡ None)

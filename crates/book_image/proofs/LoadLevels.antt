@@ -1,15 +1,15 @@
 -- Levels of rows that stand in book order, and placing the orders of a level before those of all later ones.
 use Rattle.std.proofs.Common.{◌≡◌, ℕ, ◌+◌, ◌-◌, ◌<◌, ◌≤◌, Bool, true, false, ◌&&◌, ◌||◌, List, [], ◌∷◌, ◌++◌, map, length, refl, sym, ap, subst, ◌∙◌, arith, inl, inr, ◌⊎◌, append_assoc, length-append}
-use Rattle.std.specs.Prelude.{◌==◌, ℤ, pos, negsuc, int_lt, nat_lt, bytes_eq}
+use Rattle.std.specs.Prelude.{◌==◌, ℤ, int_lt, nat_lt, bytes_eq}
 use Rattle.std.specs.Ordering.{int_eq}
 use Rattle.std.specs.List.{AllByRecursion}
 use Rattle.std.proofs.lemmas.List.{map-append}
-use Rattle.std.proofs.lemmas.Bool.{true≢false}
 use Rattle.std.proofs.lemmas.Bool.Decides.{nat_tests, Decides-eqb, Decides-int_eq}
 use Rattle.std.proofs.lemmas.Slice.Eq.{bytes_eq-Decides}
 use Rattle.gx_base.specs.declared.order.Order.{Order}
 use Rattle.gx_base.specs.declared.order.Side.{Side}
 use Rattle.gx_base.specs.declared.order.Side.TheVariants.{Buy, Sell}
+use Rattle.gx_base.proofs.Tests.{not-both, int-same}
 use Rattle.book_order.specs.Levels.{Level, is_side, side_before, is_better, is_level, is_before}
 use Rattle.book_order.proofs.Before.{before-past}
 use Rattle.plain_book.specs.declared.entry.Entry.{Entry}
@@ -22,19 +22,7 @@ use Rattle.book_image.specs.Reading.{entry_of}
 use Rattle.book_image.specs.Inner.Loading.{orders_from, AreRightResting, IsLevelEnd, IsLevelStart, HasResting}
 use Rattle.book_image.proofs.LoadLists.{from-append, from-last, length-from, all-from, as-orders, as-length, put-between}
 
-not-both : {A : Type 0} (b : Bool) → b ≡ true → b ≡ false → A
-not-both b h k = absurd (true≢false (sym h ∙ k))
-
 -- ---- of two levels that differ one stands before the other
-
-nat-same : (a b : ℕ) → nat_lt a b ≡ false → nat_lt b a ≡ false → a ≡ b
-nat-same a b h k = grind (arith, nat_tests)
-
-int-same : (a b : ℤ) → int_lt a b ≡ false → int_lt b a ≡ false → a ≡ b
-int-same (pos a) (pos b) h k = ap pos (nat-same a b h k)
-int-same (pos a) (negsuc b) h k = cc
-int-same (negsuc a) (pos b) h k = cc
-int-same (negsuc a) (negsuc b) h k = ap negsuc (nat-same a b k h)
 
 int-total : (a b : ℤ) → int_eq a b ≡ false → int_lt b a ≡ false → int_lt a b ≡ true
 int-total a b h k =

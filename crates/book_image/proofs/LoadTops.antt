@@ -11,6 +11,7 @@ use Rattle.gx_base.specs.declared.price.Price.{Price}
 use Rattle.gx_base.specs.declared.order.Side.{Side}
 use Rattle.gx_base.specs.declared.order.Side.TheVariants.{Buy, Sell}
 use Rattle.gx_base.specs.declared.order.Order.{Order}
+use Rattle.gx_base.proofs.Tests.{not-both}
 use Rattle.book_order.specs.Levels.{Level, is_side, is_better, is_level, is_before}
 use Rattle.plain_book.specs.declared.entry.Entry.{Entry}
 use Rattle.plain_book.specs.Orders.{level, level_of, is_on, is_at, HasSlot, order_of, slot_of, slot_after, side_of, orders_at, best_of, price_of, with_top, topped}
@@ -26,9 +27,6 @@ use Rattle.book_image.specs.Reading.{with_first_top, with_all_tops}
 use Rattle.book_image.specs.Inner.Loading.{has_number, orders_of, NoneTop, NoneTopOn, HasResting}
 use Rattle.book_walks.proofs.OrderWalks.{left_from, Next, next-of, none-of, fewer-behind}
 use Rattle.book_image.proofs.LoadLevels.{before-total}
-
-not-both : {A : Type 0} (b : Bool) → b ≡ true → b ≡ false → A
-not-both b h k = absurd (true≢false (sym h ∙ k))
 
 -- ---- a walk along a level
 

@@ -1,7 +1,8 @@
 //! The fills as text.
-use crate::pieces::{end_line, number, order_words, price, side_letter, text};
-use exec_report::LineForm;
-use gx_base::{Event, Names, listed, step_text};
+use exec_report::{LineForm, step_text};
+use gx_base::{Event, Names, listed};
+use line_parts::pieces::{end_line, number, order_words, price, text};
+use line_parts::side_letter;
 use product_file::Product;
 
 /// A line for each fill; nothing is kept, and nothing stands behind the lines.

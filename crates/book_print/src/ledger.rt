@@ -3,10 +3,10 @@ ghost use Rattle.std.specs.Prelude.{◌≡◌, ◌+◌, ◌*◌, ◌≤◌, ◌+
 ghost use Rattle.order_kinds.specs.Balance.{quantities, all_cancelled, cancelled_in};
 ghost use Rattle.book_print.specs.LedgerText.{quantity_words, report_line, entered_capped};
 
-use crate::pieces::{LONGEST_PIECE, end_line, number};
 use crate::tally::filled_in;
 use exec_report::LineForm;
 use gx_base::{Event, LONGEST_LINE, Names, Order, append};
+use line_parts::pieces::{LONGEST_PIECE, end_line, number};
 use product_file::Product;
 
 /// Lots that are told of an order or of all orders.

@@ -7,8 +7,8 @@ mod book;
 mod fills;
 mod ledger;
 mod lots;
-mod pieces;
 mod publishing;
+mod sending;
 mod steps;
 mod tally;
 

@@ -11,7 +11,7 @@ ghost use Rattle.exec_report.specs.Forms.{noted_all, behind};
 ghost use Rattle.book_print.specs.Passed.{ArePassed};
 
 use crate::applying::apply_given;
-use crate::pieces::send_line;
+use crate::sending::send_line;
 use exec_report::{LineEmit, LineForm, ReportBuffer, SendFault};
 use fix_frame::Framer;
 use gx_base::LONGEST_LINE;

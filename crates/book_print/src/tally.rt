@@ -4,10 +4,11 @@ ghost use Rattle.gx_station.specs.Quiet.{Sends};
 ghost use Rattle.order_kinds.specs.Balance.{filled_in};
 ghost use Rattle.book_print.specs.TallyText.{no_tally, tally_line, fills_in};
 
-use crate::pieces::{LONGEST_PIECE, end_line, number, send_line};
+use crate::sending::send_line;
 use exec_report::{LineForm, ReportBuffer, SendFault};
 use gx_base::{Event, Names};
 use gx_station::Station;
+use line_parts::pieces::{LONGEST_PIECE, end_line, number};
 use product_file::Product;
 
 /// How many bytes the summary has at most, which is six pieces.

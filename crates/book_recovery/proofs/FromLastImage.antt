@@ -2,13 +2,14 @@
 use Rattle.std.proofs.Common.{◌≡◌, ℕ, ◌+◌, Bool, true, false, cond, ◌||◌, List, [], ◌∷◌, length, Some, None, refl, sym, subst, ◌∙◌, ap, ap₂, arith, length-append}
 use Rattle.std.specs.List.{flat_map}
 use Rattle.std.proofs.lemmas.Grind.{flat_map-append}
+use Rattle.gx_base.proofs.Tests.{not-both}
 use Rattle.product_file.specs.Products.{ProductLists}
 use Rattle.match_journal.specs.Journal.{Record, journal_front, header, open_record}
 use Rattle.match_journal.specs.declared.entry.EntryKind.{EntryKind}
 use Rattle.match_journal.specs.declared.entry.EntryKind.TheVariants.{Frames, Image}
 use Rattle.book_recovery.specs.Records.{is_image_kind, has_image, from_last_image, before_last_image, image_gate, count_as, count_behind, IsGoodAs, AreGoodRecords}
 use Rattle.book_recovery.specs.Recovering.{first_read}
-use Rattle.book_recovery.proofs.LastImages.{not-both, last-behind, last-here, last_split, none-before}
+use Rattle.book_recovery.proofs.LastImages.{last-behind, last-here, last_split, none-before}
 
 -- ---- good records
 
@@ -26,7 +27,7 @@ good-behind product count [] none good = tt
 good-behind product count (r ∷ records) none good =
     let go : (b : Bool) → has_image records ≡ b → AreGoodRecords product 0 (from_last_image (r ∷ records)) = elim [
       | true ↦ λ some. subst (AreGoodRecords product 0) (sym (last-behind r records some))
-          (good-behind product (count_behind count r) records (λ no. absurd (not-both (has_image records) some no)) good.1)
+          (good-behind product (count_behind count r) records (λ no. not-both (has_image records) some no) good.1)
       | false ↦ λ no. subst (AreGoodRecords product 0) (sym (last-here r records no))
           (good-anew product count r.kind r.payload records (λ frames. none (ap₂ (λ (a b : Bool). a || b) frames no)) good.0 good.1)
     ] in go (has_image records) refl

@@ -1,12 +1,10 @@
 -- The records before the last image, and those from it on: what becomes of both where one record more comes.
 use Rattle.std.proofs.Common.{◌≡◌, ℕ, Bool, true, false, cond, ◌||◌, List, [], ◌∷◌, ◌++◌, length, Some, None, refl, sym, ◌∙◌, ap, ap₂}
+use Rattle.gx_base.proofs.Tests.{not-both}
 use Rattle.match_journal.specs.Journal.{Record, journal_front}
 use Rattle.book_recovery.specs.Records.{is_image, has_image, from_last_image, before_last_image, image_gate}
 
 -- ---- the first record
-
-pub not-both : (b : Bool) → b ≡ true → b ≡ false → ⊥
-not-both b is is_not = let differ : true ≡ false = sym is ∙ is_not in cc differ
 
 or-true : (a : Bool) → (a || true) ≡ true
 or-true true = refl
@@ -95,7 +93,7 @@ pub none-kept : (records : List Record) → from_last_image records ≡ [] → r
 none-kept [] is = refl
 none-kept (x ∷ records) is =
     let go : (b : Bool) → has_image records ≡ b → x ∷ records ≡ [] = elim [
-      | true ↦ λ some. absurd (not-both (has_image records) some (ap has_image (none-kept records (sym (last-behind x records some) ∙ is))))
+      | true ↦ λ some. not-both (has_image records) some (ap has_image (none-kept records (sym (last-behind x records some) ∙ is)))
       | false ↦ λ none. sym (last-here x records none) ∙ is
     ] in go (has_image records) refl
 
@@ -104,6 +102,6 @@ pub none-from-none : (records : List Record) → has_image (from_last_image reco
 none-from-none [] none = refl
 none-from-none (x ∷ records) is =
     let go : (b : Bool) → has_image records ≡ b → has_image (x ∷ records) ≡ false = elim [
-      | true ↦ λ some. absurd (not-both (has_image records) some (none-from-none records (ap has_image (sym (last-behind x records some)) ∙ is)))
+      | true ↦ λ some. not-both (has_image records) some (none-from-none records (ap has_image (sym (last-behind x records some)) ∙ is))
       | false ↦ λ none. ap has_image (sym (last-here x records none)) ∙ is
     ] in go (has_image records) refl

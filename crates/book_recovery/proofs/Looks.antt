@@ -1,6 +1,5 @@
 -- Looks at a station, one after the other, and results.
-use Rattle.std.proofs.Common.{◌≡◌, ℕ, ◌+◌, ◌≤◌, false, Option, Some, None, Result, Ok, Err, OnOk, refl, arith}
-use Rattle.std.specs.Result.{is_err}
+use Rattle.std.proofs.Common.{ℕ, ◌+◌, ◌≤◌, Option, Some, None, refl, arith}
 use Rattle.gx_station.specs.Stations.{StationMeanings}
 use Rattle.match_journal.specs.Causes.{ReadsAtMost, LooksOnly}
 use Rattle.match_journal.specs.LookLaws.{keeps_itself, looks_then, looks_more}
@@ -34,6 +33,3 @@ module _ {S : Type 0} (m : StationMeanings S) where
   pub reads_then : (a b c : S) (most : ℕ) → ReadsOnly m a b → LooksOnly m b c most → ReadsOnly m a c
   reads_then a b c most reads looks = record { most = reads.most + most; looks = looks_then m a b c reads.most most reads.looks looks }
 
-pub on_ok : {T F P : Type 0} (r : Result T F) → is_err r ≡ false → OnOk r P → P
-on_ok (Ok x) good p = p
-on_ok (Err e) good p = absurd (cc good)

@@ -1,6 +1,7 @@
 -- The state behind a true record, and that its order numbers differ.
-use Rattle.std.proofs.Common.{◌≡◌, ℕ, ◌<◌, ◌≤◌, false, List, [], ◌∷◌, ◌++◌, length, refl, sym, subst, ◌∙◌, ap, arith, append-nil, length-append}
+use Rattle.std.proofs.Common.{◌≡◌, ℕ, ◌<◌, ◌≤◌, false, List, [], ◌∷◌, ◌++◌, length, refl, sym, subst, ◌∙◌, ap, arith, append-nil, append_assoc, length-append}
 use Rattle.std.specs.List.{AllByRecursion}
+use Rattle.gx_base.specs.declared.event.Event.{Event}
 use Rattle.fix_frame.specs.Stream.{messages_of}
 use Rattle.product_file.specs.Products.{ProductLists, IsRightProduct}
 use Rattle.plain_book.specs.declared.entry.Entry.{Entry}
@@ -9,7 +10,7 @@ use Rattle.plain_book.specs.Numbers.{numbered}
 use Rattle.plain_book.proofs.Pairs.{all-front, all-back, all-append, all-with}
 use Rattle.order_kinds.specs.declared.core_state.TheConstants.{MOST_MESSAGES}
 use Rattle.order_kinds.specs.State.{State, empty_state, state_numbered}
-use Rattle.order_kinds.specs.Step.{state_after, step_of}
+use Rattle.order_kinds.specs.Step.{state_after, step_of, events_from}
 use Rattle.order_kinds.specs.Cores.{AreNumbered}
 use Rattle.match_journal.specs.declared.entry.EntryKind.{EntryKind}
 use Rattle.match_journal.specs.declared.entry.EntryKind.TheVariants.{Frames, Image}
@@ -23,6 +24,13 @@ use Rattle.book_recovery.specs.Inner.Replays.{IsReplayed}
 pub state-append : (product : ProductLists) (s : State) (xs ys : List (List ℕ)) → state_after product s (xs ++ ys) ≡ state_after product (state_after product s xs) ys
 state-append product s [] ys = refl
 state-append product s (x ∷ xs) ys = state-append product (step_of product s x).0 xs ys
+
+-- the events of some messages, and then of some more
+pub events-append : (product : ProductLists) (state : State) (xs ys : List (List ℕ)) → events_from product state (xs ++ ys) ≡ events_from product state xs ++ events_from product (state_after product state xs) ys
+events-append product state [] ys = refl
+events-append product state (x ∷ xs) ys =
+    ap (λ (l : List Event). (step_of product state x).1 ++ l) (events-append product (step_of product state x).0 xs ys)
+    ∙ sym (append_assoc (step_of product state x).1 (events_from product (step_of product state x).0 xs) (events_from product (state_after product (step_of product state x).0 xs) ys))
 
 -- ---- order numbers
 

@@ -1,5 +1,6 @@
 -- Records whose images are true: what stands behind them, and that they are good.
 use Rattle.std.proofs.Common.{◌≡◌, ℕ, ◌+◌, ◌<◌, Bool, true, false, ◌||◌, List, [], ◌∷◌, ◌++◌, length, refl, sym, subst, ◌∙◌, ap, arith, append_assoc, append-nil, length-append}
+use Rattle.gx_base.proofs.Tests.{not-both}
 use Rattle.fix_frame.specs.Stream.{messages_of, rest_of}
 use Rattle.product_file.specs.Products.{ProductLists, IsRightProduct}
 use Rattle.order_kinds.specs.declared.core_state.TheConstants.{MOST_MESSAGES}
@@ -10,7 +11,7 @@ use Rattle.match_journal.specs.declared.entry.EntryKind.TheVariants.{Frames, Ima
 use Rattle.image_laws.proofs.States.{states-right, states-counted}
 use Rattle.image_laws.proofs.Images.{image-right, image-read}
 use Rattle.book_recovery.specs.Records.{state_kept, is_image_kind, has_image, from_last_image, messages_as, record_messages, messages_in, count_as, count_behind, count_behind_all, IsGoodAs, AreGoodRecords, IsTrueAs, AreTrueRecords, HaveWholeFrames, state_as, state_behind, state_behind_all}
-use Rattle.book_recovery.proofs.LastImages.{not-both, last-behind, last-here}
+use Rattle.book_recovery.proofs.LastImages.{last-behind, last-here}
 use Rattle.book_recovery.proofs.StatesBehind.{state-append}
 
 -- the state and the count are those of these messages
@@ -106,7 +107,7 @@ module _ (product : ProductLists) (right : IsRightProduct product) where
       let go : (b : Bool) → has_image records ≡ b → StandBehind before (r ∷ records) state count (from_last_image (r ∷ records)) = elim [
         | true ↦ λ some. subst (StandBehind before (r ∷ records) state count) (sym (last-behind r records some))
             (with-first before r records state count (from_last_image records)
-            (last-stands (before ++ record_messages r) records state count (λ none. absurd (not-both (has_image records) some none)) are_true.1
+            (last-stands (before ++ record_messages r) records state count (λ none. not-both (has_image records) some none) are_true.1
             (few-behind before r records few)))
         | false ↦ λ none. subst (StandBehind before (r ∷ records) state count) (sym (last-here r records none))
             (first-stands before r records state count none stands are_true few)

@@ -2,9 +2,10 @@
 ghost use Rattle.order_kinds.specs.Cores.{FitsProduct};
 
 use book_side::LinkedBook;
+use exec_report::ByteEmit;
 use fix_frame::{Framer, Next};
 use fix_request::read_request;
-use gx_base::{ByteEmit, Emit};
+use gx_base::Emit;
 use gx_station::{LEAST_READ, MemSource, MemStation, Source};
 use order_kinds::{Core, MOST_MESSAGES};
 use order_maker::MakerSource;

@@ -3,19 +3,16 @@ use Rattle.std.proofs.Common.{◌≡◌, ℕ, ◌<◌, Bool, true, false, cond, 
 use Rattle.std.specs.Prelude.{ℤ, pos, negsuc, int_lt, nat_lt, ◌==◌}
 use Rattle.std.specs.Ordering.{int_eq}
 use Rattle.std.specs.List.{AllByRecursion}
-use Rattle.std.proofs.lemmas.Bool.{true≢false}
 use Rattle.std.proofs.lemmas.Bool.Decides.{nat_tests, Decides-eqb, Decides-int_eq}
 use Rattle.gx_base.specs.declared.price.Price.{Price}
 use Rattle.gx_base.specs.declared.order.Side.{Side}
 use Rattle.gx_base.specs.declared.order.Side.TheVariants.{Buy, Sell}
+use Rattle.gx_base.proofs.Tests.{not-both, int-same}
 use Rattle.plain_book.specs.declared.entry.Entry.{Entry}
 use Rattle.plain_book.specs.Orders.{Level, level, level_of, is_of, is_on, is_side, is_before, is_better, is_at_earlier_level, side_of, orders_at, price_of, best_of, worse_of}
 use Rattle.plain_book.specs.Book.{EachPair, AreInBookOrder}
 use Rattle.plain_book.proofs.Levels.{same, and-left, and-right, is_side-same, is_side-refl, nat_lt-irrefl, side_before-irrefl, is_better-irrefl, level_at}
 use Rattle.plain_book.proofs.Pairs.{all-with, all-passing, pairs-filter}
-
-pub not-both : {A : Type 0} (b : Bool) → b ≡ true → b ≡ false → A
-not-both b h k = absurd (true≢false (sym h ∙ k))
 
 pub either : (b : Bool) → (b ≡ true) ⊎ (b ≡ false)
 either true = inl refl
@@ -24,17 +21,9 @@ either false = inr refl
 -- ---- prices in their order
 
 -- a is below b, equal to it, or above it
-nat-same : (a b : ℕ) → nat_lt a b ≡ false → nat_lt b a ≡ false → a ≡ b
-nat-same a b h k = grind (arith, nat_tests)
 
 nat-past : (a b c : ℕ) → nat_lt a b ≡ true → nat_lt c b ≡ false → nat_lt a c ≡ true
 nat-past a b c h k = grind (arith, nat_tests)
-
-int-same : (a b : ℤ) → int_lt a b ≡ false → int_lt b a ≡ false → a ≡ b
-int-same (pos a) (pos b) h k = ap pos (nat-same a b h k)
-int-same (pos a) (negsuc b) h k = cc
-int-same (negsuc a) (pos b) h k = cc
-int-same (negsuc a) (negsuc b) h k = ap negsuc (nat-same a b k h)
 
 nat-past' : (a b c : ℕ) → nat_lt b a ≡ true → nat_lt b c ≡ false → nat_lt c a ≡ true
 nat-past' a b c h k = grind (arith, nat_tests)

@@ -1,7 +1,8 @@
 //! The form of a line: how an event is printed, what is kept of events and of messages, and what is printed behind all lines.
 ghost use Rattle.std.specs.Prelude.{◌≡◌, ◌≤◌, length, take};
 
-use gx_base::{Event, LONGEST_LINE, Names, write_line_into};
+use crate::line::write_line_into;
+use gx_base::{Event, LONGEST_LINE, Names};
 use product_file::Product;
 
 /// How many bytes a form may print of an event (our own rule): a report line, and nine more for one that is sent again, which says so.

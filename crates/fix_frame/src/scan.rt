@@ -3,7 +3,7 @@ ghost use Rattle.std.specs.Prelude.{◌≡◌, ◌+◌, ◌%◌, ◌^◌, ◌↔
 ghost use Rattle.fix_frame.specs.Scans.{InBegin, InBody, InTrailer, IsAt, IsOpen, IsPart, IsScanOf, GivesFront};
 
 use crate::place::{BEGIN, Place, after_begin, after_body, after_length, after_trailer};
-use gx_base::{TRAILER_LENGTH, checksum};
+use line_parts::{TRAILER_LENGTH, checksum};
 
 /// What some bytes begin with.
 pub enum Front {

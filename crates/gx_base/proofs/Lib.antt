@@ -1,7 +1,5 @@
 mod Capped
-mod Decimals
 mod Places
 mod PriceTexts
-mod Logs
-pub mod Framing
-mod Rows
+pub mod Tests
+pub mod Written

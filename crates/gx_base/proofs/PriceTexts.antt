@@ -1,16 +1,12 @@
--- Prices as texts.
-use Rattle.std.proofs.Common.{◌≡◌, ℕ, zero, suc, ◌+◌, ◌-◌, ◌*◌, ◌/◌, ◌^◌, ◌<◌, ◌≤◌, ◌&&◌, Bool, true, false, cond, min, nat_le, List, ◌∷◌, ◌++◌, length, take, drop, take-append-drop, replicate, Option, Some, None, decimal, arith, rules, refl, sym, ap, ◌∙◌}
+-- Prices that are read.
+use Rattle.std.proofs.Common.{◌≡◌, ℕ, ◌+◌, ◌-◌, ◌*◌, ◌^◌, ◌≤◌, ◌&&◌, Bool, true, false, cond, min, nat_le, List, ◌++◌, length, take, drop, take-append-drop, replicate, Option, Some, None, arith, rules, refl, sym, ap, ◌∙◌}
 use Rattle.std.proofs.lemmas.Bool.{and_from, cond-true, cond-false, le-leb}
-use Rattle.std.proofs.lemmas.Fmt.{length-decimal-le}
-use Rattle.std.proofs.lemmas.List.{append_assoc, length-drop, take_all, length_push, places, same_lists}
+use Rattle.std.proofs.lemmas.List.{append_assoc, length-drop, take_all, places, same_lists}
 use Rattle.std.proofs.lemmas.List.Folds.{list_all-append}
-use Rattle.std.proofs.lemmas.Nat.{pow-add}
-use Rattle.std.proofs.Math.Nat.{div-le_self, div-lt_iff_lt-mul, one-le-pow}
 use Rattle.std.specs.Char.{is_ascii_digit}
 use Rattle.std.specs.Str.Parse.{digits_value, digits_value_after}
 use Rattle.gx_base.proofs.Capped.{capped_append, capped_zeros}
-use Rattle.gx_base.specs.Numbers.{are_digits, fixed_digits, fraction_text}
-use Rattle.gx_base.specs.declared.limits.TheConstants.{MOST_DECIMALS}
+use Rattle.gx_base.specs.Numbers.{are_digits}
 
 and_false : (b : Bool) → (b && false) ≡ false
 and_false true = refl
@@ -66,26 +62,3 @@ nothing_there whole fraction units h = sym (cond-false _ _ _ (ap (λ n. nat_le 1
 
 pub a_number : (whole fraction : List ℕ) (units : ℕ) → 1 ≤ length whole + length fraction → are_digits whole ≡ true → are_digits fraction ≡ true → Some units ≡ number_of whole fraction units
 a_number whole fraction units some before behind = sym (cond-true _ _ _ (and_from _ _ (and_from _ _ (le-leb 1 (length whole + length fraction) some) before) behind))
-
--- the room that a price takes
-pub length-fixed_digits : (width n : ℕ) → length (fixed_digits width n) ≡ width
-length-fixed_digits zero n = refl
-length-fixed_digits (suc width) n = length_push (fixed_digits width (n / 10)) _ ∙ omega (arith, length-fixed_digits width (n / 10))
-
--- with decimals there is a point
-pub some_fraction : (decimals n : ℕ) → (decimals ≡ 0 → ⊥) → fraction_text decimals n ≡ 46 ∷ fixed_digits decimals n
-some_fraction zero n some = absurd (some refl)
-some_fraction (suc k) n some = refl
-
-pub length-fraction_text : (decimals n : ℕ) → length (fraction_text decimals n) ≤ decimals + 1
-length-fraction_text zero n = omega arith
-length-fraction_text (suc k) n = omega (arith, length-fixed_digits (suc k) n)
-
-pub length-whole : (decimals n : ℕ) → decimals ≤ MOST_DECIMALS → n < 10 ^ 19 → length (decimal (n / 10 ^ decimals)) + decimals ≤ 19
-length-whole decimals n few small =
-    let some : 0 < 10 ^ decimals = one-le-pow decimals 10 (omega arith) in
-    let all : 19 - decimals + decimals ≡ 19 = omega arith in
-    let whole : 10 ^ (19 - decimals) * 10 ^ decimals ≡ 10 ^ 19 = sym (pow-add 10 (19 - decimals) decimals) ∙ ap (λ k. 10 ^ k) all in
-    let below : n / 10 ^ decimals < 10 ^ (19 - decimals) = (div-lt_iff_lt-mul {k = 10 ^ decimals} {x = n} {y = 10 ^ (19 - decimals)} some).1 (omega arith) in
-    let low : n / 10 ^ decimals < 2 ^ 64 = omega (arith, div-le_self n (10 ^ decimals)) in
-    omega (arith, length-decimal-le (19 - decimals) (n / 10 ^ decimals) (omega arith) below low)

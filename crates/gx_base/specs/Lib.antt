@@ -7,5 +7,4 @@ pub mod Line
 pub mod KnownBytes
 pub mod Emits
 pub mod EmitLaws
-pub mod ByteLog
-pub mod LineLaws
+pub mod NullEmits

@@ -68,7 +68,7 @@ pub fn append(into: &mut [u8], at: usize, bytes: &[u8]) -> usize
 
 /// Writes these bytes as `append` does, one by one: for the few bytes of a constant, of which the compiler makes a store or two.
 #[inline(always)]
-pub(crate) fn append_few(into: &mut [u8], at: usize, bytes: &[u8]) -> usize
+pub fn append_few(into: &mut [u8], at: usize, bytes: &[u8]) -> usize
     requires { at + length bytes.now ≤ length into.old }
     ensures bytes { take result into.new ≡ take at into.old ++ bytes.now }
     ensures behind { drop result into.new ≡ drop result into.old }

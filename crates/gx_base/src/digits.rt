@@ -1,9 +1,8 @@
 //! Digits in texts.
 ghost use Rattle.std.specs.Prelude.{◌≡◌, ◌≤◌, IsTrue, Some, None, if◌then◌else◌, length, min};
 ghost use Rattle.std.specs.Str.Parse.{digits_value, digits_value_after};
-ghost use Rattle.gx_base.specs.Numbers.{are_digits, are_zeros, fixed_digits};
+ghost use Rattle.gx_base.specs.Numbers.{are_digits, are_zeros};
 
-use crate::decimal::pair;
 use crate::limits::MOST_PRICE_UNITS;
 use std::cmp;
 
@@ -68,22 +67,4 @@ pub fn read_digits(digits: &[u8]) -> u32
     ensures { result ≡ digits_value 10 digits.now }
 {
     read_on(0, digits) as u32
-}
-
-/// Fills `into` with the last digits of a number, with zeros in front where it has fewer. Two at a time, from behind.
-pub(crate) fn write_fixed_digits(n: u64, into: &mut [u8])
-    ensures { into.new ≡ fixed_digits (length into.old) n }
-{
-    let mut front = n;
-    let mut at = into.len();
-    while at >= 2 {
-        at -= 2;
-        let digits = pair(front % 100);
-        into[at] = digits[0];
-        into[at + 1] = digits[1];
-        front /= 100;
-    }
-    if at == 1 {
-        into[0] = b'0' + (front % 10) as u8;
-    }
 }

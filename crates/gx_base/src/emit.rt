@@ -1,14 +1,8 @@
 //! What takes events.
-ghost use Rattle.std.specs.Prelude.{◌≡◌, ◌+◌, ◌<◌, ◌≤◌, ◌↔◌, [], true, false, IfOk, length};
-ghost use Rattle.gx_base.specs.Line.{line_of};
+ghost use Rattle.std.specs.Prelude.{◌≡◌};
 ghost use Rattle.gx_base.specs.Emits.{EmitMeanings, Puts};
 
 use crate::event::Event;
-use crate::limits::LONGEST_LINE;
-use crate::line::write_line;
-use crate::names::Names;
-use std::alloc::{AllocError, Global};
-use std::marker::Model;
 
 /// Takes events in their order, and may fail, as where its room is used up. A failure is for good.
 pub trait Emit {
@@ -29,7 +23,7 @@ pub trait Emit {
 pub struct NullEmit;
 
 impl Emit for NullEmit {
-    ghost use Rattle.gx_base.specs.ByteLog.{null_meanings};
+    ghost use Rattle.gx_base.specs.NullEmits.{null_meanings};
 
     ghost meanings = { null_meanings };
 
@@ -37,82 +31,5 @@ impl Emit for NullEmit {
 
     fn failed(&self) -> bool {
         false
-    }
-}
-
-/// Keeps the lines of events, one after the other, in fixed room. It fails exactly where a line does not fit. Contracts
-/// see it as the names, the bytes so far, the room in bytes, and whether it is full, which is to have failed.
-#[derive(Drop)]
-pub struct ByteEmit<'a> {
-    names: &'a Names,
-    /// Room for the line that is put.
-    line: [u8; LONGEST_LINE],
-    lines: Vec<u8>,
-    room: usize,
-    full: bool,
-}
-
-impl<'a> Model for ByteEmit<'a> {
-    ghost use Rattle.gx_base.specs.ByteLog.{ByteLog};
-
-    ghost Value = { ByteLog };
-
-    ghost use Rattle.std.specs.Prelude.{◌≤◌, vec_len, vec_capacity};
-
-    ghost view = { λ e. record { names = e.names.now; bytes = e.lines.items; room = e.room; full = e.full } };
-
-    ghost invariant = { λ e. (e.room ≤ vec_capacity e.lines) × (vec_len e.lines ≤ e.room) };
-}
-
-impl<'a> ByteEmit<'a> {
-    /// An empty log with room for `room` bytes, which writes these names. An `Err` is want of memory.
-    pub fn new(alloc: Global, names: &'a Names, room: usize) -> Result<ByteEmit<'a>, AllocError>
-        ensures { IfOk result (λ e. e ≡ record { names = names.now; bytes = []; room = room; full = false }) }
-    {
-        let lines = Vec::with_capacity(alloc, room)?;
-        Ok(ByteEmit {
-            names,
-            line: [0; LONGEST_LINE],
-            lines,
-            room,
-            full: false,
-        })
-    }
-
-    /// Lends the lines so far, each whole.
-    pub fn bytes(&self) -> &[u8]
-        ensures { result.now ≡ self.now.bytes }
-    {
-        self.lines.as_slice()
-    }
-}
-
-impl<'a> Emit for ByteEmit<'a> {
-    ghost use Rattle.gx_base.specs.ByteLog.{byte_meanings};
-
-    ghost meanings = { byte_meanings };
-
-    /// Appends the line of the event. Where it does not fit, nothing is appended, now or later.
-    fn put(&mut self, event: &Event)
-        ensures puts { Puts byte_meanings self.old self.new event.now }
-        ensures exactly { self.old.full ≡ false → (self.new.full ≡ true)
-            ↔ (self.old.room < length self.old.bytes + length (line_of self.old.names event.now)) }
-        ensures whole { self.new.full ≡ true → self.new.bytes ≡ self.old.bytes }
-        ensures room { self.new.room ≡ self.old.room }
-    {
-        if self.full {
-            return;
-        }
-        let count = write_line(event, self.names, &mut self.line);
-        let line = &self.line[..count];
-        if line.len() > self.room - self.lines.len()
-            || self.lines.extend_from_slice(line).is_err()
-        {
-            self.full = true;
-        }
-    }
-
-    fn failed(&self) -> bool {
-        self.full
     }
 }

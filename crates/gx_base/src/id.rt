@@ -52,7 +52,7 @@ impl ShortId {
     /// Writes the bytes of the name behind the first `at` of `into`, and answers where they end; what stands behind them is
     /// left open.
     #[inline]
-    pub(crate) fn append_to(&self, into: &mut [u8], at: usize) -> usize
+    pub fn append_to(&self, into: &mut [u8], at: usize) -> usize
         requires { at + LONGEST_NAME ≤ length into.old }
         ensures bytes { take result into.new ≡ take at into.old ++ self.now }
         ensures short { result ≤ at + LONGEST_NAME }

@@ -1,30 +1,16 @@
-//! Prices in units, and their texts.
+//! Prices in units, and how they are read from texts.
 ghost use Rattle.std.specs.Prelude.{◌≡◌, ◌+◌, ◌*◌, ◌^◌, ◌≤◌, ◌++◌, ◌&&◌, Some, None, if◌then◌else◌, nat_le, min, length, take, drop, replicate};
 ghost use Rattle.std.specs.Str.Parse.{digits_value};
-ghost use Rattle.gx_base.specs.Numbers.{are_digits, are_zeros, has_minus, signed_units, unsigned_text, fraction_text, price_of, price_text};
+ghost use Rattle.gx_base.specs.Numbers.{are_digits, are_zeros, has_minus, signed_units, unsigned_text, price_of};
 
-use crate::bytes::{append, split_at_byte};
-use crate::decimal::{append_number, append_pair};
-use crate::digits::{CEILING, are_digits, are_zeros, read_if_digits, write_fixed_digits};
-use crate::limits::{LONGEST_VALUE, MOST_DECIMALS, MOST_PRICE_UNITS};
+use crate::bytes::split_at_byte;
+use crate::digits::{CEILING, are_digits, are_zeros, read_if_digits};
+use crate::limits::{MOST_DECIMALS, MOST_PRICE_UNITS};
 use std::cmp;
 use thiserror::Error;
 
 /// How many bytes a price has at most in a message (our own rule, within the float format of FIX 4.2).
 const LONGEST_PRICE: usize = 32;
-
-/// 10 to the power of each number of decimals, which a price is divided by in each report.
-static POWERS_OF_TEN: [u64; MOST_DECIMALS as usize + 1] = [
-    1,
-    10,
-    100,
-    1_000,
-    10_000,
-    100_000,
-    1_000_000,
-    10_000_000,
-    100_000_000,
-];
 
 /// A price in units, which are 10 to the power of minus the instrument's decimals.
 #[derive(Clone, Copy, Debug, PartialEq, Eq)]
@@ -125,61 +111,4 @@ fn with_sign(units: u64, negative: bool) -> i64
 {
     let units = units as i64;
     if negative { -units } else { units }
-}
-
-/// Writes a price with exactly `decimals` digits behind the point, at most `MOST_DECIMALS`, into the front of `into`, and
-/// answers how many bytes that takes; what stands behind them is left open. There is at least one digit before the point,
-/// and no point where `decimals` is 0. It takes every `i64`, also those that `read_price` refuses.
-pub fn write_price(price: Price, decimals: u8, into: &mut [u8; LONGEST_VALUE]) -> usize
-    requires { decimals ≤ MOST_DECIMALS }
-    ensures text { take result into.new ≡ price_text price decimals }
-    ensures count { result ≡ length (price_text price decimals) }
-    ensures short { result ≤ LONGEST_VALUE }
-{
-    append_price(into, 0, price, decimals)
-}
-
-/// Writes a price as `write_price` does, but behind the first `at` bytes of `into`, and answers where it ends.
-pub(crate) fn append_price(into: &mut [u8], at: usize, price: Price, decimals: u8) -> usize
-    requires few { decimals ≤ MOST_DECIMALS }
-    requires room { at + LONGEST_VALUE ≤ length into.old }
-    ensures text { take result into.new ≡ take at into.old ++ price_text price decimals }
-    ensures end { result ≡ at + length (price_text price decimals) }
-    ensures short { result ≤ at + LONGEST_VALUE }
-{
-    let units = price.0.unsigned_abs();
-    let sign: &[u8] = if price.0 < 0 { b"-" } else { b"" };
-    let end = append(into, at, sign);
-    let end = append_number(into, end, units / power_of_ten(decimals));
-    append_fraction(into, end, units, decimals)
-}
-
-/// How many units there are in one, with so many decimals.
-#[inline]
-fn power_of_ten(decimals: u8) -> u64
-    requires { decimals ≤ MOST_DECIMALS }
-    ensures { result ≡ 10 ^ decimals }
-{
-    POWERS_OF_TEN[decimals as usize]
-}
-
-/// Writes a point and the last `decimals` digits of a number behind the first `end` bytes of `into`, or nothing where
-/// `decimals` is 0. Answers where they end. Two digits, which most instruments have, are written at once.
-#[inline]
-fn append_fraction(into: &mut [u8], end: usize, units: u64, decimals: u8) -> usize
-    requires few { decimals ≤ MOST_DECIMALS }
-    requires room { end + decimals + 1 ≤ length into.old }
-    ensures text { take result into.new ≡ take end into.old ++ fraction_text decimals units }
-    ensures end { result ≡ end + length (fraction_text decimals units) }
-{
-    if decimals == 0 {
-        return end;
-    }
-    let start = append(into, end, b".");
-    if decimals == 2 {
-        return append_pair(into, start, units % 100);
-    }
-    let end = start + decimals as usize;
-    write_fixed_digits(units, &mut into[start..end]);
-    end
 }

@@ -7,7 +7,7 @@ use crate::text::Text;
 use std::marker::Model;
 
 /// How many bytes a time has at most.
-pub(crate) const LONGEST_STAMP: usize = 21;
+pub const LONGEST_STAMP: usize = 21;
 
 /// A time of a message, as its text: `YYYYMMDD-HH:MM:SS`, with or without `.` and three digits (the UTC timestamp of
 /// FIX 4.2), or `00000000-00:00:00` for none. Contracts see it as this text.
@@ -65,7 +65,7 @@ impl Stamp {
 
     /// Writes the text behind the first `at` bytes of `into`, and answers where it ends; what stands behind it is left open.
     #[inline]
-    pub(crate) fn append_to(&self, into: &mut [u8], at: usize) -> usize
+    pub fn append_to(&self, into: &mut [u8], at: usize) -> usize
         requires { at + LONGEST_STAMP ≤ length into.old }
         ensures bytes { take result into.new ≡ take at into.old ++ self.now }
         ensures short { result ≤ at + LONGEST_STAMP }

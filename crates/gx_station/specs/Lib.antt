@@ -1,3 +1,4 @@
+pub mod AnswerLaws
 pub mod Counts
 pub mod Sources
 pub mod Disk

@@ -45,7 +45,8 @@ fn publish_kept<F: LineForm, B: Book, S: Station>(
     ensures empty { OnOk result (buffer.new ≡ []) }
     ensures fits { OnOk result (FitsProduct product.now core.new) }
     ensures few { IfOk result (λ count. count ≤ MOST_MESSAGES) }
-    ensures publishes { (image : List ℕ) → S.meanings.holds station.old ≡ Some image → PublishesKept S.meanings F.meanings product.now text.now image station.old station.new form.old form.new core.new result }
+    ensures publishes { (image : List ℕ) → S.meanings.holds station.old ≡ Some image
+        → PublishesKept S.meanings F.meanings product.now text.now image station.old station.new form.old form.new core.new result }
 {
     let mut journal = match open_journal(product, text, station) {
         Ok(Some(journal)) => journal,

@@ -8,6 +8,7 @@ use Rattle.gx_station.specs.Stations.{StationMeanings}
 use Rattle.gx_station.specs.Moments.{AddsOnly, adds_none}
 use Rattle.gx_station.specs.Honest.{KeepsImage, IsSettled}
 use Rattle.gx_station.specs.StoreCalls.{Syncs}
+use Rattle.gx_station.specs.AnswerLaws.{on_ok}
 use Rattle.match_journal.specs.Inner.Stores.{Puts, Stores, Stored}
 use Rattle.match_journal.specs.Steps.{Rests, HoldsOne, Steps, StepsFrom}
 use Rattle.match_journal.specs.StepLaws.{adds_then, adds_weaker, rests_kept}
@@ -50,10 +51,6 @@ module _ {S : Type 0} (m : StationMeanings S) where
 
   pub steps_failed : {T U F G : Type 0} (a b : S) (image : List ℕ) (During Last : List ℕ → Type 0) (r : Result U G) (e : F) → is_err r ≡ true → Steps m a b image During Last r → Steps m {T = T} a b image During Last (Err e)
   steps_failed a b image During Last r e bad steps = record { ends = λ read. tt; moments = steps.moments }
-
-  pub on_ok : {T F A : Type 0} (r : Result T F) → is_err r ≡ false → OnOk r A → A
-  on_ok (Ok x) ok a = a
-  on_ok (Err e) ok a = absurd (cc ok)
 
   -- from a sync on nothing is pending
   pub from_synced : {T U F G : Type 0} (old a b new : S) (image : List ℕ) (During Last : List ℕ → Type 0) (s : Result U G) (r : Result T F) → is_err s ≡ false → Syncs m old a s → KeepsImage m a b → m.sent b ≡ m.sent a → (m.holds old ≡ Some image → Steps m b new image During Last r) → StepsFrom m old new image During Last r

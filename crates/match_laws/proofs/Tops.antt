@@ -2,11 +2,11 @@
 use Rattle.std.proofs.Common.{◌≡◌, ◌≢◌, ℕ, Bool, true, false, cond, not, ◌&&◌, List, [], ◌∷◌, filter, refl, sym, ap, subst, ◌∙◌, inl, inr, Option, Some, None}
 use Rattle.std.specs.Prelude.{◌==◌}
 use Rattle.std.specs.List.{AllByRecursion}
-use Rattle.std.proofs.lemmas.Bool.{true≢false}
 use Rattle.std.proofs.lemmas.Bool.Decides.{eqb_tells, Decides-eqb}
 use Rattle.gx_base.specs.declared.price.Price.{Price}
 use Rattle.gx_base.specs.declared.order.Order.{Order}
 use Rattle.gx_base.specs.declared.order.Side.{Side}
+use Rattle.gx_base.proofs.Tests.{not-both}
 use Rattle.step_config.specs.declared.step.Step.{Step}
 use Rattle.plain_book.specs.declared.entry.Entry.{Entry}
 use Rattle.plain_book.specs.Orders.{order_of, is_on, is_side, side_of, slot_of, top_of, without}
@@ -17,9 +17,6 @@ use Rattle.plain_book.proofs.Pairs.{all-filter, all-with, all-both, differ-pairs
 use Rattle.level_sweep.specs.Sweep.{sweep}
 use Rattle.level_sweep.proofs.EachTrade.{each-sweep}
 use Rattle.level_sweep.proofs.EachOrder.{StaysTrue, AllStay, all-kept}
-
-not-both : {A : Type 0} (b : Bool) → b ≡ true → b ≡ false → A
-not-both b h k = absurd (true≢false (sym h ∙ k))
 
 -- two orders of one side
 on-both : (i : ℕ) (d : Side) (x y : Entry) → is_on i d x ≡ true → is_on i d y ≡ true → is_on x.order.instrument x.order.side y ≡ true

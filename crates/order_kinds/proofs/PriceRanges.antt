@@ -5,15 +5,13 @@ use Rattle.std.proofs.lemmas.Int.{ints}
 use Rattle.gx_base.specs.declared.price.Price.{Price}
 use Rattle.gx_base.specs.declared.order.Side.{Side}
 use Rattle.gx_base.specs.declared.order.Side.TheVariants.{Buy, Sell}
+use Rattle.gx_base.proofs.Tests.{int-same}
 use Rattle.plain_book.specs.Orders.{is_better, opposite}
 use Rattle.plain_book.specs.Match.{lower, higher, lengthened}
 use Rattle.order_kinds.specs.Inner.Taking.{last_in_range}
 
 int-past : (a b c : ℤ) → int_lt a b ≡ true → int_lt c b ≡ false → int_lt a c ≡ true
 int-past a b c h g = grind (arith, ints)
-
-int-same : (a b : ℤ) → int_lt a b ≡ false → int_lt b a ≡ false → a ≡ b
-int-same a b h k = grind (arith, ints)
 
 pub price-same : (p q : Price) → p.0 ≡ q.0 → p ≡ q
 price-same p q h = let mk : ℤ → Price = λ z. record { 0 = z } in ap mk h

@@ -4,8 +4,9 @@ ghost use Rattle.std.specs.Prelude.{◌≡◌, ◌+◌, ◌*◌, ◌≤◌, [], 
 ghost use Rattle.order_maker.specs.Stream.{head_fields, tick_at, order_fields, body_of};
 
 use crate::made::{Made, firm_at, instrument_at, side_at};
-use gx_base::fields::{LONGEST_FIELD, name, number, price, word};
-use gx_base::{Price, side_text};
+use gx_base::Price;
+use line_parts::fields::{LONGEST_FIELD, name, number, price, word};
+use line_parts::side_text;
 use product_file::{MOST_TICK, Product};
 
 /// The time of each message.

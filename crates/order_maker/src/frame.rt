@@ -5,7 +5,7 @@ ghost use Rattle.order_maker.specs.Stream.{frame_at};
 use crate::body::write_body;
 use crate::made::Made;
 use gx_base::LONGEST_LINE;
-use gx_base::fields::{GAP, put_frame};
+use line_parts::fields::{GAP, put_frame};
 use product_file::Product;
 
 /// Writes the frame of the message with this number behind the first `at` bytes of `into`, and answers where it ends.

@@ -1,13 +1,13 @@
 -- TOP stands at the best price of its side: what keeps it so.
 use Rattle.std.proofs.Common.{◌≡◌, ◌≢◌, ℕ, Bool, true, false, cond, ◌&&◌, ◌||◌, List, [], ◌∷◌, ◌++◌, map, Option, Some, None, refl, sym, ap, subst, ◌∙◌, arith, inl, inr}
-use Rattle.std.proofs.lemmas.Bool.{true≢false}
-use Rattle.std.proofs.lemmas.Bool.Decides.{eqb_tells, nat_tests, Decides-eqb}
-use Rattle.std.specs.Prelude.{ℤ, pos, negsuc, int_lt, nat_lt, ◌==◌}
+use Rattle.std.proofs.lemmas.Bool.Decides.{eqb_tells, Decides-eqb}
+use Rattle.std.specs.Prelude.{ℤ, ◌==◌}
 use Rattle.std.specs.List.{AllByRecursion}
 use Rattle.gx_base.specs.declared.price.Price.{Price}
 use Rattle.gx_base.specs.declared.order.Order.{Order}
 use Rattle.gx_base.specs.declared.order.Side.{Side}
 use Rattle.gx_base.specs.declared.order.Side.TheVariants.{Buy, Sell}
+use Rattle.gx_base.proofs.Tests.{int-same, not-both}
 use Rattle.plain_book.specs.declared.entry.Entry.{Entry}
 use Rattle.plain_book.specs.Orders.{Level, level_of, is_on, is_side, side_of, is_before, is_at_earlier_level, is_better, is_best_price, is_new_best, best_of, price_of, HasSlot, order_of, placed, with_top, topped, is_slot_in}
 use Rattle.plain_book.specs.Book.{EachPair, AllDiffer, AreInBookOrder, AllowsTop, CanBeTop}
@@ -54,24 +54,12 @@ behind-on n x h =
 
 -- ---- prices
 
-nat-same : (a b : ℕ) → nat_lt a b ≡ false → nat_lt b a ≡ false → a ≡ b
-nat-same a b h k = grind (arith, nat_tests)
-
-int-same : (a b : ℤ) → int_lt a b ≡ false → int_lt b a ≡ false → a ≡ b
-int-same (pos a) (pos b) h k = ap pos (nat-same a b h k)
-int-same (pos a) (negsuc b) h k = cc
-int-same (negsuc a) (pos b) h k = cc
-int-same (negsuc a) (negsuc b) h k = ap negsuc (nat-same a b k h)
-
 better-same : (s : Side) (a b : ℤ) → is_better s a b ≡ false → is_better s b a ≡ false → a ≡ b
 better-same Buy a b h k = int-same a b k h
 better-same Sell a b h k = int-same a b h k
 
 price-same : (p q : Price) → p.0 ≡ q.0 → p ≡ q
 price-same p q h = let mk : ℤ → Price = λ z. record { 0 = z } in ap mk h
-
-not-both : {A : Type 0} (b : Bool) → b ≡ true → b ≡ false → A
-not-both b h k = absurd (true≢false (sym h ∙ k))
 
 -- ---- the best price
 

@@ -18,7 +18,7 @@ use Rattle.fix_frame.specs.Grammar.{body_in}
 use Rattle.fix_request.specs.Fields.{Field, fields_of}
 use Rattle.order_kinds.specs.Balance.{Quantities, quantities_of, AddsUp, filled_in, cancelled_in, order_in, open_by, lots_in}
 use Rattle.book_print.specs.LedgerText.{report_line, ledger_line}
-use Rattle.book_print.specs.Words.{line_feed}
+use Rattle.line_parts.specs.Words.{line_feed}
 use Rattle.maker_laws.specs.Names.{AreNames}
 use Rattle.report_laws.specs.Reading.{open_by_report, lots_by_report, value_in, text_in, number_in, is_execution, is_cancel, is_refusal, ReadsAsWhole, cancelled_in_report}
 use Rattle.report_laws.specs.Texts.{HasTexts}

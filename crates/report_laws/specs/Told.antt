@@ -3,7 +3,7 @@ use Rattle.std.specs.Prelude.{◌≡◌, ℕ, if◌then◌else◌, List, [], ◌
 use Rattle.gx_base.specs.declared.event.Event.{Event}
 use Rattle.gx_base.specs.declared.event.Event.TheVariants.{Fill}
 use Rattle.order_kinds.specs.Balance.{Quantities, quantities_of}
-use Rattle.book_print.specs.Words.{line_feed}
+use Rattle.line_parts.specs.Words.{line_feed}
 use Rattle.report_laws.specs.Reading.{value_in, text_in, is_execution}
 
 -- ---- a report

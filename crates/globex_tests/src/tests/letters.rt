@@ -1,9 +1,10 @@
 //! One stream of orders under each letter, through a log of lines. `examples/` has the same orders and reports as files.
 ghost use Rattle.order_kinds.specs.Cores.{FitsProduct};
 
+use exec_report::ByteEmit;
 use fix_frame::{Framer, Next};
 use fix_request::read_request;
-use gx_base::{ByteEmit, Emit};
+use gx_base::Emit;
 use order_kinds::{Core, MOST_MESSAGES};
 use plain_book::{Book, PlainBook};
 use product_file::{Product, read_product};

@@ -1,7 +1,7 @@
 //! The longest line, byte by byte, and the text of a price fault.
+use exec_report::write_line;
 use gx_base::{
-    Event, Head, Kind, LONGEST_LINE, Life, Order, Price, PriceFault, ShortId, Side, Stamp,
-    StepName, write_line,
+    Event, Head, Kind, LONGEST_LINE, Life, Order, Price, PriceFault, ShortId, Side, Stamp, StepName,
 };
 use product_file::read_product;
 use run_fixtures::bytes_of;

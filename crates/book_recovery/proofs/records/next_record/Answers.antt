@@ -1,11 +1,12 @@
 use Rattle.std.proofs.Common.{◌≡◌, ◌≤◌, ◌+◌, ℕ, length, true≢false, sym, ◌∙◌, ap, subst, arith}
+use Rattle.gx_station.specs.AnswerLaws.{on_ok}
 use Rattle.match_journal.specs.Journal.{most_payload}
 use Rattle.match_journal.specs.Standing.{Fits}
 use Rattle.match_journal.specs.declared.standing.Standing.{Standing}
 use Rattle.match_journal.specs.declared.entry.Entry.{Entry}
 use Rattle.match_journal.specs.declared.entry.EntryKind.{EntryKind}
 use Rattle.book_recovery.proofs.Counting.{head_found, gate_found, bad_found}
-use Rattle.book_recovery.proofs.Looks.{reads_itself, reads_then, on_ok}
+use Rattle.book_recovery.proofs.Looks.{reads_itself, reads_then}
 use Rattle.book_recovery.proofs.Reading.{few_messages, messages_given, payload_given, given_are_all, closed_behind, bad_head_behind, frames_more, frames_bad, image_read}
 use Rattle.book_recovery.proofs.Standings.{some_moved, entry_found}
 use Rattle.book_recovery.proofs.records.next_record.Goals as goal

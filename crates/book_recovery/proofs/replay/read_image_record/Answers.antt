@@ -1,6 +1,6 @@
 use Rattle.std.proofs.Common.{length, refl, sym, ◌∙◌, ap, arith}
+use Rattle.gx_station.specs.AnswerLaws.{on_ok}
 use Rattle.book_recovery.specs.Inner.Replays.{payload_at}
-use Rattle.book_recovery.proofs.Looks.{on_ok}
 use Rattle.book_recovery.proofs.Payloads.{payload-length, front_of}
 use Rattle.book_recovery.proofs.RightImages.{right-length, few-read, image-read, image-wrong}
 use Rattle.book_recovery.proofs.replay.read_image_record.Goals as goal

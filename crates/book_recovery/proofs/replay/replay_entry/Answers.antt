@@ -1,6 +1,6 @@
 use Rattle.std.proofs.Common.{◌≡◌, true, false, refl, sym, ◌∙◌}
+use Rattle.gx_station.specs.AnswerLaws.{on_ok}
 use Rattle.book_recovery.specs.Inner.Replays.{payload_at}
-use Rattle.book_recovery.proofs.Looks.{on_ok}
 use Rattle.book_recovery.proofs.NewCores.{cleared_new}
 use Rattle.book_recovery.proofs.ReplayedOne.{image-replayed, frames-replayed, frames-wrong}
 use Rattle.book_recovery.proofs.replay.replay_entry.Goals as goal

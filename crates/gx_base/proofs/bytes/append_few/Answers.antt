@@ -1,7 +1,7 @@
 use Rattle.std.proofs.Common.{◌+◌, ◌∷◌, ◌++◌, [], ℕ, List, take, get_or, sym, ap, ◌∙◌, append_assoc, arith}
 use Rattle.std.proofs.lemmas.List.{take_more, drop-set-lt}
 use Rattle.std.proofs.lemmas.Grind.{take-set_at}
-use Rattle.gx_base.proofs.Framing.{same_further}
+use Rattle.gx_base.proofs.Written.{same_further}
 use Rattle.gx_base.proofs.bytes.append_few.Goals as goal
 
 pub loop-k-preserved : goal.loop-k-preserved

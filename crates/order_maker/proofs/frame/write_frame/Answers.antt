@@ -1,5 +1,5 @@
 use Rattle.std.proofs.Common.{arith}
-use Rattle.gx_base.proofs.Framing.{ends_behind_gap, framed}
+use Rattle.line_parts.proofs.Framing.{ends_behind_gap, framed}
 use Rattle.order_maker.specs.Stream.{body_of, frame_at}
 use Rattle.order_maker.proofs.frame.write_frame.Goals as goal
 

@@ -1,5 +1,5 @@
 use Rattle.std.proofs.Common.{◌++◌, ℕ, List, take, ◌∙◌, ap, arith}
-use Rattle.gx_base.proofs.Framing.{front_of}
+use Rattle.gx_base.proofs.Written.{front_of}
 use Rattle.gx_base.proofs.text.Text.append_to.Goals as goal
 
 pub returns-clause-bytes : goal.returns-clause-bytes

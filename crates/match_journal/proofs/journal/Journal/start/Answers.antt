@@ -1,9 +1,10 @@
 use Rattle.std.proofs.Common.{inl, inr, [], sym, ◌∙◌, arith}
+use Rattle.gx_station.specs.AnswerLaws.{on_ok}
 use Rattle.match_journal.specs.Steps.{Rests}
 use Rattle.match_journal.specs.StepLaws.{rests_kept, steps_hold}
 use Rattle.match_journal.proofs.Created.{blank_keeps}
 use Rattle.match_journal.proofs.Found.{sealed_class}
-use Rattle.match_journal.proofs.Stepping.{on_ok, steps_ok, from_synced}
+use Rattle.match_journal.proofs.Stepping.{steps_ok, from_synced}
 use Rattle.match_journal.proofs.journal.Journal.start.Goals as goal
 
 pub returns-clause-starts : goal.returns-clause-starts
@@ -19,7 +20,7 @@ returns-then-is_err-2-clause-keeps g c = λ image records h read keeps.
     let held = c.look_at.ensures.looks.keeps.holds ∙ c.sync.ensures.syncs.keeps.holds ∙ read in
     let honest = c.look_at.ensures.looks.keeps.moments.honest (c.sync.ensures.syncs.keeps.moments.honest h) in
     let steps = c.finish.ensures.steps image _ records c.requires.least (c.in-Ok.ensures.found image (c.sync.ensures.syncs.keeps.holds ∙ read)) keeps in
-    let rests : Rests m image at = rests_kept m c.sync.new.self at image c.look_at.ensures.looks.keeps (c.sync.ensures.syncs.keeps.moments.honest h) record { read = c.sync.ensures.syncs.keeps.holds ∙ read; settled = on_ok m c.sync.result (sym c.is_err.ensures.value ∙ c.if-is_err.false) c.sync.ensures.syncs.settled h } in
+    let rests : Rests m image at = rests_kept m c.sync.new.self at image c.look_at.ensures.looks.keeps (c.sync.ensures.syncs.keeps.moments.honest h) record { read = c.sync.ensures.syncs.keeps.holds ∙ read; settled = on_ok c.sync.result (sym c.is_err.ensures.value ∙ c.if-is_err.false) c.sync.ensures.syncs.settled h } in
     steps_hold m g.met.S.Station.honest at c.finish.new.station image _ (record { keeps = keeps; no_longer = omega arith }) honest rests (steps.moments honest rests)
 
 pub returns-clause-makes : goal.returns-clause-makes
@@ -31,5 +32,5 @@ returns-clause-makes g c = λ image read unfinished.
           record { image = last.image; read = last.read; has = last.has.1 }
       | inr sealed ↦
           let held = c.sync.ensures.syncs.keeps.holds ∙ read in
-          on_ok m _ (sym c.is_err-2.ensures.value ∙ c.if-is_err-2.false) (c.finish.ensures.makes image _ c.requires.least (sealed_class c.args.product.now image c.in-Ok.found.class (c.in-Ok.ensures.found image held).class sealed) sealed (c.look_at.ensures.looks.keeps.holds ∙ held))
+          on_ok _ (sym c.is_err-2.ensures.value ∙ c.if-is_err-2.false) (c.finish.ensures.makes image _ c.requires.least (sealed_class c.args.product.now image c.in-Ok.found.class (c.in-Ok.ensures.found image held).class sealed) sealed (c.look_at.ensures.looks.keeps.holds ∙ held))
     ]

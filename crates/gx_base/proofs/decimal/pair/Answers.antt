@@ -1,8 +1,0 @@
-use Rattle.std.proofs.Common.{◌∷◌, [], ℕ, ap₂}
-use Rattle.gx_base.proofs.Decimals.{digits_at}
-use Rattle.gx_base.proofs.decimal.pair.Goals as goal
-
-pub returns : goal.returns
-returns c =
-    let digits = digits_at c.args.n c.requires in
-    ap₂ (λ (tens ones : ℕ). tens ∷ ones ∷ []) digits.0 digits.1

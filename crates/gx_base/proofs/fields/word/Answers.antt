@@ -1,9 +1,0 @@
-use Rattle.std.proofs.Common.{◌∙◌, arith}
-use Rattle.gx_base.proofs.Framing.{same_further}
-use Rattle.gx_base.proofs.fields.word.Goals as goal
-
-pub returns-clause-behind : goal.returns-clause-behind
-returns-clause-behind c =
-    c.append_few.ensures.behind
-    ∙ same_further _ _ c.append_few-end-2.new.into c.append_few-end.new.into (omega arith) c.append_few-end-2.ensures.behind
-    ∙ same_further _ _ c.append_few-end.new.into c.args.into.now (omega arith) c.append_few-end.ensures.behind

@@ -1,0 +1,3 @@
+mod Decimals
+pub mod Framing
+mod PriceTexts

@@ -1,0 +1,13 @@
+//! Parts of lines, written behind other bytes: numbers, prices, fields and the frame round them, and pieces of a printed line.
+#![tactic(auto)]
+
+mod decimal;
+pub mod fields;
+pub mod pieces;
+mod price;
+mod sides;
+mod trailer;
+
+pub use price::write_price;
+pub use sides::{side_letter, side_text};
+pub use trailer::{TRAILER_LENGTH, checksum, trailer_with};
