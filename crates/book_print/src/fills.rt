@@ -5,7 +5,7 @@ use line_parts::pieces::{end_line, number, order_words, price, text};
 use line_parts::side_letter;
 use product_file::Product;
 
-/// A line for each fill; nothing is kept, and nothing stands behind the lines.
+/// A line for each fill; nothing is kept, and nothing comes after the lines.
 #[derive(Clone, Copy, Debug, PartialEq, Eq)]
 pub struct FillForm;
 

@@ -123,7 +123,7 @@ impl Totals {
     }
 }
 
-/// The ledger as a form: a line for each execution report, and behind them the line of the totals of all events.
+/// The ledger as a form: a line for each execution report, and after them the line of the totals of all events.
 impl LineForm for Totals {
     ghost use Rattle.book_print.specs.Printing.{ledger_form};
 

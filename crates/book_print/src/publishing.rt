@@ -1,5 +1,5 @@
 //! What becomes of the messages of a record: they are noted and applied, and their events are printed and kept by some form. And what
-//! such a form prints behind all lines.
+//! such a form prints after all lines.
 ghost use Rattle.std.specs.Prelude.{◌≡◌, ◌+◌, ◌≤◌, [], length, IsTrue, IsOk, OnOk, flat_map};
 ghost use Rattle.gx_station.specs.Counts.{HasCause};
 ghost use Rattle.gx_station.specs.Quiet.{Quiet, Sends};
@@ -71,7 +71,7 @@ pub fn publish<F: LineForm, B: Book, S: Station>(
     out.flush()
 }
 
-/// Sends what a form prints behind the lines of all events, where `live` is what is open of all live orders; where it prints nothing
+/// Sends what a form prints after the lines of all events, where `live` is what is open of all live orders; where it prints nothing
 /// there, the station is not called. `SendFault` comes only where the count of send faults rose, and a part is sent then.
 pub fn print_ending<F: LineForm, S: Station>(
     form: &F,

@@ -21,7 +21,7 @@ module _ {F : Type 0} (f : FormMeanings F) where
       (ap (λ (t : NameLists → Event → List ℕ). sent_and (sent_and bytes (f.text form names e)) (flat_map (t names) events)) (f.text_after form e)
       ∙ sym (sent_and-append bytes (f.text form names e) (flat_map (f.text form names) events)))
 
-  -- messages are noted behind events as before them
+  -- messages are noted after events as before them
   noted-past-events : (form : F) (product : ProductLists) (frame : List ℕ) (events : List Event) → f.noted (fold f.after form events) product frame ≡ fold f.after (f.noted form product frame) events
   noted-past-events form product frame [] = refl
   noted-past-events form product frame (e ∷ events) =

@@ -13,10 +13,10 @@ LineText = NameLists → Event → List ℕ
 pub record FormMeanings (F : Type 0) : Type 0 where
   -- the line of an event under these names; it may go by the form, as by a range, but by nothing that the form keeps
   pub text : F → LineText
-  -- the form behind an event, and behind a message of a product
+  -- the form after an event, and after a message of a product
   pub after : F → Event → F
   pub noted : F → ProductLists → List ℕ → F
-  -- what is printed behind the lines of all events, where so many lots are open of all live orders
+  -- what is printed after the lines of all events, where so many lots are open of all live orders
   pub ending : F → ℕ → List ℕ
   pub text_after : (f : F) (e : Event) → text (after f e) ≡ text f
   pub text_noted : (f : F) (product : ProductLists) (frame : List ℕ) → text (noted f product frame) ≡ text f
@@ -34,6 +34,6 @@ module _ {F : Type 0} (f : FormMeanings F) where
   abbrev pub noted_all : F → ProductLists → List (List ℕ) → F
   noted_all form product frames = fold (λ (g : F) (frame : List ℕ). f.noted g product frame) form frames
 
-  -- the form behind messages and their events
+  -- the form after messages and their events
   abbrev pub behind : F → ProductLists → List (List ℕ) → List Event → F
   behind form product frames events = fold f.after (noted_all form product frames) events

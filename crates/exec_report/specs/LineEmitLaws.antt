@@ -37,7 +37,7 @@ module _ {F S : Type 0} (f : FormMeanings F) (m : StationMeanings S) where
     first : printed m a ≡ record { form = form; bytes = sent }
     first = ap (λ (bytes : Option (List ℕ)). record { form = form; bytes = bytes }) (out_working a works ∙ ap (sent_and sent) empty ∙ sent_and_none sent)
 
-    -- what is seen behind some events
+    -- what is seen after some events
     seen_then : (xs : List Event) → fold (with_event f a.names.now) (printed m a) xs ≡ record { form = fold f.after form xs; bytes = sent_and sent (flat_map text xs) }
     seen_then xs = ap (λ (p : Printed F). fold (with_event f a.names.now) p xs) first ∙ printed_all f a.names.now form sent xs
 

@@ -1,4 +1,4 @@
-//! The form of a line: how an event is printed, what is kept of events and of messages, and what is printed behind all lines.
+//! The form of a line: how an event is printed, what is kept of events and of messages, and what is printed after all lines.
 ghost use Rattle.std.specs.Prelude.{◌≡◌, ◌≤◌, length, take};
 
 use crate::line::write_line_into;
@@ -8,7 +8,7 @@ use product_file::Product;
 /// How many bytes a form may print of an event (our own rule): a report line, and nine more for one that is sent again, which says so.
 pub const LONGEST_PRINTED: usize = LONGEST_LINE + 9;
 
-/// How events are printed, what is kept of them and of the messages that they come from, and what is printed behind the last line.
+/// How events are printed, what is kept of them and of the messages that they come from, and what is printed after the last line.
 pub trait LineForm {
     ghost use Rattle.exec_report.specs.Forms.{FormMeanings};
 
@@ -29,7 +29,7 @@ pub trait LineForm {
     fn note(&mut self, product: &Product, frame: &[u8])
         ensures { self.new ≡ meanings.noted self.old product.now frame.now };
 
-    /// Writes what is printed behind the lines of all events into the front of the room, where so many lots are open of all live
+    /// Writes what is printed after the lines of all events into the front of the room, where so many lots are open of all live
     /// orders, and answers how many bytes it has: none where the lines are all.
     fn write_ending(&self, live: u64, into: &mut [u8]) -> usize
         requires { LONGEST_LINE ≤ length into.old }
@@ -37,7 +37,7 @@ pub trait LineForm {
         ensures short { result ≤ LONGEST_LINE };
 }
 
-/// The report line of each event; nothing is kept, and nothing stands behind the lines.
+/// The report line of each event; nothing is kept, and nothing comes after the lines.
 #[derive(Clone, Copy, Debug, PartialEq, Eq)]
 pub struct ReportForm;
 

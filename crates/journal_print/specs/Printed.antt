@@ -22,7 +22,7 @@ abbrev pub lines_in : LineText → ProductLists → List (List ℕ) → List ℕ
 lines_in line product messages = flat_map (line product.names) (events_of product messages)
 
 module _ {F : Type 0} (f : FormMeanings F) where
-  -- all that a form prints of these messages: the lines of their events, and its ending behind them
+  -- all that a form prints of these messages: the lines of their events, and its ending after them
   abbrev pub printed_whole : F → ProductLists → List (List ℕ) → List ℕ
   printed_whole form product messages =
       lines_in (f.text form) product messages

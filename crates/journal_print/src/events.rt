@@ -68,7 +68,7 @@ fn publish_kept<F: LineForm, B: Book, S: Station>(
     }
 }
 
-/// Sends the lines, in some form, of the events of all messages that the journal of a product keeps, and behind them the ending of the
+/// Sends the lines, in some form, of the events of all messages that the journal of a product keeps, and after them the ending of the
 /// form, and answers how many messages these are. Each record is read whole before a line of its messages is sent, and a book image
 /// is held to its form and passed by; a part of the ending is sent only where all messages kept were read. Both cores are to be new,
 /// and the buffer empty.
