@@ -32,4 +32,3 @@ module _ {S : Type 0} (m : StationMeanings S) where
 
   pub reads_then : (a b c : S) (most : ℕ) → ReadsOnly m a b → LooksOnly m b c most → ReadsOnly m a c
   reads_then a b c most reads looks = record { most = reads.most + most; looks = looks_then m a b c reads.most most reads.looks looks }
-
