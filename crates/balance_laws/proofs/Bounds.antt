@@ -22,12 +22,12 @@ use Rattle.plain_book.specs.Book.{live_orders, changed_to}
 use Rattle.order_kinds.specs.State.{State, empty_state}
 use Rattle.order_kinds.specs.Instruments.{ListedInstrument}
 use Rattle.order_kinds.specs.NewOrders.{Terms, terms_of}
-use Rattle.order_kinds.specs.Accepting.{new_start, new_by, new_step}
+use Rattle.order_kinds.specs.Accepting.{new_start, accepted_or_refused, new_step}
 use Rattle.order_kinds.specs.Stops.{Naming, by_number}
 use Rattle.order_kinds.specs.Cancels.{cancel_by, cancel_step}
-use Rattle.order_kinds.specs.Replaces.{replace_terms, least_after, keeps_place, replaced_in_place, replaced_start, replaced_anew, replaced, replaced_by, replace_by, replace_step}
+use Rattle.order_kinds.specs.Replaces.{replace_terms, least_after, keeps_place, replaced_in_place, replaced_start, replaced_anew, replaced, replaced_or_refused, replace_at, replace_step}
 use Rattle.order_kinds.specs.Step.{with_message, request_step, step_of, state_after, events_from, events_of}
-use Rattle.order_kinds.specs.Balance.{total_entered, total_open, filled_in, cancelled_in}
+use Rattle.order_kinds.specs.Balance.{total_entered, filled_in, cancelled_in}
 use Rattle.order_kinds.specs.declared.core_state.TheConstants.{MOST_MESSAGES}
 use Rattle.order_kinds.proofs.Refusals.{new-passes, replace-passes}
 use Rattle.balance_laws.specs.Bounds.{asked_in, AreWithin, StaysWithin}
@@ -55,7 +55,7 @@ quantity-most most n h = grind (arith, nat_tests)
 new-grows : (naming : Naming) (product : ProductLists) (new : NewOrder) (state : State) → StepGrows state.book.waiting (new_step naming product new state)
 new-grows naming product new state =
     let waiting = state.book.waiting in
-    let go : (r : Result Terms NewFault) → terms_of product new state ≡ r → StepGrows waiting (new_by naming r new state) = elim [
+    let go : (r : Result Terms NewFault) → terms_of product new state ≡ r → StepGrows waiting (accepted_or_refused naming r new state) = elim [
       | Ok terms ↦ λ is.
           let small : new.quantity ≤ MOST_LOTS = quantity-most MOST_LOTS new.quantity (new-passes product new state terms is).quantity in
           let start = new_start terms new state in
@@ -103,11 +103,11 @@ module _ (naming : Naming) (product : ProductLists) (request : ReplaceOrder) (st
   replace-grows : ReplaceGrows (replace_step naming product request state)
   replace-grows =
       let es = live_orders state.book in
-      let by : (slot : ℕ) (r : Result ListedInstrument ChangeFault) → replace_terms product request (order_of slot es) state ≡ r → ReplaceGrows (replaced_by r naming request slot state) = λ slot. elim [
+      let by : (slot : ℕ) (r : Result ListedInstrument ChangeFault) → replace_terms product request (order_of slot es) state ≡ r → ReplaceGrows (replaced_or_refused r naming request slot state) = λ slot. elim [
         | Ok instrument ↦ λ is. replaced-grows slot instrument (quantity-most MOST_LOTS request.quantity (replace-passes product request (order_of slot es) state instrument is).quantity)
         | Err f ↦ λ is. unchanged-grows _ refl
       ] in
-      let go : (slot : Option ℕ) → ReplaceGrows (replace_by slot naming product request state) = elim [
+      let go : (slot : Option ℕ) → ReplaceGrows (replace_at slot naming product request state) = elim [
         | None ↦ unchanged-grows _ refl
         | Some slot ↦ by slot (replace_terms product request (order_of slot es) state) refl
       ] in go (slot_named request.sender.firm request.old es)
@@ -151,21 +151,11 @@ totals-within product frames front behind right is =
 pub whole-within : (product : ProductLists) (frames : List (List ℕ)) → IsRightProduct product → AreWithin (length frames) (events_of product frames)
 whole-within product frames right = totals-within product frames (events_of product frames) [] right (sym (append-nil (events_of product frames)))
 
--- What is open at the end was entered too.
-pub open-within : (product : ProductLists) (frames : List (List ℕ)) → IsRightProduct product → total_open (state_after product (empty_state product) frames).book ≤ length frames * MOST_LOTS
-open-within product frames right =
-    let balanced = streams-balance product frames right in
-    omega (arith, balanced.total, (frames-grow product (empty_state product) frames).lots, entered-within 0 (events_of product frames))
-
 -- ---- counters of 64 bits
 
 -- No total reaches the end of one.
 pub total-below : (messages total : ℕ) → messages ≤ MOST_MESSAGES → total ≤ messages * MOST_LOTS → total < 2 ^ 64
 total-below messages total few within = omega (arith, few, within)
-
--- Nor does the number of events.
-pub many-below : (messages many : ℕ) → messages ≤ MOST_MESSAGES → many ≤ messages * (MOST_LOTS + 3) → many < 2 ^ 63
-many-below messages many few within = omega (arith, few, within)
 
 -- ---- the law
 

@@ -11,7 +11,7 @@ use Rattle.book_image.specs.declared.check_rows.Front.{Front}
 use Rattle.book_image.specs.Rows.{order_of_row, row_at}
 use Rattle.book_image.specs.Faults.{orders_at}
 use Rattle.book_image.specs.Rules.{has_same_name, is_new_name, is_in_book_order, is_uncrossed, is_in_line, is_right_resting_row, is_right_waiting_row}
-use Rattle.book_image.specs.Inner.Checking.{HasNames, TakesName, IsFrontOf, front_with, fits_behind, is_resting_alone, is_waiting_alone}
+use Rattle.book_image.specs.Inner.Checking.{HasNames, TakesName, IsAsMade, IsFrontOf, front_with, fits_behind, is_resting_alone, is_waiting_alone}
 use Rattle.book_image.proofs.CheckFronts.{front-tells, front-next, line-next}
 use Rattle.book_image.proofs.CheckNames.{orders-next, names-next}
 
@@ -21,14 +21,14 @@ module _ (test : List ℕ → Bool) (given row : List ℕ) (found : Option Order
   of-row : found ≡ cond (test row) (Some (order_of_row row)) None
   of-row = subst (λ (r : List ℕ). found ≡ cond (test r) (Some (order_of_row r)) None) is answered
 
-  pub none-where : found ≡ None → test row ≡ false
+  none-where : found ≡ None → test row ≡ false
   none-where none =
       let go : (b : Bool) → found ≡ cond b (Some (order_of_row row)) None → b ≡ false = elim [
         | true ↦ λ h. let f : Some (order_of_row row) ≡ None = sym h ∙ none in cc
         | false ↦ λ h. refl
       ] in go (test row) of-row
 
-  pub some-where : (x : Order) → found ≡ Some x → test row ≡ true
+  some-where : (x : Order) → found ≡ Some x → test row ≡ true
   some-where x some =
       let go : (b : Bool) → found ≡ cond b (Some (order_of_row row)) None → b ≡ true = elim [
         | true ↦ λ h. refl
@@ -87,22 +87,42 @@ module _ (product : ProductLists) (given : ℕ) (before : List Order) (row : Lis
         ∙ ap (λ (b : Bool). a && b && is_new_name o before) (sym (front-tells front o before stands))
         ∙ ap (λ (b : Bool). a && fits_behind front o && not b) (sym (names o))
 
-    pub resting-alone-wrong : is_resting_alone product given row ≡ false → is_right_resting_row product given before row ≡ false
+    resting-alone-wrong : is_resting_alone product given row ≡ false → is_right_resting_row product given before row ≡ false
     resting-alone-wrong h = resting-is ∙ first-fails _ (fits_behind front (order_of_row row)) _ h
 
-    pub resting-order-wrong : fits_behind front (order_of_row row) ≡ false → is_right_resting_row product given before row ≡ false
+    resting-order-wrong : fits_behind front (order_of_row row) ≡ false → is_right_resting_row product given before row ≡ false
     resting-order-wrong h = resting-is ∙ second-fails (is_resting_alone product given row) _ _ h
 
-    pub resting-name-wrong : not (is_live (order_of_row row).firm (order_of_row row).id (live_orders book)) ≡ false
+    resting-name-wrong : not (is_live (order_of_row row).firm (order_of_row row).id (live_orders book)) ≡ false
         → is_right_resting_row product given before row ≡ false
     resting-name-wrong h = resting-is ∙ third-fails (is_resting_alone product given row) (fits_behind front (order_of_row row)) _ h
 
-    pub resting-right : is_resting_alone product given row ≡ true → fits_behind front (order_of_row row) ≡ true
+    resting-right : is_resting_alone product given row ≡ true → fits_behind front (order_of_row row) ≡ true
         → not (is_live (order_of_row row).firm (order_of_row row).id (live_orders book)) ≡ true
         → is_right_resting_row product given before row ≡ true
     resting-right h g f = resting-is ∙ all-hold _ _ _ h g f
 
+    -- by what is found of the row: nothing, or its order
+    module _ (read : List ℕ) (found : Option Order) (answered : found ≡ cond (is_resting_alone product given read) (Some (order_of_row read)) None) (is : read ≡ row) where
+      pub resting-none-wrong : found ≡ None → is_right_resting_row product given before row ≡ false
+      resting-none-wrong none = resting-alone-wrong (none-where (is_resting_alone product given) read row found answered is none)
+
+      pub resting-place-wrong : (x : Order) → found ≡ Some x → fits_behind front x ≡ false → is_right_resting_row product given before row ≡ false
+      resting-place-wrong x some wrong = resting-order-wrong (ap (fits_behind front) (sym (some-is (is_resting_alone product given) read row found answered is x some)) ∙ wrong)
+
+      pub resting-id-wrong : (x : Order) → found ≡ Some x → not (is_live x.firm x.id (live_orders book)) ≡ false → is_right_resting_row product given before row ≡ false
+      resting-id-wrong x some wrong =
+          resting-name-wrong (ap (λ (o : Order). not (is_live o.firm o.id (live_orders book))) (sym (some-is (is_resting_alone product given) read row found answered is x some)) ∙ wrong)
+
+      pub resting-all-right : (x : Order) → found ≡ Some x → fits_behind front x ≡ true → not (is_live x.firm x.id (live_orders book)) ≡ true → is_right_resting_row product given before row ≡ true
+      resting-all-right x some fits_there new =
+          let same : order_of_row row ≡ x = sym (some-is (is_resting_alone product given) read row found answered is x some) in
+          resting-right (some-where (is_resting_alone product given) read row found answered is x some) (ap (fits_behind front) same ∙ fits_there) (ap (λ (o : Order). not (is_live o.firm o.id (live_orders book))) same ∙ new)
+
 -- ---- one row more
+
+pub made-then : (a b c : Book) → IsAsMade a b → IsAsMade b c → IsAsMade a c
+made-then a b c p q = record { capacity = q.capacity ∙ p.capacity; instruments = q.instruments ∙ p.instruments }
 
 module _ (payload : List ℕ) (first k : ℕ) (x : Order) (is : x ≡ order_of_row (row_at payload first k)) where
   one-more : orders_at payload first (k + 1) ≡ orders_at payload first k ++ x ∷ []
@@ -145,7 +165,10 @@ not-or true b = refl
 not-or false b = refl
 
 module _ (product : ProductLists) (given : ℕ) (resting before : List Order) (row : List ℕ) where
-  module _ (fits : Bool) (book : Book) (stands : is_in_line (order_of_row row) before ≡ fits) (names : HasNames book (resting ++ before)) where
+  module _ (last : ℕ) (book : Book) (stands : (o : Order) → is_in_line o before ≡ nat_le last o.instrument) (names : HasNames book (resting ++ before)) where
+    abbrev fits : Bool
+    fits = nat_le last (order_of_row row).instrument
+
     -- by what is kept
     waiting-is : is_right_waiting_row product given resting before row
         ≡ (is_waiting_alone product given row && fits && not (is_live (order_of_row row).firm (order_of_row row).id (live_orders book)))
@@ -153,21 +176,38 @@ module _ (product : ProductLists) (given : ℕ) (resting before : List Order) (r
         let o = order_of_row row in
         let a = is_waiting_alone product given row in
         and-turn a (is_new_name o resting) (is_new_name o before) (is_in_line o before)
-        ∙ ap (λ (b : Bool). a && b && (is_new_name o resting && is_new_name o before)) stands
+        ∙ ap (λ (b : Bool). a && b && (is_new_name o resting && is_new_name o before)) (stands o)
         ∙ ap (λ (b : Bool). a && fits && b) (not-or (list_any (has_same_name o) resting) (list_any (has_same_name o) before)
         ∙ ap not (sym (list_any-append (has_same_name o) resting before) ∙ sym (names o)))
 
-    pub waiting-alone-wrong : is_waiting_alone product given row ≡ false → is_right_waiting_row product given resting before row ≡ false
+    waiting-alone-wrong : is_waiting_alone product given row ≡ false → is_right_waiting_row product given resting before row ≡ false
     waiting-alone-wrong h = waiting-is ∙ first-fails _ fits _ h
 
-    pub waiting-line-wrong : fits ≡ false → is_right_waiting_row product given resting before row ≡ false
-    waiting-line-wrong h = waiting-is ∙ second-fails (is_waiting_alone product given row) _ _ h
+    waiting-late-wrong : fits ≡ false → is_right_waiting_row product given resting before row ≡ false
+    waiting-late-wrong h = waiting-is ∙ second-fails (is_waiting_alone product given row) _ _ h
 
-    pub waiting-name-wrong : not (is_live (order_of_row row).firm (order_of_row row).id (live_orders book)) ≡ false
+    waiting-name-wrong : not (is_live (order_of_row row).firm (order_of_row row).id (live_orders book)) ≡ false
         → is_right_waiting_row product given resting before row ≡ false
     waiting-name-wrong h = waiting-is ∙ third-fails (is_waiting_alone product given row) fits _ h
 
-    pub waiting-right : is_waiting_alone product given row ≡ true → fits ≡ true
+    waiting-right : is_waiting_alone product given row ≡ true → fits ≡ true
         → not (is_live (order_of_row row).firm (order_of_row row).id (live_orders book)) ≡ true
         → is_right_waiting_row product given resting before row ≡ true
     waiting-right h g f = waiting-is ∙ all-hold _ _ _ h g f
+
+    -- by what is found of the row: nothing, or its order
+    module _ (read : List ℕ) (found : Option Order) (answered : found ≡ cond (is_waiting_alone product given read) (Some (order_of_row read)) None) (is : read ≡ row) where
+      pub waiting-none-wrong : found ≡ None → is_right_waiting_row product given resting before row ≡ false
+      waiting-none-wrong none = waiting-alone-wrong (none-where (is_waiting_alone product given) read row found answered is none)
+
+      pub waiting-line-wrong : (x : Order) → found ≡ Some x → nat_le last x.instrument ≡ false → is_right_waiting_row product given resting before row ≡ false
+      waiting-line-wrong x some wrong = waiting-late-wrong (ap (λ (o : Order). nat_le last o.instrument) (sym (some-is (is_waiting_alone product given) read row found answered is x some)) ∙ wrong)
+
+      pub waiting-id-wrong : (x : Order) → found ≡ Some x → not (is_live x.firm x.id (live_orders book)) ≡ false → is_right_waiting_row product given resting before row ≡ false
+      waiting-id-wrong x some wrong =
+          waiting-name-wrong (ap (λ (o : Order). not (is_live o.firm o.id (live_orders book))) (sym (some-is (is_waiting_alone product given) read row found answered is x some)) ∙ wrong)
+
+      pub waiting-all-right : (x : Order) → found ≡ Some x → nat_le last x.instrument ≡ true → not (is_live x.firm x.id (live_orders book)) ≡ true → is_right_waiting_row product given resting before row ≡ true
+      waiting-all-right x some fits_there new =
+          let same : order_of_row row ≡ x = sym (some-is (is_waiting_alone product given) read row found answered is x some) in
+          waiting-right (some-where (is_waiting_alone product given) read row found answered is x some) (ap (λ (o : Order). nat_le last o.instrument) same ∙ fits_there) (ap (λ (o : Order). not (is_live o.firm o.id (live_orders book))) same ∙ new)

@@ -37,7 +37,7 @@ module _ (i : ℕ) (side : Side) (number : ℕ) where
       ∙ ap (λ (at : ℕ). is_named_at (best_with best i side o) i side number o || is_at_best_from (best_with best i side o) i side number (orders_at payload at (n - (k + 1)))) (row-next first k)
 
   -- the same, as the walk has it
-  pub walk-next : (payload : List ℕ) (first n k : ℕ) (best next : Option Price) (row : List ℕ) (hit : Bool) → k < n
+  walk-next : (payload : List ℕ) (first n k : ℕ) (best next : Option Price) (row : List ℕ) (hit : Bool) → k < n
       → row ≡ row_at payload first k
       → next ≡ best_with best i side (order_of_row row) → hit ≡ is_named_at next i side number (order_of_row row)
       → is_at_best_from best i side number (orders_at payload (first + ROW_BYTES * k) (n - k)) ≡ (hit || is_at_best_from next i side number (orders_at payload (first + ROW_BYTES * (k + 1)) (n - (k + 1))))
@@ -49,3 +49,11 @@ module _ (i : ℕ) (side : Side) (number : ℕ) where
       ∙ ap (λ (p : Option Price). is_named_at p i side number o || is_at_best_from p i side number rest) (sym known)
       ∙ ap (λ (r : List ℕ). is_named_at next i side number (order_of_row r) || is_at_best_from next i side number rest) (sym row-is)
       ∙ ap (λ (b : Bool). b || is_at_best_from next i side number rest) (sym hit-is)
+
+  -- the walk, where the row is the one that is looked for, and where it is not
+  pub walk-as : (payload : List ℕ) (first n k : ℕ) (best next : Option Price) (row : List ℕ) (hit told : Bool) → k < n → row ≡ row_at payload first k
+      → next ≡ best_with best i side (order_of_row row) → hit ≡ is_named_at next i side number (order_of_row row) → hit ≡ told
+      → is_at_best_from best i side number (orders_at payload (first + ROW_BYTES * k) (n - k)) ≡ (told || is_at_best_from next i side number (orders_at payload (first + ROW_BYTES * (k + 1)) (n - (k + 1))))
+  walk-as payload first n k best next row hit told h row-is next-is hit-is is =
+      walk-next payload first n k best next row hit h row-is next-is hit-is
+      ∙ ap (λ (b : Bool). b || is_at_best_from next i side number (orders_at payload (first + ROW_BYTES * (k + 1)) (n - (k + 1)))) is

@@ -41,5 +41,12 @@ module _ (is_right : ℕ → Bool) where
     pub wrong-none : (n : ℕ) → AreRightBelow is_right n → wrong_place is_right at size 0 n ≡ None
     wrong-none n h = none-from 0 n (λ j l u. h j (omega arith))
 
+    -- the same where a walk counts the parts, and ends behind the last of them
+    pub wrong-none-of : (n k count : ℕ) → count ≡ n → k ≡ count → AreRightBelow is_right k → wrong_place is_right at size 0 n ≡ None
+    wrong-none-of n k count all end h = wrong-none n (subst (AreRightBelow is_right) (end ∙ all) h)
+
     pub wrong-first : (n m : ℕ) → AreRightBelow is_right m → m < n → is_right m ≡ false → wrong_place is_right at size 0 n ≡ Some (at + size * m)
     wrong-first n m h u w = first-from 0 n m (λ j l high. h j high) (omega arith) (omega arith) w
+
+    pub wrong-first-of : (n m count : ℕ) → count ≡ n → AreRightBelow is_right m → m < count → is_right m ≡ false → wrong_place is_right at size 0 n ≡ Some (at + size * m)
+    wrong-first-of n m count all h u w = wrong-first n m h (subst (λ (k : ℕ). m < k) all u) w

@@ -4,7 +4,7 @@ use Rattle.gx_base.specs.declared.order.Order.{Order}
 use Rattle.plain_book.specs.declared.entry.Entry.{Entry}
 use Rattle.plain_book.specs.Orders.{is_live}
 use Rattle.plain_book.specs.Book.{Book, IsFitToWait, book_cleared}
-use Rattle.plain_book.specs.Numbers.{by_number, numbered, book_numbered}
+use Rattle.plain_book.specs.Numbers.{entry_numbered, numbered, book_numbered}
 use Rattle.book_image.specs.Rows.{count_at}
 use Rattle.book_image.specs.Faults.{resting_rows, resting_count, waiting_rows, waiting_count, orders_at}
 use Rattle.book_image.specs.Reading.{entry_of, with_all_tops}
@@ -69,7 +69,7 @@ module _ (payload : List ℕ) (n : ℕ) (old : Book) (right : IsRightBook old.ca
     where
       no-entries : (es : List Entry) → numbered es ≡ [] → es ≡ []
       no-entries [] h = refl
-      no-entries (e ∷ es) h = absurd (let k : by_number e ∷ numbered es ≡ [] = h in cc)
+      no-entries (e ∷ es) h = absurd (let k : entry_numbered e ∷ numbered es ≡ [] = h in cc)
 
   lined-is : Lining (resting_count n payload) (waiting_count n payload)
   lined-is b c h k =

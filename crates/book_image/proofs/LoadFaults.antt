@@ -264,9 +264,7 @@ module _ (product : ProductLists) (limits : IsRightProduct product) (o : Order) 
     pub wait-fit : IsFitToWait (instruments_of product) o
     wait-fit =
         let a = and-left _ _ h in
-        let b = and-left _ _ a in
-        let c = and-left _ _ b in
-        let d = and-left _ _ c in
+        let d = and-left _ _ (and-left _ _ (and-left _ _ a)) in
         record {
           listed = s.instrument;
           firm = omega (arith, s.firm, limits.few_firms);

@@ -6,7 +6,7 @@ use Rattle.std.specs.List.{AllByRecursion}
 use Rattle.gx_base.specs.declared.order.Order.{Order}
 use Rattle.plain_book.specs.declared.entry.Entry.{Entry}
 use Rattle.plain_book.specs.Orders.{is_live, is_named, is_at_earlier_level, is_of_earlier_instrument, placed, lined_up}
-use Rattle.plain_book.specs.Numbers.{by_number, numbered}
+use Rattle.plain_book.specs.Numbers.{entry_numbered, numbered}
 use Rattle.book_image.specs.Rows.{order_of_row, bytes_at}
 use Rattle.book_image.specs.Faults.{orders_at}
 use Rattle.book_image.specs.Reading.{entry_of}
@@ -55,20 +55,20 @@ module _ (f : ℕ → Order) where
 -- what holds of some orders holds of the orders of a book that they are
 pub as-orders : (P : Order → Type 0) (es : List Entry) (os : List Order) → numbered es ≡ map entry_of os → AllByRecursion P os → AllByRecursion (λ (e : Entry). P e.order) es
 as-orders P [] os h a = tt
-as-orders P (e ∷ es) [] h a = absurd (let k : by_number e ∷ numbered es ≡ [] = h in cc)
+as-orders P (e ∷ es) [] h a = absurd (let k : entry_numbered e ∷ numbered es ≡ [] = h in cc)
 as-orders P (e ∷ es) (o ∷ os) h a =
-    let k : by_number e ∷ numbered es ≡ entry_of o ∷ map entry_of os = h in
-    let head : by_number e ≡ entry_of o = cc in
+    let k : entry_numbered e ∷ numbered es ≡ entry_of o ∷ map entry_of os = h in
+    let head : entry_numbered e ≡ entry_of o = cc in
     let tail : numbered es ≡ map entry_of os = cc in
     let same : e.order ≡ o = ap (λ (x : Entry). x.order) head in
     (subst P (sym same) a.0, as-orders P es os tail a.1)
 
 pub as-none-top : (es : List Entry) (os : List Order) → numbered es ≡ map entry_of os → NoneTop es
 as-none-top [] os h = tt
-as-none-top (e ∷ es) [] h = absurd (let k : by_number e ∷ numbered es ≡ [] = h in cc)
+as-none-top (e ∷ es) [] h = absurd (let k : entry_numbered e ∷ numbered es ≡ [] = h in cc)
 as-none-top (e ∷ es) (o ∷ os) h =
-    let k : by_number e ∷ numbered es ≡ entry_of o ∷ map entry_of os = h in
-    let head : by_number e ≡ entry_of o = cc in
+    let k : entry_numbered e ∷ numbered es ≡ entry_of o ∷ map entry_of os = h in
+    let head : entry_numbered e ≡ entry_of o = cc in
     let tail : numbered es ≡ map entry_of os = cc in
     (ap (λ (x : Entry). x.is_top) head, as-none-top es os tail)
 
@@ -97,14 +97,14 @@ live-numbered firm id (e ∷ es) = ap (λ (b : Bool). is_named firm id e || b) (
 
 -- ---- filters
 
-pub filter-numbered : (p : Entry → Bool) → ((e : Entry) → p (by_number e) ≡ p e) → (es : List Entry) → filter p (numbered es) ≡ numbered (filter p es)
+pub filter-numbered : (p : Entry → Bool) → ((e : Entry) → p (entry_numbered e) ≡ p e) → (es : List Entry) → filter p (numbered es) ≡ numbered (filter p es)
 filter-numbered p h [] = refl
 filter-numbered p h (e ∷ es) =
-    let go : (b : Bool) → cond b (by_number e ∷ filter p (numbered es)) (filter p (numbered es)) ≡ numbered (cond b (e ∷ filter p es) (filter p es)) = elim [
-      | true ↦ ap (λ (l : List Entry). by_number e ∷ l) (filter-numbered p h es)
+    let go : (b : Bool) → cond b (entry_numbered e ∷ filter p (numbered es)) (filter p (numbered es)) ≡ numbered (cond b (e ∷ filter p es) (filter p es)) = elim [
+      | true ↦ ap (λ (l : List Entry). entry_numbered e ∷ l) (filter-numbered p h es)
       | false ↦ filter-numbered p h es
     ] in
-    ap (λ (b : Bool). cond b (by_number e ∷ filter p (numbered es)) (filter p (numbered es))) (h e) ∙ go (p e)
+    ap (λ (b : Bool). cond b (entry_numbered e ∷ filter p (numbered es)) (filter p (numbered es))) (h e) ∙ go (p e)
 
 module _ {X : Type 0} (p : X → Bool) where
   pub filter-every : (xs : List X) → AllByRecursion (λ x. p x ≡ true) xs → filter p xs ≡ xs
@@ -135,15 +135,15 @@ module _ {X : Type 0} (p : X → Bool) where
 
 -- ---- an entry is put in
 
-pub placed-numbered : (n : Entry) (es : List Entry) → numbered (placed n es) ≡ placed (by_number n) (numbered es)
+pub placed-numbered : (n : Entry) (es : List Entry) → numbered (placed n es) ≡ placed (entry_numbered n) (numbered es)
 placed-numbered n es =
-    map-append by_number (filter (λ e. not (is_at_earlier_level n e)) es) (n ∷ filter (is_at_earlier_level n) es)
-    ∙ ap (λ (l : List Entry). numbered (filter (λ e. not (is_at_earlier_level n e)) es) ++ by_number n ∷ l) (sym (filter-numbered (is_at_earlier_level n) (λ e. refl) es))
-    ∙ ap (λ (l : List Entry). l ++ by_number n ∷ filter (is_at_earlier_level n) (numbered es)) (sym (filter-numbered (λ e. not (is_at_earlier_level n e)) (λ e. refl) es))
+    map-append entry_numbered (filter (λ e. not (is_at_earlier_level n e)) es) (n ∷ filter (is_at_earlier_level n) es)
+    ∙ ap (λ (l : List Entry). numbered (filter (λ e. not (is_at_earlier_level n e)) es) ++ entry_numbered n ∷ l) (sym (filter-numbered (is_at_earlier_level n) (λ e. refl) es))
+    ∙ ap (λ (l : List Entry). l ++ entry_numbered n ∷ filter (is_at_earlier_level n) (numbered es)) (sym (filter-numbered (λ e. not (is_at_earlier_level n e)) (λ e. refl) es))
 
 -- a stop of no earlier instrument than the others waits behind them
-pub lined-last : (n : Entry) (es : List Entry) → AllByRecursion (λ (e : Entry). is_of_earlier_instrument n e ≡ false) es → numbered (lined_up n es) ≡ numbered es ++ by_number n ∷ []
+pub lined-last : (n : Entry) (es : List Entry) → AllByRecursion (λ (e : Entry). is_of_earlier_instrument n e ≡ false) es → numbered (lined_up n es) ≡ numbered es ++ entry_numbered n ∷ []
 lined-last n es h =
     ap (λ (l : List Entry). numbered (l ++ n ∷ filter (is_of_earlier_instrument n) es)) (filter-not-every (is_of_earlier_instrument n) es h)
     ∙ ap (λ (l : List Entry). numbered (es ++ n ∷ l)) (filter-none (is_of_earlier_instrument n) es h)
-    ∙ map-append by_number es (n ∷ [])
+    ∙ map-append entry_numbered es (n ∷ [])

@@ -16,7 +16,7 @@ use Rattle.book_order.specs.Levels.{Level, is_side, is_better, is_level, is_befo
 use Rattle.plain_book.specs.declared.entry.Entry.{Entry}
 use Rattle.plain_book.specs.Orders.{level, level_of, is_on, is_at, HasSlot, order_of, slot_of, slot_after, side_of, orders_at, best_of, price_of, with_top, topped}
 use Rattle.plain_book.specs.Book.{Book, IsRight, AllDiffer, EachPair, AreInBookOrder, CanBeTop, live_orders, book_with_top}
-use Rattle.plain_book.specs.Numbers.{by_number, numbered, book_numbered}
+use Rattle.plain_book.specs.Numbers.{entry_numbered, numbered, book_numbered}
 use Rattle.plain_book.proofs.Levels.{HasSlot-filter, HasSlot-left, AllDiffer-filter, AllDiffer-front, order_of-left, order_of-filter, same, lacks, and-left, and-right, is_level-same, is_level-refl, is_side-same, is_side-refl}
 use Rattle.plain_book.proofs.Live.{first-has, orders-at}
 use Rattle.plain_book.proofs.Pairs.{all-passing, all-with}
@@ -269,15 +269,15 @@ marked-first i s number slot (e ∷ es) d none h =
     let F = filter (is_marked_by i s number) es in
     let q = is_marked_by i s number e in
     let W = with_first_top i s number (numbered es) in
-    let top : Entry = record (by_number e) { is_top = true } in
+    let top : Entry = record (entry_numbered e) { is_top = true } in
     let marked = with_top i s (Some slot) es in
-    let go : (c : Bool) → q ≡ c → by_number (topped i s (Some slot) e) ∷ numbered marked ≡ cond c (top ∷ numbered es) (by_number e ∷ W) = elim [
+    let go : (c : Bool) → q ≡ c → entry_numbered (topped i s (Some slot) e) ∷ numbered marked ≡ cond c (top ∷ numbered es) (entry_numbered e ∷ W) = elim [
       | true ↦ λ hit.
           let k : Some e.slot ≡ Some slot = ap (λ (c : Bool). slot_of (cond c (e ∷ F) F)) (sym hit) ∙ h in
           let here : e.slot ≡ slot = cc in
           let on : is_on i s e ≡ true = and-left _ _ hit in
           let mark : (topped i s (Some slot) e).is_top ≡ true = ap (λ (c : Bool). cond c (e.slot == slot) e.is_top) on ∙ (Decides-eqb e.slot slot).1 here in
-          ap (λ (t : Bool). (record (by_number e) { is_top = t }) ∷ numbered marked) mark
+          ap (λ (t : Bool). (record (entry_numbered e) { is_top = t }) ∷ numbered marked) mark
           ∙ ap (λ (l : List Entry). top ∷ numbered l) (unmarked-rest i s slot es (subst (λ (n : ℕ). HasSlot n es → ⊥) here d.0) none.1)
       | false ↦ λ miss.
           let later : slot_of F ≡ Some slot = ap (λ (c : Bool). slot_of (cond c (e ∷ F) F)) (sym miss) ∙ h in
@@ -286,8 +286,8 @@ marked-first i s number slot (e ∷ es) d none h =
             | inl t ↦ absurd (d.0 (subst (λ (n : ℕ). HasSlot n es) (sym t.1) has))
             | inr t ↦ t.0
           ] in
-          ap (λ (x : Entry). by_number x ∷ numbered marked) (topped-same i s slot e off none.0)
-          ∙ ap (λ (l : List Entry). by_number e ∷ l) (marked-first i s number slot es d.1 none.1 later)
+          ap (λ (x : Entry). entry_numbered x ∷ numbered marked) (topped-same i s slot e off none.0)
+          ∙ ap (λ (l : List Entry). entry_numbered e ∷ l) (marked-first i s number slot es d.1 none.1 later)
     ] in
     go q refl
 
@@ -357,12 +357,12 @@ pub unmarked-zero : (i : ℕ) (s : Side) (es : List Entry) → AllByRecursion (�
 unmarked-zero i s [] h = refl
 unmarked-zero i s (e ∷ es) h =
     let W = with_first_top i s 0 (numbered es) in
-    let top : Entry = record (by_number e) { is_top = true } in
+    let top : Entry = record (entry_numbered e) { is_top = true } in
     let off : (e.order.number == 0) ≡ false = elim (eqb_tells e.order.number 0) [ inl t ↦ (let z : e.order.number ≡ 0 = t.1 in absurd (omega (arith, h.0))) | inr t ↦ t.0 ] in
     let never : (a : Bool) → (a && false) ≡ false = elim [ true ↦ refl | false ↦ refl ] in
-    ap (λ (c : Bool). cond (is_on i s e && c) (top ∷ numbered es) (by_number e ∷ W)) off
-    ∙ ap (λ (c : Bool). cond c (top ∷ numbered es) (by_number e ∷ W)) (never (is_on i s e))
-    ∙ ap (λ (l : List Entry). by_number e ∷ l) (unmarked-zero i s es h.1)
+    ap (λ (c : Bool). cond (is_on i s e && c) (top ∷ numbered es) (entry_numbered e ∷ W)) off
+    ∙ ap (λ (c : Bool). cond c (top ∷ numbered es) (entry_numbered e ∷ W)) (never (is_on i s e))
+    ∙ ap (λ (l : List Entry). entry_numbered e ∷ l) (unmarked-zero i s es h.1)
 
 -- ---- the marks of all instruments
 

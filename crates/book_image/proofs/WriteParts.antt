@@ -15,7 +15,7 @@ use Rattle.gx_base.specs.declared.order.Side.TheVariants.{Buy, Sell}
 use Rattle.gx_base.specs.declared.order.Order.{Order}
 use Rattle.plain_book.specs.declared.entry.Entry.{Entry}
 use Rattle.plain_book.specs.Orders.{is_of, is_on, HasSlot, order_of, slot_of, side_of, top_of}
-use Rattle.plain_book.specs.Numbers.{by_number, numbered}
+use Rattle.plain_book.specs.Numbers.{entry_numbered, numbered}
 use Rattle.plain_book.specs.Book.{Book, IsRight, AllDiffer, EachPair, AreInBookOrder, AreInLine, IsResting, IsWaiting, live_orders}
 use Rattle.plain_book.proofs.Levels.{HasSlot-filter, HasSlot-left, AllDiffer-filter, AllDiffer-front, order_of-middle, order_of-filter, order_of-left}
 use Rattle.plain_book.proofs.Pairs.{all-with, all-from}
@@ -192,14 +192,14 @@ module _ (i : ℕ) (s : Side) (b : Book) (r : IsRight b) where
 
 -- ---- an image does not look at the slots
 
-filter-numbered : (p : Entry → Bool) → ((e : Entry) → p (by_number e) ≡ p e) → (es : List Entry) → filter p (numbered es) ≡ numbered (filter p es)
+filter-numbered : (p : Entry → Bool) → ((e : Entry) → p (entry_numbered e) ≡ p e) → (es : List Entry) → filter p (numbered es) ≡ numbered (filter p es)
 filter-numbered p h [] = refl
 filter-numbered p h (e ∷ es) =
     let t = filter-numbered p h es in
-    let go : (b : Bool) → cond b (by_number e ∷ filter p (numbered es)) (filter p (numbered es)) ≡ numbered (cond b (e ∷ filter p es) (filter p es)) = elim [
-      | true ↦ ap (λ (x : List Entry). by_number e ∷ x) t
+    let go : (b : Bool) → cond b (entry_numbered e ∷ filter p (numbered es)) (filter p (numbered es)) ≡ numbered (cond b (e ∷ filter p es) (filter p es)) = elim [
+      | true ↦ ap (λ (x : List Entry). entry_numbered e ∷ x) t
       | false ↦ t
-    ] in ap (λ (b : Bool). cond b (by_number e ∷ filter p (numbered es)) (filter p (numbered es))) (h e) ∙ go (p e)
+    ] in ap (λ (b : Bool). cond b (entry_numbered e ∷ filter p (numbered es)) (filter p (numbered es))) (h e) ∙ go (p e)
 
 first-numbered : (es : List Entry) → first_number (numbered es) ≡ first_number es
 first-numbered [] = refl
@@ -227,7 +227,7 @@ each-numbered (e ∷ es) = ap (λ (l : List ℕ). entry_row e ++ l) (each-number
 
 rows-numbered : (es : List Entry) → rows_bytes (numbered es) ≡ rows_bytes es
 rows-numbered es =
-    ap (λ (n : ℕ). count_bytes n ++ flat_map entry_row (numbered es)) (length-map es by_number)
+    ap (λ (n : ℕ). count_bytes n ++ flat_map entry_row (numbered es)) (length-map es entry_numbered)
     ∙ ap (λ (l : List ℕ). count_bytes (length es) ++ l) (each-numbered es)
 
 pub image-numbered : (state : State) → image_of (state_numbered state) ≡ image_of state

@@ -3,8 +3,11 @@ use Rattle.std.proofs.Common.{◌≡◌, ℕ, ◌+◌, ◌*◌, ◌≤◌, List,
 use Rattle.std.specs.List.{flat_map}
 use Rattle.std.proofs.lemmas.Grind.{flat_map-append}
 use Rattle.std.proofs.lemmas.List.{append-nil}
+use Rattle.gx_base.specs.declared.order.Order.{Order}
 use Rattle.plain_book.specs.declared.entry.Entry.{Entry}
+use Rattle.book_walks.proofs.OrderWalks.{Next}
 use Rattle.book_image.specs.declared.format.TheConstants.{ROW_BYTES}
+use Rattle.book_image.specs.Rows.{order_row}
 use Rattle.book_image.specs.Image.{entry_row}
 use Rattle.book_image.specs.Inner.Writing.{Appends, AppendsRows}
 
@@ -40,7 +43,7 @@ pub rows-as : {old new : List ℕ} {at end : ℕ} (xs ys : List Entry) → xs �
 rows-as {old} {new} {at} {end} xs ys e p = subst (λ (es : List Entry). AppendsRows old new at end es) e p
 
 -- the row of one
-pub rows-one : {old new : List ℕ} {at end : ℕ} (e : Entry) → Appends old new at end ROW_BYTES (entry_row e) → AppendsRows old new at end (e ∷ [])
+rows-one : {old new : List ℕ} {at end : ℕ} (e : Entry) → Appends old new at end ROW_BYTES (entry_row e) → AppendsRows old new at end (e ∷ [])
 rows-one e p = appends-as ROW_BYTES (ROW_BYTES * length (e ∷ [])) (entry_row e) (flat_map entry_row (e ∷ [])) refl (sym (append-nil (entry_row e))) p
 
 -- ---- a walk
@@ -68,6 +71,12 @@ module _ (orders : List Entry) where
       next = next;
       rows = rows-then w.done part w.rows rows;
     }
+
+    -- the row of the next one was written
+    pub walked-row : (Then : List Entry → Type 0) {slot : ℕ} (n : Next w.rest slot) (new : List ℕ) (end : ℕ) (order : Order)
+        → order ≡ n.e.order → Then n.behind → Appends mid new between end ROW_BYTES (order_row order) → IsWalked orders Then old new at end
+    walked-row Then n new end order same next row =
+        walked-more Then (n.e ∷ []) n.behind new end n.is next (rows-one n.e (appends-as ROW_BYTES ROW_BYTES (order_row order) (entry_row n.e) refl (ap (λ (o : Order). order_row o) same) row))
 
     -- there is room for those that come next
     pub walked-room : (part rest : List Entry) → w.rest ≡ part ++ rest → at + ROW_BYTES * length orders ≤ length old → between + ROW_BYTES * length part ≤ length mid

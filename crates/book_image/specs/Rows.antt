@@ -21,10 +21,10 @@ abbrev pub side_byte : Side → ℕ
 side_byte Buy = 1
 side_byte Sell = 2
 
-abbrev pub kind_byte : Kind → ℕ
-kind_byte Market = 1
-kind_byte Limit = 2
-kind_byte StopLimit = 4
+abbrev pub order_kind_byte : Kind → ℕ
+order_kind_byte Market = 1
+order_kind_byte Limit = 2
+order_kind_byte StopLimit = 4
 
 abbrev pub life_byte : Life → ℕ
 life_byte Day = 0
@@ -48,7 +48,7 @@ padded id = id ++ replicate (LONGEST_NAME - length id) 0
 abbrev pub order_row : Order → List ℕ
 order_row o =
     number_bytes o.number
-    ++ (o.firm ∷ o.instrument ∷ side_byte o.side ∷ kind_byte o.kind ∷ life_byte o.life ∷ length o.id ∷ padded o.id)
+    ++ (o.firm ∷ o.instrument ∷ side_byte o.side ∷ order_kind_byte o.kind ∷ life_byte o.life ∷ length o.id ∷ padded o.id)
     ++ price_bytes o.price
     ++ price_bytes o.trigger
     ++ count_bytes o.quantity
@@ -115,7 +115,7 @@ abbrev pub has_forms : List ℕ → Bool
 has_forms row =
     let o = order_of_row row in
     (byte_at row 10 == side_byte o.side)
-    && (byte_at row 11 == kind_byte o.kind)
+    && (byte_at row 11 == order_kind_byte o.kind)
     && (byte_at row 12 == life_byte o.life)
     && is_name o.id
     && bytes_eq (bytes_at row 14 LONGEST_NAME) (padded o.id)

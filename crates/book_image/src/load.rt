@@ -79,7 +79,12 @@ fn load_book<B: Book>(payload: &[u8], instruments: usize, book: &mut B)
     requires listed { (B.book book.old).instruments ≡ instruments }
     requires few { instruments ≤ MOST_INSTRUMENTS }
     requires right { IsRightBook (B.book book.old).capacity instruments payload.now }
-    ensures { book_numbered (B.book book.new) ≡ record (B.book book.old) { resting = with_all_tops payload.now instruments (map entry_of (orders_at payload.now (resting_rows instruments) (resting_count instruments payload.now))); waiting = map entry_of (orders_at payload.now (waiting_rows instruments payload.now) (waiting_count instruments payload.now)) } }
+    ensures { book_numbered (B.book book.new) ≡ record (B.book book.old) {
+      resting = with_all_tops payload.now instruments
+          (map entry_of (orders_at payload.now (resting_rows instruments) (resting_count instruments payload.now)));
+      waiting = map entry_of
+          (orders_at payload.now (waiting_rows instruments payload.now) (waiting_count instruments payload.now));
+    } }
 {
     let resting = DESK_BYTES + INSTRUMENT_BYTES * instruments;
     let resting_count = count_at(payload, resting) as usize;

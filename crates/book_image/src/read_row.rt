@@ -1,7 +1,7 @@
 //! Reading a row as an order.
 ghost use Rattle.std.specs.Prelude.{◌≡◌, ◌==◌, ◌&&◌, true, length, bytes_eq};
 ghost use Rattle.gx_base.specs.Texts.{is_name};
-ghost use Rattle.book_image.specs.Rows.{side_byte, kind_byte, life_byte, side_of_byte, kind_of_byte, life_of_byte, id_of_row, order_of_row, has_forms, padded, bytes_at};
+ghost use Rattle.book_image.specs.Rows.{side_byte, order_kind_byte, life_byte, side_of_byte, kind_of_byte, life_of_byte, id_of_row, order_of_row, has_forms, padded, bytes_at};
 
 use crate::format::ROW_BYTES;
 use crate::numbers::{count_at, number_at, price_at};
@@ -49,7 +49,7 @@ fn is_side_byte(byte: u8) -> bool
 
 /// Whether this byte is that of an order type.
 fn is_kind_byte(byte: u8) -> bool
-    ensures { result ≡ (byte == kind_byte (kind_of_byte byte)) }
+    ensures { result ≡ (byte == order_kind_byte (kind_of_byte byte)) }
 {
     byte == 1 || byte == 2 || byte == 4
 }

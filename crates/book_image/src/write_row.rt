@@ -1,6 +1,6 @@
 //! Writing an order as a row. Each call writes behind the first `at` bytes of `into`, and answers where what it wrote ends.
 ghost use Rattle.std.specs.Prelude.{◌≡◌, ◌+◌, ◌≤◌, length};
-ghost use Rattle.book_image.specs.Rows.{number_bytes, count_bytes, price_bytes, order_row, side_byte, kind_byte, life_byte};
+ghost use Rattle.book_image.specs.Rows.{number_bytes, count_bytes, price_bytes, order_row, side_byte, order_kind_byte, life_byte};
 ghost use Rattle.book_image.specs.Inner.Writing.{Appends, name_bytes, mark_bytes};
 
 use crate::format::{COUNT_BYTES, ROW_BYTES};
@@ -17,8 +17,8 @@ fn side_byte(side: Side) -> u8
 }
 
 /// The number of an order type.
-fn kind_byte(kind: Kind) -> u8
-    ensures { result ≡ kind_byte kind }
+fn order_kind_byte(kind: Kind) -> u8
+    ensures { result ≡ order_kind_byte kind }
 {
     match kind {
         Kind::Market => 1,
@@ -92,7 +92,7 @@ fn write_marks(order: &Order, into: &mut [u8], at: usize) -> usize
         order.firm,
         order.instrument,
         side_byte(order.side),
-        kind_byte(order.kind),
+        order_kind_byte(order.kind),
         life_byte(order.life),
     ];
     write_bytes(&marks, into, at)

@@ -1,5 +1,5 @@
 -- The order of the levels.
-use Rattle.std.proofs.Common.{◌≡◌, ℕ, Bool, true, false, ◌&&◌, ◌||◌, refl, arith}
+use Rattle.std.proofs.Common.{◌≡◌, ℕ, Bool, true, false, ◌&&◌, ◌||◌, refl, sym, ◌∙◌, arith}
 use Rattle.std.specs.Prelude.{ℤ, pos, negsuc, int_lt, nat_lt, ◌==◌}
 use Rattle.std.proofs.lemmas.Bool.Decides.{nat_tests}
 use Rattle.gx_base.specs.declared.order.Side.{Side}
@@ -15,7 +15,8 @@ nat-back a b c h g = grind (arith, nat_tests)
 pub nat-apart : (a b : ℕ) → nat_lt a b ≡ true → nat_lt b a ≡ false
 nat-apart a b h = grind (arith, nat_tests)
 
-int-past : (a b c : ℤ) → int_lt a b ≡ true → int_lt c b ≡ false → int_lt a c ≡ true
+-- what is below b is below what is not below b
+pub int-past : (a b c : ℤ) → int_lt a b ≡ true → int_lt c b ≡ false → int_lt a c ≡ true
 int-past (pos a) (pos b) (pos c) h g = nat-past a b c h g
 int-past (pos a) (pos b) (negsuc c) h g = cc
 int-past (pos a) (negsuc b) c h g = cc
@@ -24,14 +25,13 @@ int-past (negsuc a) (pos b) (negsuc c) h g = cc
 int-past (negsuc a) (negsuc b) (pos c) h g = refl
 int-past (negsuc a) (negsuc b) (negsuc c) h g = nat-back a b c h g
 
-int-back : (a b c : ℤ) → int_lt b a ≡ true → int_lt b c ≡ false → int_lt c a ≡ true
-int-back (pos a) (pos b) (pos c) h g = nat-back a b c h g
-int-back (pos a) (pos b) (negsuc c) h g = refl
-int-back (negsuc a) (pos b) c h g = cc
-int-back (pos a) (negsuc b) (pos c) h g = cc
-int-back (pos a) (negsuc b) (negsuc c) h g = refl
-int-back (negsuc a) (negsuc b) (pos c) h g = cc
-int-back (negsuc a) (negsuc b) (negsuc c) h g = nat-past a b c h g
+-- what is above b is above what is not above b
+pub int-back : (a b c : ℤ) → int_lt b a ≡ true → int_lt b c ≡ false → int_lt c a ≡ true
+int-back a b c h g =
+    let go : (x : Bool) → int_lt c a ≡ x → x ≡ true = elim [
+      | true ↦ λ k. refl
+      | false ↦ λ k. absurd (let z : true ≡ false = sym (int-past b a c h k) ∙ g in cc)
+    ] in go (int_lt c a) refl
 
 pub int-apart : (a b : ℤ) → int_lt a b ≡ true → int_lt b a ≡ false
 int-apart (pos a) (pos b) h = nat-apart a b h

@@ -6,8 +6,8 @@ use exec_report::{ReportBuffer, SendFault, push_text, send_waiting};
 use gx_base::LONGEST_LINE;
 use gx_station::Station;
 
-/// Sends a line by itself, through an empty buffer.
-pub(crate) fn send_line<S: Station>(
+/// Sends a line by itself, through an empty buffer. `SendFault` comes only if the count of send faults rose, and a part is sent then.
+pub fn send_line<S: Station>(
     buffer: &mut ReportBuffer,
     station: &mut S,
     line: &[u8],

@@ -8,7 +8,9 @@ pub mod StatesBehind
 pub mod TrueImages
 -- What the proofs of this crate alone cite.
 mod LastImages
-mod Applying
+mod Applied
+mod GivenFrames
+mod RecordContents
 mod Replaying
 mod Looks
 mod Starting

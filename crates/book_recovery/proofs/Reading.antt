@@ -1,20 +1,19 @@
 -- Reading one record more of an image.
-use Rattle.std.proofs.Common.{◌≡◌, ◌≢◌, inl, inr, ℕ, ◌+◌, ◌<◌, ◌≤◌, List, [], ◌∷◌, ◌++◌, length, get_or, take, drop, Option, Some, None, Result, Ok, Err, OnOk, refl, sym, subst, ◌∙◌, ap, arith}
+use Rattle.std.proofs.Common.{◌≡◌, ◌≢◌, inl, inr, ℕ, ◌+◌, ◌≤◌, List, [], ◌∷◌, ◌++◌, length, get_or, take, drop, Err, refl, sym, subst, ◌∙◌, ap, arith}
 use Rattle.std.specs.List.{concat}
 use Rattle.fix_frame.specs.Stream.{messages_of, rest_of}
 use Rattle.fix_frame.specs.StreamLaws.{concat-messages_of-whole}
 use Rattle.product_file.specs.Products.{ProductLists}
 use Rattle.order_kinds.specs.State.{State}
-use Rattle.order_kinds.specs.declared.core_state.TheConstants.{MOST_MESSAGES}
 use Rattle.match_journal.specs.Journal.{IsJournal, Record, journal_front}
-use Rattle.match_journal.specs.declared.entry.EntryKind.{EntryKind}
-use Rattle.match_journal.specs.declared.entry.EntryKind.TheVariants.{Frames, Image}
+use Rattle.match_journal.specs.declared.entry.EntryKind.TheVariants.{Frames}
 use Rattle.match_journal.specs.Walking.{IsHead, IsBadHead}
 use Rattle.match_journal.specs.declared.entry.Entry.{Entry}
-use Rattle.book_recovery.specs.Records.{record_messages, messages_as, count_as, count_behind, count_behind_all, IsGoodAs, IsGoodRecord}
+use Rattle.book_recovery.specs.Records.{record_messages, count_as, count_behind, count_behind_all, IsGoodAs, IsGoodRecord}
 use Rattle.book_recovery.specs.BadPlaces.{BeginsWithRecords, AreFirstRecords}
-use Rattle.book_recovery.specs.Inner.Replays.{payload_at, record_at, IsImageRead}
-use Rattle.book_recovery.specs.Inner.Reading.{PassesImage, IsOneMore, IsBadBehind, ReadsRecord}
+use Rattle.book_recovery.specs.Inner.Replays.{payload_at, record_at}
+use Rattle.book_recovery.specs.Inner.Contents.{IsContent, ReadsContent}
+use Rattle.book_recovery.specs.Inner.Reading.{IsOneMore, IsBadBehind, ReadsRecord}
 use Rattle.book_recovery.specs.declared.recovery.RecoverFault.{RecoverFault}
 use Rattle.book_recovery.specs.declared.recovery.RecoverFault.TheVariants as fault
 use Rattle.book_recovery.proofs.Images.{length-push, payload_size, begins_more, begins_closed}
@@ -78,40 +77,18 @@ module _ (product : ProductLists) (text : List ℕ) (limit : ℕ) (image : List 
       behind = refl;
     }
 
-    -- frames were read, and so many messages are counted before them
-    module _ (kind : entry.kind ≡ Frames) (held : List ℕ) (held_is : held ≡ payload_at image entry) (count : ℕ) (counted : count ≡ count_behind_all 0 before) where
-      pub frames_more : (next behind : ℕ) (given : List (List ℕ)) → rest_of held ≡ [] → given ≡ messages_of held → behind ≡ count + length given → behind < MOST_MESSAGES → next ≡ gate + 6 + entry.length → IsOneMore product text limit image before next given behind
-      frames_more next behind given whole given_is behind_is few next_is =
-          let messages_are : given ≡ messages_of (payload_at image entry) = given_is ∙ ap messages_of held_is in
+    -- what the record holds was read, and so many messages are counted before it
+    module _ (count : ℕ) (counted : count ≡ count_behind_all 0 before) (given : List (List ℕ)) (core : State) where
+      pub content_more : (next behind : ℕ) → next ≡ gate + 6 + entry.length → IsContent product count entry.kind (payload_at image entry) given core behind → IsOneMore product text limit image before next given behind
+      content_more next behind next_is content =
           one_more next behind given
-          (subst (λ (k : EntryKind). IsGoodAs product (count_behind_all 0 before) k (payload_at image entry)) (sym kind)
-          (record { no_rest = sym (ap rest_of held_is) ∙ whole; few = omega (arith, few, behind_is, counted, ap length messages_are) }))
+          (subst (λ (n : ℕ). IsGoodAs product n entry.kind (payload_at image entry)) counted content.good)
           next_is
-          (messages_are ∙ ap (λ (k : EntryKind). messages_as k (payload_at image entry)) (sym kind))
-          (subst (λ (k : EntryKind). behind ≡ count_as (count_behind_all 0 before) k (payload_at image entry)) (sym kind) (omega (arith, behind_is, counted, ap length messages_are)))
+          content.given_are
+          (content.behind_is ∙ ap (λ (n : ℕ). count_as n entry.kind (payload_at image entry)) counted)
 
-      pub frames_bad : (rest_of held ≡ [] → count + length (messages_of held) < MOST_MESSAGES → ⊥) → IsBadBehind product text limit image before entry.at
-      frames_bad not_good = bad_there (λ good. broken (subst (λ (k : EntryKind). IsGoodAs product (count_behind_all 0 before) k (payload_at image entry)) kind good))
-        where
-          broken : IsGoodAs product (count_behind_all 0 before) Frames (payload_at image entry) → ⊥
-          broken good = not_good (ap rest_of held_is ∙ good.no_rest) (omega (arith, good.few, counted, ap length (ap messages_of held_is)))
-
-    -- what is answered at an image is answered of its record
-    pub image_read : entry.kind ≡ Image → (next : ℕ) (given : List (List ℕ)) (r : Result (Option ℕ) RecoverFault) → next ≡ gate + 6 + entry.length → OnOk r (given ≡ []) → PassesImage product (payload_at image entry) entry.at r → ReadsRecord product text limit image before next given r
-    image_read kind next given (Ok (Some count)) next_is none told =
-        one_more next count given
-        (subst (λ (k : EntryKind). IsGoodAs product (count_behind_all 0 before) k (payload_at image entry)) (sym kind) told.0)
-        next_is
-        (none ∙ ap (λ (k : EntryKind). messages_as k (payload_at image entry)) (sym kind))
-        (told.1 ∙ ap (λ (k : EntryKind). count_as (count_behind_all 0 before) k (payload_at image entry)) (sym kind))
-    image_read kind next given (Ok None) next_is none told = absurd told
-    image_read kind next given (Err fault.Store) next_is none told = tt
-    image_read kind next given (Err (fault.Bad at)) next_is none told =
-        subst (IsBadBehind product text limit image before) (sym told.1)
-        (bad_there (λ good. told.0 (subst (λ (k : EntryKind). IsGoodAs product (count_behind_all 0 before) k (payload_at image entry)) kind good)))
-
--- ---- the image of a book
-
--- the count behind it is that of its state
-pub image_passed : (product : ProductLists) (payload : List ℕ) (new : State) (gate count : ℕ) → IsImageRead product payload new → count ≡ new.desk.messages → PassesImage product payload gate (Ok (Some count))
-image_passed product payload new gate count read is = (read.right, is ∙ ap (λ (s : State). s.desk.messages) read.state)
+      pub content_unread : (next : ℕ) (why : RecoverFault) → ReadsContent product count entry.kind (payload_at image entry) entry.at given core (Err why) → ReadsRecord product text limit image before next given (Err why)
+      content_unread next fault.Store told = tt
+      content_unread next (fault.Bad at) told =
+          subst (IsBadBehind product text limit image before) (sym told.1)
+          (bad_there (λ good. told.0 (subst (λ (n : ℕ). IsGoodAs product n entry.kind (payload_at image entry)) (sym counted) good)))

@@ -1,52 +1,57 @@
 -- One record was replayed, by its kind.
-use Rattle.std.proofs.Common.{◌≡◌, ℕ, ◌+◌, List, length, Result, Ok, Err, refl, sym, subst, ◌∙◌, ap}
-use Rattle.fix_frame.specs.Stream.{messages_of}
+use Rattle.std.proofs.Common.{◌≡◌, ℕ, ◌+◌, List, length, Err, refl, sym, subst, ◌∙◌, ap}
 use Rattle.product_file.specs.Products.{ProductLists}
 use Rattle.order_kinds.specs.State.{State, state_numbered}
 use Rattle.order_kinds.specs.Step.{state_after}
 use Rattle.order_kinds.specs.Cores.{AreNumbered}
 use Rattle.match_journal.specs.declared.entry.EntryKind.{EntryKind}
 use Rattle.match_journal.specs.declared.entry.EntryKind.TheVariants.{Frames, Image}
-use Rattle.book_recovery.specs.Records.{AreGoodFrames, IsGoodAs}
-use Rattle.book_recovery.specs.Inner.Replays.{IsReplayed, ReadsImage, ReplaysOne}
+use Rattle.book_recovery.specs.Records.{AreGoodFrames}
+use Rattle.book_recovery.specs.Inner.Replays.{IsReplayed, ReplaysOne}
+use Rattle.book_recovery.specs.Inner.Contents.{CountsBehind, IsContent, ReadsContent}
 use Rattle.book_recovery.specs.declared.recovery.RecoverFault.{RecoverFault}
 use Rattle.book_recovery.specs.declared.recovery.RecoverFault.TheVariants as fault
 
-module _ (product : ProductLists) (old new : State) where
-  -- ---- an image
+module _ (product : ProductLists) (old : State) (count : ℕ) (payload : List ℕ) (given : List (List ℕ)) where
+  -- ---- an image, which is read into a core that was cleared
 
-  image-read-in : (gate : ℕ) (payload : List ℕ) (result : Result (Unit {0}) RecoverFault) → ReadsImage product payload new gate result
-      → ReplaysOne product old new gate (record { kind = Image; payload = payload }) result
-  image-read-in gate payload (Ok t) read = record {
-    good = read.right;
-    messages = ap (λ (s : State). s.desk.messages) read.state;
-    state = λ numbered. read.state;
+  pub image_replayed : (kind : EntryKind) → kind ≡ Image → (new : State) (behind : ℕ) → CountsBehind count kind given new behind → IsContent product count kind payload given new behind
+      → IsReplayed product old new (record { kind = kind; payload = payload })
+  image_replayed Frames is new behind counts content = absurd (cc is)
+  image_replayed Image is new behind counts content = record {
+    good = content.good;
+    messages = sym counts.1 ∙ content.behind_is;
+    state = λ numbered. content.state refl;
     numbered = λ frames. absurd (cc frames);
   }
-  image-read-in gate payload (Err fault.Store) read = tt
-  image-read-in gate payload (Err (fault.Bad at)) read = read
 
-  pub image-replayed : (gate : ℕ) (kind : EntryKind) (payload : List ℕ) (result : Result (Unit {0}) RecoverFault) → kind ≡ Image → ReadsImage product payload new gate result
-      → ReplaysOne product old new gate (record { kind = kind; payload = payload }) result
-  image-replayed gate Frames payload result is read = absurd (cc is)
-  image-replayed gate Image payload result is read = image-read-in gate payload result read
+  pub image_not_replayed : (kind : EntryKind) → kind ≡ Image → (core new : State) (gate : ℕ) (why : RecoverFault) → ReadsContent product count kind payload gate given core (Err why)
+      → ReplaysOne product old new gate (record { kind = kind; payload = payload }) (Err why)
+  image_not_replayed Frames is core new gate why read = absurd (cc is)
+  image_not_replayed Image is core new gate fault.Store read = tt
+  image_not_replayed Image is core new gate (fault.Bad at) read = read
 
-  -- ---- frames
+  -- ---- frames, which leave the core as it was until they are applied
 
-  -- all that was held was applied
-  pub frames-replayed : (kind : EntryKind) (held payload : List ℕ) → kind ≡ Frames → held ≡ payload → AreGoodFrames old.desk.messages held
-      → (AreNumbered old → state_numbered new ≡ state_after product (state_numbered old) (messages_of held))
-      → new.desk.messages ≡ old.desk.messages + length (messages_of held) → (AreNumbered old → AreNumbered new)
-      → IsReplayed product old new (record { kind = kind; payload = payload })
-  frames-replayed Image held payload is same good state messages numbered = absurd (cc is)
-  frames-replayed Frames held payload is same good state messages numbered = record {
-    good = subst (AreGoodFrames old.desk.messages) same good;
-    messages = messages ∙ ap (λ (b : List ℕ). old.desk.messages + length (messages_of b)) same;
-    state = λ before. state (before refl) ∙ ap (λ (b : List ℕ). state_after product (state_numbered old) (messages_of b)) same;
-    numbered = λ frames. numbered;
-  }
+  module _ (counted : count ≡ old.desk.messages) where
+    pub frames_replayed : (kind : EntryKind) → kind ≡ Frames → (core new : State) (behind : ℕ) → core ≡ old → IsContent product count kind payload given core behind
+        → (AreNumbered core → state_numbered new ≡ state_after product (state_numbered core) given)
+        → new.desk.messages ≡ core.desk.messages + length given → (AreNumbered core → AreNumbered new)
+        → IsReplayed product old new (record { kind = kind; payload = payload })
+    frames_replayed Image is core new behind same content state messages numbered = absurd (cc is)
+    frames_replayed Frames is core new behind same content state messages numbered = record {
+      good = subst (λ (n : ℕ). AreGoodFrames n payload) counted content.good;
+      messages = messages ∙ ap (λ (s : State). s.desk.messages + length given) same ∙ ap (λ (l : List (List ℕ)). old.desk.messages + length l) content.given_are;
+      state = λ before.
+          state (subst AreNumbered (sym same) (before refl))
+          ∙ ap (λ (s : State). state_after product (state_numbered s) given) same
+          ∙ ap (state_after product (state_numbered old)) content.given_are;
+      numbered = λ frames before. numbered (subst AreNumbered (sym same) before);
+    }
 
-  pub frames-wrong : (kind : EntryKind) (held payload : List ℕ) → kind ≡ Frames → held ≡ payload → (AreGoodFrames old.desk.messages held → ⊥)
-      → IsGoodAs product old.desk.messages kind payload → ⊥
-  frames-wrong Image held payload is same wrong good = absurd (cc is)
-  frames-wrong Frames held payload is same wrong good = wrong (subst (λ (b : List ℕ). AreGoodFrames old.desk.messages b) (sym same) good)
+    pub frames_not_replayed : (kind : EntryKind) → kind ≡ Frames → (core new : State) (gate : ℕ) (why : RecoverFault) → ReadsContent product count kind payload gate given core (Err why)
+        → ReplaysOne product old new gate (record { kind = kind; payload = payload }) (Err why)
+    frames_not_replayed Image is core new gate why read = absurd (cc is)
+    frames_not_replayed Frames is core new gate fault.Store read = tt
+    frames_not_replayed Frames is core new gate (fault.Bad at) read =
+        ((λ good. read.0 (subst (λ (n : ℕ). AreGoodFrames n payload) (sym counted) good)), read.1)

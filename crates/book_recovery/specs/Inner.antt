@@ -3,4 +3,5 @@
 pub mod Starting
 pub mod Counting
 pub mod Replays
+pub mod Contents
 pub mod Reading

@@ -8,7 +8,7 @@ use Rattle.book_recovery.specs.Records.{from_last_image, messages_in, AreGoodRec
 -- A run of the product can start from the image, and these are the messages that it keeps: those in the records behind open
 -- gates, up to the first closed gate. It is a journal with no bad record, and each book image in it is that of the state after
 -- the messages before it; or an unfinished creation of at most 65,550 bytes, which keeps none.
-pub record KeepsMessages (product : ProductLists) (text : List ℕ) (messages : List (List ℕ)) (image : List ℕ) : Type 0 where
+pub record IsStartable (product : ProductLists) (text : List ℕ) (messages : List (List ℕ)) (image : List ℕ) : Type 0 where
   pub records : List Record
   pub keeps : Keeps text product.journal_limit records image
   pub good : AreGoodRecords product 0 records
@@ -40,7 +40,7 @@ abbrev pub CanBeRecovered : ProductLists → List ℕ → ℕ → List ℕ → T
 CanBeRecovered product text limit image = (IsBlank image ⊎ IsSealed text image) ⊎ IsGoodFromLastImage product text limit image
 
 -- These are the messages that the image keeps, and each book image in it is that of the state after the messages before it.
-abbrev pub HasTrueKept : ProductLists → List ℕ → List (List ℕ) → List ℕ → Type 0
-HasTrueKept product text messages image =
+abbrev pub IsTrueImage : ProductLists → List ℕ → List (List ℕ) → List ℕ → Type 0
+IsTrueImage product text messages image =
     ((IsBlank image ⊎ IsSealed text image) × (messages ≡ []))
     ⊎ ((good : IsGoodJournal product text product.journal_limit image) × (messages ≡ messages_in good.records) × AreTrueRecords product [] good.records)

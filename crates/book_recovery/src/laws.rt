@@ -12,10 +12,12 @@ ghost use Rattle.book_recovery.specs.declared.recovery.RecoverFault.TheVariants 
 /// place.
 pub fn an_image_is_recovered_one_way()
     ensures { (product : ProductLists) (text image : List ℕ) (limit gate gate' : ℕ) (state state' : State) (first second : Result Recovered RecoverFault)
-        → Recovers product text limit image gate state first → Recovers product text limit image gate' state' second → (first ≡ Err fault.Store → ⊥) → (second ≡ Err fault.Store → ⊥) → first ≡ second }
+        → Recovers product text limit image gate state first → Recovers product text limit image gate' state' second → (first ≡ Err fault.Store → ⊥)
+        → (second ≡ Err fault.Store → ⊥) → first ≡ second }
 {}
 
 /// A journal has one first bad record, for who reads each record whole when he comes to it.
 pub fn one_record_is_the_first_bad_one()
-    ensures { (product : ProductLists) (text image : List ℕ) (limit at at' : ℕ) → HasBadRecordAt product text limit image at → HasBadRecordAt product text limit image at' → at ≡ at' }
+    ensures { (product : ProductLists) (text image : List ℕ) (limit at at' : ℕ) → HasBadRecordAt product text limit image at
+        → HasBadRecordAt product text limit image at' → at ≡ at' }
 {}

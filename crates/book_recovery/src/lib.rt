@@ -1,6 +1,8 @@
-//! Recovery: the state of the engine from a journal, by replaying its records.
+//! Recovery: the state of the engine from a journal, by replaying its records; and the messages of a record, applied.
 #![tactic(auto)]
 
+mod applying;
+mod contents;
 mod image;
 mod laws;
 mod records;
@@ -9,6 +11,7 @@ mod replay;
 mod scratch;
 mod true_images;
 
+pub use applying::apply_given;
 pub use laws::{an_image_is_recovered_one_way, one_record_is_the_first_bad_one};
 pub use records::next_record;
 pub use recovery::{RecoverFault, Recovered, recover};

@@ -88,7 +88,8 @@ fn read_heads<S: Station>(station: &mut S, journal: &mut Journal) -> Result<Head
     ensures same { journal.new ≡ moved journal.old journal.new.gate journal.new.is_at_end }
     ensures at_end { OnOk result (journal.new.is_at_end ≡ true) }
     ensures start { IfOk result (λ heads. BeginsAt journal.new heads) }
-    ensures counts { (text image : List ℕ) → S.meanings.holds station.old ≡ Some image → length image ≡ journal.old.known → BeginsWithRecords text journal.old.limit [] image → journal.old.first ≡ 13 + length text
+    ensures counts { (text image : List ℕ) → S.meanings.holds station.old ≡ Some image → length image ≡ journal.old.known
+        → BeginsWithRecords text journal.old.limit [] image → journal.old.first ≡ 13 + length text
         → Counts text journal.old.limit image journal.new.gate result }
 {
     journal.rewind();
@@ -142,12 +143,15 @@ pub fn recover<S: Station, B: Book>(
     ensures few { OnOk result (core.new.desk.messages < MOST_MESSAGES) }
     ensures counts { IfOk result (λ recovered. recovered.messages ≡ core.new.desk.messages) }
     // At most six bytes for each gate that is met, and once more all from the last book image, or the first gate, to the last gate.
-    ensures bytes { IfOk result (λ recovered. ReadsAtMost (6 * (recovered.entries + 1) + (journal.new.gate - first_read recovered.image_at journal.old.first)) (S.meanings.bytes_read station.old) (S.meanings.bytes_read station.new)) }
+    ensures bytes { IfOk result
+        (λ recovered. ReadsAtMost (6 * (recovered.entries + 1) + (journal.new.gate - first_read recovered.image_at journal.old.first))
+        (S.meanings.bytes_read station.old) (S.meanings.bytes_read station.new)) }
     // No more of a journal with these records, whatever is answered.
     ensures few_bytes { (text image : List ℕ) (records : List Record) → S.meanings.holds station.old ≡ Some image → length image ≡ journal.old.known
         → IsJournal text journal.old.limit records image → journal.old.first ≡ 13 + length text
         → ReadsAtMost (most_to_recover records) (S.meanings.bytes_read station.old) (S.meanings.bytes_read station.new) }
-    ensures recovers { (text image : List ℕ) → S.meanings.holds station.old ≡ Some image → length image ≡ journal.old.known → LEAST_LIMIT ≤ journal.old.limit → IsOpened text image → journal.old.first ≡ 13 + length text
+    ensures recovers { (text image : List ℕ) → S.meanings.holds station.old ≡ Some image → length image ≡ journal.old.known → LEAST_LIMIT ≤ journal.old.limit
+        → IsOpened text image → journal.old.first ≡ 13 + length text
         → Recovers product.now text journal.old.limit image journal.new.gate core.new result }
 {
     let heads = read_heads(station, journal)?;

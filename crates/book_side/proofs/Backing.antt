@@ -24,16 +24,17 @@ use Rattle.order_pool.specs.Queues.{HasSlot, IsIn, NoRepeat, SlotsDiffer, withou
 use Rattle.price_level.specs.declared.row.LevelRow.{LevelRow}
 use Rattle.book_side.specs.declared.tops.SideTops.{SideTops}
 use Rattle.id_table.specs.Ids.{Ids}
+use Rattle.book_side.proofs.LevelOf.{held, same-lists, summed-as, IsHere, is-here}
 use Rattle.book_side.proofs.Ids.{is_same_name}
 use Rattle.price_level.specs.Rows.{Rows, AreRows, level_of_row, HasQueue, row_of, with_sums}
 use Rattle.book_side.specs.Inner.Flat.{flat, queues_of}
 use Rattle.book_side.specs.Inner.Content.{Held, marked, resting_of, waiting_of, book_of, top_at}
 use Rattle.book_side.specs.Inner.Linked.{IsSummed, IsLinked, IsTopOf}
 use Rattle.book_side.specs.Inner.Steps.{IsTopDropped}
-use Rattle.book_side.proofs.Flat.{flat-placed, only-row, at-row, row_of-queue, AreAt, IsLevelOf}
+use Rattle.book_side.proofs.Flat.{flat-placed, only-row, at-row, AreAt, IsLevelOf}
 use Rattle.book_side.proofs.Pools.{at-with_entry, at-appended, at-others, at-removed}
 use Rattle.book_side.proofs.Pools as queues
-use Rattle.book_side.proofs.Slots.{without_slot-none, sum-without_slot, length-without_slot, Rests, rests-in, rests-order, rests-alone}
+use Rattle.book_side.proofs.Slots.{without_slot-none, sum-without_slot, length-without_slot, rests-alone}
 use Rattle.book_side.proofs.Looks.{all-marked}
 use Rattle.book_side.proofs.Setting.{level-held}
 use Rattle.book_side.proofs.Placing.{queues-summed, has-summed, all-summed}
@@ -95,12 +96,6 @@ own-slot s (e ∷ es) o h is a =
     ]
 
 module _ (c n : ℕ) (p p1 p' : pool.Queues) (ids : Ids) (lv lv2 : Rows) (tops tops' : List SideTops) (k : IsLinked c n p ids lv tops) (s q : ℕ) (old o : Order) where
-  abbrev P : ℕ → List Held
-  P = pool.entries_at p.queues
-
-  abbrev P' : ℕ → List Held
-  P' = pool.entries_at p'.queues
-
   abbrev book : Book
   book = book_of c n tops p.queues lv.rows
 
@@ -114,7 +109,7 @@ module _ (c n : ℕ) (p p1 p' : pool.Queues) (ids : Ids) (lv lv2 : Rows) (tops t
   back_book = resting_as book (placed newcomer one)
 
   module _ (has : orders.HasSlot s book.resting) (is_order : old ≡ orders.order_of s book.resting) (differ : SlotsDiffer p) (at : IsIn p s q) (rules : AreRows lv)
-      (back : p1 ≡ record p { queues = pool.appended q (s, pool.order_of s (P q)) (pool.removed s p.queues) }) (back_live : pool.live_of p1 ≡ pool.live_of p)
+      (back : p1 ≡ record p { queues = pool.appended q (s, pool.order_of s (held p q)) (pool.removed s p.queues) }) (back_live : pool.live_of p1 ≡ pool.live_of p)
       (set : p' ≡ record p1 { queues = map (with_entry s o) p1.queues }) (set_live : pool.live_of p' ≡ pool.live_of p1)
       (same_level : level_of o ≡ level_of old) (same_firm : o.firm ≡ old.firm) (same_id : o.id ≡ old.id)
       (a b d : ℕ) (summed : lv2 ≡ record lv { rows = with_sums q a b d lv.rows })
@@ -126,71 +121,59 @@ module _ (c n : ℕ) (p p1 p' : pool.Queues) (ids : Ids) (lv lv2 : Rows) (tops t
     many-removed : length (pool.removed s p.queues) ≡ length p.queues
     many-removed = length-map p.queues (without_slot s)
 
-    here : P' q ≡ without_slot s (P q) ++ (s, o) ∷ []
+    here : held p' q ≡ without_slot s (held p q) ++ (s, o) ∷ []
     here =
         ap (λ (x : pool.Queues). pool.entries_at x.queues q) set ∙ at-with_entry s o p1.queues q
         ∙ ap (λ (x : pool.Queues). with_entry s o (pool.entries_at x.queues q)) back
-        ∙ ap (with_entry s o) (at-appended q (s, pool.order_of s (P q)) (pool.removed s p.queues) (omega (arith, many-removed, at.0)) ∙ ap (λ (l : List Held). l ++ (s, pool.order_of s (P q)) ∷ []) (at-removed s p.queues q))
-        ∙ entry-pushed s (pool.order_of s (P q)) o (P q)
+        ∙ ap (with_entry s o) (at-appended q (s, pool.order_of s (held p q)) (pool.removed s p.queues) (omega (arith, many-removed, at.0)) ∙ ap (λ (l : List Held). l ++ (s, pool.order_of s (held p q)) ∷ []) (at-removed s p.queues q))
+        ∙ entry-pushed s (pool.order_of s (held p q)) o (held p q)
 
-    there : (r : ℕ) → r ≢ q → P' r ≡ without_slot s (P r)
+    there : (r : ℕ) → r ≢ q → held p' r ≡ without_slot s (held p r)
     there r ne =
         ap (λ (x : pool.Queues). pool.entries_at x.queues r) set ∙ at-with_entry s o p1.queues r
         ∙ ap (λ (x : pool.Queues). with_entry s o (pool.entries_at x.queues r)) back
-        ∙ ap (with_entry s o) (at-others q r (s, pool.order_of s (P q)) (pool.removed s p.queues) ne ∙ at-removed s p.queues r)
-        ∙ entry-without s o (P r)
+        ∙ ap (with_entry s o) (at-others q r (s, pool.order_of s (held p q)) (pool.removed s p.queues) ne ∙ at-removed s p.queues r)
+        ∙ entry-without s o (held p r)
 
-    rests : Rests p lv.rows s q
-    rests = rests-in p (top_at tops) lv.rows s differ has q at
+    it : IsHere c p lv tops s q
+    it = is-here k s q has differ at rules
 
-    others : (r : ℕ) → r ≢ q → P' r ≡ P r
-    others r ne = there r ne ∙ without_slot-none s (P r) (rests-alone p (top_at tops) lv.rows s differ q at r ne)
+    others : (r : ℕ) → r ≢ q → held p' r ≡ held p r
+    others r ne = there r ne ∙ without_slot-none s (held p r) (rests-alone p (top_at tops) lv.rows s differ q at r ne)
 
-    below : q < c
-    below =
-        let under : R.queue < lv.capacity = (at-row (λ (r : LevelRow). (r.queue < lv.capacity) × (r.instrument < lv.instruments)) q lv.rows rests.is_row rules.below).0 in
-        omega (arith, under, row_of-queue q lv.rows rests.is_row, k.level_room)
-
-    R-summed : IsSummed P R
-    R-summed = at-row (IsSummed P) q lv.rows rests.is_row k.summed
-
-    R-queue : P R.queue ≡ P q
-    R-queue = ap P (row_of-queue q lv.rows rests.is_row)
-
-    order-is : pool.order_of s (P q) ≡ old
-    order-is = sym (rests-order p (top_at tops) lv.rows s q rests (AllDiffer-front book.resting book.waiting k.right.differ)) ∙ sym is_order
+    order-is : pool.order_of s (held p q) ≡ old
+    order-is = sym it.order ∙ sym is_order
 
     level-row : level_of o ≡ level_of_row R
     level-row =
         same_level ∙ ap level_of (sym order-is)
-        ∙ level-held s (level_of_row R) (P q) at.1 (subst (λ (l : List Held). AllByRecursion (λ (h : Held). level_of h.1 ≡ level_of_row R) l) R-queue R-summed.at)
+        ∙ level-held s (level_of_row R) (held p q) at.1 (subst (λ (l : List Held). AllByRecursion (λ (h : Held). level_of h.1 ≡ level_of_row R) l) it.queue it.summed.at)
 
     -- ---- the view
 
-    resting-is : resting_of (top_at tops') P' lv2.rows ≡ placed newcomer one
+    resting-is : resting_of (top_at tops') (held p') lv2.rows ≡ placed newcomer one
     resting-is =
         let U = top_at tops' in
-        let E1 : ℕ → List Entry = λ r. map (marked U) (without_slot s (P r)) in
-        let E' : ℕ → List Entry = λ r. map (marked U) (P' r) in
+        let E1 : ℕ → List Entry = λ r. map (marked U) (without_slot s (held p r)) in
+        let E' : ℕ → List Entry = λ r. map (marked U) (held p' r) in
         let top_is : is_slot_in (U o.instrument o.side) s ≡ false =
         ap (λ (l : Level). is_slot_in (U l.instrument l.side) s) same_level ∙ drop-own tops tops' s old drop in
         let mark : marked U (s, o) ≡ newcomer = ap (λ (t : Bool). let e : Entry = record { slot = s; order = o; is_top = t } in e) top_is in
-        let at1 : (r : LevelRow) → IsSummed P r → AreAt E1 r = λ r h.
-        all-marked U (λ (x : Held). level_of x.1 ≡ level_of_row r) (λ (e : Entry). level_of e.order ≡ level_of_row r) (λ x l. l) (without_slot s (P r.queue)) (all-filter (λ (x : Held). level_of x.1 ≡ level_of_row r) (λ x. not (x.0 == s)) (P r.queue) h.at) in
+        let at1 : (r : LevelRow) → IsSummed (held p) r → AreAt E1 r = λ r h.
+        all-marked U (λ (x : Held). level_of x.1 ≡ level_of_row r) (λ (e : Entry). level_of e.order ≡ level_of_row r) (λ x l. l) (without_slot s (held p r.queue)) (all-filter (λ (x : Held). level_of x.1 ≡ level_of_row r) (λ x. not (x.0 == s)) (held p r.queue) h.at) in
         let levels : AllByRecursion (IsLevelOf q (level_of o)) lv.rows = all-with (λ (r : LevelRow). r.queue ≡ q → r ≡ R) (IsLevelOf q (level_of o)) (λ r h e. ap level_of_row (h e) ∙ sym level-row) lv.rows (only-row q lv.rows rules.apart) in
-        ap (λ (x : Rows). resting_of U P' x.rows) summed ∙ ap (flat E') (queues-summed q a b d lv.rows)
-        ∙ sym (flat-placed E1 E' (marked U (s, o)) q (ap (λ (l : List Held). map (marked U) l) here ∙ push-marked U (s, o) (without_slot s (P q))) (λ r ne. ap (λ (l : List Held). map (marked U) l) (there r ne)) lv.rows rules.apart rests.is_row levels
-        (all-with (IsSummed P) (AreAt E1) at1 lv.rows k.summed))
+        ap (λ (x : Rows). resting_of U (held p') x.rows) summed ∙ ap (flat E') (queues-summed q a b d lv.rows)
+        ∙ sym (flat-placed E1 E' (marked U (s, o)) q (ap (λ (l : List Held). map (marked U) l) here ∙ push-marked U (s, o) (without_slot s (held p q))) (λ r ne. ap (λ (l : List Held). map (marked U) l) (there r ne)) lv.rows rules.apart it.rests.is_row levels
+        (all-with (IsSummed (held p)) (AreAt E1) at1 lv.rows k.summed))
         ∙ ap (λ (e : Entry). placed e (flat E1 (queues_of lv.rows))) mark
-        ∙ ap (placed newcomer) (resting-without tops tops' s old drop P lv.rows)
+        ∙ ap (placed newcomer) (resting-without tops tops' s old drop (held p) lv.rows)
 
-    waiting-is : waiting_of P' c n ≡ waiting_of P c n
-    waiting-is = queues.waiting-same P P' c n (λ r le. others r (λ e. let lt : q < c = below in absurd (omega arith)))
+    waiting-is : waiting_of (held p') c n ≡ waiting_of (held p) c n
+    waiting-is = queues.waiting-same (held p) (held p') c n (λ r le. others r (λ e. let lt : q < c = it.below in absurd (omega arith)))
 
     pub back-view : book_of c n tops' p'.queues lv2.rows ≡ back_book
     back-view =
-        ap (λ (l : List Entry). (let x : Book = record { capacity = c; instruments = n; resting = l; waiting = waiting_of P' c n } in x)) resting-is
-        ∙ ap (λ (l : List Entry). (let x : Book = record { capacity = c; instruments = n; resting = placed newcomer one; waiting = l } in x)) waiting-is
+        same-lists c n resting-is waiting-is
 
     -- ---- the lists
 
@@ -242,46 +225,39 @@ module _ (c n : ℕ) (p p1 p' : pool.Queues) (ids : Ids) (lv lv2 : Rows) (tops t
 
     pub back-linked : IsLinked c n p' ids lv2 tops'
     back-linked =
-        let A : LevelRow → Type 0 = λ (r : LevelRow). IsSummed P r × (r.queue ≡ q → r ≡ R) in
-        let norep : NoRepeat (P q) = differ.within q at.0 in
+        let A : LevelRow → Type 0 = λ (r : LevelRow). IsSummed (held p) r × (r.queue ≡ q → r ≡ R) in
+        let norep : NoRepeat (held p q) = differ.within q at.0 in
         record {
           slots = ap (λ (x : pool.Queues). x.capacity) set ∙ ap (λ (x : pool.Queues). x.capacity) back ∙ k.slots;
           many = ap (λ (x : pool.Queues). length x.queues) set ∙ length-map p1.queues (with_entry s o) ∙ ap (λ (x : pool.Queues). length x.queues) back
-              ∙ length-set (pool.removed s p.queues) q (pool.entries_at (pool.removed s p.queues) q ++ (s, pool.order_of s (P q)) ∷ []) ∙ many-removed ∙ k.many;
+              ∙ length-set (pool.removed s p.queues) q (pool.entries_at (pool.removed s p.queues) q ++ (s, pool.order_of s (held p q)) ∷ []) ∙ many-removed ∙ k.many;
           level_room = ap (λ (x : Rows). x.capacity) summed ∙ k.level_room;
           listed = ap (λ (x : Rows). x.instruments) summed ∙ k.listed;
           id_room = k.id_room;
           sides = long ∙ k.sides;
           fits = k.fits;
           right = subst IsRight (sym back-view) right;
-          summed = subst (λ (x : Rows). AllByRecursion (IsSummed P') x.rows) (sym summed) (all-summed A (IsSummed P') q a b d
+          summed = subst (λ (x : Rows). AllByRecursion (IsSummed (held p')) x.rows) (sym summed) (all-summed A (IsSummed (held p')) q a b d
               (λ r h e.
               let is : r ≡ R = h.1 e in
-              let to : P' r.queue ≡ without_slot s (P q) ++ (s, o) ∷ [] = ap P' e ∙ here in
+              let to : held p' r.queue ≡ without_slot s (held p q) ++ (s, o) ∷ [] = ap (held p') e ∙ here in
               let lv_is : level_of_row R ≡ level_of_row r = ap level_of_row (sym is) in
-              let old_at : AllByRecursion (λ (h : Held). level_of h.1 ≡ level_of_row r) (P q) = subst (λ (x : ℕ). AllByRecursion (λ (h : Held). level_of h.1 ≡ level_of_row r) (P x)) e h.0.at in
+              let old_at : AllByRecursion (λ (h : Held). level_of h.1 ≡ level_of_row r) (held p q) = subst (λ (x : ℕ). AllByRecursion (λ (h : Held). level_of h.1 ≡ level_of_row r) (held p x)) e h.0.at in
               record {
                 at = subst (AllByRecursion (λ (x : Held). level_of x.1 ≡ level_of_row r)) (sym to)
-                    (all-append (λ (x : Held). level_of x.1 ≡ level_of_row r) (without_slot s (P q)) ((s, o) ∷ []) (all-filter (λ (x : Held). level_of x.1 ≡ level_of_row r) (λ x. not (x.0 == s)) (P q) old_at) (level-row ∙ lv_is, tt));
-                count = omega (arith, ea, R-summed.count, ap (λ (l : List Held). length l) R-queue, ap (λ (l : List Held). length l) to, length-append (without_slot s (P q)) ((s, o) ∷ []), length-without_slot s (P q) at.1 norep);
-                shown = omega (arith, eb, R-summed.shown, ap (λ (l : List Held). sum_by (λ (y : Held). y.1.shown) l) R-queue, ap (λ (l : List Held). sum_by (λ (y : Held). y.1.shown) l) to, sum_by_push (λ (y : Held). y.1.shown) (without_slot s (P q)) (s, o), sum-without_slot (λ (y : Order). y.shown) s (P q) at.1 norep, ap (λ (x : Order). x.shown) order-is);
-                leaves = omega (arith, ed, R-summed.leaves, ap (λ (l : List Held). sum_by (λ (y : Held). y.1.leaves) l) R-queue, ap (λ (l : List Held). sum_by (λ (y : Held). y.1.leaves) l) to, sum_by_push (λ (y : Held). y.1.leaves) (without_slot s (P q)) (s, o), sum-without_slot (λ (y : Order). y.leaves) s (P q) at.1 norep, ap (λ (x : Order). x.leaves) order-is);
+                    (all-append (λ (x : Held). level_of x.1 ≡ level_of_row r) (without_slot s (held p q)) ((s, o) ∷ []) (all-filter (λ (x : Held). level_of x.1 ≡ level_of_row r) (λ x. not (x.0 == s)) (held p q) old_at) (level-row ∙ lv_is, tt));
+                count = omega (arith, ea, it.summed.count, ap (λ (l : List Held). length l) it.queue, ap (λ (l : List Held). length l) to, length-append (without_slot s (held p q)) ((s, o) ∷ []), length-without_slot s (held p q) at.1 norep);
+                shown = omega (arith, eb, it.summed.shown, ap (λ (l : List Held). sum_by (λ (y : Held). y.1.shown) l) it.queue, ap (λ (l : List Held). sum_by (λ (y : Held). y.1.shown) l) to, sum_by_push (λ (y : Held). y.1.shown) (without_slot s (held p q)) (s, o), sum-without_slot (λ (y : Order). y.shown) s (held p q) at.1 norep, ap (λ (x : Order). x.shown) order-is);
+                leaves = omega (arith, ed, it.summed.leaves, ap (λ (l : List Held). sum_by (λ (y : Held). y.1.leaves) l) it.queue, ap (λ (l : List Held). sum_by (λ (y : Held). y.1.leaves) l) to, sum_by_push (λ (y : Held). y.1.leaves) (without_slot s (held p q)) (s, o), sum-without_slot (λ (y : Order). y.leaves) s (held p q) at.1 norep, ap (λ (x : Order). x.leaves) order-is);
               })
-              (λ r h ne.
-              let to : P r.queue ≡ P' r.queue = sym (others r.queue ne) in
-              record {
-                at = subst (AllByRecursion (λ (x : Held). level_of x.1 ≡ level_of_row r)) to h.0.at;
-                count = h.0.count ∙ ap (λ (l : List Held). length l) to;
-                shown = h.0.shown ∙ ap (λ (l : List Held). sum_by (λ (y : Held). y.1.shown) l) to;
-                leaves = h.0.leaves ∙ ap (λ (l : List Held). sum_by (λ (y : Held). y.1.leaves) l) to;
-              })
-              lv.rows (all-both (IsSummed P) (λ (r : LevelRow). r.queue ≡ q → r ≡ R) lv.rows k.summed (only-row q lv.rows rules.apart)));
+              (λ r h ne. summed-as (held p) (held p') r (others r.queue ne) h.0)
+              lv.rows (all-both (IsSummed (held p)) (λ (r : LevelRow). r.queue ≡ q → r ≡ R) lv.rows k.summed (only-row q lv.rows rules.apart)));
           some = subst (λ (x : Rows). AllByRecursion (λ (r : LevelRow). 1 ≤ r.count) x.rows) (sym summed)
-              (all-summed (λ (r : LevelRow). 1 ≤ r.count) (λ (r : LevelRow). 1 ≤ r.count) q a b d (λ r h e. let first : 1 ≤ R.count = at-row (λ (x : LevelRow). 1 ≤ x.count) q lv.rows rests.is_row k.some in let l : 1 ≤ a = omega (arith, first, ea) in l) (λ r h ne. h) lv.rows k.some);
+              (all-summed (λ (r : LevelRow). 1 ≤ r.count) (λ (r : LevelRow). 1 ≤ r.count) q a b d (λ r h e. let first : 1 ≤ R.count = at-row (λ (x : LevelRow). 1 ≤ x.count) q lv.rows it.rests.is_row k.some in let l : 1 ≤ a = omega (arith, first, ea) in l) (λ r h ne. h) lv.rows k.some);
           unused = λ r lt h.
               let none : HasQueue r lv.rows → ⊥ = λ g. h (subst (λ (x : Rows). HasQueue r x.rows) (sym summed) (has-summed q a b d r lv.rows g)) in
-              others r (λ e. none (subst (λ (m : ℕ). HasQueue m lv.rows) (sym e) rests.is_row)) ∙ k.unused r lt none;
-          stops = λ i lt. subst (AllByRecursion (λ (h : Held). h.1.instrument ≡ i)) (sym (others (c + i) (λ e. let l : q < c = below in absurd (omega arith)))) (k.stops i lt);
+              others r (λ e. none (subst (λ (m : ℕ). HasQueue m lv.rows) (sym e) it.rests.is_row)) ∙ k.unused r lt none;
+          stops = λ i lt. subst (AllByRecursion (λ (h : Held). h.1.instrument ≡ i)) (sym (others (c + i) (λ e. let l : q < c = it.below in absurd (omega arith)))) (k.stops i lt);
           top = λ i dd. subst (λ (l : List Entry). IsTopOf (top_at tops' i dd) (side_of i dd l)) (sym resting-is)
               (top-through (top_at tops' i dd) (side_of i dd one) (side_of i dd (placed newcomer one)) (λ t h. inserted-side newcomer one (placed newcomer one) resting-inserted i dd t h)
               (tops-without tops tops' s old drop book.resting (at-slot (λ (x : Order). level_of old ≡ level_of x) s book.resting (AllDiffer-front book.resting book.waiting k.right.differ) (ap level_of is_order)) k.top i dd));

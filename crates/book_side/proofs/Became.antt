@@ -8,7 +8,7 @@ use Rattle.gx_base.specs.declared.order.Slot.{Slot}
 use Rattle.plain_book.specs.Orders as orders
 use Rattle.plain_book.specs.declared.entry.Entry.{Entry}
 use Rattle.plain_book.specs.Orders.{level_of, is_live, is_best_price, is_new_best, placed, without}
-use Rattle.plain_book.specs.Book.{Book, live_orders, IsResting, IsWaiting, IsFitToRest, IsFitToWait, AllRest, CanBeTop, first_shown, is_enough, book_placed, book_without, book_with_order, book_with_top, book_waited}
+use Rattle.plain_book.specs.Book.{Book, live_orders, IsResting, IsWaiting, IsFitToRest, IsFitToWait, AllRest, CanBeTop, first_shown, makes_top, book_placed, book_without, book_with_order, book_with_top, book_waited}
 use Rattle.plain_book.proofs.Levels.{HasSlot-left, HasSlot-right}
 use Rattle.plain_book.proofs.Right.{length-front}
 use Rattle.order_pool.specs.Queues as pool
@@ -224,7 +224,7 @@ module _ {c n : ℕ} {p : pool.Queues} {ids : Ids} {lv : Rows} {tops : List Side
         pub rows : lv' ≡ record lv1 { rows = with_sums q (r.count + 1) (r.shown + shown) (r.leaves + leaves) lv1.rows }
         pub given : ids' ≡ with_slots (finmap.insert ids.slots (key o.firm o.id) slot) ids
         pub best_is : best ≡ is_best_price o.side o.price.0 (best_row o.instrument o.side lv.rows)
-        pub enough_is : enough ≡ is_enough least o.leaves
+        pub enough_is : enough ≡ makes_top least o.leaves
         pub long : length tops' ≡ length tops
         pub top : IsTopPlaced best enough slot.0 o tops tops'
 
@@ -240,8 +240,8 @@ module _ {c n : ℕ} {p : pool.Queues} {ids : Ids} {lv : Rows} {tops : List Side
           let best_is : best ≡ is_new_best o book.resting = x.best_is ∙ sym (ap (is_best_price o.side o.price.0) (best-looked T P lv.rows k.summed k.some o.instrument o.side)) in
           let pushed : p' ≡ record p { queues = pool.appended q (s, record o { shown = first_shown o }) p.queues } =
           x.queues ∙ ap (λ (i : ℕ). (let z : pool.Queues = record p { queues = pool.appended q (s, record o { shown = i }) p.queues } in z)) x.first in
-          let top : IsTopPlaced (is_new_best o book.resting) (is_enough least o.leaves) s o tops tops' =
-          subst (λ (y : Bool). IsTopPlaced y (is_enough least o.leaves) s o tops tops') best_is (subst (λ (y : Bool). IsTopPlaced best y s o tops tops') x.enough_is x.top) in
+          let top : IsTopPlaced (is_new_best o book.resting) (makes_top least o.leaves) s o tops tops' =
+          subst (λ (y : Bool). IsTopPlaced y (makes_top least o.leaves) s o tops tops') best_is (subst (λ (y : Bool). IsTopPlaced best y s o tops tops') x.enough_is x.top) in
           let names = inserted ids ids' o.firm o.id slot (id-absent k seen o.firm o.id u) x.given in
           let unnamed = subst (λ (y : Book). is_live o.firm o.id (live_orders y) ≡ false) (sym seen) u in
           let fit = subst (λ (y : Book). IsFitToRest y.instruments o) (sym seen) fits in

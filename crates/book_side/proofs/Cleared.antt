@@ -101,10 +101,6 @@ from-without i s b a = subst (AreFrom i) (sym (live-without s b)) (all-filter (�
 pub fewer-without : (s : ℕ) (b : Book) → IsRight b → HasSlot s (live_orders b) → length (live_orders (book_without s b)) < length (live_orders b)
 fewer-without s b r h = omega (arith, ap (λ (l : List Entry). length l) (live-without s b), length-without s (live_orders b) r.differ h)
 
-pub all-from-start : (es : List Entry) → AreFrom 0 es
-all-from-start [] = tt
-all-from-start (e ∷ es) = (omega arith, all-from-start es)
-
 pub cleared : (b : Book) → IsRight b → AreFrom b.instruments (live_orders b) → b ≡ empty_book b.capacity b.instruments
 cleared b r a =
     let n = b.instruments in

@@ -23,6 +23,7 @@ use Rattle.order_pool.specs.Queues.{HasSlot, IsIn, NoRepeat, SlotsDiffer, withou
 use Rattle.price_level.specs.declared.row.LevelRow.{LevelRow}
 use Rattle.book_side.specs.declared.tops.SideTops.{SideTops}
 use Rattle.id_table.specs.Ids.{Ids}
+use Rattle.book_side.proofs.LevelOf.{held, same-lists, summed-as, IsHere, is-here}
 use Rattle.book_side.proofs.Ids.{looked_up, count_of}
 use Rattle.book_side.proofs.Ids.{is_same_name}
 use Rattle.price_level.specs.Rows.{Rows, AreRows, level_of_row, HasQueue, row_of, without_row}
@@ -30,10 +31,10 @@ use Rattle.book_side.specs.Inner.Flat.{flat, queues_of}
 use Rattle.book_side.specs.Inner.Content.{Held, marked, resting_of, waiting_of, book_of, top_at}
 use Rattle.book_side.specs.Inner.Linked.{IsSummed, IsLinked, IsTopOf}
 use Rattle.book_side.specs.Inner.Steps.{dropped, IsTopDropped, lowered, rows_left}
-use Rattle.book_side.proofs.Flat.{flat-filter, flat-same, flat-without, only-row, at-row, row_of-queue}
+use Rattle.book_side.proofs.Flat.{flat-filter, flat-same, flat-without, only-row, at-row}
 use Rattle.book_side.proofs.Pools.{at-removed}
 use Rattle.book_side.proofs.Pools as queues
-use Rattle.book_side.proofs.Slots.{without_slot-none, sum-without_slot, length-without_slot, Rests, rests-in, rests-order, rests-alone}
+use Rattle.book_side.proofs.Slots.{without_slot-none, sum-without_slot, length-without_slot, rests-alone}
 use Rattle.book_side.proofs.Placing.{queues-summed, has-summed, all-summed}
 use Rattle.book_side.proofs.Names.{names-none}
 
@@ -214,12 +215,6 @@ level-without s k hs a = all-filter (λ (h : Held). level_of h.1 ≡ k) (λ h. n
 -- ---- the whole call
 
 module _ (c n : ℕ) (p p' : pool.Queues) (ids ids' : Ids) (lv lv2 : Rows) (tops tops' : List SideTops) (k : IsLinked c n p ids lv tops) (s q : ℕ) (o : Order) where
-  abbrev P : ℕ → List Held
-  P = pool.entries_at p.queues
-
-  abbrev P' : ℕ → List Held
-  P' = pool.entries_at p'.queues
-
   abbrev book : Book
   book = book_of c n tops p.queues lv.rows
 
@@ -234,58 +229,40 @@ module _ (c n : ℕ) (p p' : pool.Queues) (ids ids' : Ids) (lv lv2 : Rows) (tops
     abbrev R : LevelRow
     R = row_of q lv.rows
 
-    each : (r : ℕ) → P' r ≡ without_slot s (P r)
+    each : (r : ℕ) → held p' r ≡ without_slot s (held p r)
     each r = ap (λ (x : pool.Queues). pool.entries_at x.queues r) left ∙ at-removed s p.queues r
 
-    rests : Rests p lv.rows s q
-    rests = rests-in p (top_at tops) lv.rows s differ has q at
+    it : IsHere c p lv tops s q
+    it = is-here k s q has differ at rules
 
-    others : (r : ℕ) → r ≢ q → P' r ≡ P r
-    others r ne = each r ∙ without_slot-none s (P r) (rests-alone p (top_at tops) lv.rows s differ q at r ne)
+    others : (r : ℕ) → r ≢ q → held p' r ≡ held p r
+    others r ne = each r ∙ without_slot-none s (held p r) (rests-alone p (top_at tops) lv.rows s differ q at r ne)
 
-    below : q < c
-    below =
-        let under : R.queue < lv.capacity = (at-row (λ (r : LevelRow). (r.queue < lv.capacity) × (r.instrument < lv.instruments)) q lv.rows rests.is_row rules.below).0 in
-        omega (arith, under, row_of-queue q lv.rows rests.is_row, k.level_room)
+    order-is : pool.order_of s (held p q) ≡ o
+    order-is = sym it.order ∙ sym is_order
 
-    R-summed : IsSummed P R
-    R-summed = at-row (IsSummed P) q lv.rows rests.is_row k.summed
+    fewer : length (held p' q) + 1 ≡ R.count
+    fewer = omega (arith, ap (λ (l : List Held). length l) (each q), length-without_slot s (held p q) at.1 (differ.within q at.0), it.summed.count, ap (λ (l : List Held). length l) it.queue)
 
-    R-queue : P R.queue ≡ P q
-    R-queue = ap P (row_of-queue q lv.rows rests.is_row)
-
-    order-is : pool.order_of s (P q) ≡ o
-    order-is = sym (rests-order p (top_at tops) lv.rows s q rests (AllDiffer-front book.resting book.waiting k.right.differ)) ∙ sym is_order
-
-    fewer : length (P' q) + 1 ≡ R.count
-    fewer = omega (arith, ap (λ (l : List Held). length l) (each q), length-without_slot s (P q) at.1 (differ.within q at.0), R-summed.count, ap (λ (l : List Held). length l) R-queue)
-
-    S-summed : AllByRecursion (IsSummed P') S
+    S-summed : AllByRecursion (IsSummed (held p')) S
     S-summed =
-        let A : LevelRow → Type 0 = λ (r : LevelRow). IsSummed P r × (r.queue ≡ q → r ≡ R) in
-        let norep : NoRepeat (P q) = differ.within q at.0 in
-        all-summed A (IsSummed P') q (R.count - 1) (R.shown - o.shown) (R.leaves - o.leaves)
+        let A : LevelRow → Type 0 = λ (r : LevelRow). IsSummed (held p) r × (r.queue ≡ q → r ≡ R) in
+        let norep : NoRepeat (held p q) = differ.within q at.0 in
+        all-summed A (IsSummed (held p')) q (R.count - 1) (R.shown - o.shown) (R.leaves - o.leaves)
         (λ r h e.
-        let to : P' r.queue ≡ without_slot s (P q) = each r.queue ∙ ap (λ (x : ℕ). without_slot s (P x)) e in
-        let from : P R.queue ≡ P q = R-queue in
+        let to : held p' r.queue ≡ without_slot s (held p q) = each r.queue ∙ ap (λ (x : ℕ). without_slot s (held p x)) e in
+        let from : held p R.queue ≡ held p q = it.queue in
         record {
-          at = subst (AllByRecursion (λ (x : Held). level_of x.1 ≡ level_of_row r)) (sym to) (level-without s (level_of_row r) (P q) (subst (λ (x : ℕ). AllByRecursion (λ (h : Held). level_of h.1 ≡ level_of_row r) (P x)) e h.0.at));
-          count = omega (arith, fewer, ap (λ (x : ℕ). length (P' x)) e);
-          shown = omega (arith, R-summed.shown, ap (λ (l : List Held). sum_by (λ (y : Held). y.1.shown) l) from, ap (λ (l : List Held). sum_by (λ (y : Held). y.1.shown) l) to, sum-without_slot (λ (y : Order). y.shown) s (P q) at.1 norep, ap (λ (x : Order). x.shown) order-is);
-          leaves = omega (arith, R-summed.leaves, ap (λ (l : List Held). sum_by (λ (y : Held). y.1.leaves) l) from, ap (λ (l : List Held). sum_by (λ (y : Held). y.1.leaves) l) to, sum-without_slot (λ (y : Order). y.leaves) s (P q) at.1 norep, ap (λ (x : Order). x.leaves) order-is);
+          at = subst (AllByRecursion (λ (x : Held). level_of x.1 ≡ level_of_row r)) (sym to) (level-without s (level_of_row r) (held p q) (subst (λ (x : ℕ). AllByRecursion (λ (h : Held). level_of h.1 ≡ level_of_row r) (held p x)) e h.0.at));
+          count = omega (arith, fewer, ap (λ (x : ℕ). length (held p' x)) e);
+          shown = omega (arith, it.summed.shown, ap (λ (l : List Held). sum_by (λ (y : Held). y.1.shown) l) from, ap (λ (l : List Held). sum_by (λ (y : Held). y.1.shown) l) to, sum-without_slot (λ (y : Order). y.shown) s (held p q) at.1 norep, ap (λ (x : Order). x.shown) order-is);
+          leaves = omega (arith, it.summed.leaves, ap (λ (l : List Held). sum_by (λ (y : Held). y.1.leaves) l) from, ap (λ (l : List Held). sum_by (λ (y : Held). y.1.leaves) l) to, sum-without_slot (λ (y : Order). y.leaves) s (held p q) at.1 norep, ap (λ (x : Order). x.leaves) order-is);
         })
-        (λ r h ne.
-        let to : P r.queue ≡ P' r.queue = sym (others r.queue ne) in
-        record {
-          at = subst (AllByRecursion (λ (x : Held). level_of x.1 ≡ level_of_row r)) to h.0.at;
-          count = h.0.count ∙ ap (λ (l : List Held). length l) to;
-          shown = h.0.shown ∙ ap (λ (l : List Held). sum_by (λ (y : Held). y.1.shown) l) to;
-          leaves = h.0.leaves ∙ ap (λ (l : List Held). sum_by (λ (y : Held). y.1.leaves) l) to;
-        })
-        lv.rows (all-both (IsSummed P) (λ (r : LevelRow). r.queue ≡ q → r ≡ R) lv.rows k.summed (only-row q lv.rows rules.apart))
+        (λ r h ne. summed-as (held p) (held p') r (others r.queue ne) h.0)
+        lv.rows (all-both (IsSummed (held p)) (λ (r : LevelRow). r.queue ≡ q → r ≡ R) lv.rows k.summed (only-row q lv.rows rules.apart))
 
-    empty : R.count ≡ 1 → P' q ≡ []
-    empty e = none (P' q) (let z : length (P' q) ≡ 0 = omega (arith, fewer) in z)
+    empty : R.count ≡ 1 → held p' q ≡ []
+    empty e = none (held p' q) (let z : length (held p' q) ≡ 0 = omega (arith, fewer) in z)
       where
         none : (hs : List Held) → length hs ≡ 0 → hs ≡ []
         none [] z = refl
@@ -300,24 +277,23 @@ module _ (c n : ℕ) (p p' : pool.Queues) (ids ids' : Ids) (lv lv2 : Rows) (tops
           | inr t ↦ subst (λ (b : Bool). A (cond b (without_row q S) S)) (sym t.0) (g t.1)
         ])
 
-    resting-is : resting_of (top_at tops') P' lv2.rows ≡ without s book.resting
+    resting-is : resting_of (top_at tops') (held p') lv2.rows ≡ without s book.resting
     resting-is =
         let U = top_at tops' in
-        let all : resting_of U P' S ≡ without s book.resting =
-        ap (flat (λ r. map (marked U) (P' r))) (queues-summed q (R.count - 1) (R.shown - o.shown) (R.leaves - o.leaves) lv.rows)
-        ∙ flat-same (λ r. map (marked U) (P' r)) (λ r. map (marked U) (without_slot s (P r))) (queues_of lv.rows) (λ r. ap (λ (l : List Held). map (marked U) l) (each r))
-        ∙ resting-without tops tops' s o drop P lv.rows in
-        left-by (λ (l : List LevelRow). resting_of U P' l ≡ without s book.resting)
-        (λ e. flat-without (λ r. map (marked U) (P' r)) q (ap (λ (l : List Held). map (marked U) l) (empty e)) S ∙ all)
+        let all : resting_of U (held p') S ≡ without s book.resting =
+        ap (flat (λ r. map (marked U) (held p' r))) (queues-summed q (R.count - 1) (R.shown - o.shown) (R.leaves - o.leaves) lv.rows)
+        ∙ flat-same (λ r. map (marked U) (held p' r)) (λ r. map (marked U) (without_slot s (held p r))) (queues_of lv.rows) (λ r. ap (λ (l : List Held). map (marked U) l) (each r))
+        ∙ resting-without tops tops' s o drop (held p) lv.rows in
+        left-by (λ (l : List LevelRow). resting_of U (held p') l ≡ without s book.resting)
+        (λ e. flat-without (λ r. map (marked U) (held p' r)) q (ap (λ (l : List Held). map (marked U) l) (empty e)) S ∙ all)
         (λ _. all)
 
-    waiting-is : waiting_of P' c n ≡ waiting_of P c n
-    waiting-is = queues.waiting-same P P' c n (λ r le. others r (λ e. let lt : q < c = below in absurd (omega arith)))
+    waiting-is : waiting_of (held p') c n ≡ waiting_of (held p) c n
+    waiting-is = queues.waiting-same (held p) (held p') c n (λ r le. others r (λ e. let lt : q < c = it.below in absurd (omega arith)))
 
     pub left-view : book_of c n tops' p'.queues lv2.rows ≡ book_without s book
     left-view =
-        ap (λ (l : List Entry). (let x : Book = record { capacity = c; instruments = n; resting = l; waiting = waiting_of P' c n } in x)) resting-is
-        ∙ ap (λ (l : List Entry). (let x : Book = record { capacity = c; instruments = n; resting = without s book.resting; waiting = l } in x)) waiting-is
+        same-lists c n resting-is waiting-is
         ∙ sym (calls.rests-alone book k.right s has)
 
     has-live : orders.HasSlot s (live_orders book)
@@ -342,14 +318,14 @@ module _ (c n : ℕ) (p p' : pool.Queues) (ids ids' : Ids) (lv lv2 : Rows) (tops
           sides = long ∙ k.sides;
           fits = k.fits;
           right = subst IsRight (sym left-view) (right-without book s k.right has-live);
-          summed = left-by (AllByRecursion (IsSummed P')) (λ _. all-filter (IsSummed P') (λ r. not (r.queue == q)) S S-summed) (λ _. S-summed);
+          summed = left-by (AllByRecursion (IsSummed (held p'))) (λ _. all-filter (IsSummed (held p')) (λ r. not (r.queue == q)) S S-summed) (λ _. S-summed);
           some = left-by (AllByRecursion (λ (r : LevelRow). 1 ≤ r.count)) (λ _. all-without (λ (r : LevelRow). 1 ≤ r.count) q S loose)
-              (λ many. all-summed (λ (r : LevelRow). 1 ≤ r.count) (λ (r : LevelRow). 1 ≤ r.count) q (R.count - 1) (R.shown - o.shown) (R.leaves - o.leaves) (λ r h e. let one : 1 ≤ R.count = at-row (λ (x : LevelRow). 1 ≤ x.count) q lv.rows rests.is_row k.some in let l : 1 ≤ R.count - 1 = omega (arith, one, many) in l) (λ r h _. h) lv.rows k.some);
+              (λ many. all-summed (λ (r : LevelRow). 1 ≤ r.count) (λ (r : LevelRow). 1 ≤ r.count) q (R.count - 1) (R.shown - o.shown) (R.leaves - o.leaves) (λ r h e. let one : 1 ≤ R.count = at-row (λ (x : LevelRow). 1 ≤ x.count) q lv.rows it.rests.is_row k.some in let l : 1 ≤ R.count - 1 = omega (arith, one, many) in l) (λ r h _. h) lv.rows k.some);
           unused = λ r lt h. elim (eqb_tells r q) [
-            | inl t ↦ left-by (λ (l : List LevelRow). (HasQueue r l → ⊥) → P' r ≡ []) (λ e _. ap P' t.1 ∙ empty e) (λ _ no. absurd (no (has-summed q (R.count - 1) (R.shown - o.shown) (R.leaves - o.leaves) r lv.rows (subst (λ (x : ℕ). HasQueue x lv.rows) (sym t.1) rests.is_row)))) h
+            | inl t ↦ left-by (λ (l : List LevelRow). (HasQueue r l → ⊥) → held p' r ≡ []) (λ e _. ap (held p') t.1 ∙ empty e) (λ _ no. absurd (no (has-summed q (R.count - 1) (R.shown - o.shown) (R.leaves - o.leaves) r lv.rows (subst (λ (x : ℕ). HasQueue x lv.rows) (sym t.1) it.rests.is_row)))) h
             | inr t ↦ others r t.1 ∙ k.unused r lt (λ g. let in_S = has-summed q (R.count - 1) (R.shown - o.shown) (R.leaves - o.leaves) r lv.rows g in h (left-by (HasQueue r) (λ _. has-other q r S t.1 in_S) (λ _. in_S)))
           ];
-          stops = λ i lt. subst (AllByRecursion (λ (h : Held). h.1.instrument ≡ i)) (sym (others (c + i) (λ e. let l : q < c = below in absurd (omega arith)))) (k.stops i lt);
+          stops = λ i lt. subst (AllByRecursion (λ (h : Held). h.1.instrument ≡ i)) (sym (others (c + i) (λ e. let l : q < c = it.below in absurd (omega arith)))) (k.stops i lt);
           top = λ i dd. subst (λ (l : List Entry). IsTopOf (top_at tops' i dd) (side_of i dd l)) (sym resting-is)
               (tops-without tops tops' s o drop book.resting (at-slot (λ (x : Order). level_of o ≡ level_of x) s book.resting (AllDiffer-front book.resting book.waiting k.right.differ) (ap level_of is_order)) k.top i dd);
           live = omega (arith, live, k.live, one-less);

@@ -8,6 +8,7 @@ mod Flat
 mod Given
 mod Ids
 mod Leaving
+mod LevelOf
 mod Lining
 mod Looks
 mod Marks

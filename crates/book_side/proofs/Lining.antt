@@ -17,6 +17,7 @@ use Rattle.price_level.specs.Rows.{Rows, AreRows}
 use Rattle.book_side.specs.declared.tops.SideTops.{SideTops}
 use Rattle.book_side.specs.Inner.Content.{Held, unmarked, book_of, top_at, waiting_of}
 use Rattle.book_side.specs.Inner.Linked.{IsLinked}
+use Rattle.book_side.proofs.LevelOf.{held, same-lists}
 use Rattle.book_side.proofs.Ids.{IsGiven, is_same_name}
 use Rattle.book_side.proofs.Pools.{at-appended, at-others, live-held}
 use Rattle.book_side.proofs.Names.{inserted-named}
@@ -32,12 +33,6 @@ pub record IsWaited (c n : ℕ) (p p' : pool.Queues) (ids' : Ids) (lv : Rows) (t
   pub linked : IsLinked c n p' ids' lv tops
 
 module _ (c n : ℕ) (p p' : pool.Queues) (ids ids' : Ids) (lv : Rows) (tops : List SideTops) (k : IsLinked c n p ids lv tops) (rules : AreRows lv) (s : ℕ) (o : Order) where
-  abbrev P : ℕ → List Held
-  P = pool.entries_at p.queues
-
-  abbrev P' : ℕ → List Held
-  P' = pool.entries_at p'.queues
-
   abbrev book : Book
   book = book_of c n tops p.queues lv.rows
 
@@ -50,30 +45,29 @@ module _ (c n : ℕ) (p p' : pool.Queues) (ids ids' : Ids) (lv : Rows) (tops : L
   module _ (fit : IsFitToWait n o) (unnamed : is_live o.firm o.id (live_orders book) ≡ false) (room : length (live_orders book) < c)
       (pushed : p' ≡ record p { queues = pool.appended q (s, waits) p.queues }) (dead : pool.IsLive p s → ⊥) (live : pool.live_of p' ≡ pool.live_of p + 1)
       (names : IsGiven o.firm o.id s ids ids') where
-    here : P' q ≡ P q ++ (s, waits) ∷ []
+    here : held p' q ≡ held p q ++ (s, waits) ∷ []
     here = ap (λ (x : pool.Queues). pool.entries_at x.queues q) pushed ∙ at-appended q (s, waits) p.queues (omega (arith, fit.listed, k.many))
 
-    there : (r : ℕ) → r ≢ q → P' r ≡ P r
+    there : (r : ℕ) → r ≢ q → held p' r ≡ held p r
     there r ne = ap (λ (x : pool.Queues). pool.entries_at x.queues r) pushed ∙ at-others q r (s, waits) p.queues ne
 
-    below : (r : ℕ) → r < c → P' r ≡ P r
+    below : (r : ℕ) → r < c → held p' r ≡ held p r
     below r lt = there r (λ e. absurd (omega arith))
 
     abbrev newcomer : Entry
     newcomer = record { slot = s; order = waits; is_top = false }
 
-    waiting-is : waiting_of P' c n ≡ lined_up newcomer book.waiting
+    waiting-is : waiting_of (held p') c n ≡ lined_up newcomer book.waiting
     waiting-is =
-        let W : ℕ → List Entry = λ (r : ℕ). map unmarked (P r) in
-        let W' : ℕ → List Entry = λ (r : ℕ). map unmarked (P' r) in
+        let W : ℕ → List Entry = λ (r : ℕ). map unmarked (held p r) in
+        let W' : ℕ → List Entry = λ (r : ℕ). map unmarked (held p' r) in
         let listed : o.instrument < n = fit.listed in
-        sym (stops-lined W W' c o.instrument newcomer refl (ap (λ (l : List Held). map unmarked l) here ∙ map-append unmarked (P q) ((s, waits) ∷ [])) (λ r ne. ap (λ (l : List Held). map unmarked l) (there r ne))
+        sym (stops-lined W W' c o.instrument newcomer refl (ap (λ (l : List Held). map unmarked l) here ∙ map-append unmarked (held p q) ((s, waits) ∷ [])) (λ r ne. ap (λ (l : List Held). map unmarked l) (there r ne))
         c n (stops-of c n p ids lv tops k) (omega arith) (omega arith))
 
     view : book_of c n tops p'.queues lv.rows ≡ book_waited s o book
     view =
-        ap (λ (l : List Entry). (let x : Book = record { capacity = c; instruments = n; resting = l; waiting = waiting_of P' c n } in x)) (resting-same c n p p' ids lv tops k rules below)
-        ∙ ap (λ (l : List Entry). (let x : Book = record { capacity = c; instruments = n; resting = book.resting; waiting = l } in x)) waiting-is
+        same-lists c n (resting-same c n p p' ids lv tops k rules below) waiting-is
 
     fresh : HasSlot s (live_orders book) → ⊥
     fresh h = dead (live-held p (top_at tops) lv.rows c n s h)
@@ -87,7 +81,7 @@ module _ (c n : ℕ) (p p' : pool.Queues) (ids ids' : Ids) (lv : Rows) (tops : L
     linked : IsLinked c n p' ids' lv tops
     linked = record {
       slots = ap (λ (x : pool.Queues). x.capacity) pushed ∙ k.slots;
-      many = ap (λ (x : pool.Queues). length x.queues) pushed ∙ length-set p.queues q (P q ++ (s, waits) ∷ []) ∙ k.many;
+      many = ap (λ (x : pool.Queues). length x.queues) pushed ∙ length-set p.queues q (held p q ++ (s, waits) ∷ []) ∙ k.many;
       level_room = k.level_room;
       listed = k.listed;
       id_room = names.capacity ∙ k.id_room;
@@ -100,8 +94,8 @@ module _ (c n : ℕ) (p p' : pool.Queues) (ids ids' : Ids) (lv : Rows) (tops : L
       stops = λ i lt. elim (eqb_tells i o.instrument) [
         | inl t ↦
             let B : ℕ → Held → Type 0 = λ (i : ℕ) (h : Held). h.1.instrument ≡ i in
-            subst (λ (j : ℕ). AllByRecursion (B j) (P' (c + j))) (sym t.1)
-            (subst (AllByRecursion (B o.instrument)) (sym here) (all-append (B o.instrument) (P q) ((s, waits) ∷ []) (k.stops o.instrument fit.listed) (refl, tt)))
+            subst (λ (j : ℕ). AllByRecursion (B j) (held p' (c + j))) (sym t.1)
+            (subst (AllByRecursion (B o.instrument)) (sym here) (all-append (B o.instrument) (held p q) ((s, waits) ∷ []) (k.stops o.instrument fit.listed) (refl, tt)))
         | inr t ↦ subst (AllByRecursion (λ (h : Held). h.1.instrument ≡ i)) (sym (there (c + i) (λ e. t.1 (omega arith)))) (k.stops i lt)
       ];
       top = top-same c n p p' ids lv tops k rules below;

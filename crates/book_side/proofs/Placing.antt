@@ -8,7 +8,7 @@ use Rattle.gx_base.specs.declared.order.Order.{Order}
 use Rattle.gx_base.specs.declared.order.Side.{Side}
 use Rattle.plain_book.specs.declared.entry.Entry.{Entry}
 use Rattle.plain_book.specs.Orders.{Level, level_of, is_on, is_side, is_named, is_live, is_slot_in, side_of, slot_named, HasSlot, placed, with_top, is_at_earlier_level, is_new_best}
-use Rattle.plain_book.specs.Book.{Book, live_orders, IsRight, IsFitToRest, AreInBookOrder, EachPair, first_shown, is_enough, resting_placed, book_placed}
+use Rattle.plain_book.specs.Book.{Book, live_orders, IsRight, IsFitToRest, AreInBookOrder, EachPair, first_shown, makes_top, resting_placed, book_placed}
 use Rattle.plain_book.proofs.Levels.{same, is_side-refl, is_side-same, and-left, and-right, HasSlot-left, HasSlot-filter}
 use Rattle.plain_book.proofs.Pairs.{all-with, all-both, all-append, none-any}
 use Rattle.plain_book.proofs.Sorted.{IsInserted, inserted-length, put-in, book-order}
@@ -22,6 +22,7 @@ use Rattle.order_pool.specs.Queues as pool
 use Rattle.price_level.specs.declared.row.LevelRow.{LevelRow}
 use Rattle.book_side.specs.declared.tops.SideTops.{SideTops}
 use Rattle.id_table.specs.Ids.{Ids}
+use Rattle.book_side.proofs.LevelOf.{held, same-lists, summed-as}
 use Rattle.book_side.proofs.Ids.{looked_up, count_of}
 use Rattle.book_side.proofs.Ids.{is_same_name}
 use Rattle.price_level.specs.Rows.{Rows, AreRows, Pairs, AreRowsApart, level_of_row, HasQueue, row_of, without_row, with_sums, resummed}
@@ -36,9 +37,6 @@ use Rattle.book_side.proofs.Pools.{at-appended, at-others, live-held, waiting-sa
 use Rattle.book_side.proofs.Names.{inserted-named, marked-named, inserted-side, inserted-on, marked-side, top-through}
 
 -- ---- levels
-
-abbrev pub queue_if : ℕ → LevelRow → LevelRow → Type 0
-queue_if q R r = r.queue ≡ q → r ≡ R
 
 resummed-queue : (q a b d : ℕ) (r : LevelRow) → (resummed q a b d r).queue ≡ r.queue
 resummed-queue q a b d r =
@@ -160,14 +158,7 @@ module _ (c : ℕ) (P P' : ℕ → List Held) (q s : ℕ) (o : Order) (here : P'
         shown = let x : (row_of q rs1).shown ≡ r.shown = ap (λ (y : LevelRow). y.shown) (sym is) in eb ∙ ap (λ (m : ℕ). m + o.shown) (x ∙ h.0.shown) ∙ sym (ap (λ (l : List Held). sum_by (λ (y : Held). y.1.shown) l) to ∙ sum_by_push (λ (y : Held). y.1.shown) (P r.queue) (s, o));
         leaves = let x : (row_of q rs1).leaves ≡ r.leaves = ap (λ (y : LevelRow). y.leaves) (sym is) in ed ∙ ap (λ (m : ℕ). m + o.leaves) (x ∙ h.0.leaves) ∙ sym (ap (λ (l : List Held). sum_by (λ (y : Held). y.1.leaves) l) to ∙ sum_by_push (λ (y : Held). y.1.leaves) (P r.queue) (s, o));
       })
-      (λ r h n.
-      let to : P r.queue ≡ P' r.queue = sym (there r.queue n) in
-      record {
-        at = subst (AllByRecursion (λ (x : Held). level_of x.1 ≡ level_of_row r)) to h.0.at;
-        count = h.0.count ∙ ap (λ (l : List Held). length l) to;
-        shown = h.0.shown ∙ ap (λ (l : List Held). sum_by (λ (y : Held). y.1.shown) l) to;
-        leaves = h.0.leaves ∙ ap (λ (l : List Held). sum_by (λ (y : Held). y.1.leaves) l) to;
-      })
+      (λ r h n. summed-as P P' r (there r.queue n) h.0)
       rs1 (all-both (IsSummed P) (λ (r : LevelRow). r.queue ≡ q → r ≡ row_of q rs1) rs1 ready.summed (only-row q rs1 apart))
 
   pub some-pushed : (a b d : ℕ) → 1 ≤ a → AllByRecursion (λ (r : LevelRow). 1 ≤ r.count) (with_sums q a b d rs1)
@@ -246,12 +237,6 @@ module _ (old new : List SideTops) (P : ℕ → List Held) (rs : List LevelRow) 
 
 module _ (c n : ℕ) (p p' : pool.Queues) (ids ids' : Ids) (lv lv1 lv2 : Rows) (tops tops' : List SideTops) (k : IsLinked c n p ids lv tops)
     (s q : ℕ) (o : Order) (least : Option ℕ) where
-  abbrev P : ℕ → List Held
-  P = pool.entries_at p.queues
-
-  abbrev P' : ℕ → List Held
-  P' = pool.entries_at p'.queues
-
   abbrev book : Book
   book = book_of c n tops p.queues lv.rows
 
@@ -262,18 +247,18 @@ module _ (c n : ℕ) (p p' : pool.Queues) (ids ids' : Ids) (lv lv1 lv2 : Rows) (
       (pushed : p' ≡ record p { queues = pool.appended q (s, rests) p.queues }) (dead : pool.IsLive p s → ⊥) (live : pool.live_of p' ≡ pool.live_of p + 1)
       (a b d : ℕ) (summed : lv2 ≡ record lv1 { rows = with_sums q a b d lv1.rows }) (ea : a ≡ (row_of q lv1.rows).count + 1) (eb : b ≡ (row_of q lv1.rows).shown + rests.shown) (ed : d ≡ (row_of q lv1.rows).leaves + o.leaves)
       (id_room : ids'.capacity ≡ ids.capacity) (id_count : count_of ids' ≡ count_of ids + 1) (id_names : (f : ℕ) → (i : List ℕ) → looked_up f i ids' ≡ cond (is_same_name o.firm o.id f i) (Some s) (looked_up f i ids))
-      (long : length tops' ≡ length tops) (placed_top : IsTopPlaced (is_new_best o book.resting) (is_enough least o.leaves) s o tops tops')
+      (long : length tops' ≡ length tops) (placed_top : IsTopPlaced (is_new_best o book.resting) (makes_top least o.leaves) s o tops tops')
       (fit : IsFitToRest n o) (unnamed : is_live o.firm o.id (live_orders book) ≡ false) (room : length (live_orders book) < c) where
     pub fresh-slot : HasSlot s (live_orders book) → ⊥
     fresh-slot h = dead (live-held p (top_at tops) lv.rows c n s h)
 
-    ready : IsReady c P q lv.rows lv1.rows
-    ready = level-ready c P q (level_of o) lv lv1 k.level_room k.summed k.some k.unused rules en
+    ready : IsReady c (held p) q lv.rows lv1.rows
+    ready = level-ready c (held p) q (level_of o) lv lv1 k.level_room k.summed k.some k.unused rules en
 
-    here : P' q ≡ P q ++ (s, rests) ∷ []
+    here : held p' q ≡ held p q ++ (s, rests) ∷ []
     here = ap (λ (x : pool.Queues). pool.entries_at x.queues q) pushed ∙ at-appended q (s, rests) p.queues (omega (arith, ready.below, k.many))
 
-    there : (r : ℕ) → r ≢ q → P' r ≡ P r
+    there : (r : ℕ) → r ≢ q → held p' r ≡ held p r
     there r ne = ap (λ (x : pool.Queues). pool.entries_at x.queues r) pushed ∙ at-others q r (s, rests) p.queues ne
 
     abbrev best : Bool
@@ -283,30 +268,29 @@ module _ (c n : ℕ) (p p' : pool.Queues) (ids ids' : Ids) (lv lv1 lv2 : Rows) (
     one = cond best (with_top o.instrument o.side None book.resting) book.resting
 
     abbrev newcomer : Entry
-    newcomer = record { slot = s; order = rests; is_top = best && is_enough least o.leaves }
+    newcomer = record { slot = s; order = rests; is_top = best && makes_top least o.leaves }
 
     fresh-resting : HasSlot s book.resting → ⊥
     fresh-resting h = fresh-slot (HasSlot-left s book.resting book.waiting h)
 
-    resting-is : resting_of (top_at tops') P' lv2.rows ≡ resting_placed s o least book.resting
+    resting-is : resting_of (top_at tops') (held p') lv2.rows ≡ resting_placed s o least book.resting
     resting-is =
         let U = top_at tops' in
-        let rows : resting_of U P' lv2.rows ≡ resting_of U P' lv1.rows =
-        ap (λ (x : Rows). resting_of U P' x.rows) summed ∙ ap (flat (λ r. map (marked U) (P' r))) (queues-summed q a b d lv1.rows) in
+        let rows : resting_of U (held p') lv2.rows ≡ resting_of U (held p') lv1.rows =
+        ap (λ (x : Rows). resting_of U (held p') x.rows) summed ∙ ap (flat (λ r. map (marked U) (held p' r))) (queues-summed q a b d lv1.rows) in
         rows
-        ∙ sym (resting-pushed c P P' q s rests here there lv.rows lv1.rows ready rules.apart en.has en.at U)
-        ∙ ap (λ (t : Bool). placed (let e : Entry = record { slot = s; order = rests; is_top = t } in e) (resting_of U P lv.rows))
-        (mark-placed tops tops' P lv.rows s o fresh-resting k.top best (is_enough least o.leaves) placed_top rests refl refl)
-        ∙ ap (placed newcomer) (marks-placed tops tops' P lv.rows s o fresh-resting k.top best (is_enough least o.leaves) placed_top)
+        ∙ sym (resting-pushed c (held p) (held p') q s rests here there lv.rows lv1.rows ready rules.apart en.has en.at U)
+        ∙ ap (λ (t : Bool). placed (let e : Entry = record { slot = s; order = rests; is_top = t } in e) (resting_of U (held p) lv.rows))
+        (mark-placed tops tops' (held p) lv.rows s o fresh-resting k.top best (makes_top least o.leaves) placed_top rests refl refl)
+        ∙ ap (placed newcomer) (marks-placed tops tops' (held p) lv.rows s o fresh-resting k.top best (makes_top least o.leaves) placed_top)
 
-    waiting-is : waiting_of P' c n ≡ waiting_of P c n
-    waiting-is = waiting-same P P' c n (λ r le. there r (λ e. let lt : q < c = ready.below in absurd (omega arith)))
+    waiting-is : waiting_of (held p') c n ≡ waiting_of (held p) c n
+    waiting-is = waiting-same (held p) (held p') c n (λ r le. there r (λ e. let lt : q < c = ready.below in absurd (omega arith)))
 
     -- the book is that of the contract
     pub placed-view : book_of c n tops' p'.queues lv2.rows ≡ book_placed s o least book
     placed-view =
-        ap (λ (l : List Entry). (let x : Book = record { capacity = c; instruments = n; resting = l; waiting = waiting_of P' c n } in x)) resting-is
-        ∙ ap (λ (l : List Entry). (let x : Book = record { capacity = c; instruments = n; resting = resting_placed s o least book.resting; waiting = l } in x)) waiting-is
+        same-lists c n resting-is waiting-is
 
     ordered-one : EachPair AreInBookOrder one
     ordered-one =
@@ -356,14 +340,14 @@ module _ (c n : ℕ) (p p' : pool.Queues) (ids ids' : Ids) (lv lv1 lv2 : Rows) (
           sides = long ∙ k.sides;
           fits = k.fits;
           right = subst IsRight back (right-book_placed book s k.right room fresh-slot o least fit unnamed);
-          summed = subst (λ (x : Rows). AllByRecursion (IsSummed P') x.rows) (sym summed) (summed-pushed c P P' q s rests here there lv.rows lv1.rows ready rules.apart en.has en.at a b d ea eb ed);
-          some = subst (λ (x : Rows). AllByRecursion (λ (r : LevelRow). 1 ≤ r.count) x.rows) (sym summed) (some-pushed c P P' q s rests here there lv.rows lv1.rows ready rules.apart en.has en.at a b d (omega (arith, ea)));
+          summed = subst (λ (x : Rows). AllByRecursion (IsSummed (held p')) x.rows) (sym summed) (summed-pushed c (held p) (held p') q s rests here there lv.rows lv1.rows ready rules.apart en.has en.at a b d ea eb ed);
+          some = subst (λ (x : Rows). AllByRecursion (λ (r : LevelRow). 1 ≤ r.count) x.rows) (sym summed) (some-pushed c (held p) (held p') q s rests here there lv.rows lv1.rows ready rules.apart en.has en.at a b d (omega (arith, ea)));
           unused = λ r lt h.
               let not_here : HasQueue r lv1.rows → ⊥ = λ g. h (subst (λ (x : Rows). HasQueue r x.rows) (sym summed) (has-summed q a b d r lv1.rows g)) in
               there r (λ e. not_here (subst (λ (m : ℕ). HasQueue m lv1.rows) (sym e) en.has)) ∙ ready.unused r lt not_here;
           stops = λ i lt. subst (AllByRecursion (λ (h : Held). h.1.instrument ≡ i)) (sym (there (c + i) (λ e. let l : q < c = ready.below in absurd (omega arith)))) (k.stops i lt);
           top = λ i dd. subst (λ (l : List Entry). IsTopOf (top_at tops' i dd) (side_of i dd l)) (sym resting-is)
-              (tops-placed tops tops' P lv.rows s o fresh-resting k.top best (is_enough least o.leaves) placed_top newcomer refl refl refl (resting_placed s o least book.resting) resting-inserted i dd);
+              (tops-placed tops tops' (held p) lv.rows s o fresh-resting k.top best (makes_top least o.leaves) placed_top newcomer refl refl refl (resting_placed s o least book.resting) resting-inserted i dd);
           live = omega (arith, live, k.live, more);
           count = omega (arith, id_count, k.count, more);
           named = λ f i.

@@ -27,6 +27,7 @@ use Rattle.book_side.specs.Inner.Flat.{flat, queues_of}
 use Rattle.book_side.specs.Inner.Content.{Held, marked, unmarked, book_of, resting_of, waiting_of, top_at}
 use Rattle.book_side.specs.Inner.Linked.{IsSummed, IsTopOf, IsLinked}
 use Rattle.book_side.specs.Inner.Steps.{book_reordered}
+use Rattle.book_side.proofs.LevelOf.{held, same-lists}
 use Rattle.book_side.proofs.Ids.{looked_up, count_of}
 use Rattle.book_side.proofs.Flat.{flat-map, flat-rows}
 use Rattle.book_side.proofs.Pools.{at-with_entry}
@@ -100,12 +101,6 @@ pub record IsReordered (c n : ℕ) (p p' : pool.Queues) (ids' : Ids) (lv : Rows)
   pub linked : IsLinked c n p' ids' lv tops
 
 module _ (c n : ℕ) (p p' : pool.Queues) (ids ids' : Ids) (lv : Rows) (tops : List SideTops) (k : IsLinked c n p ids lv tops) (s : ℕ) (o : Order) where
-  abbrev P : ℕ → List Held
-  P = pool.entries_at p.queues
-
-  abbrev P' : ℕ → List Held
-  P' = pool.entries_at p'.queues
-
   abbrev T : ℕ → Side → Option ℕ
   T = top_at tops
 
@@ -115,7 +110,7 @@ module _ (c n : ℕ) (p p' : pool.Queues) (ids ids' : Ids) (lv : Rows) (tops : L
   module _ (set : p' ≡ record p { queues = map (with_entry s o) p.queues }) (live : pool.live_of p' ≡ pool.live_of p)
       (level : level_of o ≡ level_of (orders.order_of s (live_orders book))) (alike : AllByRecursion (Keeps s o) book.resting) (right : IsRight (book_reordered s o book))
       (id_room : ids'.capacity ≡ ids.capacity) (id_count : count_of ids' ≡ count_of ids) (id_names : (f : ℕ) (i : List ℕ) → looked_up f i ids' ≡ slot_named f i (with_order s o (live_orders book))) where
-    each : (r : ℕ) → P' r ≡ with_entry s o (P r)
+    each : (r : ℕ) → held p' r ≡ with_entry s o (held p r)
     each r = ap (λ (x : pool.Queues). pool.entries_at x.queues r) set ∙ at-with_entry s o p.queues r
 
     levels : AllByRecursion (KeepsLevel s o) (live_orders book)
@@ -127,16 +122,16 @@ module _ (c n : ℕ) (p p' : pool.Queues) (ids ids' : Ids) (lv : Rows) (tops : L
     back : AllByRecursion (KeepsLevel s o) book.waiting
     back = all-back (KeepsLevel s o) book.resting book.waiting levels
 
-    resting-is : resting_of T P' lv.rows ≡ with_order s o book.resting
+    resting-is : resting_of T (held p') lv.rows ≡ with_order s o book.resting
     resting-is =
-        let E : ℕ → List Entry = λ (r : ℕ). map (marked T) (P r) in
-        flat-rows (λ r. map (marked T) (P' r)) (λ r. with_order s o (E r)) lv.rows
-        (all-with (λ (r : LevelRow). AllByRecursion (KeepsLevel s o) (E r.queue)) (λ (r : LevelRow). map (marked T) (P' r.queue) ≡ with_order s o (E r.queue))
-        (λ r h. ap (λ (l : List Held). map (marked T) l) (each r.queue) ∙ marks-entry T s o (P r.queue) h) lv.rows (flat-each (KeepsLevel s o) E lv.rows front))
+        let E : ℕ → List Entry = λ (r : ℕ). map (marked T) (held p r) in
+        flat-rows (λ r. map (marked T) (held p' r)) (λ r. with_order s o (E r)) lv.rows
+        (all-with (λ (r : LevelRow). AllByRecursion (KeepsLevel s o) (E r.queue)) (λ (r : LevelRow). map (marked T) (held p' r.queue) ≡ with_order s o (E r.queue))
+        (λ r h. ap (λ (l : List Held). map (marked T) l) (each r.queue) ∙ marks-entry T s o (held p r.queue) h) lv.rows (flat-each (KeepsLevel s o) E lv.rows front))
         ∙ sym (flat-map (reordered s o) E (queues_of lv.rows))
 
-    waiting-is : waiting_of P' c n ≡ with_order s o book.waiting
-    waiting-is = same-queues P' (λ q. with_entry s o (P q)) (range_with_len c n) each ∙ waiting-reordered s o P c n back
+    waiting-is : waiting_of (held p') c n ≡ with_order s o book.waiting
+    waiting-is = same-queues (held p') (λ q. with_entry s o (held p q)) (range_with_len c n) each ∙ waiting-reordered s o (held p) c n back
       where
         same-queues : (Q R : ℕ → List Held) (qs : List ℕ) → ((q : ℕ) → Q q ≡ R q) → flat (λ q. map unmarked (Q q)) qs ≡ flat (λ q. map unmarked (R q)) qs
         same-queues Q R [] h = refl
@@ -144,8 +139,7 @@ module _ (c n : ℕ) (p p' : pool.Queues) (ids ids' : Ids) (lv : Rows) (tops : L
 
     view : book_of c n tops p'.queues lv.rows ≡ book_reordered s o book
     view =
-        ap (λ (l : List Entry). (let x : Book = record { capacity = c; instruments = n; resting = l; waiting = waiting_of P' c n } in x)) resting-is
-        ∙ ap (λ (l : List Entry). (let x : Book = record { capacity = c; instruments = n; resting = with_order s o book.resting; waiting = l } in x)) waiting-is
+        same-lists c n resting-is waiting-is
 
     live-is : live_orders (book_of c n tops p'.queues lv.rows) ≡ with_order s o (live_orders book)
     live-is = ap live_orders view ∙ live-reordered s o book
@@ -163,20 +157,20 @@ module _ (c n : ℕ) (p p' : pool.Queues) (ids ids' : Ids) (lv : Rows) (tops : L
       sides = k.sides;
       fits = k.fits;
       right = subst IsRight (sym view) right;
-      summed = all-with (λ (r : LevelRow). IsSummed P r × AllByRecursion (Keeps s o) (map (marked T) (P r.queue))) (IsSummed P')
+      summed = all-with (λ (r : LevelRow). IsSummed (held p) r × AllByRecursion (Keeps s o) (map (marked T) (held p r.queue))) (IsSummed (held p'))
           (λ r h.
-          let to : P' r.queue ≡ with_entry s o (P r.queue) = each r.queue in
+          let to : held p' r.queue ≡ with_entry s o (held p r.queue) = each r.queue in
           record {
-            at = subst (AllByRecursion (λ (x : Held). level_of x.1 ≡ level_of_row r)) (sym to) (level-kept T s o (level_of_row r) (P r.queue) h.1 h.0.at);
-            count = h.0.count ∙ sym (ap (λ (l : List Held). length l) to ∙ length-map (P r.queue) (λ (e : Held). let y : Held = (e.0, cond (e.0 == s) o e.1) in y));
-            shown = h.0.shown ∙ sym (ap (λ (l : List Held). sum_by (λ (y : Held). y.1.shown) l) to ∙ sum-kept T s o (λ (x : Order). x.shown) (λ x a. a.shown) (P r.queue) h.1);
-            leaves = h.0.leaves ∙ sym (ap (λ (l : List Held). sum_by (λ (y : Held). y.1.leaves) l) to ∙ sum-kept T s o (λ (x : Order). x.leaves) (λ x a. a.leaves) (P r.queue) h.1);
+            at = subst (AllByRecursion (λ (x : Held). level_of x.1 ≡ level_of_row r)) (sym to) (level-kept T s o (level_of_row r) (held p r.queue) h.1 h.0.at);
+            count = h.0.count ∙ sym (ap (λ (l : List Held). length l) to ∙ length-map (held p r.queue) (λ (e : Held). let y : Held = (e.0, cond (e.0 == s) o e.1) in y));
+            shown = h.0.shown ∙ sym (ap (λ (l : List Held). sum_by (λ (y : Held). y.1.shown) l) to ∙ sum-kept T s o (λ (x : Order). x.shown) (λ x a. a.shown) (held p r.queue) h.1);
+            leaves = h.0.leaves ∙ sym (ap (λ (l : List Held). sum_by (λ (y : Held). y.1.leaves) l) to ∙ sum-kept T s o (λ (x : Order). x.leaves) (λ x a. a.leaves) (held p r.queue) h.1);
           })
-          lv.rows (all-both (IsSummed P) (λ (r : LevelRow). AllByRecursion (Keeps s o) (map (marked T) (P r.queue))) lv.rows k.summed (flat-each (Keeps s o) (λ (q : ℕ). map (marked T) (P q)) lv.rows alike));
+          lv.rows (all-both (IsSummed (held p)) (λ (r : LevelRow). AllByRecursion (Keeps s o) (map (marked T) (held p r.queue))) lv.rows k.summed (flat-each (Keeps s o) (λ (q : ℕ). map (marked T) (held p q)) lv.rows alike));
       some = k.some;
       unused = λ r lt h. each r ∙ ap (λ (l : List Held). with_entry s o l) (k.unused r lt h);
       stops = λ i lt. subst (AllByRecursion (λ (h : Held). h.1.instrument ≡ i)) (sym (each (c + i)))
-          (instrument-kept s o i (P (c + i)) (range-each (KeepsLevel s o) (λ (q : ℕ). map unmarked (P q)) (c + i) c n (omega arith) (omega arith) back) (k.stops i lt));
+          (instrument-kept s o i (held p (c + i)) (range-each (KeepsLevel s o) (λ (q : ℕ). map unmarked (held p q)) (c + i) c n (omega arith) (omega arith) back) (k.stops i lt));
       top = λ i d. subst (λ (l : List Entry). IsTopOf (top_at tops i d) (side_of i d l)) (sym resting-is)
           (top-through (top_at tops i d) (side_of i d book.resting) (side_of i d (with_order s o book.resting)) (λ t h. side-reordered s o i d t book.resting front h) (k.top i d));
       live = live ∙ k.live ∙ sym same-length;

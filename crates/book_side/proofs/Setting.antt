@@ -24,10 +24,11 @@ use Rattle.price_level.specs.Rows.{Rows, AreRows, level_of_row, HasQueue, row_of
 use Rattle.book_side.specs.Inner.Flat.{flat, queues_of}
 use Rattle.book_side.specs.Inner.Content.{Held, marked, resting_of, waiting_of, book_of, top_at}
 use Rattle.book_side.specs.Inner.Linked.{IsSummed, IsLinked, IsTopOf}
-use Rattle.book_side.proofs.Flat.{flat-map, flat-rows, only-row, at-row, row_of-queue}
+use Rattle.book_side.proofs.LevelOf.{held, same-lists, summed-as, IsHere, is-here}
+use Rattle.book_side.proofs.Flat.{flat-map, flat-rows, only-row, at-row}
 use Rattle.book_side.proofs.Pools.{at-with_entry}
 use Rattle.book_side.proofs.Pools as queues
-use Rattle.book_side.proofs.Slots.{with_entry-none, sum-with_entry, Rests, rests-in, rests-order, rests-alone, flat-each}
+use Rattle.book_side.proofs.Slots.{with_entry-none, sum-with_entry, rests-alone, flat-each}
 use Rattle.book_side.proofs.Placing.{queues-summed, has-summed, all-summed}
 use Rattle.book_side.proofs.Names.{top-through}
 
@@ -98,12 +99,6 @@ level-held s k (x ∷ hs) h a =
 -- ---- the whole call
 
 module _ (c n : ℕ) (p p' : pool.Queues) (ids : Ids) (lv lv2 : Rows) (tops : List SideTops) (k : IsLinked c n p ids lv tops) (s q : ℕ) (o : Order) where
-  abbrev P : ℕ → List Held
-  P = pool.entries_at p.queues
-
-  abbrev P' : ℕ → List Held
-  P' = pool.entries_at p'.queues
-
   abbrev T : ℕ → Side → Option ℕ
   T = top_at tops
 
@@ -113,44 +108,38 @@ module _ (c n : ℕ) (p p' : pool.Queues) (ids : Ids) (lv lv2 : Rows) (tops : Li
   module _ (has : orders.HasSlot s book.resting) (differ : SlotsDiffer p) (at : IsIn p s q) (rules : AreRows lv) (set : p' ≡ record p { queues = map (with_entry s o) p.queues })
       (same_level : level_of o ≡ level_of (orders.order_of s book.resting)) (same_firm : o.firm ≡ (orders.order_of s book.resting).firm) (same_id : o.id ≡ (orders.order_of s book.resting).id) (fit : IsResting n o)
       (a b d : ℕ) (summed : lv2 ≡ record lv { rows = with_sums q a b d lv.rows })
-      (ea : a ≡ (row_of q lv.rows).count) (eb : b + (pool.order_of s (P q)).shown ≡ (row_of q lv.rows).shown + o.shown) (ed : d + (pool.order_of s (P q)).leaves ≡ (row_of q lv.rows).leaves + o.leaves) where
+      (ea : a ≡ (row_of q lv.rows).count) (eb : b + (pool.order_of s (held p q)).shown ≡ (row_of q lv.rows).shown + o.shown) (ed : d + (pool.order_of s (held p q)).leaves ≡ (row_of q lv.rows).leaves + o.leaves) where
     abbrev U : ℕ → List Held
-    U r = with_entry s o (P r)
+    U r = with_entry s o (held p r)
 
-    each : (r : ℕ) → P' r ≡ U r
+    each : (r : ℕ) → held p' r ≡ U r
     each r = ap (λ (x : pool.Queues). pool.entries_at x.queues r) set ∙ at-with_entry s o p.queues r
 
-    rests : Rests p lv.rows s q
-    rests = rests-in p T lv.rows s differ has q at
+    it : IsHere c p lv tops s q
+    it = is-here k s q has differ at rules
 
-    others : (r : ℕ) → r ≢ q → P' r ≡ P r
-    others r ne = each r ∙ with_entry-none s o (P r) (rests-alone p T lv.rows s differ q at r ne)
-
-    below : q < c
-    below =
-        let under : (row_of q lv.rows).queue < lv.capacity = (at-row (λ (r : LevelRow). (r.queue < lv.capacity) × (r.instrument < lv.instruments)) q lv.rows rests.is_row rules.below).0 in
-        omega (arith, under, row_of-queue q lv.rows rests.is_row, k.level_room)
+    others : (r : ℕ) → r ≢ q → held p' r ≡ held p r
+    others r ne = each r ∙ with_entry-none s o (held p r) (rests-alone p T lv.rows s differ q at r ne)
 
     levels-same : AllByRecursion (λ (e : Entry). e.slot ≡ s → level_of o ≡ level_of e.order) book.resting
     levels-same = at-slot (λ (x : Order). level_of o ≡ level_of x) s book.resting (AllDiffer-front book.resting book.waiting k.right.differ) same_level
 
-    resting-is : resting_of T P' lv2.rows ≡ with_order s o book.resting
+    resting-is : resting_of T (held p') lv2.rows ≡ with_order s o book.resting
     resting-is =
-        let E : ℕ → List Entry = λ r. map (marked T) (P r) in
+        let E : ℕ → List Entry = λ r. map (marked T) (held p r) in
         let each-row = flat-each (λ (e : Entry). e.slot ≡ s → level_of o ≡ level_of e.order) E lv.rows levels-same in
-        ap (λ (x : Rows). resting_of T P' x.rows) summed ∙ ap (flat (λ r. map (marked T) (P' r))) (queues-summed q a b d lv.rows)
-        ∙ flat-rows (λ r. map (marked T) (P' r)) (λ r. with_order s o (E r)) lv.rows
-        (all-with (λ (r : LevelRow). AllByRecursion (λ (e : Entry). e.slot ≡ s → level_of o ≡ level_of e.order) (E r.queue)) (λ (r : LevelRow). map (marked T) (P' r.queue) ≡ with_order s o (E r.queue))
-        (λ r h. ap (λ (l : List Held). map (marked T) l) (each r.queue) ∙ marks-entry T s o (P r.queue) h) lv.rows each-row)
+        ap (λ (x : Rows). resting_of T (held p') x.rows) summed ∙ ap (flat (λ r. map (marked T) (held p' r))) (queues-summed q a b d lv.rows)
+        ∙ flat-rows (λ r. map (marked T) (held p' r)) (λ r. with_order s o (E r)) lv.rows
+        (all-with (λ (r : LevelRow). AllByRecursion (λ (e : Entry). e.slot ≡ s → level_of o ≡ level_of e.order) (E r.queue)) (λ (r : LevelRow). map (marked T) (held p' r.queue) ≡ with_order s o (E r.queue))
+        (λ r h. ap (λ (l : List Held). map (marked T) l) (each r.queue) ∙ marks-entry T s o (held p r.queue) h) lv.rows each-row)
         ∙ sym (flat-map (reordered s o) E (queues_of lv.rows))
 
-    waiting-is : waiting_of P' c n ≡ waiting_of P c n
-    waiting-is = queues.waiting-same P P' c n (λ r le. others r (λ e. let lt : q < c = below in absurd (omega arith)))
+    waiting-is : waiting_of (held p') c n ≡ waiting_of (held p) c n
+    waiting-is = queues.waiting-same (held p) (held p') c n (λ r le. others r (λ e. let lt : q < c = it.below in absurd (omega arith)))
 
     pub set-view : book_of c n tops p'.queues lv2.rows ≡ book_with_order s o book
     set-view =
-        ap (λ (l : List Entry). (let x : Book = record { capacity = c; instruments = n; resting = l; waiting = waiting_of P' c n } in x)) resting-is
-        ∙ ap (λ (l : List Entry). (let x : Book = record { capacity = c; instruments = n; resting = with_order s o book.resting; waiting = l } in x)) waiting-is
+        same-lists c n resting-is waiting-is
 
     live-is : live_orders (book_with_order s o book) ≡ with_order s o (live_orders book)
     live-is = ap live_orders (sym (waiting-same book s o k.right has)) ∙ live-reordered s o book
@@ -168,11 +157,11 @@ module _ (c n : ℕ) (p p' : pool.Queues) (ids : Ids) (lv lv2 : Rows) (tops : Li
 
     pub set-linked : IsLinked c n p' ids lv2 tops
     set-linked =
-        let A : LevelRow → Type 0 = λ (r : LevelRow). IsSummed P r × (r.queue ≡ q → r ≡ row_of q lv.rows) in
-        let norep : NoRepeat (P q) = differ.within q at.0 in
-        let old-level : (r : LevelRow) → r.queue ≡ q → IsSummed P r → level_of o ≡ level_of_row r = λ r e h.
-        same_level ∙ ap level_of (rests-order p T lv.rows s q rests (AllDiffer-front book.resting book.waiting k.right.differ))
-        ∙ level-held s (level_of_row r) (P q) at.1 (subst (λ (x : ℕ). AllByRecursion (λ (h : Held). level_of h.1 ≡ level_of_row r) (P x)) e h.at) in
+        let A : LevelRow → Type 0 = λ (r : LevelRow). IsSummed (held p) r × (r.queue ≡ q → r ≡ row_of q lv.rows) in
+        let norep : NoRepeat (held p q) = differ.within q at.0 in
+        let old-level : (r : LevelRow) → r.queue ≡ q → IsSummed (held p) r → level_of o ≡ level_of_row r = λ r e h.
+        same_level ∙ ap level_of it.order
+        ∙ level-held s (level_of_row r) (held p q) at.1 (subst (λ (x : ℕ). AllByRecursion (λ (h : Held). level_of h.1 ≡ level_of_row r) (held p x)) e h.at) in
         record {
           slots = ap (λ (x : pool.Queues). x.capacity) set ∙ k.slots;
           many = ap (λ (x : pool.Queues). length x.queues) set ∙ length-map p.queues (with_entry s o) ∙ k.many;
@@ -182,33 +171,26 @@ module _ (c n : ℕ) (p p' : pool.Queues) (ids : Ids) (lv lv2 : Rows) (tops : Li
           sides = k.sides;
           fits = k.fits;
           right = subst IsRight (sym set-view) (right-with_order book s o k.right has same_level same_firm same_id fit);
-          summed = subst (λ (x : Rows). AllByRecursion (IsSummed P') x.rows) (sym summed) (all-summed A (IsSummed P') q a b d
+          summed = subst (λ (x : Rows). AllByRecursion (IsSummed (held p')) x.rows) (sym summed) (all-summed A (IsSummed (held p')) q a b d
               (λ r h e.
               let is : r ≡ row_of q lv.rows = h.1 e in
               let R = row_of q lv.rows in
-              let to : P' r.queue ≡ with_entry s o (P q) = each r.queue ∙ ap (λ (x : ℕ). with_entry s o (P x)) e in
-              let from : P r.queue ≡ P q = ap P e in
+              let to : held p' r.queue ≡ with_entry s o (held p q) = each r.queue ∙ ap (λ (x : ℕ). with_entry s o (held p x)) e in
+              let from : held p r.queue ≡ held p q = ap (held p) e in
               record {
-                at = subst (AllByRecursion (λ (x : Held). level_of x.1 ≡ level_of_row r)) (sym to) (level-entry s o (level_of_row r) (P q) (old-level r e h.0) (subst (λ (x : ℕ). AllByRecursion (λ (h : Held). level_of h.1 ≡ level_of_row r) (P x)) e h.0.at));
-                count = ea ∙ ap (λ (y : LevelRow). y.count) (sym is) ∙ h.0.count ∙ ap (λ (l : List Held). length l) from ∙ sym (ap (λ (l : List Held). length l) to ∙ length-map (P q) (λ (e : Held). let y : Held = (e.0, cond (e.0 == s) o e.1) in y));
-                shown = let x : R.shown ≡ r.shown = ap (λ (y : LevelRow). y.shown) (sym is) in omega (arith, eb, x, h.0.shown, ap (λ (l : List Held). sum_by (λ (y : Held). y.1.shown) l) from, ap (λ (l : List Held). sum_by (λ (y : Held). y.1.shown) l) to, sum-with_entry (λ (y : Order). y.shown) s o (P q) at.1 norep);
-                leaves = let x : R.leaves ≡ r.leaves = ap (λ (y : LevelRow). y.leaves) (sym is) in omega (arith, ed, x, h.0.leaves, ap (λ (l : List Held). sum_by (λ (y : Held). y.1.leaves) l) from, ap (λ (l : List Held). sum_by (λ (y : Held). y.1.leaves) l) to, sum-with_entry (λ (y : Order). y.leaves) s o (P q) at.1 norep);
+                at = subst (AllByRecursion (λ (x : Held). level_of x.1 ≡ level_of_row r)) (sym to) (level-entry s o (level_of_row r) (held p q) (old-level r e h.0) (subst (λ (x : ℕ). AllByRecursion (λ (h : Held). level_of h.1 ≡ level_of_row r) (held p x)) e h.0.at));
+                count = ea ∙ ap (λ (y : LevelRow). y.count) (sym is) ∙ h.0.count ∙ ap (λ (l : List Held). length l) from ∙ sym (ap (λ (l : List Held). length l) to ∙ length-map (held p q) (λ (e : Held). let y : Held = (e.0, cond (e.0 == s) o e.1) in y));
+                shown = let x : R.shown ≡ r.shown = ap (λ (y : LevelRow). y.shown) (sym is) in omega (arith, eb, x, h.0.shown, ap (λ (l : List Held). sum_by (λ (y : Held). y.1.shown) l) from, ap (λ (l : List Held). sum_by (λ (y : Held). y.1.shown) l) to, sum-with_entry (λ (y : Order). y.shown) s o (held p q) at.1 norep);
+                leaves = let x : R.leaves ≡ r.leaves = ap (λ (y : LevelRow). y.leaves) (sym is) in omega (arith, ed, x, h.0.leaves, ap (λ (l : List Held). sum_by (λ (y : Held). y.1.leaves) l) from, ap (λ (l : List Held). sum_by (λ (y : Held). y.1.leaves) l) to, sum-with_entry (λ (y : Order). y.leaves) s o (held p q) at.1 norep);
               })
-              (λ r h ne.
-              let to : P r.queue ≡ P' r.queue = sym (others r.queue ne) in
-              record {
-                at = subst (AllByRecursion (λ (x : Held). level_of x.1 ≡ level_of_row r)) to h.0.at;
-                count = h.0.count ∙ ap (λ (l : List Held). length l) to;
-                shown = h.0.shown ∙ ap (λ (l : List Held). sum_by (λ (y : Held). y.1.shown) l) to;
-                leaves = h.0.leaves ∙ ap (λ (l : List Held). sum_by (λ (y : Held). y.1.leaves) l) to;
-              })
-              lv.rows (all-both (IsSummed P) (λ (r : LevelRow). r.queue ≡ q → r ≡ row_of q lv.rows) lv.rows k.summed (only-row q lv.rows rules.apart)));
+              (λ r h ne. summed-as (held p) (held p') r (others r.queue ne) h.0)
+              lv.rows (all-both (IsSummed (held p)) (λ (r : LevelRow). r.queue ≡ q → r ≡ row_of q lv.rows) lv.rows k.summed (only-row q lv.rows rules.apart)));
           some = subst (λ (x : Rows). AllByRecursion (λ (r : LevelRow). 1 ≤ r.count) x.rows) (sym summed)
-              (all-summed (λ (r : LevelRow). 1 ≤ r.count) (λ (r : LevelRow). 1 ≤ r.count) q a b d (λ r h e. let one : 1 ≤ (row_of q lv.rows).count = at-row (λ (x : LevelRow). 1 ≤ x.count) q lv.rows rests.is_row k.some in let l : 1 ≤ a = omega (arith, one, ea) in l) (λ r h ne. h) lv.rows k.some);
+              (all-summed (λ (r : LevelRow). 1 ≤ r.count) (λ (r : LevelRow). 1 ≤ r.count) q a b d (λ r h e. let one : 1 ≤ (row_of q lv.rows).count = at-row (λ (x : LevelRow). 1 ≤ x.count) q lv.rows it.rests.is_row k.some in let l : 1 ≤ a = omega (arith, one, ea) in l) (λ r h ne. h) lv.rows k.some);
           unused = λ r lt h.
               let none : HasQueue r lv.rows → ⊥ = λ g. h (subst (λ (x : Rows). HasQueue r x.rows) (sym summed) (has-summed q a b d r lv.rows g)) in
-              others r (λ e. none (subst (λ (m : ℕ). HasQueue m lv.rows) (sym e) rests.is_row)) ∙ k.unused r lt none;
-          stops = λ i lt. subst (AllByRecursion (λ (h : Held). h.1.instrument ≡ i)) (sym (others (c + i) (λ e. let l : q < c = below in absurd (omega arith)))) (k.stops i lt);
+              others r (λ e. none (subst (λ (m : ℕ). HasQueue m lv.rows) (sym e) it.rests.is_row)) ∙ k.unused r lt none;
+          stops = λ i lt. subst (AllByRecursion (λ (h : Held). h.1.instrument ≡ i)) (sym (others (c + i) (λ e. let l : q < c = it.below in absurd (omega arith)))) (k.stops i lt);
           top = λ i dd. subst (λ (l : List Entry). IsTopOf (top_at tops i dd) (side_of i dd l)) (sym resting-is)
               (top-through (top_at tops i dd) (side_of i dd book.resting) (side_of i dd (with_order s o book.resting)) (λ t h. side-reordered s o i dd t book.resting levels-same h) (k.top i dd));
           live = ap (λ (x : pool.Queues). pool.live_of x) set ∙ lengths-entry s o p.queues ∙ k.live ∙ sym same-length;

@@ -18,6 +18,7 @@ use Rattle.price_level.specs.Rows.{Rows, AreRows}
 use Rattle.book_side.specs.declared.tops.SideTops.{SideTops}
 use Rattle.book_side.specs.Inner.Content.{Held, unmarked, book_of, waiting_of}
 use Rattle.book_side.specs.Inner.Linked.{IsLinked}
+use Rattle.book_side.proofs.LevelOf.{held, same-lists}
 use Rattle.book_side.proofs.Ids.{IsTaken, is_same_name}
 use Rattle.book_side.proofs.Flat.{flat-filter, flat-same}
 use Rattle.book_side.proofs.Pools.{at-removed, has-below}
@@ -40,12 +41,6 @@ pub record IsUnlined (c n : ℕ) (p p' : pool.Queues) (ids' : Ids) (lv : Rows) (
   pub linked : IsLinked c n p' ids' lv tops
 
 module _ (c n : ℕ) (p p' : pool.Queues) (ids ids' : Ids) (lv : Rows) (tops : List SideTops) (k : IsLinked c n p ids lv tops) (rules : AreRows lv) (differ : SlotsDiffer p) (s : ℕ) (o : Order) where
-  abbrev P : ℕ → List Held
-  P = pool.entries_at p.queues
-
-  abbrev P' : ℕ → List Held
-  P' = pool.entries_at p'.queues
-
   abbrev book : Book
   book = book_of c n tops p.queues lv.rows
 
@@ -54,22 +49,20 @@ module _ (c n : ℕ) (p p' : pool.Queues) (ids ids' : Ids) (lv : Rows) (tops : L
     w : IsInLine c n p ids lv tops k s
     w = in-line c n p ids lv tops k s has
 
-    each : (r : ℕ) → P' r ≡ without_slot s (P r)
+    each : (r : ℕ) → held p' r ≡ without_slot s (held p r)
     each r = ap (λ (x : pool.Queues). pool.entries_at x.queues r) left ∙ at-removed s p.queues r
 
-    below : (r : ℕ) → r < c → P' r ≡ P r
-    below r lt = each r ∙ without_slot-none s (P r) (λ h. let e : r ≡ c + w.instrument = differ.across s r (c + w.instrument) (has-below s r p.queues h, h) w.at in absurd (omega arith))
+    below : (r : ℕ) → r < c → held p' r ≡ held p r
+    below r lt = each r ∙ without_slot-none s (held p r) (λ h. let e : r ≡ c + w.instrument = differ.across s r (c + w.instrument) (has-below s r p.queues h, h) w.at in absurd (omega arith))
 
-    waiting-is : waiting_of P' c n ≡ without s book.waiting
+    waiting-is : waiting_of (held p') c n ≡ without s book.waiting
     waiting-is =
-        flat-same (λ q. map unmarked (P' q)) (λ q. without s (map unmarked (P q))) (range_with_len c n) (λ q. ap (λ (l : List Held). map unmarked l) (each q) ∙ unmarked-without s (P q))
-        ∙ sym (flat-filter (λ (e : Entry). not (e.slot == s)) (λ q. map unmarked (P q)) (range_with_len c n))
+        flat-same (λ q. map unmarked (held p' q)) (λ q. without s (map unmarked (held p q))) (range_with_len c n) (λ q. ap (λ (l : List Held). map unmarked l) (each q) ∙ unmarked-without s (held p q))
+        ∙ sym (flat-filter (λ (e : Entry). not (e.slot == s)) (λ q. map unmarked (held p q)) (range_with_len c n))
 
     view : book_of c n tops p'.queues lv.rows ≡ book_without s book
     view =
-        ap (λ (l : List Entry). (let x : Book = record { capacity = c; instruments = n; resting = l; waiting = waiting_of P' c n } in x))
-        (resting-same c n p p' ids lv tops k rules below ∙ sym (without-none s book.resting (λ r. slots-apart s book.resting book.waiting k.right.differ r has)))
-        ∙ ap (λ (l : List Entry). (let x : Book = record { capacity = c; instruments = n; resting = without s book.resting; waiting = l } in x)) waiting-is
+        same-lists c n (resting-same c n p p' ids lv tops k rules below ∙ sym (without-none s book.resting (λ r. slots-apart s book.resting book.waiting k.right.differ r has))) waiting-is
 
     has-live : orders.HasSlot s (live_orders book)
     has-live = HasSlot-right s book.resting book.waiting has
@@ -93,7 +86,7 @@ module _ (c n : ℕ) (p p' : pool.Queues) (ids ids' : Ids) (lv : Rows) (tops : L
       summed = summed-same c n p p' ids lv tops k rules below;
       some = k.some;
       unused = unused-same c n p p' ids lv tops k rules below;
-      stops = λ i lt. subst (AllByRecursion (λ (h : Held). h.1.instrument ≡ i)) (sym (each (c + i))) (all-filter (λ (h : Held). h.1.instrument ≡ i) (λ h. not (h.0 == s)) (P (c + i)) (k.stops i lt));
+      stops = λ i lt. subst (AllByRecursion (λ (h : Held). h.1.instrument ≡ i)) (sym (each (c + i))) (all-filter (λ (h : Held). h.1.instrument ≡ i) (λ h. not (h.0 == s)) (held p (c + i)) (k.stops i lt));
       top = top-same c n p p' ids lv tops k rules below;
       live = omega (arith, live, k.live, one-less);
       count = omega (arith, names.count, k.count, one-less);

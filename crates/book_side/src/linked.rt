@@ -11,7 +11,7 @@ use crate::tops::{SideTops, drop_top, no_tops, place_top, set_top_at, top_at};
 use gx_base::{Order, Price, ShortId, Side, Slot};
 use id_table::IdTable;
 use order_pool::Pool;
-use plain_book::{Book, changed, first_shown, is_enough};
+use plain_book::{Book, changed, first_shown, makes_top};
 use price_level::Levels;
 use std::alloc::{AllocError, Global};
 use std::marker::Model;
@@ -146,7 +146,7 @@ impl Book for LinkedBook {
             &mut self.tops,
             &order,
             best,
-            is_enough(top_min, order.leaves),
+            makes_top(top_min, order.leaves),
             slot,
         );
         slot

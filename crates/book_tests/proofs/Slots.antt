@@ -9,7 +9,7 @@ use Rattle.gx_base.specs.declared.order.Order.{Order}
 use Rattle.gx_base.specs.declared.order.Slot.{Slot}
 use Rattle.plain_book.specs.declared.entry.Entry.{Entry}
 use Rattle.plain_book.specs.Orders.{Level, level, level_of, is_level, is_side, is_at, is_on, is_named, orders_at, side_of, best_of, HasSlot, order_of, slot_of, slot_after, slot_named, is_live, top_of, is_new_best, with_top, placed, lined_up, is_at_earlier_level, is_of_earlier_instrument}
-use Rattle.plain_book.specs.Book.{Book, IsRight, IsResting, IsWaiting, CanBeTop, AllDiffer, live_orders, slot_number, first_shown, is_enough, book_placed, book_waited}
+use Rattle.plain_book.specs.Book.{Book, IsRight, IsResting, IsWaiting, CanBeTop, AllDiffer, live_orders, slot_number, first_shown, makes_top, book_placed, book_waited}
 use Rattle.plain_book.proofs.Pairs.{all-append, all-with}
 use Rattle.plain_book.proofs.Live.{first-has, after-has, orders-at, fit_of, unnamed-none}
 use Rattle.plain_book.proofs.Levels.{HasSlot-filter, HasSlot-left, HasSlot-right, HasSlot-middle, order_of-filter, order_of-left, same, is_side-refl, is_level-same}
@@ -127,7 +127,7 @@ live-shows b s right has = (live-open b s right has).1
 pub placed-live : (s : ℕ) (o : Order) (top_min : Option ℕ) (b : Book) → HasSlot s (live_orders (book_placed s o top_min b))
 placed-live s o top_min b =
     let best = is_new_best o b.resting in
-    let n : Entry = record { slot = s; order = record o { shown = first_shown o }; is_top = best && is_enough top_min o.leaves } in
+    let n : Entry = record { slot = s; order = record o { shown = first_shown o }; is_top = best && makes_top top_min o.leaves } in
     let es : List Entry = cond best (with_top o.instrument o.side None b.resting) b.resting in
     HasSlot-left s (placed n es) b.waiting (HasSlot-middle (filter (λ e. not (is_at_earlier_level n e)) es) (filter (is_at_earlier_level n) es) n)
 

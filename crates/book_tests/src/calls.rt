@@ -139,7 +139,7 @@ fn trading(order: &Order) -> Call {
 }
 
 /// A part of what is shown, or all that is.
-fn lots_of(random: &mut Random, order: &Order) -> u32
+fn drawn_lots(random: &mut Random, order: &Order) -> u32
     requires { 1 ≤ order.now.shown }
     ensures some { 1 ≤ result }
     ensures shown { result ≤ order.now.shown }
@@ -157,7 +157,7 @@ fn trade<B: Book>(book: &mut B, random: &mut Random, log: &mut Log)
 {
     book.rules();
     if let Some(slot) = resting_slot(book, random) {
-        let lots = lots_of(random, &order_at(book, slot));
+        let lots = drawn_lots(random, &order_at(book, slot));
         let order = book.trade(slot, lots);
         log.note(trading(&order), Answer::Order(order));
         log.note(Call::Find, named(book, order.firm, &order.id));

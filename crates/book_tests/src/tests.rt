@@ -11,34 +11,13 @@ use order_kinds::{Core, MOST_MESSAGES};
 use order_maker::MakerSource;
 use plain_book::{Book, PlainBook};
 use product_file::{Product, read_product};
-use run_fixtures::{ended, run_over};
+use run_fixtures::{PRODUCT, ended, product_text, run_over};
 use std::process::Abort;
 use std::test::Fail;
 
-const PRODUCT: &str = r#"exchange = "GX"
-firms = ["AAA", "BBB", "CCC", "DDD"]
-
-[[instrument]]
-name = "ESZ4"
-decimals = 2
-tick = 1
-protection = 2
-algorithm = "F"
-"#;
-
-/// The same with room for 100,000 live orders, and for the journal of the drill.
-const LARGE_PRODUCT: &str = r#"exchange = "GX"
-firms = ["AAA", "BBB", "CCC", "DDD"]
-max_orders = 100000
-journal_limit = 67108864
-
-[[instrument]]
-name = "ESZ4"
-decimals = 2
-tick = 1
-protection = 2
-algorithm = "F"
-"#;
+/// The usual product with room for 100,000 live orders, and for the journal of the drill.
+const LARGE_PRODUCT: &str =
+    product_text!("max_orders = 100000", "journal_limit = 67108864", letter: "F");
 
 const MESSAGES: u32 = 3_000;
 

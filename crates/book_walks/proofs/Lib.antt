@@ -1,3 +1,4 @@
 -- Offered to the crates above: what they may cite.
 pub mod SideLevels
 pub mod OrderWalks
+pub mod MetOrders

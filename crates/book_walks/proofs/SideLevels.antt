@@ -1,13 +1,14 @@
 -- The orders of an instrument in book order: its buys and then its sells, and each side level by level.
 use Rattle.std.proofs.Common.{◌≡◌, ℕ, ◌<◌, Bool, true, false, cond, not, ◌&&◌, ◌||◌, List, [], ◌∷◌, ◌++◌, filter, length, Option, Some, None, refl, sym, ap, ◌∙◌, arith, inl, inr, ◌⊎◌, length-append}
-use Rattle.std.specs.Prelude.{ℤ, pos, negsuc, int_lt, nat_lt, ◌==◌}
+use Rattle.std.specs.Prelude.{ℤ, ◌==◌}
 use Rattle.std.specs.Ordering.{int_eq}
 use Rattle.std.specs.List.{AllByRecursion}
-use Rattle.std.proofs.lemmas.Bool.Decides.{nat_tests, Decides-eqb, Decides-int_eq}
+use Rattle.std.proofs.lemmas.Bool.Decides.{Decides-eqb, Decides-int_eq}
 use Rattle.gx_base.specs.declared.price.Price.{Price}
 use Rattle.gx_base.specs.declared.order.Side.{Side}
 use Rattle.gx_base.specs.declared.order.Side.TheVariants.{Buy, Sell}
 use Rattle.gx_base.proofs.Tests.{not-both, int-same}
+use Rattle.book_order.proofs.Before.{int-past, int-back, better-past, better-apart}
 use Rattle.plain_book.specs.declared.entry.Entry.{Entry}
 use Rattle.plain_book.specs.Orders.{Level, level, level_of, is_of, is_on, is_side, is_before, is_better, is_at_earlier_level, side_of, orders_at, price_of, best_of, worse_of}
 use Rattle.plain_book.specs.Book.{EachPair, AreInBookOrder}
@@ -20,53 +21,6 @@ either false = inr refl
 
 -- ---- prices in their order
 
--- a is below b, equal to it, or above it
-
-nat-past : (a b c : ℕ) → nat_lt a b ≡ true → nat_lt c b ≡ false → nat_lt a c ≡ true
-nat-past a b c h k = grind (arith, nat_tests)
-
-nat-past' : (a b c : ℕ) → nat_lt b a ≡ true → nat_lt b c ≡ false → nat_lt c a ≡ true
-nat-past' a b c h k = grind (arith, nat_tests)
-
--- what is below b is below what is not below b
-int-past : (a b c : ℤ) → int_lt a b ≡ true → int_lt c b ≡ false → int_lt a c ≡ true
-int-past (pos a) (pos b) (pos c) h k = nat-past a b c h k
-int-past (pos a) (pos b) (negsuc c) h k = cc
-int-past (pos a) (negsuc b) c h k = cc
-int-past (negsuc a) b (pos c) h k = refl
-int-past (negsuc a) (pos b) (negsuc c) h k = cc
-int-past (negsuc a) (negsuc b) (negsuc c) h k = nat-past' a b c h k
-
-nat-past2 : (a b c : ℕ) → nat_lt a b ≡ true → nat_lt a c ≡ false → nat_lt c b ≡ true
-nat-past2 a b c h k = grind (arith, nat_tests)
-
-nat-past2' : (a b c : ℕ) → nat_lt b a ≡ true → nat_lt c a ≡ false → nat_lt b c ≡ true
-nat-past2' a b c h k = grind (arith, nat_tests)
-
--- what is not above a is below what is above a
-int-past2 : (a b c : ℤ) → int_lt a b ≡ true → int_lt a c ≡ false → int_lt c b ≡ true
-int-past2 (pos a) (pos b) (pos c) h k = nat-past2 a b c h k
-int-past2 (pos a) (pos b) (negsuc c) h k = refl
-int-past2 (pos a) (negsuc b) c h k = cc
-int-past2 (negsuc a) (pos b) (pos c) h k = cc
-int-past2 (negsuc a) (negsuc b) (pos c) h k = cc
-int-past2 (negsuc a) (pos b) (negsuc c) h k = refl
-int-past2 (negsuc a) (negsuc b) (negsuc c) h k = nat-past2' a b c h k
-
-nat-apart : (a b : ℕ) → nat_lt a b ≡ true → nat_lt b a ≡ false
-nat-apart a b h = grind (arith, nat_tests)
-
-int-apart : (a b : ℤ) → int_lt a b ≡ true → int_lt b a ≡ false
-int-apart (pos a) (pos b) h = nat-apart a b h
-int-apart (pos a) (negsuc b) h = cc
-int-apart (negsuc a) (pos b) h = refl
-int-apart (negsuc a) (negsuc b) h = nat-apart b a h
-
--- of two prices one at most is better
-better-one : (s : Side) (a b : ℤ) → is_better s a b ≡ true → is_better s b a ≡ false
-better-one Buy a b h = int-apart b a h
-better-one Sell a b h = int-apart a b h
-
 better-same : (s : Side) (a b : ℤ) → is_better s a b ≡ false → is_better s b a ≡ false → a ≡ b
 better-same Buy a b h k = int-same a b k h
 better-same Sell a b h k = int-same a b h k
@@ -74,12 +28,7 @@ better-same Sell a b h k = int-same a b h k
 -- what a betters is bettered by what is not worse than a
 better-then : (s : Side) (a b c : ℤ) → is_better s a b ≡ true → is_better s a c ≡ false → is_better s c b ≡ true
 better-then Buy a b c h k = int-past b a c h k
-better-then Sell a b c h k = int-past2 a b c h k
-
--- what betters b betters what does not better b
-better-past : (s : Side) (a b c : ℤ) → is_better s a b ≡ true → is_better s c b ≡ false → is_better s a c ≡ true
-better-past Buy a b c h k = int-past2 b a c h k
-better-past Sell a b c h k = int-past a b c h k
+better-then Sell a b c h k = int-back b a c h k
 
 -- ---- one side
 
@@ -168,11 +117,11 @@ int_eq-not a b h = elim (either (int_eq a b)) [ inl t ↦ absurd (h ((Decides-in
 
 module _ (s : Side) where
   -- a better one is at another price, and so is a worse one
-  better-apart : (a p : ℤ) → is_better s a p ≡ true → int_eq a p ≡ false
-  better-apart a p h = int_eq-not a p (λ e. not-both (is_better s a p) h (ap (λ (q : ℤ). is_better s q p) e ∙ is_better-irrefl s p))
+  better-elsewhere : (a p : ℤ) → is_better s a p ≡ true → int_eq a p ≡ false
+  better-elsewhere a p h = int_eq-not a p (λ e. not-both (is_better s a p) h (ap (λ (q : ℤ). is_better s q p) e ∙ is_better-irrefl s p))
 
-  worse-apart : (a p : ℤ) → is_better s p a ≡ true → int_eq a p ≡ false
-  worse-apart a p h = int_eq-not a p (λ e. not-both (is_better s p a) h (ap (λ (q : ℤ). is_better s p q) e ∙ is_better-irrefl s p))
+  worse-elsewhere : (a p : ℤ) → is_better s p a ≡ true → int_eq a p ≡ false
+  worse-elsewhere a p h = int_eq-not a p (λ e. not-both (is_better s p a) h (ap (λ (q : ℤ). is_better s p q) e ∙ is_better-irrefl s p))
 
   -- behind an order that is worse than p
   behind-worse : (p : ℤ) (e : Entry) (es : List Entry) → is_worse s p e ≡ true → AllByRecursion (InPriceOrder s e) es → AllByRecursion (λ (x : Entry). is_worse s p x ≡ true) es
@@ -180,10 +129,10 @@ module _ (s : Side) where
   behind-worse p e (x ∷ es) h k = (better-past s p e.order.price.0 x.order.price.0 h k.0, behind-worse p e es h k.1)
 
   worse-not-better : (p : ℤ) (es : List Entry) → AllByRecursion (λ (x : Entry). is_worse s p x ≡ true) es → AllByRecursion (λ (x : Entry). not_better s p x ≡ true) es
-  worse-not-better p es h = all-with (λ (x : Entry). is_worse s p x ≡ true) (λ (x : Entry). not_better s p x ≡ true) (λ x t. ap not (better-one s p x.order.price.0 t)) es h
+  worse-not-better p es h = all-with (λ (x : Entry). is_worse s p x ≡ true) (λ (x : Entry). not_better s p x ≡ true) (λ x t. ap not (better-apart s p x.order.price.0 t)) es h
 
   worse-not-at : (p : ℤ) (es : List Entry) → AllByRecursion (λ (x : Entry). is_worse s p x ≡ true) es → AllByRecursion (λ (x : Entry). at_price p x ≡ false) es
-  worse-not-at p es h = all-with (λ (x : Entry). is_worse s p x ≡ true) (λ (x : Entry). at_price p x ≡ false) (λ x t. worse-apart x.order.price.0 p t) es h
+  worse-not-at p es h = all-with (λ (x : Entry). is_worse s p x ≡ true) (λ (x : Entry). at_price p x ≡ false) (λ x t. worse-elsewhere x.order.price.0 p t) es h
 
   -- from a price on: the orders at it, and then the worse ones
   pub level-first : (p : ℤ) (es : List Entry) → EachPair (InPriceOrder s) es → filter (not_better s p) es ≡ filter (at_price p) es ++ filter (is_worse s p) es
@@ -193,16 +142,16 @@ module _ (s : Side) where
       elim (either (is_better s p a)) [
         | inl worse ↦
             let all = behind-worse p e es worse o.0 in
-            pass (not_better s p) e es (ap not (better-one s p a worse))
+            pass (not_better s p) e es (ap not (better-apart s p a worse))
             ∙ ap (λ (q : List Entry). e ∷ q) (filter-all (not_better s p) es (worse-not-better p es all))
             ∙ sym (ap (λ (q : List Entry). e ∷ q) (filter-all (is_worse s p) es all))
             ∙ sym (pass (is_worse s p) e es worse)
-            ∙ sym (ap (λ (q : List Entry). q ++ filter (is_worse s p) (e ∷ es)) (stop (at_price p) e es (worse-apart a p worse) ∙ filter-none (at_price p) es (worse-not-at p es all)))
+            ∙ sym (ap (λ (q : List Entry). q ++ filter (is_worse s p) (e ∷ es)) (stop (at_price p) e es (worse-elsewhere a p worse) ∙ filter-none (at_price p) es (worse-not-at p es all)))
         | inr not_worse ↦ elim (either (is_better s a p)) [
           | inl better ↦
               stop (not_better s p) e es (ap not better)
               ∙ level-first p es o.1
-              ∙ sym (ap (λ (q : List Entry). q ++ filter (is_worse s p) es) (stop (at_price p) e es (better-apart a p better)))
+              ∙ sym (ap (λ (q : List Entry). q ++ filter (is_worse s p) es) (stop (at_price p) e es (better-elsewhere a p better)))
               ∙ sym (ap (λ (q : List Entry). filter (at_price p) (e ∷ es) ++ q) (stop (is_worse s p) e es not_worse))
           | inr not_better' ↦
               let at : int_eq a p ≡ true = (Decides-int_eq a p).1 (better-same s a p not_better' not_worse) in
@@ -231,10 +180,6 @@ module _ (s : Side) where
         ap (λ (r : Price). is_better s p r.0) (sym price) ∙ worse
     | inr not_worse ↦ first-worse p es q (sym (ap price_of (stop (is_worse s p) e es not_worse)) ∙ h)
   ]
-
-  price-none : (es : List Entry) → price_of es ≡ None → es ≡ []
-  price-none [] h = refl
-  price-none (e ∷ es) h = absurd (let k : Some e.order.price ≡ None = h in cc)
 
   -- the orders worse than p are what stands from the best of their prices on
   pub from-worse : (p : ℤ) (es : List Entry) → EachPair (InPriceOrder s) es → filter (is_worse s p) es ≡ from_price s (price_of (filter (is_worse s p) es)) es

@@ -25,6 +25,14 @@ struct Ids<'a> {
     old: Option<&'a ShortId>,
 }
 
+/// What a report tells of the change of an order.
+#[derive(Clone, Copy)]
+struct OrderUpdate<'a> {
+    ids: Ids<'a>,
+    /// Tags 150 and 39.
+    status: &'a [u8],
+}
+
 /// Writes the body of an event: at most 28 fields.
 pub(crate) fn write_body(into: &mut [u8], at: usize, event: &Event, names: &Names) -> usize
     requires { at + 28 * LONGEST_FIELD ≤ length into.old }
@@ -162,17 +170,17 @@ fn order_front(
     names: &Names,
     head: &Head,
     order: &Order,
-    ids: Ids<'_>,
-    status: &[u8],
+    update: OrderUpdate<'_>,
 ) -> usize
     requires room { at + 19 * LONGEST_FIELD ≤ length into.old }
-    requires short_status { length status.now ≤ LONGEST_VALUE }
-    ensures fields { take result into.new ≡ take at into.old ++ order_front names.now head.now order.now ids.entry.id.now (option_copied ids.entry.old) status.now }
+    requires short_status { length update.status.now ≤ LONGEST_VALUE }
+    ensures fields { take result into.new ≡ take at into.old
+        ++ order_front names.now head.now order.now update.entry.ids.id.now (option_copied update.entry.ids.old) update.entry.status.now }
     ensures short { result ≤ at + 19 * LONGEST_FIELD }
 {
     let at = line_head(into, at, names, b"8", head);
-    let at = id_fields(into, at, order.number, ids);
-    let at = report_fields(into, at, head, status);
+    let at = id_fields(into, at, order.number, update.ids);
+    let at = report_fields(into, at, head, update.status);
     order_fields(into, at, names, order)
 }
 
@@ -190,7 +198,11 @@ fn own_front(
     ensures fields { take result into.new ≡ take at into.old ++ order_front names.now head.now order.now order.now.id None status.now }
     ensures short { result ≤ at + 19 * LONGEST_FIELD }
 {
-    order_front(into, at, names, head, order, own_id(order), status)
+    let update = OrderUpdate {
+        ids: own_id(order),
+        status,
+    };
+    order_front(into, at, names, head, order, update)
 }
 
 /// The front of a report that an order is cancelled, under the id of the cancel where one asked for it.
@@ -206,8 +218,11 @@ fn cancelled_front(
     ensures fields { take result into.new ≡ take at into.old ++ order_front names.now head.now order.now (cancel_id order.now by.now) (cancelled_id order.now by.now) (codes "4") }
     ensures short { result ≤ at + 19 * LONGEST_FIELD }
 {
-    let ids = cancel_ids(order, by.as_ref());
-    order_front(into, at, names, head, order, ids, b"4")
+    let update = OrderUpdate {
+        ids: cancel_ids(order, by.as_ref()),
+        status: b"4",
+    };
+    order_front(into, at, names, head, order, update)
 }
 
 /// The front of a report that an order is replaced, in the place of its old id.
@@ -227,7 +242,8 @@ fn replaced_front(
         id: &order.id,
         old: Some(old),
     };
-    order_front(into, at, names, head, order, ids, b"5")
+    let update = OrderUpdate { ids, status: b"5" };
+    order_front(into, at, names, head, order, update)
 }
 
 /// Which order, under which id, and in the place of which id.

@@ -4,6 +4,7 @@ ghost use Rattle.std.specs.Bool.{OnTrue, OnFalse};
 
 use crate::line_form::{LONGEST_PRINTED, LineForm};
 use gx_base::{Event, Names, append};
+use line_parts::zeros;
 use std::alloc::{AllocError, Global};
 use std::marker::Model;
 
@@ -102,16 +103,4 @@ impl ReportBuffer {
     {
         self.len = 0;
     }
-}
-
-/// So many zeros, with room for no more.
-fn zeros(alloc: Global, count: usize) -> Result<Vec<u8>, AllocError>
-    ensures len { IfOk result (λ v. vec_len v ≡ count) }
-    ensures room { IfOk result (λ v. vec_capacity v ≡ count) }
-{
-    let mut bytes = Vec::with_capacity(alloc, count)?;
-    for _ in 0..count {
-        bytes.push_reserved(0);
-    }
-    Ok(bytes)
 }

@@ -4,6 +4,9 @@ use Rattle.std.proofs.Common.{[], ◌≡◌, ◌≢◌, ◌⊎◌, inl, inr, ⊎
 use Rattle.std.specs.Prelude.{IfSome}
 use Rattle.std.proofs.lemmas.Bool.Decides.{eqb_tells}
 use Rattle.std.proofs.lemmas.Option.{same_Some}
+use Rattle.gx_base.specs.Line.{line_of}
+use Rattle.book_print.specs.FillText.{fill_line}
+use Rattle.book_print.specs.LedgerText.{ledger_line}
 use Rattle.gx_base.specs.declared.event.Event.{Event}
 use Rattle.gx_station.specs.Stations.{StationMeanings}
 use Rattle.gx_station.specs.Honest.{IsHonestNow}
@@ -19,14 +22,14 @@ use Rattle.match_journal.specs.Classes.{IsForeignAt, HasBadHeader, HasOtherText,
 use Rattle.match_journal.specs.Opening.{IsOpened}
 use Rattle.match_journal.specs.declared.faults.StartFault.TheVariants as start
 use Rattle.match_journal.proofs.Unique.{not_refused, unfinished_not_opened}
-use Rattle.book_recovery.specs.Kept.{KeepsMessages}
+use Rattle.book_recovery.specs.Kept.{IsStartable}
 use Rattle.book_recovery.specs.BadPlaces.{HasBadRecordAt, IsBadPlace}
 use Rattle.book_recovery.proofs.OneWay.{no_bad_place, no_bad_record, one_place, one_bad_record}
 use Rattle.book_recovery.proofs.FromLastImage.{good-from-last}
 use Rattle.exec_report.specs.Forms.{LineText}
 use Rattle.book_print.specs.TallyText.{no_tally}
 use Rattle.book_print.specs.Printing.{tally_form}
-use Rattle.order_maker.specs.Stream.{MadeStream, maker_meanings, made_stream}
+use Rattle.order_maker.specs.Stream.{MadeStream, generator_meanings, made_stream}
 use Rattle.exec_report.specs.declared.texts.SendFault.{SendFault as SendFailed}
 use Rattle.journal_print.specs.Reading.{ReadsAndSends}
 use Rattle.journal_print.specs.Printed.{PrintsEvents, PrintsBook}
@@ -38,15 +41,15 @@ use Rattle.globex_run.specs.Outside.{SourceAt, Outside, Streams, IsQuiet, source
 use Rattle.globex_run.specs.Outcomes.{outcome_of}
 use Rattle.globex_run.specs.Words.{IsPrinting, OpensJournal, NeverEndsWith}
 use Rattle.globex_run.specs.ProductTexts.{TakesAtMost, IsProductText, ProductPremises}
-use Rattle.globex_run.specs.FullJournals.{IsFull}
-use Rattle.globex_run.specs.Refusals.{HasBadRecordFor, IsRefusal, IsRefused, RefusesExactly, CanStart}
+use Rattle.globex_run.specs.FullJournals.{IsFullJournal}
+use Rattle.globex_run.specs.Refusals.{HasBadRecordFor, IsRefusal, IsRefusedWith, RefusesExactly, CanStart}
 use Rattle.globex_run.specs.RunResult.{CommandResult, CommandEnded, RunEnded, EndedUnread, first_messages}
 use Rattle.globex_run.specs.Journals.{AnswersImage}
 use Rattle.globex_run.specs.Headline.{new_reports, Premises, InputPremises, SendsExactlyTheReports, EndsOtherwise, RunLeavesCrashPrefixes, RunBeforeTheFirstSync, KeepsEveryReported, AddsMessages, KeepsARecordPerRead, ReadsFew, CanBeServed, IsServed}
 use Rattle.globex_run.specs.Drills.{made_bytes, KeepsAndSumsUp, DrillEndsOtherwise, DrillLeavesCrashPrefixes, DrillBeforeTheFirstSync, CanBeDrilled}
 use Rattle.globex_run.specs.Checkpoints.{AddsImage, KeepsTheSame, CheckpointLeavesCrashPrefixes, CheckpointBeforeTheFirstSync, HasNoRoomForImage, CanBeCheckpointed}
 use Rattle.globex_run.specs.Prints.{PrintsAs, outcome_printed, outcome_sent}
-use Rattle.globex_run.specs.Inner.Drilling.{DrillResult, DrillsMade, outcome_summed}
+use Rattle.globex_run.specs.Inner.Drilling.{DrillResult, DrillsMade}
 use Rattle.globex_run.specs.Inner.Checkpointing.{EndsCheckpoint, CheckpointResult, IsCheckpointEnding}
 use Rattle.globex_run.specs.Inner.Executing.{Executes, HasCauses, Runs}
 use Rattle.globex_run.specs.Calls.{Call}
@@ -71,7 +74,7 @@ use Rattle.globex_run.proofs.Refused.{not-refusal, none-counted, by-ending, by-b
 
 -- ---- an image from which a run can start has no fault
 
-module _ (product : ProductLists) (text image : List ℕ) (kept : List (List ℕ)) (short : length text ≤ 65536) (can : KeepsMessages product text kept image) where
+module _ (product : ProductLists) (text image : List ℕ) (kept : List (List ℕ)) (short : length text ≤ 65536) (can : IsStartable product text kept image) where
   abbrev limit : ℕ
   limit = product.journal_limit
 
@@ -106,7 +109,7 @@ module _ (product : ProductLists) (text image : List ℕ) (kept : List (List ℕ
   not-bad-for Ledger at opened bad = not-bad-record at opened bad
   not-bad-for Steps at opened bad = absurd bad
 
-  not-refused-by : (command : Command) (status at : ℕ) → IsRefused command product text image status at → ⊥
+  not-refused-by : (command : Command) (status at : ℕ) → IsRefusedWith command product text image status at → ⊥
   not-refused-by command status at refused = ⊎_elim
       (λ foreign. not-foreign at foreign.1)
       (λ others. ⊎_elim
@@ -148,9 +151,9 @@ abbrev IsTold : {P I S : Type 0} → Outside P I S → Type 0
 IsTold before = (text : List ℕ) × (product : ProductLists) × (before.product.left ≡ Some text) × (product_of text ≡ Ok product)
 
 pub product-told : {P I S : Type 0} (m : StationMeanings S) (before : Outside P I S) (asked : Command) → CanBeDone m before asked → IsTold before
-product-told m before Run can = (can.text, can.product, can.text_known, can.gives)
-product-told m before (Drill first count) can = (can.text, can.product, can.text_known, can.gives)
-product-told m before Checkpoint can = (can.text, can.product, can.text_known, can.gives)
+product-told m before Run can = (can.start.text, can.start.product, can.start.text_known, can.start.gives)
+product-told m before (Drill first count) can = (can.start.text, can.start.product, can.start.text_known, can.start.gives)
+product-told m before Checkpoint can = (can.start.text, can.start.product, can.start.text_known, can.start.gives)
 product-told m before Replay can = (can.text, can.product, can.text_known, can.gives)
 product-told m before Book can = (can.text, can.product, can.text_known, can.gives)
 product-told m before Fills can = (can.text, can.product, can.text_known, can.gives)
@@ -235,7 +238,7 @@ module _ {P I S : Type 0} (m : StationMeanings S) (p q : SourceAt P) (i j : Sour
         balanced count = run-balanced m p q i j old new Any ran.then outcome text lent same product took gives ran.session given read count
 
       pub full : (given : ProductPremises entry exit outcome.status) (read : InputPremises i j) → m.is_honest old → (image : List ℕ) (records : List Record) → m.holds old ≡ Some image → Keeps given.text given.product.journal_limit records image → outcome.status ≡ 12
-          → IsFull given.product given.text image records exit.streams.station outcome read.taken
+          → IsFullJournal given.product given.text image records exit.streams.station outcome read.taken
       full given read honest image records known keeps twelve = run-full m p q i j old new Any ran.then outcome text lent same product took gives ran.session given read honest image records known keeps twelve
 
       pub each-read : (given : Premises m entry exit outcome.status) → KeepsARecordPerRead m entry exit outcome given
@@ -277,14 +280,14 @@ module _ {P I S : Type 0} (m : StationMeanings S) (p q : SourceAt P) (i j : Sour
         drill-few-read = drill-reads m given.product given.text _ made.end old new outcome made.did given.image given.kept given.honest given.image_known given.startable
 
       pub drill-has-no-room : (given : ProductPremises entry exit outcome.status) → m.is_honest old → (image : List ℕ) (records : List Record) → m.holds old ≡ Some image → Keeps given.text given.product.journal_limit records image → outcome.status ≡ 12
-          → IsFull given.product given.text image records exit.streams.station outcome (made_bytes given.product first count)
+          → IsFullJournal given.product given.text image records exit.streams.station outcome (made_bytes given.product first count)
       drill-has-no-room given honest image records known keeps twelve =
           drill-full m given.product given.text image records first count old new outcome (drilled given.text given.product given.text_known given.gives) honest known keeps twelve
 
       -- where there is room and no fault comes, all is kept and summed up
       module _ (can : CanBeDrilled m entry first count) (quiet : IsQuiet entry exit) where
         abbrev stream : List ℕ
-        stream = made_stream can.product first count
+        stream = made_stream can.start.product first count
 
         abbrev at_first : MadeStream
         at_first = record { left = stream; reads = 0 }
@@ -292,31 +295,33 @@ module _ {P I S : Type 0} (m : StationMeanings S) (p q : SourceAt P) (i j : Sour
         quiet-drill : (outcome.status ≢ 5) × (outcome.status ≢ 6)
         quiet-drill = no-fault (Drill first count) (causes-as (Drill first count) asks) quiet
 
-        summed : (n : ℕ) (result : Result (Unit {0}) SendFailed) → outcome ≡ outcome_summed n result → outcome.status ≡ 0
+        summed : (n : ℕ) (result : Result (Unit {0}) SendFailed) → outcome ≡ outcome_sent n result → outcome.status ≡ 0
         summed n (Ok t) is = ap (λ (o : Outcome). o.status) is
         summed n (Err fault) is = absurd (quiet-drill.1 (ap (λ (o : Outcome). o.status) is))
 
-        module _ (made : DrillsMade m can.product can.text first count old new outcome) where
-          abbrev result : DrillResult m can.product can.text at_first made.end old new outcome
+        module _ (made : DrillsMade m can.start.product can.start.text first count old new outcome) where
+          abbrev result : DrillResult m can.start.product can.start.text at_first made.end old new outcome
           result = made.did
 
           abbrev from-made : Outside P MadeStream S
-          from-made = outside_of m p (source_at maker_meanings at_first) old
+          from-made = outside_of m p (source_at generator_meanings at_first) old
 
           abbrev to-made : Outside P MadeStream S
-          to-made = outside_of m q (source_at maker_meanings made.end) new
+          to-made = outside_of m q (source_at generator_meanings made.end) new
 
           abbrev can-be-served : CanBeServed m from-made
           can-be-served = record {
-            text = can.text;
-            product = can.product;
-            text_known = can.text_known;
-            gives = can.gives;
-            honest = can.honest;
-            image = can.image;
-            image_known = can.image_known;
-            kept = can.kept;
-            startable = can.startable;
+            start = record {
+              text = can.start.text;
+              product = can.start.product;
+              text_known = can.start.text_known;
+              gives = can.start.gives;
+              honest = can.start.honest;
+              image = can.start.image;
+              image_known = can.start.image_known;
+              kept = can.start.kept;
+              startable = can.start.startable;
+            };
             bytes = stream;
             input_known = refl;
             room = can.room;
@@ -342,9 +347,9 @@ module _ {P I S : Type 0} (m : StationMeanings S) (p q : SourceAt P) (i j : Sour
           ended-whole : result.served.status ≢ 0 → result.served.status ≡ 0
           ended-whole other =
               let same = result.otherwise other in
-              none-left (served m p q (source_at maker_meanings at_first) (source_at maker_meanings made.end) old result.mid (tally_form.text no_tally) (λ (events : List Event). KeepsEvents tally_form no_tally result.tally events) result.then result.served
-              can-be-served (subst (λ (s : S). IsQuiet from-made (outside_of m q (source_at maker_meanings made.end) s)) same.0 quiet-made) result.session.serving.taken made.end.left refl (same_Some stream (result.session.serving.taken ++ made.end.left) result.session.serving.took)
-              result.session.ending result.session.is result.session.cause result.session.serving.ends (result.session.from can.image can.kept can.honest can.image_known can.startable))
+              none-left (served m p q (source_at generator_meanings at_first) (source_at generator_meanings made.end) old result.mid (tally_form.text no_tally) (λ (events : List Event). KeepsEvents tally_form no_tally result.tally events) result.then result.served
+              can-be-served (subst (λ (s : S). IsQuiet from-made (outside_of m q (source_at generator_meanings made.end) s)) same.0 quiet-made) result.session.serving.taken made.end.left refl (same_Some stream (result.session.serving.taken ++ made.end.left) result.session.serving.took)
+              result.session.ending result.session.is result.session.cause result.session.serving.ends (result.session.from can.start.image can.start.kept can.start.honest can.start.image_known can.start.startable))
 
           made-all : outcome.status ≡ 0
           made-all = elim (eqb_tells result.served.status 0) [
@@ -353,7 +358,7 @@ module _ {P I S : Type 0} (m : StationMeanings S) (p q : SourceAt P) (i j : Sour
           ]
 
         pub all-drilled : outcome.status ≡ 0
-        all-drilled = made-all (drilled can.text can.product can.text_known can.gives)
+        all-drilled = made-all (drilled can.start.text can.start.product can.start.text_known can.start.gives)
 
     -- ---- a checkpoint
 
@@ -398,13 +403,13 @@ module _ {P I S : Type 0} (m : StationMeanings S) (p q : SourceAt P) (i j : Sour
 
       -- where there is room and no fault comes, the image is added
       module _ (can : CanBeCheckpointed m entry) (quiet : IsQuiet entry exit) where
-        checkpoint-can : CheckpointResult m can.product can.text old new outcome
-        checkpoint-can = checkpointed-as can.text can.product can.text_known can.gives
+        checkpoint-can : CheckpointResult m can.start.product can.start.text old new outcome
+        checkpoint-can = checkpointed-as can.start.text can.start.product can.start.text_known can.start.gives
 
         quiet-checkpoint : (outcome.status ≢ 5) × (outcome.status ≢ 6)
         quiet-checkpoint = no-fault Checkpoint (causes-as Checkpoint asks) quiet
 
-        done-by : (ending : Ending) → outcome ≡ outcome_of ending outcome.messages → EndsCheckpoint m can.product can.text old new ending can.startable.records can.kept outcome.messages → outcome.status ≡ 0
+        done-by : (ending : Ending) → outcome ≡ outcome_of ending outcome.messages → EndsCheckpoint m can.start.product can.start.text old new ending can.start.startable.records can.start.kept outcome.messages → outcome.status ≡ 0
         done-by Done is ends = ap (λ (o : Outcome). o.status) is
         done-by (ReadFault place) is ends = absurd ends
         done-by StoreFault is ends = absurd (quiet-checkpoint.0 (ap (λ (o : Outcome). o.status) is))
@@ -417,7 +422,7 @@ module _ {P I S : Type 0} (m : StationMeanings S) (p q : SourceAt P) (i j : Sour
         done-by (Full place) is ends = absurd (omega (arith, can.room, ends.too_long, ends.place_is))
 
         pub all-checkpointed : outcome.status ≡ 0
-        all-checkpointed = done-by checkpoint-can.ending checkpoint-can.is (checkpoint-can.from can.image can.kept can.honest can.image_known can.startable).ends
+        all-checkpointed = done-by checkpoint-can.ending checkpoint-can.is (checkpoint-can.from can.start.image can.start.kept can.start.honest can.start.image_known can.start.startable).ends
 
     -- ---- what was printed
 
@@ -472,7 +477,7 @@ module _ {P I S : Type 0} (m : StationMeanings S) (p q : SourceAt P) (i j : Sour
         quiet-print : (outcome.status ≢ 5) × (outcome.status ≢ 6)
         quiet-print = no-fault c (causes-as c asks) quiet
 
-        module _ (image : List ℕ) (kept : List (List ℕ)) (start : KeepsMessages can.product can.text kept image) where
+        module _ (image : List ℕ) (kept : List (List ℕ)) (start : IsStartable can.product can.text kept image) where
           short : length can.text ≤ 65536
           short = short-text can.text can.product can.gives
 
@@ -494,7 +499,7 @@ module _ {P I S : Type 0} (m : StationMeanings S) (p q : SourceAt P) (i j : Sour
               absurd (⊎_elim (λ header. not-headless can.product can.text image kept short start at header) (λ bad. not-bad can.product can.text image kept short start at bad.0 bad.1) printed.0)
           book-printed (Err (unprinted.ProductDiffers at)) is printed = absurd (not-other can.product can.text image kept short start at printed.0)
 
-        steps-printed : (result : Result (Unit {0}) SendFailed) → outcome ≡ outcome_sent result → outcome.status ≡ 0
+        steps-printed : (result : Result (Unit {0}) SendFailed) → outcome ≡ outcome_sent 0 result → outcome.status ≡ 0
         steps-printed (Ok t) is = ap (λ (o : Outcome). o.status) is
         steps-printed (Err fault) is = absurd (quiet-print.1 (ap (λ (o : Outcome). o.status) is))
 
@@ -502,18 +507,18 @@ module _ {P I S : Type 0} (m : StationMeanings S) (p q : SourceAt P) (i j : Sour
         Printed x = PrintsAs m can.product can.text entry.streams.station exit.streams.station outcome x
 
         abbrev Startable : Command → Type 0
-        Startable x = x ≢ Steps → (image : List ℕ) × ((entry.streams.station.image ≡ Some image) × ((kept : List (List ℕ)) × KeepsMessages can.product can.text kept image))
+        Startable x = x ≢ Steps → (image : List ℕ) × ((entry.streams.station.image ≡ Some image) × ((kept : List (List ℕ)) × IsStartable can.product can.text kept image))
 
         by-command : (x : Command) → IsPrinting x → Startable x → Printed x → outcome.status ≡ 0
         by-command Run printing startable form = absurd printing
         by-command (Drill first count) printing startable form = absurd printing
         by-command Checkpoint printing startable form = absurd printing
         by-command Replay printing startable form =
-            let at = startable (λ e. cc e) in events-printed at.0 at.1.1.0 at.1.1.1 _ _ form.answer form.outcome_is (form.prints at.0 at.1.0)
+            let at = startable (λ e. cc e) in events-printed at.0 at.1.1.0 at.1.1.1 line_of _ form.answer form.outcome_is (form.prints at.0 at.1.0)
         by-command Fills printing startable form =
-            let at = startable (λ e. cc e) in events-printed at.0 at.1.1.0 at.1.1.1 _ _ form.answer form.outcome_is (form.prints at.0 at.1.0)
+            let at = startable (λ e. cc e) in events-printed at.0 at.1.1.0 at.1.1.1 fill_line _ form.answer form.outcome_is (form.prints at.0 at.1.0)
         by-command Ledger printing startable form =
-            let at = startable (λ e. cc e) in events-printed at.0 at.1.1.0 at.1.1.1 _ _ form.answer form.outcome_is (form.prints at.0 at.1.0)
+            let at = startable (λ e. cc e) in events-printed at.0 at.1.1.0 at.1.1.1 (λ names. ledger_line) _ form.answer form.outcome_is (form.prints at.0 at.1.0)
         by-command Book printing startable form =
             let at = startable (λ e. cc e) in book-printed at.0 at.1.1.0 at.1.1.1 form.answer form.outcome_is (form.prints at.0 at.1.0).prints
         by-command Steps printing startable form = steps-printed form.result form.outcome_is
@@ -538,10 +543,10 @@ module _ {P I S : Type 0} (m : StationMeanings S) (p q : SourceAt P) (i j : Sour
         | inr other ↦
             let same : outcome ≡ made.did.served = (made.did.otherwise other.1).1 in
             ap (λ (o : Outcome). o.messages) same
-            ∙ none-counted {I = MadeStream} {S = S} (streams_at {S = S} maker_meanings m (record { left = made_stream product first count; reads = 0 }) old) (streams_at {S = S} maker_meanings m made.end made.did.mid) made.did.served made.did.session.ending made.did.session.serving.taken made.did.session.is made.did.session.serving.ends (subst (λ (o : Outcome). IsRefusal o.status) same refusal)
+            ∙ none-counted {I = MadeStream} {S = S} (streams_at {S = S} generator_meanings m (record { left = made_stream product first count; reads = 0 }) old) (streams_at {S = S} generator_meanings m made.end made.did.mid) made.did.served made.did.session.ending made.did.session.serving.taken made.did.session.is made.did.session.serving.ends (subst (λ (o : Outcome). IsRefusal o.status) same refusal)
       ]
         where
-          not-summed : (result : Result (Unit {0}) SendFailed) → outcome ≡ outcome_summed made.did.served.messages result → ⊥
+          not-summed : (result : Result (Unit {0}) SendFailed) → outcome ≡ outcome_sent made.did.served.messages result → ⊥
           not-summed (Ok t) is = not-refusal outcome.status 0 (ap (λ (o : Outcome). o.status) is) (λ e. cc e) (λ e. cc e) (λ e. cc e) refusal
           not-summed (Err fault) is = not-refusal outcome.status 6 (ap (λ (o : Outcome). o.status) is) (λ e. cc e) (λ e. cc e) (λ e. cc e) refusal
 
@@ -569,7 +574,7 @@ module _ {P I S : Type 0} (m : StationMeanings S) (p q : SourceAt P) (i j : Sour
         fits-done (ProductDiffers place) is none fits = absurd (omega (arith, none, ap (λ (o : Outcome). o.status) is))
         fits-done (Full place) is none fits = fits
 
-        ended-by : (result : Result (Unit {0}) SendFailed) → outcome ≡ outcome_summed made.did.served.messages result → Fits Done → EndedUnread entry exit outcome text product
+        ended-by : (result : Result (Unit {0}) SendFailed) → outcome ≡ outcome_sent made.did.served.messages result → Fits Done → EndedUnread entry exit outcome text product
         ended-by (Ok t) is fits = record { ending = Done; is = is ∙ ap (λ (n : ℕ). outcome_of Done n) (sym (ap (λ (o : Outcome). o.messages) is)); image = fits; none = drill-counts first count made; input = input }
         ended-by (Err fault) is fits = record { ending = SendFault; is = is ∙ ap (λ (n : ℕ). outcome_of SendFault n) (sym (ap (λ (o : Outcome). o.messages) is)); image = fits; none = drill-counts first count made; input = input }
 
@@ -648,13 +653,13 @@ module _ {P I S : Type 0} (m : StationMeanings S) (p q : SourceAt P) (i j : Sour
             by-book Book product text image text-short (one_place product text product.journal_limit image) outcome (λ at bad. bad) (λ at bad. bad) m old new form.answer form.outcome_is (form.prints image known).prints
         refuses-by Replay opens did told =
             let form = formed Replay did in
-            by-events Replay product text image text-short (one_bad_record product text product.journal_limit image) outcome tt (λ at bad. bad) (λ at bad. bad) m old new _ _ form.answer form.outcome_is (form.prints image known)
+            by-events Replay product text image text-short (one_bad_record product text product.journal_limit image) outcome tt (λ at bad. bad) (λ at bad. bad) m old new line_of _ form.answer form.outcome_is (form.prints image known)
         refuses-by Fills opens did told =
             let form = formed Fills did in
-            by-events Fills product text image text-short (one_bad_record product text product.journal_limit image) outcome tt (λ at bad. bad) (λ at bad. bad) m old new _ _ form.answer form.outcome_is (form.prints image known)
+            by-events Fills product text image text-short (one_bad_record product text product.journal_limit image) outcome tt (λ at bad. bad) (λ at bad. bad) m old new fill_line _ form.answer form.outcome_is (form.prints image known)
         refuses-by Ledger opens did told =
             let form = formed Ledger did in
-            by-events Ledger product text image text-short (one_bad_record product text product.journal_limit image) outcome tt (λ at bad. bad) (λ at bad. bad) m old new _ _ form.answer form.outcome_is (form.prints image known)
+            by-events Ledger product text image text-short (one_bad_record product text product.journal_limit image) outcome tt (λ at bad. bad) (λ at bad. bad) m old new (λ names. ledger_line) _ form.answer form.outcome_is (form.prints image known)
         refuses-by Steps opens did told = absurd opens
 
         refuses-told : OpensJournal c → outcome.status ≢ 1 → (told : List ℕ) (lists : ProductLists) → p.left ≡ Some told → product_of told ≡ Ok lists → RefusesExactly c lists told image outcome
@@ -673,7 +678,7 @@ module _ {P I S : Type 0} (m : StationMeanings S) (p q : SourceAt P) (i j : Sour
             let exactly = refuses-told at.0 at.1.0 opens (λ one. not-refusal outcome.status 1 one (λ e. cc e) (λ e. cc e) (λ e. cc e) refusal) can.text can.product can.text_known can.gives in
             not-refused-by can.product can.text at.0 at.1.1.0 (short-text can.text can.product can.gives) at.1.1.1 c outcome.status outcome.at (exactly.answered refusal).0
 
-        sent-not-refused : (result : Result (Unit {0}) SendFailed) → outcome ≡ outcome_sent result → ⊥
+        sent-not-refused : (result : Result (Unit {0}) SendFailed) → outcome ≡ outcome_sent 0 result → ⊥
         sent-not-refused (Ok t) is = not-refusal outcome.status 0 (ap (λ (o : Outcome). o.status) is) (λ e. cc e) (λ e. cc e) (λ e. cc e) refusal
         sent-not-refused (Err fault) is = not-refusal outcome.status 6 (ap (λ (o : Outcome). o.status) is) (λ e. cc e) (λ e. cc e) (λ e. cc e) refusal
 
@@ -700,7 +705,7 @@ module _ {P I S : Type 0} (m : StationMeanings S) (p q : SourceAt P) (i j : Sour
       printed-not-full (Err (unprinted.Bad at)) is twelve = omega (arith, twelve, ap (λ (o : Outcome). o.status) is)
       printed-not-full (Err (unprinted.ProductDiffers at)) is twelve = omega (arith, twelve, ap (λ (o : Outcome). o.status) is)
 
-      sent-status : (result : Result (Unit {0}) SendFailed) → outcome ≡ outcome_sent result → (outcome.status ≡ 5) ⊎ (7 ≤ outcome.status) → ⊥
+      sent-status : (result : Result (Unit {0}) SendFailed) → outcome ≡ outcome_sent 0 result → (outcome.status ≡ 5) ⊎ (7 ≤ outcome.status) → ⊥
       sent-status (Ok t) is never = ⊎_elim (λ five. omega (arith, five, ap (λ (o : Outcome). o.status) is)) (λ more. omega (arith, more, ap (λ (o : Outcome). o.status) is)) never
       sent-status (Err fault) is never = ⊎_elim (λ five. omega (arith, five, ap (λ (o : Outcome). o.status) is)) (λ more. omega (arith, more, ap (λ (o : Outcome). o.status) is)) never
 

@@ -24,8 +24,8 @@ use Rattle.match_journal.specs.Journal.{Record}
 use Rattle.match_journal.specs.declared.limits.TheConstants.{MOST_PAYLOAD}
 use Rattle.match_journal.specs.Classes.{Keeps}
 use Rattle.book_recovery.specs.Records.{messages_in, state_kept, from_last_image, count_behind_all}
-use Rattle.book_recovery.specs.Kept.{KeepsMessages}
-use Rattle.order_maker.specs.Stream.{MadeStream, maker_meanings, made_stream}
+use Rattle.book_recovery.specs.Kept.{IsStartable}
+use Rattle.order_maker.specs.Stream.{MadeStream, generator_meanings, made_stream}
 use Rattle.book_print.specs.TallyText.{no_tally, tally_line, tally_of}
 use Rattle.book_print.specs.Printing.{tally_form}
 use Rattle.book_print.specs.declared.tally.Tally.{Tally}
@@ -42,8 +42,9 @@ use Rattle.globex_run.specs.Drills.{summary, summary_of_all, KeepsAndSumsUp, Dri
 use Rattle.globex_run.specs.Inner.Recording.{lines_from}
 use Rattle.globex_run.specs.Inner.Sessions.{IsAllServed, SessionFrom}
 use Rattle.globex_run.specs.Inner.Serving.{IsDone, CausedBy}
-use Rattle.globex_run.specs.FullJournals.{IsFull}
-use Rattle.globex_run.specs.Inner.Drilling.{DrillResult, DrillsMade, SumsUp, outcome_summed}
+use Rattle.globex_run.specs.FullJournals.{IsFullJournal}
+use Rattle.globex_run.specs.Prints.{outcome_sent}
+use Rattle.globex_run.specs.Inner.Drilling.{DrillResult, DrillsMade, SumsUp}
 use Rattle.globex_run.specs.declared.outcome.Outcome.{Outcome}
 use Rattle.globex_run.specs.declared.ending.Ending.{Ending}
 use Rattle.globex_run.specs.declared.ending.Ending.TheVariants.{Done, ReadFault, StoreFault, SendFault, BadFrame, Truncated, NotAJournal, JournalBad, ProductDiffers, Full}
@@ -152,10 +153,10 @@ module _ {P I S : Type 0} (m : StationMeanings S) (p q : SourceAt P) (i j : Sour
 
     -- the outside of the session
     abbrev before : Outside P MadeStream S
-    before = outside_of m p (source_at maker_meanings at_first) old
+    before = outside_of m p (source_at generator_meanings at_first) old
 
     abbrev after : Outside P MadeStream S
-    after = outside_of m q (source_at maker_meanings end) mid
+    after = outside_of m q (source_at generator_meanings end) mid
 
     -- the bytes that the session took, and the rest
     abbrev taken : List ℕ
@@ -267,7 +268,7 @@ module _ {P I S : Type 0} (m : StationMeanings S) (p q : SourceAt P) (i j : Sour
         record {
           count = at.count;
           within = omega (arith, at.within, fewer stream taken end.left whole parts);
-          keeps = subst (λ (l : List (List ℕ)). KeepsMessages given.product given.text (given.kept ++ l) left) same at.keeps;
+          keeps = subst (λ (l : List (List ℕ)). IsStartable given.product given.text (given.kept ++ l) left) same at.keeps;
           no_longer = at.no_longer;
           output = at.output;
           front = subst (λ (l : List (List ℕ)). IsPrefix at.output (sums l)) same at.front;
@@ -277,7 +278,7 @@ module _ {P I S : Type 0} (m : StationMeanings S) (p q : SourceAt P) (i j : Sour
     session-moments : AddsOnly m old mid (IsCrashPrefix m entry exit outcome given (messages_of stream) sums)
     session-moments =
         adds_weaker m old mid _ _ (λ h left out at. crash-same left out at)
-        (headline.every-moment m p q (source_at maker_meanings at_first) (source_at maker_meanings end) old mid (tally_form.text no_tally) Counted did.then served given-then taken sums did.session.ending from
+        (headline.every-moment m p q (source_at generator_meanings at_first) (source_at generator_meanings end) old mid (tally_form.text no_tally) Counted did.then served given-then taken sums did.session.ending from
         (λ messages out between. nothing_more given.product (state_kept given.product given.kept) (m.sent old) sums (messages_in messages) out between))
 
     -- ---- what is kept
@@ -311,7 +312,7 @@ module _ {P I S : Type 0} (m : StationMeanings S) (p q : SourceAt P) (i j : Sour
         now-same same xs ys are now = record {
           image = now.image;
           image_known = same ∙ now.image_known;
-          keeps = subst (λ (l : List (List ℕ)). KeepsMessages given.product given.text (given.kept ++ l) now.image) are now.keeps;
+          keeps = subst (λ (l : List (List ℕ)). IsStartable given.product given.text (given.kept ++ l) now.image) are now.keeps;
         }
 
     -- all messages of the records added were counted: the session kept them, and sent nothing
@@ -322,10 +323,10 @@ module _ {P I S : Type 0} (m : StationMeanings S) (p q : SourceAt P) (i j : Sour
 
     did-all : (ending : Ending) (here : From ending) → here.added ≡ from.added → IsAllServed m (tally_form.text no_tally) given.product given.text before.streams after.streams given.startable.records given.kept here.added served.messages → DidAll
     did-all ending here same all =
-        let first = headline.first m p q (source_at maker_meanings at_first) (source_at maker_meanings end) old mid (tally_form.text no_tally) Counted did.then served given-then taken sums ending here here.added [] (sym (append-nil here.added)) served.messages all.messages in
+        let first = headline.first m p q (source_at generator_meanings at_first) (source_at generator_meanings end) old mid (tally_form.text no_tally) Counted did.then served given-then taken sums ending here here.added [] (sym (append-nil here.added)) served.messages all.messages in
         record {
           counted = all.messages ∙ ap (λ (l : List Record). length (messages_in l)) same;
-          kept = headline.keeps_now m p q (source_at maker_meanings at_first) (source_at maker_meanings end) old mid (tally_form.text no_tally) Counted did.then served given-then taken sums ending here here.added [] (sym (append-nil here.added)) (first_messages served.messages taken) first all.keeps;
+          kept = headline.keeps_now m p q (source_at generator_meanings at_first) (source_at generator_meanings end) old mid (tally_form.text no_tally) Counted did.then served given-then taken sums ending here here.added [] (sym (append-nil here.added)) (first_messages served.messages taken) first all.keeps;
           silent = still_sent given.product (state_kept given.product given.kept) (messages_in here.added) (m.sent old) (m.sent mid) all.sent;
         }
 
@@ -346,12 +347,12 @@ module _ {P I S : Type 0} (m : StationMeanings S) (p q : SourceAt P) (i j : Sour
       stopped-by : (ending : Ending) (here : From ending) → here.added ≡ from.added → served ≡ outcome_of ending served.messages → Ended ending → KeepsCounted m before after served given-then (messages_of taken) sums × (m.sent mid ≡ m.sent old)
       stopped-by Done here same is how = absurd (stopped (status_of served Done is))
       stopped-by StoreFault here same is how = (
-        headline.keeps-front m p q (source_at maker_meanings at_first) (source_at maker_meanings end) old mid (tally_form.text no_tally) Counted did.then served given-then taken sums StoreFault here (status_of served StoreFault is) few-served here.ends,
+        headline.keeps-front m p q (source_at generator_meanings at_first) (source_at generator_meanings end) old mid (tally_form.text no_tally) Counted did.then served given-then taken sums StoreFault here (status_of served StoreFault is) few-served here.ends,
         still_sent given.product (state_kept given.product given.kept) (messages_in here.ends.served) (m.sent old) (m.sent mid) here.ends.sent,
       )
       stopped-by (Full place) here same is how =
           let all = did-all (Full place) here same here.ends.0 in
-          (headline.keeps-counted m p q (source_at maker_meanings at_first) (source_at maker_meanings end) old mid (tally_form.text no_tally) Counted did.then served given-then taken sums (Full place) here few-served all.kept, all.silent)
+          (headline.keeps-counted m p q (source_at generator_meanings at_first) (source_at generator_meanings end) old mid (tally_form.text no_tally) Counted did.then served given-then taken sums (Full place) here few-served all.kept, all.silent)
       stopped-by (ReadFault place) here same is how = absurd (not-ended (λ none. none) (λ e. cc e) (λ at e. cc e) how)
       stopped-by SendFault here same is how = absurd (not-ended (λ none. none) (λ e. cc e) (λ at e. cc e) how)
       stopped-by (BadFrame place) here same is how = absurd (not-ended (λ none. none) (λ e. cc e) (λ at e. cc e) how)
@@ -409,7 +410,7 @@ module _ {P I S : Type 0} (m : StationMeanings S) (p q : SourceAt P) (i j : Sour
       -- the messages of the records are the made ones
       made-in : messages_in from.added ≡ messages_of stream
       made-in =
-          sym (headline.first m p q (source_at maker_meanings at_first) (source_at maker_meanings end) old mid (tally_form.text no_tally) Counted did.then served given-then taken sums did.session.ending from from.added [] (sym (append-nil from.added)) served.messages at-end.all.counted)
+          sym (headline.first m p q (source_at generator_meanings at_first) (source_at generator_meanings end) old mid (tally_form.text no_tally) Counted did.then served given-then taken sums did.session.ending from from.added [] (sym (append-nil from.added)) served.messages at-end.all.counted)
           ∙ take_all served.messages (messages_of taken) (omega (arith, at-end.all_counted))
           ∙ ap messages_of (sym at-end.all_taken)
 
@@ -428,12 +429,12 @@ module _ {P I S : Type 0} (m : StationMeanings S) (p q : SourceAt P) (i j : Sour
           (subst (λ (l : List ℕ). IsKnownPrefix (m.sent new) (sent_and (m.sent mid) l)) line-is (sends_at_most m mid new (tally_line served.messages did.tally (length (live_orders did.then.book))) sums-up.result sums-up.sends))
 
       -- all made messages are kept
-      keeps-at : (image : List ℕ) → m.holds mid ≡ Some image → KeepsMessages given.product given.text (given.kept ++ messages_of stream) image
+      keeps-at : (image : List ℕ) → m.holds mid ≡ Some image → IsStartable given.product given.text (given.kept ++ messages_of stream) image
       keeps-at image read =
           let now = at-end.all.kept in
           let all : first_messages served.messages taken ≡ messages_of stream = take_all served.messages (messages_of taken) (omega (arith, at-end.all_counted)) ∙ ap messages_of (sym at-end.all_taken) in
-          subst (λ (x : List ℕ). KeepsMessages given.product given.text (given.kept ++ messages_of stream) x) (same_Some now.image image (sym now.image_known ∙ read))
-          (subst (λ (l : List (List ℕ)). KeepsMessages given.product given.text (given.kept ++ l) now.image) all now.keeps)
+          subst (λ (x : List ℕ). IsStartable given.product given.text (given.kept ++ messages_of stream) x) (same_Some now.image image (sym now.image_known ∙ read))
+          (subst (λ (l : List (List ℕ)). IsStartable given.product given.text (given.kept ++ l) now.image) all now.keeps)
 
       now-all : (messages : List (List ℕ)) → messages ≡ messages_of stream → KeepsNow m entry exit outcome given (messages_of stream) sums messages
       now-all messages are =
@@ -441,7 +442,7 @@ module _ {P I S : Type 0} (m : StationMeanings S) (p q : SourceAt P) (i j : Sour
           record {
             image = now.image;
             image_known = sums-up.sends.quiet.holds ∙ now.image_known;
-            keeps = subst (λ (l : List (List ℕ)). KeepsMessages given.product given.text (given.kept ++ l) now.image) (sym are) (keeps-at now.image now.image_known);
+            keeps = subst (λ (l : List (List ℕ)). IsStartable given.product given.text (given.kept ++ l) now.image) (sym are) (keeps-at now.image now.image_known);
           }
 
       -- while the summary is sent, a crash leaves all of them and a front of it
@@ -459,7 +460,7 @@ module _ {P I S : Type 0} (m : StationMeanings S) (p q : SourceAt P) (i j : Sour
           record {
             count = length (messages_of stream);
             within = omega arith;
-            keeps = subst (λ (l : List (List ℕ)). KeepsMessages given.product given.text (given.kept ++ l) left) (sym all) (keeps-at left read);
+            keeps = subst (λ (l : List (List ℕ)). IsStartable given.product given.text (given.kept ++ l) left) (sym all) (keeps-at left read);
             no_longer = omega (arith, rest.short, ap (λ (l : List ℕ). length l) same);
             output = front.0;
             front = subst (λ (l : List ℕ). IsPrefix front.0 l) (sym (summary_sent given.product given.kept (messages_of stream) (take (length (messages_of stream)) (messages_of stream)) (ap (λ (l : List (List ℕ)). length l) all))) front.1;
@@ -471,7 +472,7 @@ module _ {P I S : Type 0} (m : StationMeanings S) (p q : SourceAt P) (i j : Sour
           adds_then m old mid new _ _ (λ h left out pair. summary-crash left out (session-moments.honest h) pair.0 pair.1) session-moments sums-up.sends.quiet.moments
 
       -- by what became of the summary
-      summed-all : (result : Result (Unit {0}) SendFailed) → outcome ≡ outcome_summed served.messages result → Sends m mid new (tally_line served.messages did.tally (length (live_orders did.then.book))) result → outcome.status ≡ 0 → KeepsAndSumsUp m entry exit outcome given first count
+      summed-all : (result : Result (Unit {0}) SendFailed) → outcome ≡ outcome_sent served.messages result → Sends m mid new (tally_line served.messages did.tally (length (live_orders did.then.book))) result → outcome.status ≡ 0 → KeepsAndSumsUp m entry exit outcome given first count
       summed-all (Ok t) is sent none = record {
         sent =
             sent.all
@@ -483,7 +484,7 @@ module _ {P I S : Type 0} (m : StationMeanings S) (p q : SourceAt P) (i j : Sour
       }
       summed-all (Err fault) is sent none = absurd (omega (arith, none, ap (λ (o : Outcome). o.status) is))
 
-      summed-part : (result : Result (Unit {0}) SendFailed) → outcome ≡ outcome_summed served.messages result → outcome.status ≢ 0 → DrillEndsOtherwise m entry exit outcome given first count
+      summed-part : (result : Result (Unit {0}) SendFailed) → outcome ≡ outcome_sent served.messages result → outcome.status ≢ 0 → DrillEndsOtherwise m entry exit outcome given first count
       summed-part (Ok t) is other = absurd (other (ap (λ (o : Outcome). o.status) is))
       summed-part (Err fault) is other =
           let six : outcome.status ≡ 6 = ap (λ (o : Outcome). o.status) is in
@@ -566,12 +567,12 @@ module _ {S : Type 0} (m : StationMeanings S) (product : ProductLists) (text ima
   abbrev all_made : List ℕ
   all_made = made_stream product first count
 
-  not-summed : outcome.status ≡ 12 → (result : Result (Unit {0}) SendFailed) → outcome ≡ outcome_summed made.did.served.messages result → ⊥
+  not-summed : outcome.status ≡ 12 → (result : Result (Unit {0}) SendFailed) → outcome ≡ outcome_sent made.did.served.messages result → ⊥
   not-summed twelve (Ok t) is = omega (arith, twelve, ap (λ (o : Outcome). o.status) is)
   not-summed twelve (Err fault) is = omega (arith, twelve, ap (λ (o : Outcome). o.status) is)
 
   -- what holds of the bytes that its session took holds of all that were made
-  full-of-all : new ≡ made.did.mid → outcome ≡ made.did.served → IsFull product text image records (station_at m made.did.mid) made.did.served made.did.session.serving.taken → IsFull product text image records (station_at m new) outcome all_made
+  full-of-all : new ≡ made.did.mid → outcome ≡ made.did.served → IsFullJournal product text image records (station_at m made.did.mid) made.did.served made.did.session.serving.taken → IsFullJournal product text image records (station_at m new) outcome all_made
   full-of-all station is full =
       let served = made.did.served in
       let taken = made.did.session.serving.taken in
@@ -604,12 +605,12 @@ module _ {S : Type 0} (m : StationMeanings S) (product : ProductLists) (text ima
             full.why;
       }
 
-  pub drill-full : m.is_honest old → m.holds old ≡ Some image → Keeps text product.journal_limit records image → outcome.status ≡ 12 → IsFull product text image records (station_at m new) outcome all_made
+  pub drill-full : m.is_honest old → m.holds old ≡ Some image → Keeps text product.journal_limit records image → outcome.status ≡ 12 → IsFullJournal product text image records (station_at m new) outcome all_made
   drill-full honest known keeps twelve = elim (eqb_tells made.did.served.status 0) [
     | inl none ↦ let sums = made.did.sums_up none.1 in absurd (not-summed twelve sums.result sums.outcome_is)
     | inr other ↦
         let same = made.did.otherwise other.1 in
         full-of-all same.0 same.1
-        (session-full m (tally_form.text no_tally) product made.did.session.right text image records keeps (streams_at {S = S} maker_meanings m (record { left = all_made; reads = 0 }) old) (streams_at {S = S} maker_meanings m made.end made.did.mid) refl made.did.served made.did.session.serving.taken _ made.did.then made.did.session refl honest known
+        (session-full m (tally_form.text no_tally) product made.did.session.right text image records keeps (streams_at {S = S} generator_meanings m (record { left = all_made; reads = 0 }) old) (streams_at {S = S} generator_meanings m made.end made.did.mid) refl made.did.served made.did.session.serving.taken _ made.did.then made.did.session refl honest known
         (sym (ap (λ (o : Outcome). o.status) same.1) ∙ twelve))
   ]

@@ -1,32 +1,37 @@
 -- What executing a command comes to.
-use Rattle.std.proofs.Common.{◌≡◌, ◌≢◌, inl, inr, ⊎_elim, ℕ, ◌<◌, List, ◌++◌, true, Result, Ok, Err, refl, sym, ap, subst, ◌∙◌, arith}
+use Rattle.std.proofs.Common.{◌≡◌, ◌≢◌, ◌==◌, ◌||◌, inl, inr, ⊎_elim, ℕ, ◌<◌, List, ◌++◌, Bool, true, false, Result, Ok, Err, IfOk, Some, refl, sym, ap, subst, ◌∙◌, arith, ◌⊎◌}
 use Rattle.std.proofs.lemmas.Bool.Decides.{eqb_tells}
 use Rattle.std.proofs.lemmas.List.{append-nil}
 use Rattle.std.proofs.lemmas.Option.{same_Some}
 use Rattle.gx_base.specs.declared.event.Event.{Event}
 use Rattle.gx_station.specs.Counts.{Rose, HasCause}
 use Rattle.gx_station.specs.Stations.{StationMeanings}
-use Rattle.gx_station.specs.Quiet.{Quiet, Sends}
+use Rattle.gx_station.specs.Quiet.{Quiet}
+use Rattle.gx_station.specs.Honest.{KeepsImage}
 use Rattle.fix_frame.specs.Grammar.{IsFrameFront}
 use Rattle.fix_frame.specs.Stream.{rest_of}
 use Rattle.product_file.specs.Products.{ProductLists, IsRightProduct}
 use Rattle.order_kinds.specs.State.{State}
-use Rattle.order_maker.specs.Stream.{maker_meanings, made_stream}
+use Rattle.order_maker.specs.Stream.{generator_meanings, made_stream}
 use Rattle.exec_report.specs.declared.texts.SendFault.{SendFault as SendFailed}
-use Rattle.book_print.specs.StepText.{steps_text}
 use Rattle.exec_report.specs.Forms.{LineText}
 use Rattle.journal_print.specs.Reading.{ReadsAndSends}
+use Rattle.journal_print.specs.declared.unprinted.Unprinted.{Unprinted}
+use Rattle.journal_print.specs.declared.unprinted.Unprinted.TheVariants as unprinted
 use Rattle.command_words.specs.declared.command.Command.{Command}
-use Rattle.command_words.specs.declared.command.Command.TheVariants.{Run, Replay, Book, Fills, Ledger, Steps, Drill, Checkpoint}
-use Rattle.globex_run.specs.Outside.{SourceAt, StationAt, Streams, streams_at, station_at}
+use Rattle.command_words.specs.declared.command.Command.TheVariants.{Run, Replay, Fills, Ledger, Book, Steps, Drill, Checkpoint}
+use Rattle.globex_run.specs.Outside.{SourceAt, Streams, streams_at, station_at}
 use Rattle.globex_run.specs.Outcomes.{outcome_of, is_outcome}
-use Rattle.globex_run.specs.Words.{OpensJournal}
-use Rattle.globex_run.specs.Prints.{outcome_sent}
+use Rattle.globex_run.specs.Words.{IsWriting}
+use Rattle.globex_run.specs.Refusals.{IsRefusal}
+use Rattle.globex_run.specs.Prints.{PrintsAs, PrintsJournal, PrintsSteps, outcome_sent, outcome_printed}
 use Rattle.globex_run.specs.RunResult.{EndsAs}
 use Rattle.globex_run.specs.Inner.Serving.{CausedBy}
 use Rattle.globex_run.specs.Inner.Sessions.{SessionResult}
-use Rattle.globex_run.specs.Inner.Drilling.{DrillResult, DrillsMade, outcome_summed}
-use Rattle.globex_run.specs.Inner.Executing.{HasCauses, Prints, ListsSteps}
+use Rattle.globex_run.specs.Inner.Drilling.{DrillResult, DrillsMade, SumsUp}
+use Rattle.globex_run.specs.Inner.Executing.{Executes, HasCauses, IsExecuted, Prints, Runs}
+use Rattle.globex_run.specs.Inner.Checkpointing.{CheckpointResult, IsCheckpointEnding}
+use Rattle.globex_run.specs.Inner.Printing.{PrintsKept}
 use Rattle.globex_run.specs.declared.outcome.Outcome.{Outcome}
 use Rattle.globex_run.specs.declared.ending.Ending.{Ending}
 use Rattle.globex_run.specs.declared.ending.Ending.TheVariants.{Done, ReadFault, StoreFault, SendFault, BadFrame, Truncated, NotAJournal, JournalBad, ProductDiffers, Full}
@@ -75,9 +80,172 @@ quiet-reads m old new quiet = record {
   moments = quiet.moments;
 }
 
+-- ---- an outcome that speaks of the station alone
+
+-- the statuses of such an outcome
+abbrev is_of_station : ℕ → Bool
+is_of_station n = (n == 0) || (n == 5) || (n == 6) || (n == 9) || (n == 10) || (n == 11) || (n == 12)
+
+-- an ending that says nothing of the input
+abbrev IsOfStation : Ending → Type 0
+IsOfStation (ReadFault place) = ⊥
+IsOfStation (BadFrame place) = ⊥
+IsOfStation (Truncated place) = ⊥
+IsOfStation ending = Unit {0}
+
+module _ {I S : Type 0} (m : StationMeanings S) (product : ProductLists) (text : List ℕ) (before after : Streams I S) (outcome : Outcome) (command : Command) (right : IsRightProduct product) where
+  -- it tells of faults of the station alone
+  station-causes : after.input.faults ≡ before.input.faults → (n : ℕ) → outcome.status ≡ n → is_of_station n ≡ true → is_outcome outcome ≡ true
+      → (n ≡ 5 → Rose before.station.store_faults after.station.store_faults) → (n ≢ 5 → after.station.store_faults ≡ before.station.store_faults)
+      → (n ≡ 6 → Rose before.station.send_faults after.station.send_faults) → (n ≢ 6 → after.station.send_faults ≡ before.station.send_faults)
+      → HasCauses m product text before after outcome command
+  station-causes unread n is told placed store no_store send no_send = record {
+    right = right;
+    outcome_is = placed;
+    words = other 2 refl;
+    product_right = other 3 refl;
+    memory = λ e. absurd (other 1 refl e);
+    read = λ e. absurd (other 4 refl e);
+    no_read = λ no. unread;
+    store = λ e. store (sym is ∙ e);
+    no_store = λ no. no_store (λ e. no (is ∙ e));
+    send = λ e. send (sym is ∙ e);
+    no_send = λ no. no_send (λ e. no (is ∙ e));
+    frames = λ either. absurd (⊎_elim (other 7 refl) (other 8 refl) either);
+  }
+    where
+      other : (k : ℕ) → is_of_station k ≡ false → outcome.status ≡ k → ⊥
+      other k off e = let on : is_of_station k ≡ true = subst (λ (x : ℕ). is_of_station x ≡ true) (sym is ∙ e) told in cc (off, on)
+
+  -- there was no memory, and nothing was touched
+  pub lacks-causes : outcome ≡ record { status = 1; at = 0; messages = 0 } → after ≡ before → HasCauses m product text before after outcome command
+  lacks-causes is same =
+      let status : outcome.status ≡ 1 = ap (λ (o : Outcome). o.status) is in
+      record {
+        right = right;
+        outcome_is = ap is_outcome is;
+        words = λ e. omega (arith, e, status);
+        product_right = λ e. omega (arith, e, status);
+        memory = λ e. (same, ap (λ (o : Outcome). o.messages) is);
+        read = λ e. absurd (omega (arith, e, status));
+        no_read = λ other. ap (λ (s : Streams I S). s.input.faults) same;
+        store = λ e. absurd (omega (arith, e, status));
+        no_store = λ other. ap (λ (s : Streams I S). s.station.store_faults) same;
+        send = λ e. absurd (omega (arith, e, status));
+        no_send = λ other. ap (λ (s : Streams I S). s.station.send_faults) same;
+        frames = λ either. absurd (⊎_elim (λ e. omega (arith, e, status)) (λ e. omega (arith, e, status)) either);
+      }
+
+  -- a refusal, or a full journal: no call has failed
+  stored : after.input.faults ≡ before.input.faults → (n : ℕ) → outcome.status ≡ n → is_of_station n ≡ true → is_outcome outcome ≡ true → (n ≢ 5) × (n ≢ 6)
+      → (after.station.store_faults ≡ before.station.store_faults) × (after.station.send_faults ≡ before.station.send_faults) → HasCauses m product text before after outcome command
+  stored unread n is told placed some same = station-causes unread n is told placed (λ e. absurd (some.0 e)) (λ no. same.0) (λ e. absurd (some.1 e)) (λ no. same.1)
+
+  pub ending-causes : (ending : Ending) → IsOfStation ending → (count : ℕ) → outcome ≡ outcome_of ending count → CausedBy ending before after → HasCauses m product text before after outcome command
+  ending-causes Done told count is cause = stored cause.0 0 (ap (λ (o : Outcome). o.status) is) refl (ap is_outcome is) (λ e. cc e, λ e. cc e) (cause.1, cause.2)
+  ending-causes (ReadFault place) told count is cause = absurd told
+  ending-causes StoreFault told count is cause =
+      station-causes cause.0 5 (ap (λ (o : Outcome). o.status) is) refl (ap is_outcome is) (λ e. cause.1) (λ no. absurd (no refl)) (λ e. cc e) (λ no. cause.2)
+  ending-causes SendFault told count is cause =
+      station-causes cause.0 6 (ap (λ (o : Outcome). o.status) is) refl (ap is_outcome is) (λ e. cc e) (λ no. cause.1) (λ e. cause.2) (λ no. absurd (no refl))
+  ending-causes (BadFrame place) told count is cause = absurd told
+  ending-causes (Truncated place) told count is cause = absurd told
+  ending-causes (NotAJournal place) told count is cause = stored cause.0 9 (ap (λ (o : Outcome). o.status) is) refl (ap is_outcome is) (λ e. cc e, λ e. cc e) (cause.1, cause.2)
+  ending-causes (JournalBad place) told count is cause = stored cause.0 10 (ap (λ (o : Outcome). o.status) is) refl (ap is_outcome is) (λ e. cc e, λ e. cc e) (cause.1, cause.2)
+  ending-causes (ProductDiffers place) told count is cause = stored cause.0 11 (ap (λ (o : Outcome). o.status) is) refl (ap is_outcome is) (λ e. cc e, λ e. cc e) (cause.1, cause.2)
+  ending-causes (Full place) told count is cause = stored cause.0 12 (ap (λ (o : Outcome). o.status) is) refl (ap is_outcome is) (λ e. cc e, λ e. cc e) (cause.1, cause.2)
+
+-- ---- each command
+
+-- a run was stopped by what stands in its input
+run-stopped : {I S : Type 0} (m : StationMeanings S) (product : ProductLists) (text : List ℕ) (before after : Streams I S) (outcome : Outcome) (right : IsRightProduct product) (n : ℕ) → outcome.status ≡ n → is_outcome outcome ≡ true → (n ≡ 7) ⊎ (n ≡ 8)
+    → (after.input.faults ≡ before.input.faults) × (after.station.store_faults ≡ before.station.store_faults) × (after.station.send_faults ≡ before.station.send_faults) → HasCauses m product text before after outcome Run
+run-stopped m product text before after outcome right n is placed either same = record {
+  right = right;
+  outcome_is = placed;
+  words = λ e. absurd (low (omega (arith, e, is)));
+  product_right = λ e. absurd (low (omega (arith, e, is)));
+  memory = λ e. absurd (low (omega (arith, e, is)));
+  read = λ e. absurd (low (omega (arith, e, is)));
+  no_read = λ other. same.0;
+  store = λ e. absurd (low (omega (arith, e, is)));
+  no_store = λ other. same.1;
+  send = λ e. absurd (low (omega (arith, e, is)));
+  no_send = λ other. same.2;
+  frames = λ either. refl;
+}
+  where
+    low : n < 7 → ⊥
+    low few = ⊎_elim (λ e. omega (arith, e, few)) (λ e. omega (arith, e, few)) either
+
+-- a run reads its input
+run-causes : {I S : Type 0} (m : StationMeanings S) (product : ProductLists) (text : List ℕ) (before after : Streams I S) (outcome : Outcome) (right : IsRightProduct product) (ending : Ending) → outcome ≡ outcome_of ending outcome.messages → CausedBy ending before after → HasCauses m product text before after outcome Run
+run-causes m product text before after outcome right (ReadFault place) is cause =
+    let status : outcome.status ≡ 4 = ap (λ (o : Outcome). o.status) is in
+    record {
+      right = right;
+      outcome_is = ap is_outcome is;
+      words = λ e. omega (arith, e, status);
+      product_right = λ e. omega (arith, e, status);
+      memory = λ e. absurd (omega (arith, e, status));
+      read = λ e. (refl, cause.0);
+      no_read = λ other. absurd (other status);
+      store = λ e. absurd (omega (arith, e, status));
+      no_store = λ other. cause.1;
+      send = λ e. absurd (omega (arith, e, status));
+      no_send = λ other. cause.2;
+      frames = λ either. refl;
+    }
+run-causes m product text before after outcome right (BadFrame place) is cause = run-stopped m product text before after outcome right 7 (ap (λ (o : Outcome). o.status) is) (ap is_outcome is) (inl refl) cause
+run-causes m product text before after outcome right (Truncated place) is cause = run-stopped m product text before after outcome right 8 (ap (λ (o : Outcome). o.status) is) (ap is_outcome is) (inr refl) cause
+run-causes m product text before after outcome right Done is cause = ending-causes m product text before after outcome Run right Done tt outcome.messages is cause
+run-causes m product text before after outcome right StoreFault is cause = ending-causes m product text before after outcome Run right StoreFault tt outcome.messages is cause
+run-causes m product text before after outcome right SendFault is cause = ending-causes m product text before after outcome Run right SendFault tt outcome.messages is cause
+run-causes m product text before after outcome right (NotAJournal place) is cause = ending-causes m product text before after outcome Run right (NotAJournal place) tt outcome.messages is cause
+run-causes m product text before after outcome right (JournalBad place) is cause = ending-causes m product text before after outcome Run right (JournalBad place) tt outcome.messages is cause
+run-causes m product text before after outcome right (ProductDiffers place) is cause = ending-causes m product text before after outcome Run right (ProductDiffers place) tt outcome.messages is cause
+run-causes m product text before after outcome right (Full place) is cause = ending-causes m product text before after outcome Run right (Full place) tt outcome.messages is cause
+
+module _ {I S : Type 0} (m : StationMeanings S) (product : ProductLists) (text : List ℕ) (source : SourceAt I) (old new : S) (outcome : Outcome) (command : Command) (right : IsRightProduct product) where
+  abbrev Causes : Type 0
+  Causes = HasCauses m product text (record { input = source; station = station_at m old }) (record { input = source; station = station_at m new }) outcome command
+
+  causes-at : (n : ℕ) → outcome.status ≡ n → is_of_station n ≡ true → is_outcome outcome ≡ true
+      → (n ≡ 5 → Rose (m.store_faults old) (m.store_faults new)) → (n ≢ 5 → m.store_faults new ≡ m.store_faults old)
+      → (n ≡ 6 → Rose (m.send_faults old) (m.send_faults new)) → (n ≢ 6 → m.send_faults new ≡ m.send_faults old) → Causes
+  causes-at = station-causes m product text (record { input = source; station = station_at m old }) (record { input = source; station = station_at m new }) outcome command right refl
+
+  -- of the sending of a text, behind which nothing else happened
+  pub sent-causes : (count : ℕ) (result : Result (Unit {0}) SendFailed) → outcome ≡ outcome_sent count result → HasCause (m.send_faults old) (m.send_faults new) result → m.store_faults new ≡ m.store_faults old → Causes
+  sent-causes count (Ok t) is cause same =
+      causes-at 0 (ap (λ (o : Outcome). o.status) is) refl (ap is_outcome is) (λ e. cc e) (λ no. same) (λ e. cc e) (λ no. cause.ok)
+  sent-causes count (Err fault) is cause same =
+      causes-at 6 (ap (λ (o : Outcome). o.status) is) refl (ap is_outcome is) (λ e. cc e) (λ no. same) (λ e. cause.failed) (λ no. absurd (no refl))
+
+  -- of printing a journal
+  pub printed-causes : (Printed : List ℕ → Result ℕ Unprinted → Type 0) → PrintsKept m old new outcome Printed → Causes
+  printed-causes Printed printed = by-answer printed.answer printed.outcome_is printed.store printed.no_store printed.send printed.no_send
+    where
+      refused : (n place : ℕ) (why : Unprinted) → outcome ≡ record { status = n; at = place; messages = 0 } → is_of_station n ≡ true → is_outcome (record { status = n; at = place; messages = 0 }) ≡ true → (n ≢ 5) × (n ≢ 6) → (why ≢ unprinted.Store) × (why ≢ unprinted.Send)
+          → ((◌≡◌ {A = Result ℕ Unprinted} (Err why) (Err unprinted.Store) → ⊥) → m.store_faults new ≡ m.store_faults old) → ((◌≡◌ {A = Result ℕ Unprinted} (Err why) (Err unprinted.Send) → ⊥) → m.send_faults new ≡ m.send_faults old) → Causes
+      refused n place why is told placed some other no_store no_send =
+          causes-at n (ap (λ (o : Outcome). o.status) is) told (ap is_outcome is ∙ placed) (λ e. absurd (some.0 e)) (λ no. no_store (λ e. other.0 (cc e))) (λ e. absurd (some.1 e)) (λ no. no_send (λ e. other.1 (cc e)))
+
+      by-answer : (answer : Result ℕ Unprinted) → outcome ≡ outcome_printed answer → (answer ≡ Err unprinted.Store → Rose (m.store_faults old) (m.store_faults new)) → ((answer ≡ Err unprinted.Store → ⊥) → m.store_faults new ≡ m.store_faults old)
+          → (answer ≡ Err unprinted.Send → Rose (m.send_faults old) (m.send_faults new)) → ((answer ≡ Err unprinted.Send → ⊥) → m.send_faults new ≡ m.send_faults old) → Causes
+      by-answer (Ok count) is store no_store send no_send =
+          causes-at 0 (ap (λ (o : Outcome). o.status) is) refl (ap is_outcome is) (λ e. cc e) (λ no. no_store (λ e. cc e)) (λ e. cc e) (λ no. no_send (λ e. cc e))
+      by-answer (Err unprinted.Store) is store no_store send no_send =
+          causes-at 5 (ap (λ (o : Outcome). o.status) is) refl (ap is_outcome is) (λ e. store refl) (λ no. absurd (no refl)) (λ e. cc e) (λ no. no_send (λ e. cc e))
+      by-answer (Err unprinted.Send) is store no_store send no_send =
+          causes-at 6 (ap (λ (o : Outcome). o.status) is) refl (ap is_outcome is) (λ e. cc e) (λ no. no_store (λ e. cc e)) (λ e. send refl) (λ no. absurd (no refl))
+      by-answer (Err (unprinted.NotAJournal place)) is store no_store send no_send = refused 9 place (unprinted.NotAJournal place) is refl refl (λ e. cc e, λ e. cc e) (λ e. cc e, λ e. cc e) no_store no_send
+      by-answer (Err (unprinted.Bad place)) is store no_store send no_send = refused 10 place (unprinted.Bad place) is refl refl (λ e. cc e, λ e. cc e) (λ e. cc e, λ e. cc e) no_store no_send
+      by-answer (Err (unprinted.ProductDiffers place)) is store no_store send no_send = refused 11 place (unprinted.ProductDiffers place) is refl refl (λ e. cc e, λ e. cc e) (λ e. cc e, λ e. cc e) no_store no_send
+
 -- ---- which fault a drill's outcome tells of
 
-module _ {S : Type 0} (m : StationMeanings S) (product : ProductLists) (text : List ℕ) (first count : ℕ) (old new : S) (outcome : Outcome) (drilled : DrillsMade m product text first count old new outcome) where
+module _ {I S : Type 0} (m : StationMeanings S) (product : ProductLists) (text : List ℕ) (source : SourceAt I) (first count : ℕ) (old new : S) (outcome : Outcome) (drilled : DrillsMade m product text first count old new outcome) where
   abbrev did : DrillResult m product text (record { left = made_stream product first count; reads = 0 }) drilled.end old new outcome
   did = drilled.did
 
@@ -85,75 +253,41 @@ module _ {S : Type 0} (m : StationMeanings S) (product : ProductLists) (text : L
   stream = made_stream product first count
 
   abbrev Cause : Ending → Type 0
-  Cause ending = CausedBy ending (streams_at maker_meanings m (record { left = stream; reads = 0 }) old) (streams_at maker_meanings m drilled.end did.mid)
+  Cause ending = CausedBy ending (streams_at generator_meanings m (record { left = stream; reads = 0 }) old) (streams_at generator_meanings m drilled.end did.mid)
 
   abbrev Ends : Ending → Type 0
-  Ends ending = EndsAs (streams_at maker_meanings m (record { left = stream; reads = 0 }) old) (streams_at maker_meanings m drilled.end did.mid) ending did.served.messages did.session.serving.taken
+  Ends ending = EndsAs (streams_at generator_meanings m (record { left = stream; reads = 0 }) old) (streams_at generator_meanings m drilled.end did.mid) ending did.served.messages did.session.serving.taken
 
-  -- what the session's status tells, where it did not come to its end: of the store alone
-  record Stopped : Type 0 where
-    pub outcome_is : is_outcome did.served ≡ true
-    pub low : 4 < did.served.status
-    pub not_send : did.served.status ≢ 6
-    pub not_broken : did.served.status ≢ 7
-    pub not_cut : did.served.status ≢ 8
-    pub store : did.served.status ≡ 5 → Rose (m.store_faults old) (m.store_faults did.mid)
-    pub no_store : did.served.status ≢ 5 → m.store_faults did.mid ≡ m.store_faults old
-    pub no_send : m.send_faults did.mid ≡ m.send_faults old
+  abbrev Told : S → Outcome → Type 0
+  Told now told = Causes m product text source old now told (Drill first count) did.session.right
+
+  abbrev at : S → Streams I S
+  at now = record { input = source; station = station_at m now }
 
   -- the bytes taken, and the rest
   parts : stream ≡ did.session.serving.taken ++ drilled.end.left
   parts = same_Some stream (did.session.serving.taken ++ drilled.end.left) did.session.serving.took
 
-  -- an outcome with a place, or without one
-  placed : (status place messages : ℕ) → did.served ≡ record { status = status; at = place; messages = messages } → is_outcome (record { status = status; at = place; messages = messages }) ≡ true → is_outcome did.served ≡ true
-  placed status place messages is right = ap is_outcome is ∙ right
+  -- what the session's status tells, where it did not come to its end: of the store alone
+  stored-by : (ending : Ending) → IsOfStation ending → did.served ≡ outcome_of ending did.served.messages → CausedBy ending (at old) (at did.mid) → Told did.mid did.served
+  stored-by ending told is cause = ending-causes m product text (at old) (at did.mid) did.served (Drill first count) did.session.right ending told did.served.messages is cause
 
-  -- a status with a place says that the store did not fail
-  refused : (n place : ℕ) → 8 < n → did.served ≡ record { status = n; at = place; messages = did.served.messages } → is_outcome (record { status = n; at = place; messages = did.served.messages }) ≡ true → m.store_faults did.mid ≡ m.store_faults old → m.send_faults did.mid ≡ m.send_faults old → Stopped
-  refused n place above is right store send =
-      let status : did.served.status ≡ n = ap (λ (o : Outcome). o.status) is in
-      record {
-        outcome_is = placed n place did.served.messages is right;
-        low = omega (arith, status, above);
-        not_send = λ e. omega (arith, e, status, above);
-        not_broken = λ e. omega (arith, e, status, above);
-        not_cut = λ e. omega (arith, e, status, above);
-        store = λ five. absurd (omega (arith, five, status, above));
-        no_store = λ other. store;
-        no_send = send;
-      }
-
-  stopped-by : (ending : Ending) → did.served ≡ outcome_of ending did.served.messages → Cause ending → Ends ending → did.served.status ≢ 0 → Stopped
+  stopped-by : (ending : Ending) → did.served ≡ outcome_of ending did.served.messages → Cause ending → Ends ending → did.served.status ≢ 0 → Told did.mid did.served
   stopped-by Done is cause ends some = absurd (some (ap (λ (o : Outcome). o.status) is))
   stopped-by (ReadFault place) is cause ends some = absurd (omega (arith, cause.0))
-  stopped-by StoreFault is cause ends some =
-      let five : did.served.status ≡ 5 = ap (λ (o : Outcome). o.status) is in
-      record {
-        outcome_is = placed 5 0 did.served.messages is refl;
-        low = omega (arith, five);
-        not_send = λ e. omega (arith, e, five);
-        not_broken = λ e. omega (arith, e, five);
-        not_cut = λ e. omega (arith, e, five);
-        store = λ here. cause.1;
-        no_store = λ other. absurd (other five);
-        no_send = cause.2;
-      }
+  stopped-by StoreFault is cause ends some = stored-by StoreFault tt is (refl, cause.1, cause.2)
   stopped-by SendFault is cause ends some = absurd (did.silent (ap (λ (o : Outcome). o.status) is))
   stopped-by (BadFrame place) is cause ends some =
       absurd (broken_more did.session.serving.taken drilled.end.left ends.2 (subst (λ (l : List ℕ). IsFrameFront (rest_of l)) parts (subst (λ (l : List ℕ). IsFrameFront l) (sym drilled.whole) empty_front)))
   stopped-by (Truncated place) is cause ends some =
       let all : stream ≡ did.session.serving.taken = parts ∙ ap (λ (l : List ℕ). did.session.serving.taken ++ l) ends.0 ∙ append-nil did.session.serving.taken in
       absurd (ends.3.0 (ap rest_of (sym all) ∙ drilled.whole))
-  stopped-by (NotAJournal place) is cause ends some = refused 9 place (omega arith) is refl cause.1 cause.2
-  stopped-by (JournalBad place) is cause ends some = refused 10 place (omega arith) is refl cause.1 cause.2
-  stopped-by (ProductDiffers place) is cause ends some = refused 11 place (omega arith) is refl cause.1 cause.2
-  stopped-by (Full place) is cause ends some = refused 12 place (omega arith) is refl cause.1 cause.2
+  stopped-by (NotAJournal place) is cause ends some = stored-by (NotAJournal place) tt is (refl, cause.1, cause.2)
+  stopped-by (JournalBad place) is cause ends some = stored-by (JournalBad place) tt is (refl, cause.1, cause.2)
+  stopped-by (ProductDiffers place) is cause ends some = stored-by (ProductDiffers place) tt is (refl, cause.1, cause.2)
+  stopped-by (Full place) is cause ends some = stored-by (Full place) tt is (refl, cause.1, cause.2)
 
-  stopped : did.served.status ≢ 0 → Stopped
-  stopped some = stopped-by did.session.ending did.session.is did.session.cause did.session.serving.ends some
-
-  -- where it came to its end no call on the store failed
+  -- where it came to its end no call on the station failed
   quiet-by : (ending : Ending) → did.served ≡ outcome_of ending did.served.messages → Cause ending → did.served.status ≡ 0 → (m.store_faults did.mid ≡ m.store_faults old) × (m.send_faults did.mid ≡ m.send_faults old)
   quiet-by Done is cause none = (cause.1, cause.2)
   quiet-by (ReadFault place) is cause none = absurd (omega (arith, none, ap (λ (o : Outcome). o.status) is))
@@ -166,181 +300,101 @@ module _ {S : Type 0} (m : StationMeanings S) (product : ProductLists) (text : L
   quiet-by (ProductDiffers place) is cause none = absurd (omega (arith, none, ap (λ (o : Outcome). o.status) is))
   quiet-by (Full place) is cause none = absurd (omega (arith, none, ap (λ (o : Outcome). o.status) is))
 
-  module _ {I : Type 0} (before after : Streams I S) (at_before : before.station ≡ station_at m old) (at_after : after.station ≡ station_at m new) (input : after.input ≡ before.input) where
-    abbrev Causes : Type 0
-    Causes = HasCauses m product text before after outcome (Drill first count)
+  -- the summary was sent, or a part of it
+  summed : did.served.status ≡ 0 → SumsUp m did.mid new did.tally did.then did.served.messages outcome → Told new outcome
+  summed none sums =
+      let silent = quiet-by did.session.ending did.session.is did.session.cause none in
+      let cause = sums.sends.cause in
+      sent-causes m product text source old new outcome (Drill first count) did.session.right did.served.messages sums.result sums.outcome_is
+      (subst (λ (n : ℕ). HasCause n (m.send_faults new) sums.result) silent.1 cause) (sums.sends.quiet.store_faults ∙ silent.0)
 
-    -- the counts of the station before and after
-    store-before : before.station.store_faults ≡ m.store_faults old
-    store-before = ap (λ (s : StationAt S). s.store_faults) at_before
+  pub drill-causes : Told new outcome
+  drill-causes = elim (eqb_tells did.served.status 0) [
+    | inl none ↦ summed none.1 (did.sums_up none.1)
+    | inr some ↦
+        let same = did.otherwise some.1 in
+        subst (λ (o : Outcome). Told new o) (sym same.1) (subst (λ (s : S). Told s did.served) (sym same.0) (stopped-by did.session.ending did.session.is did.session.cause did.session.serving.ends some.1))
+  ]
 
-    store-after : after.station.store_faults ≡ m.store_faults new
-    store-after = ap (λ (s : StationAt S). s.store_faults) at_after
+-- ---- what each command comes to
 
-    send-before : before.station.send_faults ≡ m.send_faults old
-    send-before = ap (λ (s : StationAt S). s.send_faults) at_before
+-- what holds of a value that there is, led on
+pub if-ok : {T E : Type 0} (r : Result T E) (P W : T → Type 0) → ((t : T) → P t → W t) → IfOk r P → IfOk r W
+if-ok (Ok t) P W f p = f t p
+if-ok (Err e) P W f p = tt
 
-    send-after : after.station.send_faults ≡ m.send_faults new
-    send-after = ap (λ (s : StationAt S). s.send_faults) at_after
+pub if-ok-three : {T E : Type 0} (r : Result T E) (P Q R W : T → Type 0) → ((t : T) → P t → Q t → R t → W t) → IfOk r P → IfOk r Q → IfOk r R → IfOk r W
+if-ok-three (Ok t) P Q R W f p q r = f t p q r
+if-ok-three (Err e) P Q R W f p q r = tt
 
-    causes-stopped : did.served.status ≢ 0 → Causes
-    causes-stopped some =
-        let at = stopped some in
-        let same = did.otherwise some in
-        let status : outcome.status ≡ did.served.status = ap (λ (o : Outcome). o.status) same.1 in
-        let store : m.store_faults new ≡ m.store_faults did.mid = ap m.store_faults same.0 in
-        let send : m.send_faults new ≡ m.send_faults did.mid = ap m.send_faults same.0 in
-        record {
-          right = did.session.right;
-          outcome_is = ap is_outcome same.1 ∙ at.outcome_is;
-          words = λ e. omega (arith, e, status, at.low);
-          product_right = λ e. omega (arith, e, status, at.low);
-          memory = λ e. absurd (omega (arith, e, status, at.low));
-          read = λ e. absurd (omega (arith, e, status, at.low));
-          no_read = λ other. ap (λ (x : SourceAt I). x.faults) input;
-          store = λ e. let rose = at.store (sym status ∙ e) in omega (arith, rose, store-before, store-after, store);
-          no_store = λ other. store-after ∙ store ∙ at.no_store (λ five. other (status ∙ five)) ∙ sym store-before;
-          send = λ e. absurd (at.not_send (sym status ∙ e));
-          no_send = λ other. send-after ∙ send ∙ at.no_send ∙ sym send-before;
-          frames = λ either. absurd (⊎_elim (λ e. at.not_broken (sym status ∙ e)) (λ e. at.not_cut (sym status ∙ e)) either);
-        }
+module _ {I S : Type 0} (m : StationMeanings S) (product : ProductLists) (text : List ℕ) (before after : Streams I S) (outcome : Outcome) where
+  abbrev pub StaysRefused : Type 0
+  StaysRefused = (image : List ℕ) → before.station.image ≡ Some image → IsRefusal outcome.status → KeepsImage m before.station.object after.station.object
 
-    -- where the summary was sent, or a part of it
-    causes-summed : did.served.status ≡ 0 → (result : Result (Unit {0}) SendFailed) → outcome ≡ outcome_summed did.served.messages result → Quiet m did.mid new → HasCause (m.send_faults did.mid) (m.send_faults new) result → Causes
-    causes-summed none (Ok t) is quiet cause =
-        let silent = quiet-by did.session.ending did.session.is did.session.cause none in
-        let status : outcome.status ≡ 0 = ap (λ (o : Outcome). o.status) is in
-        record {
-          right = did.session.right;
-          outcome_is = ap is_outcome is ∙ refl;
-          words = λ e. omega (arith, e, status);
-          product_right = λ e. omega (arith, e, status);
-          memory = λ e. absurd (omega (arith, e, status));
-          read = λ e. absurd (omega (arith, e, status));
-          no_read = λ other. ap (λ (x : SourceAt I). x.faults) input;
-          store = λ e. absurd (omega (arith, e, status));
-          no_store = λ other. store-after ∙ quiet.store_faults ∙ silent.0 ∙ sym store-before;
-          send = λ e. absurd (omega (arith, e, status));
-          no_send = λ other. send-after ∙ cause.ok ∙ silent.1 ∙ sym send-before;
-          frames = λ either. absurd (⊎_elim (λ e. omega (arith, e, status)) (λ e. omega (arith, e, status)) either);
-        }
-    causes-summed none (Err fault) is quiet cause =
-        let silent = quiet-by did.session.ending did.session.is did.session.cause none in
-        let status : outcome.status ≡ 6 = ap (λ (o : Outcome). o.status) is in
-        let rose = cause.failed in
-        record {
-          right = did.session.right;
-          outcome_is = ap is_outcome is ∙ refl;
-          words = λ e. omega (arith, e, status);
-          product_right = λ e. omega (arith, e, status);
-          memory = λ e. absurd (omega (arith, e, status));
-          read = λ e. absurd (omega (arith, e, status));
-          no_read = λ other. ap (λ (x : SourceAt I). x.faults) input;
-          store = λ e. absurd (omega (arith, e, status));
-          no_store = λ other. store-after ∙ quiet.store_faults ∙ silent.0 ∙ sym store-before;
-          send = λ e. omega (arith, rose, send-before, send-after, silent.1);
-          no_send = λ other. absurd (other status);
-          frames = λ either. absurd (⊎_elim (λ e. omega (arith, e, status)) (λ e. omega (arith, e, status)) either);
-        }
+  abbrev pub UnsentRefused : Type 0
+  UnsentRefused = IsRefusal outcome.status → after.station.sent ≡ before.station.sent
 
-    pub drill-causes : Causes
-    drill-causes = elim (eqb_tells did.served.status 0) [
-      | inl none ↦ let sums = did.sums_up none.1 in causes-summed none.1 sums.result sums.outcome_is sums.sends.quiet sums.sends.cause
-      | inr some ↦ causes-stopped some.1
-    ]
+  pub run-executed : Runs m product text before after outcome → StaysRefused → UnsentRefused → IsExecuted m product text before after outcome Run
+  run-executed runs stays refused = record {
+    executes = runs;
+    causes = run-causes m product text before after outcome runs.session.right runs.session.ending runs.session.is runs.session.cause;
+    stays = λ image writes. stays image;
+    refused = λ writes. refused;
+  }
 
--- ---- the steps of a product, sent from a buffer of their own
+  pub only-printed : (command : Command) → (IsWriting command → ⊥) → Executes m product text before after outcome command → HasCauses m product text before after outcome command → IsExecuted m product text before after outcome command
+  only-printed command never executes causes = record {
+    executes = executes;
+    causes = causes;
+    stays = λ image writes. absurd (never writes);
+    refused = λ writes. absurd (never writes);
+  }
 
-module _ {I S : Type 0} (m : StationMeanings S) (product : ProductLists) (text : List ℕ) (old new : S) (outcome : Outcome) (before after : Streams I S) (at_before : before.station ≡ station_at m old) (at_after : after.station ≡ station_at m new) (input : after.input ≡ before.input) (right : IsRightProduct product) where
-  same-streams : after.station ≡ before.station → after ≡ before
-  same-streams station = λ i. record { input = input i; station = station i }
+module _ {I S : Type 0} (m : StationMeanings S) (product : ProductLists) (text : List ℕ) (source : SourceAt I) (old new : S) (outcome : Outcome) where
+  abbrev from : Streams I S
+  from = record { input = source; station = station_at m old }
 
-  store-counts : m.store_faults new ≡ m.store_faults old → after.station.store_faults ≡ before.station.store_faults
-  store-counts same = ap (λ (s : StationAt S). s.store_faults) at_after ∙ same ∙ sym (ap (λ (s : StationAt S). s.store_faults) at_before)
+  abbrev to : Streams I S
+  to = record { input = source; station = station_at m new }
 
-  send-counts : m.send_faults new ≡ m.send_faults old → after.station.send_faults ≡ before.station.send_faults
-  send-counts same = ap (λ (s : StationAt S). s.send_faults) at_after ∙ same ∙ sym (ap (λ (s : StationAt S). s.send_faults) at_before)
+  pub drill-executed : (first count : ℕ) → DrillsMade m product text first count old new outcome → StaysRefused m product text from to outcome → UnsentRefused m product text from to outcome → IsExecuted m product text from to outcome (Drill first count)
+  drill-executed first count drilled stays refused = record {
+    executes = (drilled, refl);
+    causes = drill-causes m product text source first count old new outcome drilled;
+    stays = λ image writes. stays image;
+    refused = λ writes. refused;
+  }
 
-  send-rose : Rose (m.send_faults old) (m.send_faults new) → Rose before.station.send_faults after.station.send_faults
-  send-rose rose =
-      subst (λ (a : ℕ). Rose a after.station.send_faults) (sym (ap (λ (s : StationAt S). s.send_faults) at_before))
-      (subst (λ (b : ℕ). Rose (m.send_faults old) b) (sym (ap (λ (s : StationAt S). s.send_faults) at_after)) rose)
+  checkpoint-told : (ending : Ending) → IsCheckpointEnding ending → (ending ≡ StoreFault → Rose (m.store_faults old) (m.store_faults new)) → ((ending ≡ StoreFault → ⊥) → m.store_faults new ≡ m.store_faults old) → m.send_faults new ≡ m.send_faults old → IsOfStation ending × CausedBy ending from to
+  checkpoint-told Done possible store no_store send = (tt, (refl, no_store (λ e. cc e), send))
+  checkpoint-told (ReadFault place) possible store no_store send = absurd possible
+  checkpoint-told StoreFault possible store no_store send = (tt, (refl, store refl, send))
+  checkpoint-told SendFault possible store no_store send = absurd possible
+  checkpoint-told (BadFrame place) possible store no_store send = absurd possible
+  checkpoint-told (Truncated place) possible store no_store send = absurd possible
+  checkpoint-told (NotAJournal place) possible store no_store send = (tt, (refl, no_store (λ e. cc e), send))
+  checkpoint-told (JournalBad place) possible store no_store send = (tt, (refl, no_store (λ e. cc e), send))
+  checkpoint-told (ProductDiffers place) possible store no_store send = (tt, (refl, no_store (λ e. cc e), send))
+  checkpoint-told (Full place) possible store no_store send = (tt, (refl, no_store (λ e. cc e), send))
 
-  abbrev StepsCauses : Type 0
-  StepsCauses = HasCauses m product text before after outcome Steps
-
-  -- there was no memory for them
-  lacks-causes : outcome ≡ record { status = 1; at = 0; messages = 0 } → new ≡ old → StepsCauses
-  lacks-causes is same =
-      let status : outcome.status ≡ 1 = ap (λ (o : Outcome). o.status) is in
-      let station : after.station ≡ before.station = at_after ∙ ap (station_at m) same ∙ sym at_before in
+  pub checkpoint-executed : CheckpointResult m product text old new outcome → StaysRefused m product text from to outcome → IsExecuted m product text from to outcome Checkpoint
+  checkpoint-executed did stays =
+      let told = checkpoint-told did.ending did.possible did.store did.no_store did.silent.send_faults in
       record {
-        right = right;
-        outcome_is = ap is_outcome is ∙ refl;
-        words = λ e. omega (arith, e, status);
-        product_right = λ e. omega (arith, e, status);
-        memory = λ e. (same-streams station, ap (λ (o : Outcome). o.messages) is);
-        read = λ e. absurd (omega (arith, e, status));
-        no_read = λ other. ap (λ (x : SourceAt I). x.faults) input;
-        store = λ e. absurd (omega (arith, e, status));
-        no_store = λ other. ap (λ (s : StationAt S). s.store_faults) station;
-        send = λ e. absurd (omega (arith, e, status));
-        no_send = λ other. ap (λ (s : StationAt S). s.send_faults) station;
-        frames = λ either. absurd (⊎_elim (λ e. omega (arith, e, status)) (λ e. omega (arith, e, status)) either);
+        executes = (did, refl);
+        causes = ending-causes m product text from to outcome Checkpoint did.right did.ending told.0 outcome.messages did.is told.1;
+        stays = λ image writes. stays image;
+        refused = λ writes refusal. did.silent.sent;
       }
 
-  sent-causes : (result : Result (Unit {0}) SendFailed) → outcome ≡ outcome_sent result → Sends m old new (steps_text product) result → StepsCauses
-  sent-causes (Ok t) is sends =
-      let status : outcome.status ≡ 0 = ap (λ (o : Outcome). o.status) is in
-      record {
-        right = right;
-        outcome_is = ap is_outcome is ∙ refl;
-        words = λ e. omega (arith, e, status);
-        product_right = λ e. omega (arith, e, status);
-        memory = λ e. absurd (omega (arith, e, status));
-        read = λ e. absurd (omega (arith, e, status));
-        no_read = λ other. ap (λ (x : SourceAt I). x.faults) input;
-        store = λ e. absurd (omega (arith, e, status));
-        no_store = λ other. store-counts sends.quiet.store_faults;
-        send = λ e. absurd (omega (arith, e, status));
-        no_send = λ other. send-counts sends.cause.ok;
-        frames = λ either. absurd (⊎_elim (λ e. omega (arith, e, status)) (λ e. omega (arith, e, status)) either);
-      }
-  sent-causes (Err fault) is sends =
-      let status : outcome.status ≡ 6 = ap (λ (o : Outcome). o.status) is in
-      record {
-        right = right;
-        outcome_is = ap is_outcome is ∙ refl;
-        words = λ e. omega (arith, e, status);
-        product_right = λ e. omega (arith, e, status);
-        memory = λ e. absurd (omega (arith, e, status));
-        read = λ e. absurd (omega (arith, e, status));
-        no_read = λ other. ap (λ (x : SourceAt I). x.faults) input;
-        store = λ e. absurd (omega (arith, e, status));
-        no_store = λ other. store-counts sends.quiet.store_faults;
-        send = λ e. send-rose sends.cause.failed;
-        no_send = λ other. absurd (other status);
-        frames = λ either. absurd (⊎_elim (λ e. omega (arith, e, status)) (λ e. omega (arith, e, status)) either);
-      }
+  pub steps-executed : IsRightProduct product → PrintsSteps m product old new outcome → IsExecuted m product text from to outcome Steps
+  steps-executed right printed =
+      only-printed m product text from to outcome Steps (λ never. never) (record { form = printed; reads = quiet-reads m old new printed.sends.quiet; input = refl })
+      (sent-causes m product text source old new outcome Steps right 0 printed.result printed.outcome_is printed.sends.cause printed.sends.quiet.store_faults)
 
-  pub listed-causes : ListsSteps m product old new outcome → StepsCauses
-  listed-causes listed = ⊎_elim (λ none. lacks-causes none.0 none.1) (λ printed. sent-causes printed.result printed.outcome_is printed.sends) listed
-
--- but for want of memory, they were printed
-pub listed-prints : {I S : Type 0} (m : StationMeanings S) (product : ProductLists) (text : List ℕ) (old new : S) (outcome : Outcome) (source : SourceAt I)
-    → ListsSteps m product old new outcome → outcome.status ≢ 1 → Prints m product text (record { input = source; station = station_at m old }) (record { input = source; station = station_at m new }) outcome Steps
-listed-prints m product text old new outcome source listed there = ⊎_elim
-    (λ none. absurd (there (ap (λ (o : Outcome). o.status) none.0)))
-    (λ printed. record { form = printed; reads = quiet-reads m old new printed.sends.quiet; input = refl })
-    listed
-
--- a command that opens no journal is `steps`
-pub only-steps : (command : Command) → (OpensJournal command → ⊥) → command ≡ Steps
-only-steps Steps none = refl
-only-steps Run none = absurd (none tt)
-only-steps (Drill first count) none = absurd (none tt)
-only-steps Checkpoint none = absurd (none tt)
-only-steps Replay none = absurd (none tt)
-only-steps Book none = absurd (none tt)
-only-steps Fills none = absurd (none tt)
-only-steps Ledger none = absurd (none tt)
+  -- a journal was printed in the form of a command
+  pub print-executed : IsRightProduct product → (command : Command) → (IsWriting command → ⊥) → (Printed : List ℕ → Result ℕ Unprinted → Type 0) → PrintsKept m old new outcome Printed
+      → (Prints m product text from to outcome command → Executes m product text from to outcome command) → (PrintsJournal (station_at m old) outcome Printed → PrintsAs m product text (station_at m old) (station_at m new) outcome command) → IsExecuted m product text from to outcome command
+  print-executed right command never Printed printed lift form =
+      only-printed m product text from to outcome command never (lift (record { form = form (record { answer = printed.answer; outcome_is = printed.outcome_is; prints = printed.prints }); reads = printed.reads; input = refl }))
+      (printed-causes m product text source old new outcome command right Printed printed)

@@ -29,7 +29,8 @@ use Rattle.globex_run.specs.Journals.{AnswersImage, bytes_in, most_read}
 use Rattle.globex_run.specs.RunResult.{EndsAs}
 use Rattle.globex_run.specs.Inner.Recording.{lines_from, IsRecordCrash, Serves, AllKept, Served}
 use Rattle.globex_run.specs.Inner.Serving.{IsDone, CausedBy, HasNoRoomAt, IsLastCounted, EndsServing, ServesInput}
-use Rattle.globex_run.specs.Inner.Sessions.{ending_without, AnswersOpening, IsRefused, Opens, RestsBehind, IsFullBehind, IsAllServed, EndsSession, SessionFrom, SessionResult, IsAtRest}
+use Rattle.globex_run.specs.Inner.Openings.{OpensAny, RestsAny}
+use Rattle.globex_run.specs.Inner.Sessions.{ending_without, AnswersOpening, IsRefusedOpening, Opens, RestsBehind, IsFullBehind, IsAllServed, EndsSession, SessionFrom, SessionResult, IsAtRest}
 use Rattle.globex_run.specs.declared.ending.Ending.{Ending}
 use Rattle.globex_run.specs.declared.ending.Ending.TheVariants.{Done, ReadFault, StoreFault, SendFault, BadFrame, Truncated, NotAJournal, JournalBad, ProductDiffers, Full}
 use Rattle.globex_run.specs.declared.outcome.Outcome.{Outcome}
@@ -297,7 +298,7 @@ pub count_is : (outcome : Outcome) (ending : Ending) (count : ℕ) → outcome �
 count_is outcome ending count is = ap (λ (o : Outcome). o.messages) is ∙ count_told ending count
 
 -- a status that refuses the image comes only where it was refused
-pub refused_by : (reason : Unopened) (outcome : Outcome) → outcome ≡ outcome_of (ending_without reason) 0 → (outcome.status ≡ 9) ⊎ ((outcome.status ≡ 10) ⊎ (outcome.status ≡ 11)) → IsRefused {J = Standing} (Err reason)
+pub refused_by : (reason : Unopened) (outcome : Outcome) → outcome ≡ outcome_of (ending_without reason) 0 → (outcome.status ≡ 9) ⊎ ((outcome.status ≡ 10) ⊎ (outcome.status ≡ 11)) → IsRefusedOpening {J = Standing} (Err reason)
 refused_by unopened.Store outcome is refused =
     let status : outcome.status ≡ 5 = ap (λ (o : Outcome). o.status) is in
     ⊎_elim (λ e. omega (arith, e, status)) (λ other. ⊎_elim (λ e. omega (arith, e, status)) (λ e. omega (arith, e, status)) other) refused
@@ -326,17 +327,9 @@ never_full (unopened.NotAJournal at) place e = cc e
 never_full (unopened.Bad at) place e = cc e
 never_full (unopened.ProductDiffers at) place e = cc e
 
--- what opening ensures of an image that keeps some records, good or true or not
-abbrev pub RestsAs : {S : Type 0} → StationMeanings S → ProductLists → List ℕ → S → S → State → Standing → Type 0
-RestsAs m product text old mid core journal = (image : List ℕ) (records : List Record) → m.is_honest old → m.holds old ≡ Some image → Keeps text product.journal_limit records image → RestsBehind m product text mid image records core journal
-
--- what opening ensures of an image from which a run can start
-abbrev pub OpensAs : {S : Type 0} → StationMeanings S → ProductLists → List ℕ → S → S → State → Result Standing Unopened → Type 0
-OpensAs m product text old mid core result = (image : List ℕ) (records : List Record) → m.is_honest old → m.holds old ≡ Some image → Keeps text product.journal_limit records image → AreGoodRecords product 0 records → AreTrueRecords product [] records → Opens m product text old mid image records core result
-
 module _ {I S : Type 0} (inputs : SourceMeanings I) (m : StationMeanings S) (line : LineText) (Published : List Event → Type 0) (product : ProductLists) (text : List ℕ) (old mid : S) (input : I) (core : State) (right : IsRightProduct product) (silent : SendsNothing m old mid) where
   pub unopened_session : (after : State) (reason : Unopened) (outcome : Outcome) → outcome ≡ outcome_of (ending_without reason) 0 → (reason ≡ unopened.Store → Rose (m.store_faults old) (m.store_faults mid)) → ((reason ≡ unopened.Store → ⊥) → m.store_faults mid ≡ m.store_faults old)
-      → ((image : List ℕ) → m.holds old ≡ Some image → AnswersImage product text image (ending_without reason)) → OpensAs m product text old mid core (Err reason) → SessionResult m line product text (streams_at inputs m input old) (streams_at inputs m input mid) Published after outcome
+      → ((image : List ℕ) → m.holds old ≡ Some image → AnswersImage product text image (ending_without reason)) → OpensAny m product text old mid core (Err reason) → SessionResult m line product text (streams_at inputs m input old) (streams_at inputs m input mid) Published after outcome
   unopened_session after reason outcome is store none answers opens =
       let count = count_is outcome (ending_without reason) 0 is in
       record {
@@ -376,7 +369,7 @@ module _ {I S : Type 0} (inputs : SourceMeanings I) (m : StationMeanings S) (lin
         why = ⊎_elim (λ long. inl long) (λ most. inr (omega (arith, most.0, counted, rests.count), most.1)) ends.2;
       }
 
-  pub opened_session : (journal : Standing) (limit_is : journal.limit ≡ product.journal_limit) (store : m.store_faults mid ≡ m.store_faults old) (answers : (image : List ℕ) → m.holds old ≡ Some image → AnswersOpening product text image (Ok journal)) (opens : OpensAs m product text old mid core (Ok journal)) (rests : RestsAs m product text old mid core journal) (input' : I) (new : S) (end : ℕ)
+  pub opened_session : (journal : Standing) (limit_is : journal.limit ≡ product.journal_limit) (store : m.store_faults mid ≡ m.store_faults old) (answers : (image : List ℕ) → m.holds old ≡ Some image → AnswersOpening product text image (Ok journal)) (opens : OpensAny m product text old mid core (Ok journal)) (rests : RestsAny m product text old mid core (Ok journal)) (input' : I) (new : S) (end : ℕ)
       (then : State) (ending : Ending) → ServesInput m (AreNumbered core) line product journal.limit (streams_at inputs m input mid) (streams_at inputs m input' new) journal.gate end (state_numbered core) then Published ending → CausedBy ending (streams_at inputs m input mid) (streams_at inputs m input' new) → m.bytes_read new ≡ m.bytes_read mid
       → (outcome : Outcome) (counts : ℕ) → counts ≡ then.desk.messages - core.desk.messages → outcome ≡ outcome_of ending counts → SessionResult m line product text (streams_at inputs m input old) (streams_at inputs m input' new) Published then outcome
   opened_session journal limit_is store answers opens rests input' new end then ending serves cause bytes outcome counts more is =

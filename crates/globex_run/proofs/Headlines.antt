@@ -15,7 +15,7 @@ use Rattle.match_journal.specs.Steps.{HoldsOne}
 use Rattle.match_journal.specs.StepLaws.{adds_weaker}
 use Rattle.order_kinds.specs.State.{State}
 use Rattle.book_recovery.specs.Records.{IsWhole, AreWhole, messages_in, state_kept}
-use Rattle.book_recovery.specs.Kept.{KeepsMessages}
+use Rattle.book_recovery.specs.Kept.{IsStartable}
 use Rattle.exec_report.specs.Forms.{LineText}
 use Rattle.globex_run.specs.Outside.{SourceAt, Outside}
 use Rattle.globex_run.specs.RunResult.{first_messages}
@@ -73,7 +73,7 @@ module _ {P I S : Type 0} (m : StationMeanings S) (p q : SourceAt P) (i j : Sour
 
     -- an image that keeps the earlier messages and then these
     abbrev KeepsAt : List (List ℕ) → List ℕ → Type 0
-    KeepsAt messages left = KeepsMessages given.product given.text (given.kept ++ messages) left
+    KeepsAt messages left = IsStartable given.product given.text (given.kept ++ messages) left
 
     -- what is sent of the messages in these records
     abbrev lines_in : List Record → List ℕ
@@ -160,7 +160,7 @@ module _ {P I S : Type 0} (m : StationMeanings S) (p q : SourceAt P) (i j : Sour
           record {
             count = 0;
             within = omega arith;
-            keeps = subst (λ (l : List (List ℕ)). KeepsMessages given.product given.text l left) (sym (append-nil given.kept)) (subst (λ (l : List ℕ). KeepsMessages given.product given.text given.kept l) same given.startable);
+            keeps = subst (λ (l : List (List ℕ)). IsStartable given.product given.text l left) (sym (append-nil given.kept)) (subst (λ (l : List ℕ). IsStartable given.product given.text given.kept l) same given.startable);
             no_longer = omega (arith, ap (λ (l : List ℕ). length l) same);
             output = [];
             front = nothing;

@@ -11,6 +11,7 @@ pub mod Prints
 pub mod Refusals
 pub mod FullJournals
 pub mod Calls
+pub mod CallsLent
 pub mod Steps
 pub mod Works
 pub mod Promises

@@ -18,7 +18,7 @@ use Rattle.globex_run.specs.Headline.{AddsMessages, KeepsARecordPerRead, ReadsFe
 use Rattle.globex_run.specs.Checkpoints.{HasNoRoomForImage}
 use Rattle.globex_run.specs.Prints.{PrintsAs}
 use Rattle.globex_run.specs.Refusals.{IsRefusal, RefusesExactly, CanStart}
-use Rattle.globex_run.specs.FullJournals.{IsFull}
+use Rattle.globex_run.specs.FullJournals.{IsFullJournal}
 use Rattle.globex_run.specs.Works.{Given, Reads, work_of, DoneBy, EndedBy, Serves, ServesNone, bytes_for, CanBeDone, EndsWell}
 
 module _ {P I S : Type 0} (c : Call P I S) where
@@ -71,7 +71,7 @@ module _ {P I S : Type 0} (c : Call P I S) where
   IsFullForMessages = OfEach (λ asked. Serves c asked → (given : ProductPremises c.before c.after c.outcome.status) (read : Reads c asked)
       → c.station.is_honest c.before.streams.station.object → (image : List ℕ) (records : List Record) → c.before.streams.station.image ≡ Some image
       → Keeps given.text given.product.journal_limit records image → c.outcome.status ≡ 12
-      → IsFull given.product given.text image records c.after.streams.station c.outcome (bytes_for c given asked read))
+      → IsFullJournal given.product given.text image records c.after.streams.station c.outcome (bytes_for c given asked read))
 
   -- 12, of a checkpoint: the image has no room.
   abbrev pub IsFullForImage : Type 0

@@ -1,154 +1,140 @@
 //! Executing a command over a product that was taken.
-ghost use Rattle.std.specs.Prelude.{◌≡◌, ◌≢◌, ◌≤◌, ℕ, List, length, Some};
+ghost use Rattle.std.specs.Prelude.{◌≡◌, ◌≢◌, ℕ, List, Some, IfOk, OnErr};
 ghost use Rattle.gx_station.specs.Honest.{KeepsImage};
-ghost use Rattle.product_file.specs.declared.limits.TheConstants.{LONGEST_TEXT};
-ghost use Rattle.order_kinds.specs.State.{empty_state};
 ghost use Rattle.report_laws.specs.Sums.{IsReadBalanced};
+ghost use Rattle.command_words.specs.declared.command.Command.TheVariants as command;
 ghost use Rattle.globex_run.specs.Outside.{streams_at};
-ghost use Rattle.globex_run.specs.Words.{IsWriting, OpensJournal, ReadsEachRecord};
+ghost use Rattle.globex_run.specs.Words.{IsWriting};
 ghost use Rattle.globex_run.specs.Refusals.{IsRefusal};
-ghost use Rattle.globex_run.specs.Inner.Buffers.{AreNew};
-ghost use Rattle.globex_run.specs.Inner.Executing.{Executes, HasCauses, ListsSteps};
+ghost use Rattle.globex_run.specs.Inner.Checkpointing.{CheckpointResult};
+ghost use Rattle.globex_run.specs.Inner.Drilling.{DrillsMade};
+ghost use Rattle.globex_run.specs.Inner.Executing.{Executes, HasCauses, IsExecuted};
 
-use crate::buffers::Buffers;
-use crate::checkpoint::checkpoint;
-use crate::drill::drill;
-use crate::journal_use::opens_journal;
 use crate::outcome::{Outcome, Status};
-use crate::printing::{outcome_printed, outcome_sent};
-use crate::session::serve_session;
-use book_print::{FillForm, Totals, print_steps};
+use crate::printing::{list_steps, print_each_record, print_last_book};
+use crate::session::Session;
+use crate::taken::Taken;
+use book_print::{FillForm, Totals};
 use command_words::Command;
-use exec_report::{ReportBuffer, ReportForm};
+use exec_report::ReportForm;
+use generator_laws::names_are_right;
 use gx_station::{Source, Station};
-use journal_print::{print_events, print_kept_book};
-use maker_laws::names_are_right;
-use product_file::Product;
+use journal_print::Lines;
 use report_laws::reports_balance;
-use std::alloc::Global;
-
-/// Sends the steps of a product's instruments. Takes memory for their lines alone; want of it is status 1, and sends nothing.
-fn list_steps<S: Station>(alloc: Global, product: &Product, station: &mut S) -> Outcome
-    ensures { ListsSteps S.meanings product.now station.old station.new result }
-{
-    let Ok(mut lines) = ReportBuffer::new(alloc) else {
-        return Status::NoMemory.outcome(0, 0);
-    };
-    outcome_sent(print_steps(product, &mut lines, station))
-}
+use std::alloc::{AllocError, Global};
 
 /// Takes the memory of a command, and executes it over a product and its text. Want of memory is status 1, and nothing is touched
-/// then; no memory is taken later. `steps` takes none for a book.
+/// then; no memory is taken later.
 pub fn execute<I: Source, S: Station>(
     alloc: Global,
     command: Command,
-    product: &Product,
-    text: &[u8],
+    taken: &Taken<'_>,
     input: &mut I,
     station: &mut S,
 ) -> Outcome
-    requires short { length text.now ≤ LONGEST_TEXT }
-    ensures executes { result.status ≢ 1 → Executes S.meanings product.now text.now (streams_at I.meanings S.meanings input.old station.old)
+    ensures executes { result.status ≢ 1 → Executes S.meanings taken.now.product.now taken.now.text.now
+        (streams_at I.meanings S.meanings input.old station.old) (streams_at I.meanings S.meanings input.new station.new) result command }
+    ensures causes { HasCauses S.meanings taken.now.product.now taken.now.text.now (streams_at I.meanings S.meanings input.old station.old)
         (streams_at I.meanings S.meanings input.new station.new) result command }
-    ensures causes { HasCauses S.meanings product.now text.now (streams_at I.meanings S.meanings input.old station.old)
-        (streams_at I.meanings S.meanings input.new station.new) result command }
-    ensures reports { (messages : List (List ℕ)) → IsReadBalanced product.now messages }
+    ensures reports { (messages : List (List ℕ)) → IsReadBalanced taken.now.product.now messages }
     ensures stays { (image : List ℕ) → IsWriting command → S.meanings.holds station.old ≡ Some image → IsRefusal result.status
         → KeepsImage S.meanings station.old station.new }
     ensures refused { IsWriting command → IsRefusal result.status → S.meanings.sent station.new ≡ S.meanings.sent station.old }
 {
-    product.limits();
-    names_are_right(product);
+    taken.product.limits();
+    names_are_right(taken.product);
     reports_balance();
-    if !opens_journal(command) {
-        return list_steps(alloc, product, station);
+    match executed(alloc, command, taken, input, station) {
+        Ok(outcome) => outcome,
+        Err(AllocError) => Status::NoMemory.outcome(0, 0),
     }
-    let Ok(mut buffers) = Buffers::new(alloc, command, product) else {
-        return Status::NoMemory.outcome(0, 0);
-    };
-    execute_with(command, product, text, &mut buffers, input, station)
 }
 
-/// Executes a command that opens the journal, over new buffers. `run` alone reads the input. `run`, `drill` and `checkpoint` add to
-/// the journal; the others print what it keeps and write nothing.
-fn execute_with<I: Source, S: Station>(
+/// Executes a command. `run` alone reads the input. `run`, `drill` and `checkpoint` add to the journal; the others print, and write
+/// nothing. An `Err` is want of memory, and nothing was touched then.
+fn executed<I: Source, S: Station>(
+    alloc: Global,
     command: Command,
-    product: &Product,
-    text: &[u8],
-    buffers: &mut Buffers,
+    taken: &Taken<'_>,
     input: &mut I,
     station: &mut S,
-) -> Outcome
-    requires opens { OpensJournal command }
-    requires short { length text.now ≤ LONGEST_TEXT }
-    requires new { AreNew product.now buffers.old }
-    requires spare { ReadsEachRecord command → buffers.old.spare ≡ Some (empty_state product.now) }
-    ensures executes { Executes S.meanings product.now text.now (streams_at I.meanings S.meanings input.old station.old)
-        (streams_at I.meanings S.meanings input.new station.new) result command }
-    ensures causes { HasCauses S.meanings product.now text.now (streams_at I.meanings S.meanings input.old station.old)
-        (streams_at I.meanings S.meanings input.new station.new) result command }
-    ensures stays { (image : List ℕ) → IsWriting command → S.meanings.holds station.old ≡ Some image → IsRefusal result.status
-        → KeepsImage S.meanings station.old station.new }
-    ensures refused { IsWriting command → IsRefusal result.status → S.meanings.sent station.new ≡ S.meanings.sent station.old }
+) -> Result<Outcome, AllocError>
+    ensures did { IfOk result (λ outcome. IsExecuted S.meanings taken.now.product.now taken.now.text.now
+        (streams_at I.meanings S.meanings input.old station.old) (streams_at I.meanings S.meanings input.new station.new) outcome command) }
+    ensures no_input { OnErr result (input.new ≡ input.old) }
+    ensures no_station { OnErr result (station.new ≡ station.old) }
 {
-    product.limits();
+    taken.product.limits();
     match command {
-        Command::Run => serve_session(&mut ReportForm, product, text, buffers, input, station),
-        Command::Drill { first, count } => { drill(product, text, buffers, first, count, station) }
-        Command::Replay => {
-            let Some(spare) = &mut buffers.spare else {
-                unreachable!()
-            };
-            outcome_printed(print_events(
-                &mut ReportForm,
-                product,
-                text,
-                &mut buffers.scratch,
-                &mut buffers.core,
-                spare,
-                &mut buffers.reports,
-                station,
-            ))
-        }
-        Command::Fills => {
-            let Some(spare) = &mut buffers.spare else {
-                unreachable!()
-            };
-            outcome_printed(print_events(
-                &mut FillForm,
-                product,
-                text,
-                &mut buffers.scratch,
-                &mut buffers.core,
-                spare,
-                &mut buffers.reports,
-                station,
-            ))
-        }
-        Command::Ledger => {
-            let Some(spare) = &mut buffers.spare else {
-                unreachable!()
-            };
-            outcome_printed(print_events(
-                &mut Totals::new(),
-                product,
-                text,
-                &mut buffers.scratch,
-                &mut buffers.core,
-                spare,
-                &mut buffers.reports,
-                station,
-            ))
-        }
-        Command::Book => outcome_printed(print_kept_book(
-            product,
-            text,
-            &mut buffers.scratch,
-            &mut buffers.core,
-            &mut buffers.reports,
+        Command::Run => run(alloc, taken, input, station),
+        Command::Drill { first, count } => drill(alloc, taken, first, count, station),
+        Command::Checkpoint => checkpoint(alloc, taken, station),
+        Command::Replay => print_each_record(
+            alloc,
+            &mut Lines { form: ReportForm },
+            taken,
             station,
-        )),
-        Command::Checkpoint => checkpoint(product, text, buffers, station),
-        Command::Steps => unreachable!(),
+        ),
+        Command::Fills => print_each_record(alloc, &mut Lines { form: FillForm }, taken, station),
+        Command::Ledger => print_each_record(
+            alloc,
+            &mut Lines {
+                form: Totals::new(),
+            },
+            taken,
+            station,
+        ),
+        Command::Book => print_last_book(alloc, taken, station),
+        Command::Steps => list_steps(alloc, taken, station),
     }
+}
+
+/// Takes the memory of a session, and serves the input. An `Err` is want of memory, and nothing was touched then.
+fn run<I: Source, S: Station>(
+    alloc: Global,
+    taken: &Taken<'_>,
+    input: &mut I,
+    station: &mut S,
+) -> Result<Outcome, AllocError>
+    ensures did { IfOk result (λ outcome. IsExecuted S.meanings taken.now.product.now taken.now.text.now
+        (streams_at I.meanings S.meanings input.old station.old) (streams_at I.meanings S.meanings input.new station.new) outcome command.Run) }
+    ensures no_input { OnErr result (input.new ≡ input.old) }
+    ensures no_station { OnErr result (station.new ≡ station.old) }
+{
+    let mut session = Session::new(alloc, taken)?;
+    Ok(session.serve(&mut ReportForm, input, station))
+}
+
+/// Takes the memory of a session, and serves made messages. An `Err` is want of memory, and nothing was touched then.
+fn drill<S: Station>(
+    alloc: Global,
+    taken: &Taken<'_>,
+    first: u32,
+    count: u32,
+    station: &mut S,
+) -> Result<Outcome, AllocError>
+    ensures drills { IfOk result (DrillsMade S.meanings taken.now.product.now taken.now.text.now first count station.old station.new) }
+    ensures stays { IfOk result (λ outcome. (image : List ℕ) → S.meanings.holds station.old ≡ Some image → IsRefusal outcome.status
+        → KeepsImage S.meanings station.old station.new) }
+    ensures refused { IfOk result (λ outcome. IsRefusal outcome.status → S.meanings.sent station.new ≡ S.meanings.sent station.old) }
+    ensures no_station { OnErr result (station.new ≡ station.old) }
+{
+    let mut session = Session::new(alloc, taken)?;
+    Ok(session.drill(first, count, station))
+}
+
+/// Takes the memory of a session, and adds the image of its state to the journal. An `Err` is want of memory, and nothing was
+/// touched then.
+fn checkpoint<S: Station>(
+    alloc: Global,
+    taken: &Taken<'_>,
+    station: &mut S,
+) -> Result<Outcome, AllocError>
+    ensures did { IfOk result (CheckpointResult S.meanings taken.now.product.now taken.now.text.now station.old station.new) }
+    ensures stays { IfOk result (λ outcome. (image : List ℕ) → S.meanings.holds station.old ≡ Some image → IsRefusal outcome.status
+        → KeepsImage S.meanings station.old station.new) }
+    ensures no_station { OnErr result (station.new ≡ station.old) }
+{
+    let mut session = Session::new(alloc, taken)?;
+    Ok(session.checkpoint(station))
 }

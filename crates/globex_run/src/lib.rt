@@ -1,7 +1,6 @@
 //! A run: messages in, reports out, and each message kept in a journal before it is answered. The other commands stand beside it.
 #![tactic(auto)]
 
-mod buffers;
 mod checkpoint;
 mod drill;
 mod ending;
@@ -18,9 +17,10 @@ mod run;
 mod serve;
 mod serve_record;
 mod session;
+mod taken;
 
 pub use headline::globex_for_run;
 pub use journal_use::{opens_journal, writes_journal};
 pub use outcome::Outcome;
-pub use reopening::execute_behind_a_crash;
+pub use reopening::{CallOf, execute_behind_a_crash};
 pub use run::globex;

@@ -18,9 +18,11 @@ ghost use Rattle.globex_run.specs.Promises.{TellsReadFaults, TellsStoreFaults, T
 ghost use Rattle.globex_run.specs.Promises.{PrintsItsText, Balances, BalancesAsRead, EndsWhereTold, RefusesWhatItMust, OpensAgain, HasItsStatuses};
 ghost use Rattle.globex_run.specs.Inner.Statuses.{outcome_without, outcome_of_words};
 
+use crate::ending::Ending;
 use crate::execute::execute;
 use crate::outcome::{Outcome, Status};
 use crate::product_text::{NoProduct, take_product};
+use crate::taken::Taken;
 use command_words::{WordsFault, read_command};
 use gx_station::{Source, Station};
 use product_file::LONGEST_TEXT;
@@ -42,7 +44,7 @@ fn outcome_without(reason: NoProduct) -> Outcome
 {
     match reason {
         NoProduct::NoMemory => Status::NoMemory.outcome(0, 0),
-        NoProduct::Unread => Status::ReadFault.outcome(0, 0),
+        NoProduct::Unread => Ending::ReadFault(0).outcome(0),
         NoProduct::Refused(rule) => Status::Product.outcome(u64::from(rule), 0),
     }
 }
@@ -136,5 +138,9 @@ pub fn globex<P: Source, I: Source, S: Station>(
         Ok(taken) => taken,
         Err(reason) => return outcome_without(reason),
     };
-    execute(alloc, command, &taken.product, &taken.text, input, station)
+    let lent = Taken {
+        product: &taken.product,
+        text: &taken.text,
+    };
+    execute(alloc, command, &lent, input, station)
 }

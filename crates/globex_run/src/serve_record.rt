@@ -10,12 +10,12 @@ ghost use Rattle.globex_run.specs.Inner.Keeping.{KeepsEvents};
 ghost use Rattle.globex_run.specs.Inner.Serving.{record_of, AnswersFrames};
 
 use crate::ending::Ending;
-use book_print::publish;
-use exec_report::{LineForm, ReportBuffer};
+use crate::session::Engine;
+use exec_report::LineForm;
 use fix_frame::Framer;
 use gx_station::Station;
+use journal_print::publish;
 use match_journal::{AppendFault, EntryKind, Journal};
-use order_kinds::Core;
 use plain_book::Book;
 use product_file::Product;
 
@@ -50,36 +50,35 @@ impl Unserved {
 pub fn serve_record<F: LineForm, B: Book, S: Station>(
     form: &mut F,
     product: &Product,
-    core: &mut Core<B>,
+    engine: &mut Engine<B>,
     journal: &mut Journal,
     framer: &Framer,
-    buffer: &mut ReportBuffer,
     station: &mut S,
 ) -> Result<(), Unserved>
     requires at_end { journal.old.is_at_end ≡ true }
     requires reach { journal.old.known ≤ S.meanings.reach station.old }
     requires in_limit { journal.old.gate < journal.old.limit }
     requires room { length (concat framer.now.given) ≤ journal.old.limit - (journal.old.gate + 7) }
-    requires few { core.old.desk.messages + length framer.now.given < MOST_MESSAGES }
-    requires fits { FitsProduct product.now core.old }
-    requires empty { buffer.old ≡ [] }
+    requires few { engine.old.core.desk.messages + length framer.now.given < MOST_MESSAGES }
+    requires fits { FitsProduct product.now engine.old.core }
+    requires empty { engine.old.reports ≡ [] }
     ensures limit { journal.new.limit ≡ journal.old.limit }
     ensures bytes_read { S.meanings.bytes_read station.new ≡ S.meanings.bytes_read station.old }
-    ensures answers { AnswersFrames S.meanings (AreNumbered core.old)
-        (F.meanings.text form.old) product.now journal.old.limit station.old station.new journal.old.gate journal.new.gate (state_numbered core.old)
-        (state_numbered core.new) framer.now.given result }
-    ensures published { AreNumbered core.old → OnOk result (KeepsEvents F.meanings form.old form.new
-        (events_from product.now (state_numbered core.old) (messages_in (record_of framer.now.given)))) }
+    ensures answers { AnswersFrames S.meanings (AreNumbered engine.old.core)
+        (F.meanings.text form.old) product.now journal.old.limit station.old station.new journal.old.gate journal.new.gate (state_numbered engine.old.core)
+        (state_numbered engine.new.core) framer.now.given result }
+    ensures published { AreNumbered engine.old.core → OnOk result (KeepsEvents F.meanings form.old form.new
+        (events_from product.now (state_numbered engine.old.core) (messages_in (record_of framer.now.given)))) }
     ensures text { F.meanings.text form.new ≡ F.meanings.text form.old }
     ensures silent { IsTrue F.meanings.is_silent → result ≢ Err Unserved.SendFault }
     ensures at_end { OnOk result (journal.new.is_at_end ≡ true) }
     ensures reach { OnOk result (journal.new.known ≤ S.meanings.reach station.new) }
     ensures in_limit { OnOk result (journal.new.gate < journal.new.limit) }
-    ensures counts { OnOk result (core.new.desk.messages ≡ core.old.desk.messages + length framer.now.given) }
-    ensures few { OnOk result (core.new.desk.messages < MOST_MESSAGES) }
-    ensures fits { OnOk result (FitsProduct product.now core.new) }
-    ensures numbered { AreNumbered core.old → OnOk result (AreNumbered core.new) }
-    ensures empty { OnOk result (buffer.new ≡ []) }
+    ensures counts { OnOk result (engine.new.core.desk.messages ≡ engine.old.core.desk.messages + length framer.now.given) }
+    ensures few { OnOk result (engine.new.core.desk.messages < MOST_MESSAGES) }
+    ensures fits { OnOk result (FitsProduct product.now engine.new.core) }
+    ensures numbered { AreNumbered engine.old.core → OnOk result (AreNumbered engine.new.core) }
+    ensures empty { OnOk result (engine.new.reports ≡ []) }
 {
     if framer.given_count() == 0 {
         return Ok(());
@@ -89,7 +88,14 @@ pub fn serve_record<F: LineForm, B: Book, S: Station>(
         Err(AppendFault::Full) => unreachable!(),
         Err(AppendFault::Store) => return Err(Unserved::StoreFault),
     }
-    match publish(form, product, core, framer, buffer, station) {
+    match publish(
+        form,
+        product,
+        &mut engine.core,
+        framer,
+        &mut engine.reports,
+        station,
+    ) {
         Ok(()) => Ok(()),
         Err(_) => Err(Unserved::SendFault),
     }

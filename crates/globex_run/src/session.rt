@@ -1,66 +1,83 @@
-//! A run of a product that was taken: its journal is opened, and the input served.
-ghost use Rattle.std.specs.Prelude.{◌≡◌, ◌≢◌, ◌⊎◌, ◌≤◌, ℕ, List, [], length, Some, IsTrue};
-ghost use Rattle.gx_station.specs.Honest.{KeepsImage};
+//! What a command works with that keeps one core: its product, its state, and all its memory.
+ghost use Rattle.std.specs.Prelude.{◌≡◌, ◌≤◌, length, vec_len, IfOk};
+ghost use Rattle.fix_frame.specs.declared.framer.TheConstants.{ROOM};
 ghost use Rattle.product_file.specs.declared.limits.TheConstants.{LONGEST_TEXT};
-ghost use Rattle.order_kinds.specs.State.{state_numbered};
-ghost use Rattle.globex_run.specs.Outside.{streams_at};
-ghost use Rattle.globex_run.specs.Inner.Keeping.{KeepsEvents};
-ghost use Rattle.globex_run.specs.Inner.Buffers.{AreNew};
-ghost use Rattle.globex_run.specs.Inner.Sessions.{SessionResult};
+ghost use Rattle.order_kinds.specs.State.{empty_state};
 
-use crate::buffers::Buffers;
-use crate::open::open_journal;
-use crate::outcome::Outcome;
-use crate::serve::serve;
-use exec_report::LineForm;
-use gx_station::{Source, Station};
-use product_file::Product;
+use crate::taken::Taken;
+use book_recovery::Scratch;
+use book_side::LinkedBook;
+use exec_report::ReportBuffer;
+use fix_frame::{Framer, ROOM};
+use order_kinds::Core;
+use plain_book::Book;
+use product_file::{LONGEST_TEXT, Product};
+use std::alloc::{AllocError, Global};
 
-/// Opens the journal of a product, brings the core to the state of the messages that it keeps, and serves the input. Of the
-/// messages of this call it tells how many are kept in records whose append was Ok.
-pub fn serve_session<F: LineForm, I: Source, S: Station>(
-    form: &mut F,
-    product: &Product,
-    text: &[u8],
-    buffers: &mut Buffers,
-    input: &mut I,
-    station: &mut S,
-) -> Outcome
-    requires short { length text.now ≤ LONGEST_TEXT }
-    requires new { AreNew product.now buffers.old }
-    ensures session { SessionResult S.meanings (F.meanings.text form.old) product.now text.now (streams_at I.meanings S.meanings input.old station.old)
-        (streams_at I.meanings S.meanings input.new station.new) (λ events. KeepsEvents F.meanings form.old form.new events)
-        (state_numbered buffers.new.core) result }
-    ensures silent { IsTrue F.meanings.is_silent → result.status ≢ 6 }
-    ensures empty { result.status ≡ 0 → buffers.new.reports ≡ [] }
-    ensures stays { (image : List ℕ) → S.meanings.holds station.old ≡ Some image → (result.status ≡ 9) ⊎ ((result.status ≡ 10) ⊎ (result.status ≡ 11))
-        → KeepsImage S.meanings station.old station.new }
-    ensures refused { (result.status ≡ 9) ⊎ ((result.status ≡ 10) ⊎ (result.status ≡ 11)) → S.meanings.sent station.new ≡ S.meanings.sent station.old }
+/// A core, and the buffer in which the lines of its events wait.
+#[derive(Drop)]
+pub struct Engine<B: Book> {
+    pub core: Core<B>,
+    pub reports: ReportBuffer,
+}
+
+/// What a command works with: the product with its text, the core and its lines, and the memory for the journal and the input.
+#[derive(Drop)]
+pub struct Session<'a, B: Book> {
+    pub product: &'a Product,
+    pub text: &'a [u8],
+    pub engine: Engine<B>,
+    /// The memory in which the journal is recovered.
+    pub scratch: Scratch,
+    pub framer: Framer,
+    /// The bytes of one read.
+    pub chunk: Vec<u8>,
+    ghost short: { length text.now ≤ LONGEST_TEXT },
+    ghost chunk_room: { vec_len chunk ≡ ROOM },
+}
+
+/// A core over an empty book with room for as many orders as the product allows. An `Err` is want of memory.
+pub fn new_core(alloc: Global, product: &Product) -> Result<Core<LinkedBook>, AllocError>
+    ensures { IfOk result (λ core. core ≡ empty_state product.now) }
 {
-    product.limits();
-    let Buffers {
-        core,
-        scratch,
-        framer,
-        chunk,
-        reports,
-        ..
-    } = buffers;
-    let mut journal = match open_journal(product, text, scratch, core, station) {
-        Ok(journal) => journal,
-        Err(reason) => return reason.ending().outcome(0),
-    };
-    let earlier = core.messages();
-    let ending = serve(
-        form,
-        product,
-        core,
-        &mut journal,
-        framer,
-        chunk.as_mut_slice(),
-        reports,
-        input,
-        station,
-    );
-    ending.outcome(core.messages() - earlier)
+    let instruments = product.names().instrument_count() as u8;
+    let book = LinkedBook::new(alloc, product.max_orders(), instruments)?;
+    Ok(Core::new(book, product))
+}
+
+impl Engine<LinkedBook> {
+    ghost use Rattle.globex_run.specs.Inner.Working.{IsNewEngine};
+
+    /// A new core, and an empty buffer. An `Err` is want of memory.
+    pub fn new(alloc: Global, product: &Product) -> Result<Engine<LinkedBook>, AllocError>
+        ensures { IfOk result (IsNewEngine product.now) }
+    {
+        let core = new_core(alloc, product)?;
+        let reports = ReportBuffer::new(alloc)?;
+        Ok(Engine { core, reports })
+    }
+}
+
+impl<'a> Session<'a, LinkedBook> {
+    ghost use Rattle.globex_run.specs.Inner.Working.{IsNewSession};
+
+    /// Takes all the memory of a session over a product that was taken. An `Err` is want of memory.
+    pub fn new(alloc: Global, taken: &Taken<'a>) -> Result<Session<'a, LinkedBook>, AllocError>
+        ensures new { IfOk result IsNewSession }
+        ensures product { IfOk result (λ session. session.product.now ≡ taken.now.product.now) }
+        ensures text { IfOk result (λ session. session.text.now ≡ taken.now.text.now) }
+    {
+        let engine = Engine::new(alloc, taken.product)?;
+        let scratch = Scratch::new(alloc, taken.product)?;
+        let framer = Framer::new(alloc)?;
+        let chunk = vec![in alloc; 0; ROOM]?;
+        Ok(Session {
+            product: taken.product,
+            text: taken.text,
+            engine,
+            scratch,
+            framer,
+            chunk,
+        })
+    }
 }

@@ -1,5 +1,6 @@
 pub mod Numbers
 pub mod Texts
+pub mod Orders
 pub mod FirstFault
 pub mod NameLists
 pub mod Frames

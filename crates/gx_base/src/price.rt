@@ -71,7 +71,8 @@ fn without_minus(text: &[u8]) -> &[u8]
 /// `CEILING` where that is less. `None` where there is no digit at all, or a byte is none.
 #[inline]
 fn read_units(whole: &[u8], fraction: &[u8], decimals: u8) -> Option<u64>
-    ensures { result ≡ (if nat_le 1 (length whole.now + length fraction.now) && are_digits whole.now && are_digits fraction.now then Some (min CEILING (digits_value 10 (whole.now ++ take decimals (fraction.now ++ replicate decimals 48)))) else None) }
+    ensures { result ≡ (if nat_le 1 (length whole.now + length fraction.now) && are_digits whole.now && are_digits fraction.now then Some
+        (min CEILING (digits_value 10 (whole.now ++ take decimals (fraction.now ++ replicate decimals 48)))) else None) }
 {
     let kept = cmp::min(fraction.len(), decimals as usize);
     if whole.len() + fraction.len() == 0 || !are_digits(&fraction[kept..]) {

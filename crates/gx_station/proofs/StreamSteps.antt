@@ -5,7 +5,7 @@ use Rattle.std.specs.IoError.{error_kind}
 use Rattle.std.specs.declared.io.Error.{Error}
 use Rattle.std.specs.declared.io.ErrorKind.TheVariants.{Interrupted}
 use Rattle.gx_station.specs.declared.count.TheConstants.{LAST_COUNT}
-use Rattle.gx_station.specs.Streams.{InputMeanings, OutputMeanings, WasInterrupted, Advances, IsRefused, IsTaken, AreTaken, SendsOnce}
+use Rattle.gx_station.specs.Streams.{InputMeanings, OutputMeanings, WasInterrupted, Advances, IsLastWrite, IsTaken, AreTaken, SendsOnce}
 
 -- ---- reads
 
@@ -28,10 +28,10 @@ module _ {W : Type 0} (m : OutputMeanings W) where
   send_flushed old mid new bytes (Ok x) first last = record { tries = first.0; mid = mid; count = length bytes; taken = first.1; ends = (refl, last) }
   send_flushed old mid new bytes (Err e) first last = record { tries = first.0; mid = mid; count = length bytes; taken = first.1; ends = inl (refl, last) }
 
-  pub send_refused : {T F : Type 0} (tries : ℕ) (old mid new : W) (bytes rest : List ℕ) (count : ℕ) (r : Result T F) → rest ≡ drop count bytes → IsTaken m tries old mid bytes count → IsRefused m mid new rest → OnErr r (SendsOnce m old new bytes r)
+  pub send_refused : {T F : Type 0} (tries : ℕ) (old mid new : W) (bytes rest : List ℕ) (count : ℕ) (r : Result T F) → rest ≡ drop count bytes → IsTaken m tries old mid bytes count → IsLastWrite m mid new rest → OnErr r (SendsOnce m old new bytes r)
   send_refused tries old mid new bytes rest count (Ok x) is first last = tt
   send_refused tries old mid new bytes rest count (Err e) is first last =
-      record { tries = tries; mid = mid; count = count; taken = first; ends = inr (inl (subst (λ l. IsRefused m mid new l) is last)) }
+      record { tries = tries; mid = mid; count = count; taken = first; ends = inr (inl (subst (λ l. IsLastWrite m mid new l) is last)) }
 
   pub send_used_up : {T F : Type 0} (tries : ℕ) (old new : W) (bytes : List ℕ) (count : ℕ) (e : F) → LAST_COUNT ≤ tries → IsTaken m tries old new bytes count → SendsOnce m {T = T} old new bytes (Err e)
   send_used_up tries old new bytes count e last first =

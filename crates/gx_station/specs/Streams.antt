@@ -58,13 +58,13 @@ module _ {W : Type 0} (m : OutputMeanings W) where
   Advances old new bytes (suc n) = m.wrote old new bytes (Ok (suc n))
 
   -- an answer after which no write follows: none was taken, or an error that is no interruption
-  abbrev pub IsRefusal : Result ℕ ErrorKind → Type 0
-  IsRefusal (Ok n) = n ≡ 0
-  IsRefusal (Err kind) = kind ≢ Interrupted
+  abbrev pub IsLastAnswer : Result ℕ ErrorKind → Type 0
+  IsLastAnswer (Ok n) = n ≡ 0
+  IsLastAnswer (Err kind) = kind ≢ Interrupted
 
   -- a write that ends the send
-  abbrev pub IsRefused : W → W → List ℕ → Type 0
-  IsRefused old new bytes = (answer : Result ℕ ErrorKind) × IsRefusal answer × m.wrote old new bytes answer
+  abbrev pub IsLastWrite : W → W → List ℕ → Type 0
+  IsLastWrite old new bytes = (answer : Result ℕ ErrorKind) × IsLastAnswer answer × m.wrote old new bytes answer
 
   -- so many writes took the first `count` of the bytes, each from where the one before it ended
   abbrev pub IsTaken : ℕ → W → W → List ℕ → ℕ → Type 0
@@ -83,7 +83,7 @@ module _ {W : Type 0} (m : OutputMeanings W) where
   SendEnds tries mid new bytes count (Ok x) = (count ≡ length bytes) × m.flushed mid new true
   SendEnds tries mid new bytes count (Err e) =
       ((count ≡ length bytes) × m.flushed mid new false)
-      ⊎ (IsRefused mid new (drop count bytes) ⊎ ((new ≡ mid) × (LAST_COUNT ≤ tries)))
+      ⊎ (IsLastWrite mid new (drop count bytes) ⊎ ((new ≡ mid) × (LAST_COUNT ≤ tries)))
 
   -- writes, and the last call
   pub record SendsOnce {T F : Type 0} (old new : W) (bytes : List ℕ) (result : Result T F) : Type 0 where

@@ -1,7 +1,7 @@
 //! The adapter to a journal file and a stream for reports.
 ghost use Rattle.std.specs.Prelude.{◌≡◌, ◌≤◌, length, OnOk, OnErr, IfOk};
 ghost use Rattle.std.specs.Io.KnownBytes.{Appends, WriteAppends};
-ghost use Rattle.gx_station.specs.Streams.{Advances, AreTaken, IsRefused, SendsOnce};
+ghost use Rattle.gx_station.specs.Streams.{Advances, AreTaken, IsLastWrite, SendsOnce};
 ghost use Rattle.gx_station.specs.FileStations.{file_of, writer_of, reach_of, send_faults_of, store_faults_of, AppendsFront};
 
 use crate::count::count_fault;
@@ -154,7 +154,7 @@ fn write_some<W: OutputStream>(out: &mut W, bytes: &[u8]) -> io::Result<usize>
     ensures bound { IfOk result (λ n. n ≤ length bytes.now) }
     ensures bytes { WriteAppends (W.meanings.holds out.old) (W.meanings.holds out.new) result bytes.now }
     ensures advances { IfOk result (λ n. Advances W.meanings out.old out.new bytes.now n) }
-    ensures refused { OnErr result (IsRefused W.meanings out.old out.new bytes.now) }
+    ensures refused { OnErr result (IsLastWrite W.meanings out.old out.new bytes.now) }
 {
     match out.write_once(bytes) {
         Ok(0) => Err(io::Error::from(ErrorKind::WriteZero)),

@@ -58,10 +58,26 @@ impl Model for MemStation {
     ghost use Rattle.std.specs.Prelude.{◌≡◌, ◌≤◌, ◌^◌, vec_len, vec_capacity};
     ghost use Rattle.gx_station.specs.CrashImages.{greatest_end};
 
-    ghost view = { λ s. record { first = s.first.items; done = calls_of s.entries.items s.pieces.items s.output.items; image = s.image.items; sent = s.output.items; reach = s.reach; pieces = vec_len s.pieces; room = s.room; sends = s.sends; most = s.most; fail = s.fail.items; calls = s.calls; store_faults = s.store_faults; send_faults = s.send_faults } };
+    ghost view = { λ s. record {
+      first = s.first.items;
+      done = calls_of s.entries.items s.pieces.items s.output.items;
+      image = s.image.items;
+      sent = s.output.items;
+      reach = s.reach;
+      pieces = vec_len s.pieces;
+      room = s.room;
+      sends = s.sends;
+      most = s.most;
+      fail = s.fail.items;
+      calls = s.calls;
+      store_faults = s.store_faults;
+      send_faults
+          = s.send_faults;
+    } };
 
     ghost invariant = { λ s. (s.room ≤ vec_capacity s.image) × (s.room ≤ vec_capacity s.pieces) × (s.sends ≤ vec_capacity s.output) × (s.most ≤ vec_capacity s.entries)
-        × (written_by s.entries.items ≡ vec_len s.pieces) × (sent_by s.entries.items ≡ vec_len s.output) × (s.reach ≤ vec_len s.image) × (greatest_end s.entries.items ≤ 2 ^ 62) };
+        × (written_by s.entries.items ≡ vec_len s.pieces) × (sent_by s.entries.items ≡ vec_len s.output) × (s.reach ≤ vec_len s.image)
+        × (greatest_end s.entries.items ≤ 2 ^ 62) };
 }
 
 impl MemStation {
@@ -76,7 +92,22 @@ impl MemStation {
         fail: Vec<u64>,
     ) -> Result<MemStation, AllocError>
         requires { vec_len image ≤ room }
-        ensures made { IfOk result (λ s. s ≡ record { first = image.items; done = []; image = image.items; sent = []; reach = 0; pieces = 0; room = room; sends = sends; most = most; fail = fail.items; calls = 0; store_faults = 0; send_faults = 0 }) }
+        ensures made { IfOk result
+            (λ s. s ≡ record {
+              first = image.items;
+              done = [];
+              image = image.items;
+              sent = [];
+              reach = 0;
+              pieces = 0;
+              room = room;
+              sends = sends;
+              most = most;
+              fail = fail.items;
+              calls = 0;
+              store_faults = 0;
+              send_faults = 0;
+            }) }
         ensures sound { IfOk result (λ s. IsSound s) }
     {
         let mut present = Vec::with_capacity(alloc, room)?;
@@ -179,7 +210,8 @@ impl Station for MemStation {
     #[tactic(auto, using(crate::proofs::Entries::one_more))]
     fn length(&mut self) -> Result<u64, Failed>
         ensures measures { Measures memory_meanings self.old self.new result }
-        ensures exactly { Answers self.old self.new (has_turn self.old) (was_measured self.old) (store_failed self.old (Looked 0)) (store_refused self.old) result }
+        ensures exactly { Answers self.old self.new (has_turn self.old) (was_measured self.old) (store_failed self.old (Looked 0)) (store_refused self.old)
+            result }
     {
         let fails = count_call(&mut self.calls, self.fail.as_slice());
         if self.entries.len() >= self.most {
@@ -199,7 +231,8 @@ impl Station for MemStation {
     fn read(&mut self, at: u64, into: &mut [u8]) -> Result<(), Failed>
         requires { at + length into.old ≤ self.old.reach }
         ensures reads { Reads memory_meanings self.old self.new at into.new result }
-        ensures exactly { Answers self.old self.new (has_turn self.old) (listed self.old (Looked (length into.new))) (store_failed self.old (Looked 0)) (store_refused self.old) result }
+        ensures exactly { Answers self.old self.new (has_turn self.old) (listed self.old (Looked (length into.new))) (store_failed self.old (Looked 0))
+            (store_refused self.old) result }
     {
         let fails = count_call(&mut self.calls, self.fail.as_slice());
         if self.entries.len() >= self.most {
@@ -221,7 +254,8 @@ impl Station for MemStation {
         requires within { at ≤ self.old.reach }
         requires small { at + length bytes.now ≤ 2 ^ 62 }
         ensures writes { Writes memory_meanings self.old self.new at bytes.now result }
-        ensures exactly { Answers self.old self.new (fits_write self.old at (length bytes.now)) (was_written self.old at bytes.now) (write_failed self.old at bytes.now) (store_refused self.old) result }
+        ensures exactly { Answers self.old self.new (fits_write self.old at (length bytes.now)) (was_written self.old at bytes.now)
+            (write_failed self.old at bytes.now) (store_refused self.old) result }
     {
         let fails = count_call(&mut self.calls, self.fail.as_slice());
         let at = at as usize;
@@ -249,7 +283,8 @@ impl Station for MemStation {
     #[tactic(auto, using(crate::proofs::Entries::one_more))]
     fn sync(&mut self) -> Result<(), Failed>
         ensures syncs { Syncs memory_meanings self.old self.new result }
-        ensures exactly { Answers self.old self.new (has_turn self.old) (listed self.old (Synced true)) (store_failed self.old (Synced false)) (store_refused self.old) result }
+        ensures exactly { Answers self.old self.new (has_turn self.old) (listed self.old (Synced true)) (store_failed self.old (Synced false))
+            (store_refused self.old) result }
     {
         let fails = count_call(&mut self.calls, self.fail.as_slice());
         if self.entries.len() >= self.most {
@@ -268,7 +303,8 @@ impl Station for MemStation {
     fn send(&mut self, bytes: &[u8]) -> Result<(), Failed>
         ensures sends { Sends memory_meanings self.old self.new bytes.now result }
         ensures passes { PassesOutputs memory_meanings self.old self.new }
-        ensures exactly { Answers self.old self.new (fits_send self.old (length bytes.now)) (was_sent self.old bytes.now) (send_failed self.old) (send_refused self.old) result }
+        ensures exactly { Answers self.old self.new (fits_send self.old (length bytes.now)) (was_sent self.old bytes.now) (send_failed self.old)
+            (send_refused self.old) result }
     {
         let fails = count_call(&mut self.calls, self.fail.as_slice());
         if self.output.len() + bytes.len() > self.sends || self.entries.len() >= self.most {

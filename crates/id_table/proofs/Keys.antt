@@ -1,5 +1,5 @@
 -- When the map takes two keys for one.
-use Rattle.std.proofs.Common.{◌≡◌, ◌≢◌, ℕ, Bool, true, false, List, refl, ap, subst}
+use Rattle.std.proofs.Common.{◌≡◌, ℕ, Bool, true, List, refl, ap}
 use Rattle.std.specs.declared.cmp.Ordering.{Ordering}
 use Rattle.std.specs.declared.cmp.Ordering.TheVariants.{Less, Equal, Greater}
 use Rattle.std.specs.Ordering.{nat_cmp, eq_by_cmp, is_eq}
@@ -20,6 +20,3 @@ same_key-true q k e = slice_cmp-IsAntisymmetric nat_cmp-IsAntisymmetric q k (is_
 
 pub same_key-itself : (q : List ℕ) → same_key q q ≡ true
 same_key-itself q = ap is_eq (tied_itself nat_list_cmp_total q)
-
-pub same_key-false : (q k : List ℕ) → same_key q k ≡ false → q ≢ k
-same_key-false q k e p = let t : same_key q k ≡ true = subst (λ (x : List ℕ). same_key q x ≡ true) p (same_key-itself q) in cc

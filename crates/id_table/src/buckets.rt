@@ -77,7 +77,8 @@ pub(crate) fn take_node(
     requires { IsTable capacity buckets.old }
     ensures table { IsTable capacity buckets.new }
     ensures slots { slots_of buckets.new ≡ map.remove (slots_of buckets.old) (key firm id.now) }
-    ensures node { MatchOption result (map.get (slots_of buckets.old) (key firm id.now) ≡ None) (λ n. IsLeaf n.value × (key_of n.value.entry ≡ key firm id.now) × (map.get (slots_of buckets.old) (key firm id.now) ≡ Some n.value.entry.slot)) }
+    ensures node { MatchOption result (map.get (slots_of buckets.old) (key firm id.now) ≡ None) (λ n. IsLeaf n.value
+        × (key_of n.value.entry ≡ key firm id.now) × (map.get (slots_of buckets.old) (key firm id.now) ≡ Some n.value.entry.slot)) }
 {
     let home = home_of(capacity, firm, id);
     take(&mut buckets[home], 0, firm, id)
@@ -95,7 +96,8 @@ pub(crate) fn rename_node(
     requires present { map.get (slots_of buckets.old) (key firm old.now) ≢ None }
     requires absent { map.get (slots_of buckets.old) (key firm new) ≡ None }
     ensures table { IsTable capacity buckets.new }
-    ensures slots { (slot : SlotValue) → map.get (slots_of buckets.old) (key firm old.now) ≡ Some slot → slots_of buckets.new ≡ map.insert (map.remove (slots_of buckets.old) (key firm old.now)) (key firm new) slot }
+    ensures slots { (slot : SlotValue) → map.get (slots_of buckets.old) (key firm old.now) ≡ Some slot
+        → slots_of buckets.new ≡ map.insert (map.remove (slots_of buckets.old) (key firm old.now)) (key firm new) slot }
     ensures count { map.len (slots_of buckets.new) ≡ map.len (slots_of buckets.old) }
 {
     if let Some(mut node) = take_node(buckets, capacity, firm, old) {

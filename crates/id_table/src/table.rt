@@ -33,7 +33,8 @@ impl Model for IdTable {
 
     ghost view = { λ t. record { capacity = t.capacity; slots = slots_of t.buckets.items } };
 
-    ghost invariant = { λ t. IsKept t.capacity t.live t.buckets.items (vec_len t.spare) (vec_capacity t.spare) × (vec_capacity t.buckets ≡ 2 * t.capacity + 1) };
+    ghost invariant = { λ t. IsKept t.capacity t.live t.buckets.items (vec_len t.spare) (vec_capacity t.spare)
+        × (vec_capacity t.buckets ≡ 2 * t.capacity + 1) };
 }
 
 impl IdTable {

@@ -93,7 +93,8 @@ fn take_all(tree: &mut Tree) -> Option<Box<Node>>
 /// Takes some node with nothing below it out of a tree. `None` exactly where the tree is empty.
 #[cycle(leaf)]
 fn take_leaf(tree: &mut Tree) -> Option<Box<Node>>
-    ensures { MatchOption result ((tree.old ≡ Empty) × (tree.new ≡ Empty)) (λ n. IsLeaf n.value × ((depth : ℕ) → IsOrdered depth tree.old → IsTaken depth n.value tree.old tree.new)) }
+    ensures { MatchOption result ((tree.old ≡ Empty) × (tree.new ≡ Empty)) (λ n. IsLeaf n.value × ((depth : ℕ) → IsOrdered depth tree.old
+        → IsTaken depth n.value tree.old tree.new)) }
 {
     match tree {
         Tree::Empty => None,
@@ -111,7 +112,8 @@ fn take_leaf(tree: &mut Tree) -> Option<Box<Node>>
 #[cycle(leaf)]
 fn take_below(node: &mut Node) -> Option<Box<Node>>
     ensures entry { node.new.entry ≡ node.old.entry }
-    ensures leaf { MatchOption result (IsLeaf node.old × IsLeaf node.new) (λ n. IsLeaf n.value × ((depth : ℕ) → IsOrderedNode depth node.old → IsTakenBelow depth n.value node.old node.new)) }
+    ensures leaf { MatchOption result (IsLeaf node.old × IsLeaf node.new) (λ n. IsLeaf n.value × ((depth : ℕ) → IsOrderedNode depth node.old
+        → IsTakenBelow depth n.value node.old node.new)) }
 {
     match take_leaf(&mut node.low) {
         None => take_leaf(&mut node.high),
@@ -122,7 +124,8 @@ fn take_below(node: &mut Node) -> Option<Box<Node>>
 /// Takes the id at the root out of a tree. `None` exactly where the tree is empty. A leaf takes its place, since the id of
 /// each node below the root has the way to the root in common with it.
 fn take_root(tree: &mut Tree) -> Option<Box<Node>>
-    ensures { MatchOption result (tree.old ≡ Empty) (λ n. IsLeaf n.value × (root_of tree.old ≡ Some n.value.entry) × ((depth : ℕ) → IsOrdered depth tree.old → IsTaken depth n.value tree.old tree.new)) }
+    ensures { MatchOption result (tree.old ≡ Empty) (λ n. IsLeaf n.value × (root_of tree.old ≡ Some n.value.entry) × ((depth : ℕ) → IsOrdered depth tree.old
+        → IsTaken depth n.value tree.old tree.new)) }
 {
     match tree {
         Tree::Empty => None,
@@ -142,7 +145,8 @@ pub(crate) fn take(tree: &mut Tree, depth: u8, firm: u8, id: &ShortId) -> Option
     requires { IsOrdered depth tree.old }
     ensures ordered { IsOrdered depth tree.new }
     ensures removes { Becomes (key firm id.now) None (slot_of tree.old) (slot_of tree.new) }
-    ensures node { MatchOption result (slot_of tree.old (key firm id.now) ≡ None) (λ n. IsLeaf n.value × (key_of n.value.entry ≡ key firm id.now) × (slot_of tree.old (key firm id.now) ≡ Some n.value.entry.slot)) }
+    ensures node { MatchOption result (slot_of tree.old (key firm id.now) ≡ None) (λ n. IsLeaf n.value × (key_of n.value.entry ≡ key firm id.now)
+        × (slot_of tree.old (key firm id.now) ≡ Some n.value.entry.slot)) }
 {
     match tree {
         Tree::Empty => None,

@@ -5,7 +5,6 @@ pub mod Images
 mod Orders
 mod Held
 mod Prices
-mod Sweeps
 mod Counted
 mod Matching
 mod Arriving

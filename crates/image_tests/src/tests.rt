@@ -6,22 +6,11 @@ mod prefixes;
 
 use globex_run::Outcome;
 use gx_station::{MemSource, MemStation};
-use run_fixtures::{ROOM, ended, frames_of, run_over, station_over};
+use run_fixtures::{ROOM, ended, frames_of, product_text, run_over, station_over};
 use std::process::Abort;
 
 /// The usual product with few live orders, whose memory is soon taken, and a journal as short as it may be.
-const SMALL_PRODUCT: &str = r#"exchange = "GX"
-firms = ["AAA", "BBB", "CCC", "DDD"]
-max_orders = 8
-journal_limit = 131072
-
-[[instrument]]
-name = "ESZ4"
-decimals = 2
-tick = 1
-protection = 2
-algorithm = "F"
-"#;
+const SMALL_PRODUCT: &str = product_text!("max_orders = 8", "journal_limit = 131072", letter: "F");
 
 /// It trades what `ONE_ORDER` left open.
 const THIRD_ORDER: &str =

@@ -22,7 +22,10 @@ use Rattle.book_print.specs.TotalsLaws.{exact_totals, totals-exact}
 use Rattle.book_print.specs.Printing.{fill_form, ledger_form}
 use Rattle.book_print.specs.declared.fills.FillForm.{FillForm}
 use Rattle.book_print.specs.declared.ledger.Totals.{Totals}
-use Rattle.journal_print.specs.Printed.{printed_whole, PrintsEvents}
+use Rattle.journal_print.specs.Works.{work_text, work_whole}
+use Rattle.journal_print.specs.LineWorks.{line_work}
+use Rattle.journal_print.specs.Printed.{printed_whole, PrintsMessages, PrintsEvents}
+use Rattle.journal_print.specs.declared.work.Lines.{Lines}
 use Rattle.journal_print.specs.declared.unprinted.Unprinted.{Unprinted}
 use Rattle.journal_print.specs.declared.unprinted.Unprinted.TheVariants as unprinted
 
@@ -77,18 +80,17 @@ module _ {S : Type 0} (m : StationMeanings S) (product : ProductLists) (text ima
   printed_as line whole same is (Err (unprinted.ProductDiffers at)) told = told
 
   -- the reports are printed again
-  pub reports_printed : (form : ReportForm) (r : Result ℕ Unprinted)
-      → PrintsEvents m product text image old new (report_form.text form) (printed_whole report_form form product) r → PrintsEvents m product text image old new line_of (reports_of product) r
-  reports_printed form = printed_as line_of (printed_whole report_form form product) (reports_of product) (λ messages few. report_whole form product messages)
+  pub reports_printed : (lines : Lines ReportForm) (r : Result ℕ Unprinted) → PrintsMessages m product text image old new (work_text (line_work report_form) lines product) (work_whole (line_work report_form) lines product) r
+      → PrintsEvents m product text image old new line_of (reports_of product) r
+  reports_printed lines = printed_as line_of (printed_whole report_form lines.form product) (reports_of product) (λ messages few. report_whole lines.form product messages)
 
-  pub fills_printed : (form : FillForm) (r : Result ℕ Unprinted)
-      → PrintsEvents m product text image old new (fill_form.text form) (printed_whole fill_form form product) r
+  pub fills_printed : (lines : Lines FillForm) (r : Result ℕ Unprinted) → PrintsMessages m product text image old new (work_text (line_work fill_form) lines product) (work_whole (line_work fill_form) lines product) r
       → PrintsEvents m product text image old new fill_line (λ messages. fill_text product (events_of product messages)) r
-  fills_printed form = printed_as fill_line (printed_whole fill_form form product) (λ messages. fill_text product (events_of product messages)) (λ messages few. fill_whole form product messages)
+  fills_printed lines = printed_as fill_line (printed_whole fill_form lines.form product) (λ messages. fill_text product (events_of product messages)) (λ messages few. fill_whole lines.form product messages)
 
   -- the ledger, from totals of which all are 0
-  pub ledger_printed : IsRightProduct product → (totals : Totals) → totals ≡ no_totals → (r : Result ℕ Unprinted)
-      → PrintsEvents m product text image old new (ledger_form.text totals) (printed_whole ledger_form totals product) r → PrintsEvents m product text image old new (λ names. ledger_line) (ledger_text product) r
-  ledger_printed right totals new_totals =
-      printed_as (λ names. ledger_line) (printed_whole ledger_form totals product) (ledger_text product)
+  pub ledger_printed : IsRightProduct product → (lines : Lines Totals) → lines.form ≡ no_totals → (r : Result ℕ Unprinted)
+      → PrintsMessages m product text image old new (work_text (line_work ledger_form) lines product) (work_whole (line_work ledger_form) lines product) r → PrintsEvents m product text image old new (λ names. ledger_line) (ledger_text product) r
+  ledger_printed right lines new_totals =
+      printed_as (λ names. ledger_line) (printed_whole ledger_form lines.form product) (ledger_text product)
       (λ messages few. ap (λ (t : Totals). printed_whole ledger_form t product messages) new_totals ∙ ledger_whole product right messages few)

@@ -10,7 +10,7 @@ use Rattle.order_kinds.specs.declared.core_state.TheConstants.{MOST_MESSAGES}
 use Rattle.order_kinds.specs.Balance.{total_open}
 use Rattle.order_kinds.specs.Step.{events_of}
 use Rattle.book_recovery.specs.Records.{state_kept, messages_in}
-use Rattle.book_recovery.specs.Kept.{HasKept, HasTrueKept, CanBeRecovered}
+use Rattle.book_recovery.specs.Kept.{HasKept, IsTrueImage, CanBeRecovered}
 use Rattle.book_recovery.specs.BadPlaces.{AreFirstRecords, HasBadRecordAt, IsBadPlace}
 use Rattle.book_print.specs.BookText.{book_text}
 use Rattle.exec_report.specs.Forms.{LineText, FormMeanings, behind}
@@ -33,11 +33,11 @@ module _ {S : Type 0} (m : StationMeanings S) (product : ProductLists) (text ima
   abbrev pub SentNothing : Type 0
   SentNothing = m.sent new ≡ m.sent old
 
-  -- a part was sent of the lines of the messages in the first records, none of them bad
-  pub record SentPart (line : LineText) : Type 0 where
+  -- a part was sent of what is sent of the messages in the first records, none of them bad
+  pub record SentPart (text_of : List (List ℕ) → List ℕ) : Type 0 where
     pub records : List Record
     pub first : AreFirstRecords product text product.journal_limit records image
-    pub sent : IsKnownPrefix (m.sent new) (sent_and (m.sent old) (lines_in line product (messages_in records)))
+    pub sent : IsKnownPrefix (m.sent new) (sent_and (m.sent old) (text_of (messages_in records)))
 
   -- a part was sent of what is printed of the messages kept, which are no more than a core takes
   pub record SentPartOfAll (whole : List (List ℕ) → List ℕ) : Type 0 where
@@ -54,21 +54,25 @@ module _ {S : Type 0} (m : StationMeanings S) (product : ProductLists) (text ima
     pub sent : m.sent new ≡ sent_and (m.sent old) (whole messages)
     pub count_is : count ≡ length messages
 
-  -- a record is bad, and the lines of the messages in all records before it were sent
-  pub record SentToBadRecord (line : LineText) (at : ℕ) : Type 0 where
+  -- a record is bad, and what is sent of the messages in all records before it was sent
+  pub record SentToBadRecord (text_of : List (List ℕ) → List ℕ) (at : ℕ) : Type 0 where
     pub opened : IsOpened text image
     pub bad : HasBadRecordAt product text product.journal_limit image at
-    pub sent : m.sent new ≡ sent_and (m.sent old) (lines_in line product (messages_in bad.before))
+    pub sent : m.sent new ≡ sent_and (m.sent old) (text_of (messages_in bad.before))
 
-  -- What was printed of the events of all messages, line by line, and what is printed of them as a whole. No two of these answers
-  -- but for a fault of the outside fit one image, so each comes exactly where it fits.
+  -- What was sent of all messages, record by record, and what is sent of them as a whole. No two of these answers but for a fault of
+  -- the outside fit one image, so each comes exactly where it fits.
+  abbrev pub PrintsMessages : (List (List ℕ) → List ℕ) → (List (List ℕ) → List ℕ) → Result ℕ Unprinted → Type 0
+  PrintsMessages text_of whole (Ok count) = SentAll whole count
+  PrintsMessages text_of whole (Err unprinted.Store) = SentNothing ⊎ SentPart text_of
+  PrintsMessages text_of whole (Err unprinted.Send) = SentPart text_of ⊎ SentPartOfAll whole
+  PrintsMessages text_of whole (Err (unprinted.NotAJournal at)) = IsForeignAt image at × SentNothing
+  PrintsMessages text_of whole (Err (unprinted.Bad at)) = (HasBadHeader image at × SentNothing) ⊎ SentToBadRecord text_of at
+  PrintsMessages text_of whole (Err (unprinted.ProductDiffers at)) = HasOtherText text image at × SentNothing
+
+  -- what was printed of the events of all messages, line by line
   abbrev pub PrintsEvents : LineText → (List (List ℕ) → List ℕ) → Result ℕ Unprinted → Type 0
-  PrintsEvents line whole (Ok count) = SentAll whole count
-  PrintsEvents line whole (Err unprinted.Store) = SentNothing ⊎ SentPart line
-  PrintsEvents line whole (Err unprinted.Send) = SentPart line ⊎ SentPartOfAll whole
-  PrintsEvents line whole (Err (unprinted.NotAJournal at)) = IsForeignAt image at × SentNothing
-  PrintsEvents line whole (Err (unprinted.Bad at)) = (HasBadHeader image at × SentNothing) ⊎ SentToBadRecord line at
-  PrintsEvents line whole (Err (unprinted.ProductDiffers at)) = HasOtherText text image at × SentNothing
+  PrintsEvents line whole result = PrintsMessages (lines_in line product) whole result
 
   -- the book of the state that the messages kept leave
   abbrev pub book_kept : List (List ℕ) → List ℕ
@@ -78,7 +82,7 @@ module _ {S : Type 0} (m : StationMeanings S) (product : ProductLists) (text ima
   -- and counted then, by the messages kept, is said where each book image is that of the state after the messages before it.
   pub record SentBook (Sends : List (List ℕ) → Type 0) : Type 0 where
     pub recovered : CanBeRecovered product text product.journal_limit image
-    pub sends : (messages : List (List ℕ)) → HasTrueKept product text messages image → Sends messages
+    pub sends : (messages : List (List ℕ)) → IsTrueImage product text messages image → Sends messages
 
   -- the book of the state after these messages was sent, and they were counted
   abbrev pub SentAllOfBook : ℕ → List (List ℕ) → Type 0

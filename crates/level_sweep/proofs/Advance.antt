@@ -13,7 +13,7 @@ use Rattle.step_config.specs.declared.step.Step.{Step}
 use Rattle.plain_book.specs.declared.entry.Entry.{Entry}
 use Rattle.plain_book.specs.Orders.{order_of, reordered}
 use Rattle.plain_book.specs.Book.{AllDiffer}
-use Rattle.plain_book.specs.Match.{MatchState, Share, trade, is_prorata, book_marked, marked, trade_share, trade_shares}
+use Rattle.plain_book.specs.Match.{MatchState, Share, trade, is_prorata, book_share_noted, share_noted, trade_share, trade_shares}
 use Rattle.plain_book.specs.Steps.{level_now, trade_head, fifo_rounds}
 use Rattle.plain_book.proofs.Levels.{with_order-level}
 use Rattle.plain_book.proofs.Walks.{AllDiffer-with_order}
@@ -77,19 +77,19 @@ takes-then price a b c h few more = elim h [
 wants-some : (price : Price) (m n : MatchState) → KeepsLevel price m n → 0 < wants m → 0 < wants n
 wants-some price m n k w = omega (arith, w, ap (λ (t : Taker). t.order.leaves) k.taker)
 
--- a mark alone
-marked-keeps : (price : Price) (step : StepName) (s n : ℕ) (m : MatchState) → AllDiffer m.book.resting → KeepsLevel price m (marked step s n m)
+-- a noted share alone
+marked-keeps : (price : Price) (step : StepName) (s n : ℕ) (m : MatchState) → AllDiffer m.book.resting → KeepsLevel price m (share_noted step s n m)
 marked-keeps price step s n m d =
     let es = m.book.resting in
     let o : Order = record (order_of s es) { prorated = n } in
-    let go : (c : Bool) → KeepsLevel price m (record m { book = cond c (book_marked s n m.book) m.book }) = elim [
+    let go : (c : Bool) → KeepsLevel price m (record m { book = cond c (book_share_noted s n m.book) m.book }) = elim [
       | true ↦ record { taker = refl; many = ap length (with_order-level _ s o es d refl) ∙ length-map (level_now price m) (reordered s o); differ = AllDiffer-with_order s o es d }
       | false ↦ keeps-same price m d
     ] in go (is_prorata step)
 
 share-takes : (price : Price) (step : StepName) (s n : ℕ) (m : MatchState) → 0 < wants m → AllDiffer m.book.resting → TakesLots price m (trade_share step s n m)
 share-takes price step s n m w d =
-    let k = marked step s n m in
+    let k = share_noted step s n m in
     elim (eqb_tells n 0) [
       | inl t ↦ inr (subst (λ (c : Bool). KeepsLevel price m (cond c k (trade step s n k))) (sym t.0) (marked-keeps price step s n m d))
       | inr t ↦ inl (let some : n ≢ 0 = t.1 in omega (arith, share-leaves step s n m, some, w))

@@ -1,4 +1,4 @@
--- What holds of each order, and still does when one of them trades or is marked, holds of each order after a whole sweep.
+-- What holds of each order, and still does when one of them trades or a share is noted on it, holds of each order after a whole sweep.
 use Rattle.std.proofs.Common.{◌≡◌, ◌≢◌, ℕ, ◌-◌, Bool, false, cond, not, List, [], ◌∷◌, filter, refl, sym, ap, subst, ◌∙◌, arith, inl, inr, ◌⊎◌}
 use Rattle.std.specs.Prelude.{◌==◌}
 use Rattle.std.specs.List.{AllByRecursion}
@@ -8,7 +8,7 @@ use Rattle.plain_book.specs.declared.entry.Entry.{Entry}
 use Rattle.plain_book.specs.Orders.{HasSlot, order_of, no_order, without, with_order, placed, settled, traded, refreshed, filled_by, is_at_earlier_level}
 use Rattle.plain_book.proofs.Levels.{renewed, with_order-none}
 use Rattle.plain_book.proofs.Pairs.{all-filter, all-append}
-use Rattle.level_sweep.proofs.EachTrade.{Relation, IsKept}
+use Rattle.level_sweep.proofs.EachTrade.{Relation, IsKept, RestingStays, resting-kept}
 
 -- where there is no order, nothing is traded
 pub none-traded : (s t n : ℕ) (es xs : List Entry) → order_of s es ≡ no_order → settled t (filled_by n (order_of s es)) xs ≡ without t xs
@@ -21,7 +21,7 @@ none-traded s t n es xs h =
 abbrev pub behind : ℕ → Order → Entry
 behind s o = record { slot = s; order = refreshed o; is_top = false }
 
--- The order e trades n lots or is marked, and Q holds of what then stands in the place of x, which has its slot.
+-- The order e trades n lots or a share is noted on it, and Q holds of what then stands in the place of x, which has its slot.
 pub record StaysTrue (Q : Entry → Type 0) : Type 0 where
   pub fills : (n : ℕ) (e x : Entry) → Q e → Q x → x.slot ≡ e.slot → e.order.shown - n ≢ 0 → Q (renewed x (filled_by n e.order))
   pub refreshes : (n : ℕ) (e : Entry) → Q e → e.order.leaves - n ≢ 0 → e.order.shown - n ≡ 0 → Q (behind e.slot (filled_by n e.order))
@@ -85,25 +85,20 @@ module _ (Q : Entry → Type 0) where
           ])
         ]
 
-    all-traded : (s n : ℕ) (es : List Entry) → All es → All (traded s n es)
+    pub all-traded : (s n : ℕ) (es : List Entry) → All es → All (traded s n es)
     all-traded s n es a = elim (found s es a) [
       | inl g ↦ subst All (sym (none-traded s s n es es g.1)) (all-without s es a)
       | inr f ↦ subst (λ (o : Order). All (settled s (filled_by n o) es)) f.order (subst (λ (k : ℕ). All (settled k (filled_by n f.entry.order) es)) f.slot (all-settled n f.entry es f.holds a))
     ]
 
-    all-marked : (s n : ℕ) (es : List Entry) → All es → All (with_order s (record (order_of s es) { prorated = n }) es)
+    pub all-marked : (s n : ℕ) (es : List Entry) → All es → All (with_order s (record (order_of s es) { prorated = n }) es)
     all-marked s n es a = elim (found s es a) [
       | inl g ↦ subst All (sym (with_order-none s (record (order_of s es) { prorated = n }) es g.0)) a
       | inr f ↦ subst (λ (o : Order). All (with_order s (record o { prorated = n }) es)) f.order (all-with_order s (record f.entry.order { prorated = n }) es (λ x q is. stays.marks n f.entry x f.holds q (is ∙ sym f.slot)) a)
     ]
 
     abbrev pub AllStay : Relation
-    AllStay a b = All a.book.resting → All b.book.resting
+    AllStay = RestingStays All
 
     pub all-kept : IsKept AllStay
-    all-kept = record {
-      same = λ m a. a;
-      both = λ a b c h k x. k (h x);
-      trades = λ step s n m a. all-traded s n m.book.resting a;
-      marks = λ s n m a. all-marked s n m.book.resting a;
-    }
+    all-kept = resting-kept All all-traded all-marked

@@ -10,13 +10,13 @@ use Rattle.step_config.specs.declared.step.Step.{Step}
 use Rattle.plain_book.specs.declared.entry.Entry.{Entry}
 use Rattle.plain_book.specs.Orders.{HasSlot, order_of, no_order}
 use Rattle.plain_book.specs.Book.{AllDiffer}
-use Rattle.plain_book.specs.Match.{MatchState, marked, trade_share}
+use Rattle.plain_book.specs.Match.{MatchState, share_noted, trade_share}
 use Rattle.plain_book.specs.Steps.{trade_head}
 use Rattle.plain_book.proofs.Levels.{same}
 use Rattle.plain_book.proofs.Pairs.{all-with, all-both}
-use Rattle.level_sweep.specs.Sweep.{wanted_step, level_match, sweep}
+use Rattle.level_sweep.specs.Sweep.{wanted_step, level_match}
 use Rattle.level_sweep.proofs.EachOrder.{StaysTrue, AllStay, all-kept, found}
-use Rattle.level_sweep.proofs.EachTrade.{Relation, IsKept, each-marked, each-share, each-head, each-wanted, each-match, each-sweep}
+use Rattle.level_sweep.proofs.EachTrade.{Relation, IsKept, each-marked, each-share, each-head, each-wanted, each-match}
 use Rattle.plain_book.specs.Numbers.{numbered}
 
 -- P holds of the slot and the number of each order
@@ -64,7 +64,7 @@ NamesStay P = AllStay (NamesHold P) (names P)
 names-kept : (P : ℕ → ℕ → Type 0) → IsKept (NamesStay P)
 names-kept P = all-kept (NamesHold P) (names P)
 
-pub keeps-marked : (step : StepName) (s n : ℕ) → KeepsNames (marked step s n)
+pub keeps-marked : (step : StepName) (s n : ℕ) → KeepsNames (share_noted step s n)
 keeps-marked step s n P m a = each-marked (NamesStay P) (names-kept P) step s n m a
 
 pub keeps-share : (step : StepName) (s n : ℕ) → KeepsNames (trade_share step s n)
@@ -78,9 +78,6 @@ keeps-wanted s price P m a = each-wanted (NamesStay P) (names-kept P) s price m 
 
 pub keeps-match : (steps : List Step) (price : Price) → KeepsNames (level_match steps price)
 keeps-match steps price P m a = each-match (NamesStay P) (names-kept P) steps price m a
-
-pub keeps-sweep : (steps : List Step) (limit : Price) → KeepsNames (sweep steps limit)
-keeps-sweep steps limit P m a = each-sweep (NamesStay P) (names-kept P) steps limit m a
 
 -- ---- slots and numbers that go together
 

@@ -11,28 +11,28 @@ use Rattle.gx_base.specs.declared.event.StepName.{StepName}
 use Rattle.plain_book.specs.declared.entry.Entry.{Entry}
 use Rattle.plain_book.specs.Orders.{HasSlot, is_at, is_on, is_at_earlier_level, order_of, without, with_order, reordered, placed, settled, traded, refreshed, filled_by, side_of, price_of, best_of}
 use Rattle.plain_book.specs.Book.{Book}
-use Rattle.plain_book.specs.Match.{MatchState, Share, trade, trade_if_any, report, fill, taken_by, lengthened, is_prorata, book_marked, marked, trade_share, trade_shares}
+use Rattle.plain_book.specs.Match.{MatchState, Share, trade, trade_if_any, report, fill, taken_by, lengthened, is_prorata, book_share_noted, share_noted, trade_share, trade_shares}
 use Rattle.plain_book.specs.Steps.{facing, level_now}
 use Rattle.plain_book.proofs.Levels.{same, renewed}
 use Rattle.plain_book.proofs.Pairs.{all-from, all-with}
-use Rattle.plain_book.specs.Numbers.{by_number, numbered, book_numbered, match_numbered}
+use Rattle.plain_book.specs.Numbers.{entry_numbered, numbered, book_numbered, match_numbered}
 use Rattle.level_sweep.proofs.EachOrder.{none-traded}
 use Rattle.level_sweep.proofs.Names.{GoesWith, Agree, KeepsNames, found-name, keeps-marked, keeps-share}
 
 -- ---- lists
 
-pub filter-numbered : (p q : Entry → Bool) (es : List Entry) → AllByRecursion (λ e. q (by_number e) ≡ p e) es → filter q (numbered es) ≡ numbered (filter p es)
+pub filter-numbered : (p q : Entry → Bool) (es : List Entry) → AllByRecursion (λ e. q (entry_numbered e) ≡ p e) es → filter q (numbered es) ≡ numbered (filter p es)
 filter-numbered p q [] h = refl
 filter-numbered p q (e ∷ es) h =
     let t = filter-numbered p q es h.1 in
-    let go : (b : Bool) → cond b (by_number e ∷ filter q (numbered es)) (filter q (numbered es)) ≡ numbered (cond b (e ∷ filter p es) (filter p es)) = elim [
-      | true ↦ ap (λ (x : List Entry). by_number e ∷ x) t
+    let go : (b : Bool) → cond b (entry_numbered e ∷ filter q (numbered es)) (filter q (numbered es)) ≡ numbered (cond b (e ∷ filter p es) (filter p es)) = elim [
+      | true ↦ ap (λ (x : List Entry). entry_numbered e ∷ x) t
       | false ↦ t
-    ] in ap (λ (b : Bool). cond b (by_number e ∷ filter q (numbered es)) (filter q (numbered es))) h.0 ∙ go (p e)
+    ] in ap (λ (b : Bool). cond b (entry_numbered e ∷ filter q (numbered es)) (filter q (numbered es))) h.0 ∙ go (p e)
 
 -- a test that looks at the order alone
-pub filter-order : (p : Entry → Bool) → ((e : Entry) → p (by_number e) ≡ p e) → (es : List Entry) → filter p (numbered es) ≡ numbered (filter p es)
-filter-order p h es = filter-numbered p p es (all-from (λ e. p (by_number e) ≡ p e) h es)
+pub filter-order : (p : Entry → Bool) → ((e : Entry) → p (entry_numbered e) ≡ p e) → (es : List Entry) → filter p (numbered es) ≡ numbered (filter p es)
+filter-order p h es = filter-numbered p p es (all-from (λ e. p (entry_numbered e) ≡ p e) h es)
 
 pub level-numbered : (price : Price) (m : MatchState) → level_now price (match_numbered m) ≡ numbered (level_now price m)
 level-numbered price m = filter-order (is_at (facing price m.taker)) (λ e. refl) m.book.resting
@@ -47,11 +47,11 @@ price-numbered (e ∷ es) = refl
 pub best-numbered : (i : ℕ) (d : Side) (es : List Entry) → best_of i d (numbered es) ≡ best_of i d es
 best-numbered i d es = ap price_of (side-numbered i d es) ∙ price-numbered (side_of i d es)
 
-pub placed-numbered : (n : Entry) (es : List Entry) → placed (by_number n) (numbered es) ≡ numbered (placed n es)
+pub placed-numbered : (n : Entry) (es : List Entry) → placed (entry_numbered n) (numbered es) ≡ numbered (placed n es)
 placed-numbered n es =
-    ap (λ (q : List Entry). q ++ by_number n ∷ filter (is_at_earlier_level n) (numbered es)) (filter-order (λ e. not (is_at_earlier_level n e)) (λ e. refl) es)
-    ∙ ap (λ (q : List Entry). numbered (filter (λ e. not (is_at_earlier_level n e)) es) ++ by_number n ∷ q) (filter-order (is_at_earlier_level n) (λ e. refl) es)
-    ∙ sym (map-append by_number (filter (λ e. not (is_at_earlier_level n e)) es) (n ∷ filter (is_at_earlier_level n) es))
+    ap (λ (q : List Entry). q ++ entry_numbered n ∷ filter (is_at_earlier_level n) (numbered es)) (filter-order (λ e. not (is_at_earlier_level n e)) (λ e. refl) es)
+    ∙ ap (λ (q : List Entry). numbered (filter (λ e. not (is_at_earlier_level n e)) es) ++ entry_numbered n ∷ q) (filter-order (is_at_earlier_level n) (λ e. refl) es)
+    ∙ sym (map-append entry_numbered (filter (λ e. not (is_at_earlier_level n e)) es) (n ∷ filter (is_at_earlier_level n) es))
 
 -- ---- one order
 
@@ -74,17 +74,17 @@ module _ (s k : ℕ) where
   with_order-numbered o [] h a = refl
   with_order-numbered o (e ∷ es) h a =
       let t = with_order-numbered o es h a.1 in
-      let one : reordered k o (by_number e) ≡ by_number (reordered s o e) = elim (eqb_tells e.slot s) [
+      let one : reordered k o (entry_numbered e) ≡ entry_numbered (reordered s o e) = elim (eqb_tells e.slot s) [
         | inl t ↦
             let is : (e.order.number == k) ≡ true = sym a.0 ∙ t.0 in
-            ap (λ (b : Bool). cond b (renewed (by_number e) o) (by_number e)) is
+            ap (λ (b : Bool). cond b (renewed (entry_numbered e) o) (entry_numbered e)) is
             ∙ ap (λ (x : ℕ). renewed (record e { slot = x }) o) (test-is e.order.number k is ∙ sym h)
-            ∙ ap (λ (b : Bool). by_number (cond b (renewed e o) e)) (sym t.0)
+            ∙ ap (λ (b : Bool). entry_numbered (cond b (renewed e o) e)) (sym t.0)
         | inr t ↦
-            ap (λ (b : Bool). cond b (renewed (by_number e) o) (by_number e)) (sym a.0 ∙ t.0)
-            ∙ ap (λ (b : Bool). by_number (cond b (renewed e o) e)) (sym t.0)
+            ap (λ (b : Bool). cond b (renewed (entry_numbered e) o) (entry_numbered e)) (sym a.0 ∙ t.0)
+            ∙ ap (λ (b : Bool). entry_numbered (cond b (renewed e o) e)) (sym t.0)
       ] in
-      ap (λ (x : Entry). x ∷ with_order k o (numbered es)) one ∙ ap (λ (q : List Entry). by_number (reordered s o e) ∷ q) t
+      ap (λ (x : Entry). x ∷ with_order k o (numbered es)) one ∙ ap (λ (q : List Entry). entry_numbered (reordered s o e) ∷ q) t
 
   settled-numbered : (o : Order) (es : List Entry) → o.number ≡ k → Agree s k es → settled k o (numbered es) ≡ numbered (settled s o es)
   settled-numbered o es h a =
@@ -122,9 +122,9 @@ module _ (s k : ℕ) where
       none-marked o [] a h = refl
       none-marked o (e ∷ es) a h =
           let no : (e.slot == s) ≡ false = elim (eqb_tells e.slot s) [ inl t ↦ absurd (h (inl t.1)) | inr t ↦ t.0 ] in
-          ap (λ (b : Bool). cond b (renewed (by_number e) o) (by_number e) ∷ with_order k o (numbered es)) (sym a.0 ∙ no)
-          ∙ ap (λ (q : List Entry). by_number e ∷ q) (none-marked o es a.1 (λ x. h (inr x)))
-          ∙ ap (λ (b : Bool). by_number (cond b (renewed e o) e) ∷ numbered (with_order s o es)) (sym no)
+          ap (λ (b : Bool). cond b (renewed (entry_numbered e) o) (entry_numbered e) ∷ with_order k o (numbered es)) (sym a.0 ∙ no)
+          ∙ ap (λ (q : List Entry). entry_numbered e ∷ q) (none-marked o es a.1 (λ x. h (inr x)))
+          ∙ ap (λ (b : Bool). entry_numbered (cond b (renewed e o) e) ∷ numbered (with_order s o es)) (sym no)
 
   -- ---- one share
 
@@ -150,10 +150,10 @@ module _ (s k : ℕ) where
       let go : (c : Bool) → cond c (match_numbered m) (trade step k n (match_numbered m)) ≡ match_numbered (cond c m (trade step s n m)) = elim [ true ↦ refl | false ↦ trade-numbered step n m a ] in
       go (n == 0)
 
-  marked-numbered : (step : StepName) (n : ℕ) (m : MatchState) → Agree s k m.book.resting → marked step k n (match_numbered m) ≡ match_numbered (marked step s n m)
+  marked-numbered : (step : StepName) (n : ℕ) (m : MatchState) → Agree s k m.book.resting → share_noted step k n (match_numbered m) ≡ match_numbered (share_noted step s n m)
   marked-numbered step n m a =
       let b : List Entry → Book = λ x. record (book_numbered m.book) { resting = x } in
-      let go : (c : Bool) → record (match_numbered m) { book = cond c (book_marked k n (book_numbered m.book)) (book_numbered m.book) } ≡ match_numbered (record m { book = cond c (book_marked s n m.book) m.book }) = elim [
+      let go : (c : Bool) → record (match_numbered m) { book = cond c (book_share_noted k n (book_numbered m.book)) (book_numbered m.book) } ≡ match_numbered (record m { book = cond c (book_share_noted s n m.book) m.book }) = elim [
         | true ↦ ap (λ (x : List Entry). record m { book = b x }) (with_mark-numbered n m.book.resting a)
         | false ↦ refl
       ] in go (is_prorata step)
@@ -161,7 +161,7 @@ module _ (s k : ℕ) where
   pub share-numbered : (step : StepName) (n : ℕ) (m : MatchState) → Agree s k m.book.resting → trade_share step k n (match_numbered m) ≡ match_numbered (trade_share step s n m)
   share-numbered step n m a =
       ap (trade_if_any step k n) (marked-numbered step n m a)
-      ∙ any-numbered step n (marked step s n m) (keeps-marked step s n (GoesWith s k) m a)
+      ∙ any-numbered step n (share_noted step s n m) (keeps-marked step s n (GoesWith s k) m a)
 
 -- ---- shares
 

@@ -14,15 +14,14 @@ use Rattle.step_config.specs.declared.step.Step.{Step}
 use Rattle.step_config.specs.declared.step.Step.TheVariants.{Top, Lmm, Split, ProRata, Leveling, Fifo}
 use Rattle.plain_book.specs.declared.entry.Entry.{Entry}
 use Rattle.plain_book.specs.Orders.{HasSlot, order_of, without, is_at, is_on, is_slot, opposite, side_of, slot_of, top_of, topped, with_top, is_best_price, is_new_best, placed, is_of_earlier_instrument}
-use Rattle.plain_book.specs.Book.{Book, AllDiffer, live_orders, first_shown, is_enough, book_placed, book_waited, book_without}
+use Rattle.plain_book.specs.Book.{Book, AllDiffer, live_orders, first_shown, makes_top, book_placed, book_waited, book_without}
 use Rattle.plain_book.specs.Match.{MatchState, Share, trade_shares}
 use Rattle.plain_book.specs.Steps.{facing, level_now, trade_head, fifo_rounds, spent, ones, top_shares, lmm_shares, split_shares, leveling_shares, prorata_shares, prorata_share}
 use Rattle.plain_book.proofs.Levels.{same, AllDiffer-front}
-use Rattle.plain_book.proofs.Pairs.{all-filter, all-with, all-append, all-front, all-back}
-use Rattle.level_sweep.specs.Sweep.{step_of, wanted_step, level_match, within_limit, next_price, match_next, sweep_rounds, sweep}
-use Rattle.plain_book.specs.Numbers.{by_number, numbered, book_numbered, match_numbered}
-use Rattle.level_sweep.proofs.Names.{Names, found-name, GoesWith, Agree, Matched, matched-from, matched-kept, keeps-head, keeps-wanted, keeps-match, keeps-sweep}
-use Rattle.level_sweep.proofs.Resting.{rest-sweep}
+use Rattle.plain_book.proofs.Pairs.{all-filter, all-with, all-front, all-back}
+use Rattle.level_sweep.specs.Sweep.{after_step, wanted_step, level_match, within_limit, next_price, match_next, sweep_rounds, sweep}
+use Rattle.plain_book.specs.Numbers.{entry_numbered, numbered, book_numbered, match_numbered}
+use Rattle.level_sweep.proofs.Names.{found-name, GoesWith, Agree, Matched, matched-from, matched-kept, keeps-head, keeps-wanted, keeps-match}
 use Rattle.level_sweep.proofs.Numbered.{SameShares, test-is, filter-numbered, filter-order, level-numbered, side-numbered, best-numbered, placed-numbered, without-numbered, share-numbered, shares-numbered}
 
 -- ---- the shares of each step
@@ -147,7 +146,7 @@ prorata-step least price m h =
     ap (λ (l : List Entry). trade_shares name.ProRata (prorata_shares least q l) (match_numbered m)) (level-numbered price m)
     ∙ shares-numbered name.ProRata (prorata_shares least q level) (prorata_shares least q (numbered level)) m (prorata-same m.book.resting least q level (in-level price m h))
 
-step-same : (s : Step) (price : Price) → IsSame (step_of s price)
+step-same : (s : Step) (price : Price) → IsSame (after_step s price)
 step-same (Top rule) price m h = top-step rule.max price m h
 step-same (Lmm shares) price m h = by-level name.Lmm price (lmm_shares shares.items m.taker.order.leaves) m (lmm-same m.book.resting shares.items m.taker.order.leaves (level_now price m) (in-level price m h))
 step-same (Split percent) price m h = by-level name.Split price (split_shares percent m.taker.order.leaves) m (spent-same m.book.resting (m.taker.order.leaves * percent / 100) (level_now price m) (in-level price m h))
@@ -162,7 +161,7 @@ step-same Fifo price m h = fifo-same price m.taker.order.leaves m h
 -- ---- level matches and sweeps
 
 wanted-same : (s : Step) (price : Price) → IsSame (wanted_step s price)
-wanted-same s price m h = choice (m.taker.order.leaves == 0) (λ x. x) (step_of s price) m h (λ n k. refl) (step-same s price)
+wanted-same s price m h = choice (m.taker.order.leaves == 0) (λ x. x) (after_step s price) m h (λ n k. refl) (step-same s price)
 
 pub match-same : (steps : List Step) (price : Price) → IsSame (level_match steps price)
 match-same [] price m h = refl
@@ -190,7 +189,7 @@ sweep-same steps limit m h = rounds-same m.taker.order.leaves steps limit m h
 -- ---- live orders
 
 pub live-numbered : (b : Book) → live_orders (book_numbered b) ≡ numbered (live_orders b)
-live-numbered b = sym (map-append by_number b.resting b.waiting)
+live-numbered b = sym (map-append entry_numbered b.resting b.waiting)
 
 matched-live : (b : Book) → AllDiffer (live_orders b) → AllDiffer (live_orders (book_numbered b)) → Matched (live_orders b)
 matched-live b d n = matched-from (live_orders b) d (subst AllDiffer (live-numbered b) n)
@@ -218,32 +217,17 @@ numbers-differ (e ∷ es) d h = (
   numbers-differ es d.1 (all-with (λ (x : Entry). Agree x.slot x.order.number (e ∷ es)) (λ (x : Entry). Agree x.slot x.order.number es) (λ x a. a.1) es h.1),
 )
 
--- where slots differ after a sweep, and numbers did before it, numbers do
-pub sweep-numbers : (steps : List Step) (limit : Price) (m : MatchState) → AllDiffer (live_orders m.book) → AllDiffer (live_orders (book_numbered m.book)) → AllDiffer (live_orders (sweep steps limit m).book)
-    → AllDiffer (live_orders (book_numbered (sweep steps limit m).book))
-sweep-numbers steps limit m d n d' =
-    let b = m.book in
-    let end = sweep steps limit m in
-    let waits : end.book.waiting ≡ b.waiting = ap (λ (x : Book). x.waiting) (rest-sweep steps limit m) in
-    let kept : (P : ℕ → ℕ → Type 0) → Names P (live_orders b) → Names P (live_orders end.book) = λ P a.
-    let Q = λ (e : Entry). P e.slot e.order.number in
-    all-append Q end.book.resting end.book.waiting (keeps-sweep steps limit P m (all-front Q b.resting b.waiting a)) (subst (Names P) (sym waits) (all-back Q b.resting b.waiting a)) in
-    let es = live_orders b in
-    let es' = live_orders end.book in
-    let matched : Matched es' = all-with (λ (e : Entry). Agree e.slot e.order.number es) (λ (e : Entry). Agree e.slot e.order.number es') (λ e a. kept (GoesWith e.slot e.order.number) a) es' (kept (λ s k. Agree s k es) (matched-live b d n)) in
-    subst AllDiffer (sym (live-numbered end.book)) (numbers-differ es' d' matched)
-
 -- ---- what places and removes orders
 
 top-none : (i : ℕ) (d : Side) (es : List Entry) → with_top i d None (numbered es) ≡ numbered (with_top i d None es)
 top-none i d [] = refl
-top-none i d (e ∷ es) = ap (λ (l : List Entry). topped i d None (by_number e) ∷ l) (top-none i d es)
+top-none i d (e ∷ es) = ap (λ (l : List Entry). topped i d None (entry_numbered e) ∷ l) (top-none i d es)
 
 -- an order is placed by its number as by its slot
 pub placed-same : (slot : ℕ) (o : Order) (top_min : Option ℕ) (b : Book) → book_placed o.number o top_min (book_numbered b) ≡ book_numbered (book_placed slot o top_min b)
 placed-same slot o top_min b =
     let es = b.resting in
-    let enough = is_enough top_min o.leaves in
+    let enough = makes_top top_min o.leaves in
     let entry : ℕ → Bool → Entry = λ s best. record { slot = s; order = record o { shown = first_shown o }; is_top = best && enough } in
     let clear : Bool → List Entry → List Entry = λ best l. cond best (with_top o.instrument o.side None l) l in
     let best = is_new_best o es in
@@ -260,9 +244,9 @@ waited-same slot o b =
     let n : Entry = record { slot = slot; order = record o { shown = 0 }; is_top = false } in
     let es = b.waiting in
     let into : List Entry → Book = λ l. record (book_numbered b) { waiting = l } in
-    ap (λ (l : List Entry). into (l ++ by_number n ∷ filter (is_of_earlier_instrument n) (numbered es))) (filter-order (λ e. not (is_of_earlier_instrument n e)) (λ e. refl) es)
-    ∙ ap (λ (l : List Entry). into (numbered (filter (λ e. not (is_of_earlier_instrument n e)) es) ++ by_number n ∷ l)) (filter-order (is_of_earlier_instrument n) (λ e. refl) es)
-    ∙ ap into (sym (map-append by_number (filter (λ e. not (is_of_earlier_instrument n e)) es) (n ∷ filter (is_of_earlier_instrument n) es)))
+    ap (λ (l : List Entry). into (l ++ entry_numbered n ∷ filter (is_of_earlier_instrument n) (numbered es))) (filter-order (λ e. not (is_of_earlier_instrument n e)) (λ e. refl) es)
+    ∙ ap (λ (l : List Entry). into (numbered (filter (λ e. not (is_of_earlier_instrument n e)) es) ++ entry_numbered n ∷ l)) (filter-order (is_of_earlier_instrument n) (λ e. refl) es)
+    ∙ ap into (sym (map-append entry_numbered (filter (λ e. not (is_of_earlier_instrument n e)) es) (n ∷ filter (is_of_earlier_instrument n) es)))
 
 -- the slot and the number of a live order go together
 pub named-live : (s : ℕ) (b : Book) → AllDiffer (live_orders b) → AllDiffer (live_orders (book_numbered b)) → HasSlot s (live_orders b) → Agree s (order_of s (live_orders b)).number (live_orders b)

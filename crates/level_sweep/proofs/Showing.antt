@@ -1,19 +1,14 @@
--- Each resting order shows some of its lots. Any trade keeps that, so a whole match does.
+-- Each resting order shows some of its lots, and any trade keeps that.
 use Rattle.std.proofs.Common.{◌≡◌, ◌≢◌, ℕ, ◌-◌, ◌≤◌, List, ap, arith}
 use Rattle.gx_base.specs.declared.order.Order.{Order}
-use Rattle.gx_base.specs.declared.price.Price.{Price}
-use Rattle.step_config.specs.declared.step.Step.{Step}
 use Rattle.plain_book.specs.declared.entry.Entry.{Entry}
 use Rattle.plain_book.specs.Orders.{refreshed, filled_by}
 use Rattle.plain_book.specs.Book.{Book, IsRight, IsResting}
-use Rattle.plain_book.specs.Match.{MatchState}
-use Rattle.plain_book.specs.Steps.{trade_head}
 use Rattle.plain_book.proofs.Pairs.{all-with}
 use Rattle.plain_book.proofs.Live.{AllOrders}
-use Rattle.level_sweep.specs.Sweep.{wanted_step, level_match}
-use Rattle.level_sweep.proofs.EachTrade.{Relation, IsKept, each-head, each-wanted, each-match}
-use Rattle.level_sweep.proofs.EachOrder.{StaysTrue, all-kept}
-use Rattle.level_sweep.proofs.Standing.{IsInOrder, order-kept, right-in-order}
+use Rattle.level_sweep.proofs.EachTrade.{Relation, IsKept, RestingStays, resting-kept}
+use Rattle.level_sweep.proofs.EachOrder.{StaysTrue, all-traded, all-marked}
+use Rattle.level_sweep.proofs.Standing.{IsInOrder, in-order-traded, in-order-marked, right-in-order}
 
 -- an order shows at least one lot, and all that is open where it shows no part
 abbrev pub IsShowing : Order → Type 0
@@ -43,24 +38,12 @@ shows = record {
 }
 
 abbrev pub ShowingStays : Relation
-ShowingStays a b = AreShowing a.book.resting → AreShowing b.book.resting
+ShowingStays = RestingStays AreShowing
 
 pub showing-kept : IsKept ShowingStays
-showing-kept = record {
-  same = λ m a. a;
-  both = λ a b c h k x. k (h x);
-  trades = λ step s n m a. record { each = (all-kept EntryShows shows).trades step s n m a.each; in_order = order-kept.trades step s n m a.in_order };
-  marks = λ s n m a. record { each = (all-kept EntryShows shows).marks s n m a.each; in_order = order-kept.marks s n m a.in_order };
-}
-
-pub showing-head : (es : List Entry) (m : MatchState) → AreShowing m.book.resting → AreShowing (trade_head es m).book.resting
-showing-head es m a = each-head ShowingStays showing-kept es m a
-
-pub showing-wanted : (s : Step) (price : Price) (m : MatchState) → AreShowing m.book.resting → AreShowing (wanted_step s price m).book.resting
-showing-wanted s price m a = each-wanted ShowingStays showing-kept s price m a
-
-pub showing-match : (steps : List Step) (price : Price) (m : MatchState) → AreShowing m.book.resting → AreShowing (level_match steps price m).book.resting
-showing-match steps price m a = each-match ShowingStays showing-kept steps price m a
+showing-kept = resting-kept AreShowing
+    (λ s n es a. record { each = all-traded EntryShows shows s n es a.each; in_order = in-order-traded s n es a.in_order })
+    (λ s n es a. record { each = all-marked EntryShows shows s n es a.each; in_order = in-order-marked s n es a.in_order })
 
 -- a right book
 pub showing-right : (b : Book) → IsRight b → AreShowing b.resting

@@ -15,17 +15,17 @@ use Rattle.plain_book.specs.Steps.{top, lmm, split, prorata, leveling, fifo}
 -- ---- a level match
 
 -- one step at a price
-abbrev pub step_of : Step → Price → MatchState → MatchState
-step_of (Top rule) price m = top rule price m
-step_of (Lmm shares) price m = lmm shares.items price m
-step_of (Split percent) price m = split percent price m
-step_of (ProRata least) price m = prorata least price m
-step_of Leveling price m = leveling price m
-step_of Fifo price m = fifo price m
+abbrev pub after_step : Step → Price → MatchState → MatchState
+after_step (Top rule) price m = top rule price m
+after_step (Lmm shares) price m = lmm shares.items price m
+after_step (Split percent) price m = split percent price m
+after_step (ProRata least) price m = prorata least price m
+after_step Leveling price m = leveling price m
+after_step Fifo price m = fifo price m
 
 -- a step does nothing where nothing is wanted
 abbrev pub wanted_step : Step → Price → MatchState → MatchState
-wanted_step step price m = if m.taker.order.leaves == 0 then m else step_of step price m
+wanted_step step price m = if m.taker.order.leaves == 0 then m else after_step step price m
 
 -- the steps in their order
 abbrev pub level_match : List Step → Price → MatchState → MatchState

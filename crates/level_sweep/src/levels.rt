@@ -4,7 +4,7 @@ ghost use Rattle.step_config.specs.Rules.{is_fifo};
 ghost use Rattle.step_config.specs.RightSteps.{IsRightStep};
 ghost use Rattle.plain_book.specs.Matches.{match_at, Matches, CanTrade};
 ghost use Rattle.plain_book.specs.Steps.{IsLevelDone};
-ghost use Rattle.level_sweep.specs.Sweep.{step_of, wanted_step, level_match, with_resting};
+ghost use Rattle.level_sweep.specs.Sweep.{after_step, wanted_step, level_match, with_resting};
 
 use gx_base::{Desk, Emit, Price, Taker};
 use leveling_pass::leveling_pass;
@@ -28,7 +28,7 @@ fn run_step<B: Book, E: Emit>(
     requires can { CanTrade (B.book book.old) desk.old taker.old }
     ensures matches { let before = match_at (B.book book.old) desk.old taker.old out.old in
         let after = match_at (B.book book.new) desk.new taker.new out.new in
-        Matches E.meanings (step_of step.now price) before after }
+        Matches E.meanings (after_step step.now price) before after }
     ensures done { is_fifo step.now ≡ true → IsLevelDone price (B.book book.new) taker.new }
 {
     match step {

@@ -3,7 +3,7 @@ ghost use Rattle.plain_book.specs.Matches.{match_at, Matches, CanTrade};
 ghost use Rattle.plain_book.specs.Steps.{leveling};
 
 use gx_base::{Desk, Emit, Order, Price, StepName, Taker};
-use plain_book::{Book, ShareRule, trade_level};
+use plain_book::{Book, ShareRule, StepLevel, trade_level};
 
 /// One lot for each order that had no share, as far as any are left.
 #[derive(Drop)]
@@ -30,8 +30,8 @@ impl ShareRule for OneEach {
 }
 
 /// The leveling step at a price: one lot, by priority, goes to each order of the side opposite to the taker's at this
-/// price that the pro rata step last marked with a share of 0, while any lots are wanted. They are the orders that stand
-/// there as the step starts, so that one which is refreshed trades once. Their marks stay. Each trade puts two Fill
+/// price that the pro rata step last noted a share of 0 on, while any lots are wanted. They are the orders that stand
+/// there as the step starts, so that one which is refreshed trades once. Their noted shares stay. Each trade puts two Fill
 /// events, the resting order's first, and lengthens the taker's range. Where nothing is wanted, nothing is done. Our own
 /// rule, after the exchange's published outline.
 pub fn leveling_pass<B: Book, E: Emit>(
@@ -50,5 +50,9 @@ pub fn leveling_pass<B: Book, E: Emit>(
     let mut each = OneEach {
         left: taker.order.leaves,
     };
-    trade_level(book, desk, taker, price, StepName::Leveling, &mut each, out);
+    let level = StepLevel {
+        step: StepName::Leveling,
+        price,
+    };
+    trade_level(book, desk, taker, level, &mut each, out);
 }

@@ -5,9 +5,11 @@ mod decimal;
 pub mod fields;
 pub mod pieces;
 mod price;
+mod room;
 mod sides;
 mod trailer;
 
 pub use price::write_price;
+pub use room::zeros;
 pub use sides::{side_letter, side_text};
 pub use trailer::{TRAILER_LENGTH, checksum, trailer_with};

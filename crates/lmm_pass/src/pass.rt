@@ -6,7 +6,7 @@ ghost use Rattle.plain_book.specs.Matches.{match_at, Matches, CanTrade};
 ghost use Rattle.plain_book.specs.Steps.{lmm};
 
 use gx_base::{Desk, Emit, LmmShare, Order, Price, StepName, Taker};
-use plain_book::{Book, ShareRule, percent_of, trade_level};
+use plain_book::{Book, ShareRule, StepLevel, percent_of, trade_level};
 
 /// Lots that are spent over the orders of a firm by priority: each trades what it shows, as far as any are left.
 #[derive(Drop)]
@@ -57,12 +57,16 @@ pub fn lmm_pass<B: Book, E: Emit>(
         Matches E.meanings (lmm shares.now price) before after }
 {
     let wanted = taker.order.leaves;
+    let level = StepLevel {
+        step: StepName::Lmm,
+        price,
+    };
     for share in shares {
         book.rules();
         let mut spent = SpentOnFirm {
             firm: share.firm,
             left: percent_of(wanted, share.percent),
         };
-        trade_level(book, desk, taker, price, StepName::Lmm, &mut spent, out);
+        trade_level(book, desk, taker, level, &mut spent, out);
     }
 }

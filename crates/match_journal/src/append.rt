@@ -90,10 +90,12 @@ fn put_record<S: Station>(
     ensures puts { Puts S.meanings station.old station.new result }
     ensures settled { OnOk result (S.meanings.is_honest station.old → IsSettled S.meanings station.new) }
     ensures reach_ok { OnOk result (gate + 7 + length payload.now ≤ S.meanings.reach station.new) }
-    ensures appends { (text image : List ℕ) (limit : ℕ) (records : List Record) → IsRecord (record { kind = kind; payload = payload.now }) → gate + 7 + length payload.now ≤ limit → IsJournalTo text limit records gate image
+    ensures appends { (text image : List ℕ) (limit : ℕ) (records : List Record) → IsRecord (record { kind = kind; payload = payload.now })
+        → gate + 7 + length payload.now ≤ limit → IsJournalTo text limit records gate image
         → let added : Record = record { kind = kind; payload = payload.now } in
         let next = gate + 6 + length payload.now in
-        Steps S.meanings station.old station.new image (IsBeforeOrAfter text limit records added image next) (IsAdded text limit records added image next) result }
+        Steps S.meanings station.old station.new image (IsBeforeOrAfter text limit records added image next) (IsAdded text limit records added image next)
+        result }
 {
     store_record(station, gate, kind, payload, buffer)?;
     store(station, gate, &[1])
@@ -130,7 +132,8 @@ impl Journal {
         ensures appends { (text image : List ℕ) (records : List Record) → IsJournalTo text self.old.limit records self.old.gate image
             → let added : Record = record { kind = kind; payload = payload.now } in
             let next = self.old.gate + 6 + length payload.now in
-            Steps S.meanings station.old station.new image (IsBeforeOrAfter text self.old.limit records added image next) (IsAdded text self.old.limit records added image next) result }
+            Steps S.meanings station.old station.new image (IsBeforeOrAfter text self.old.limit records added image next)
+            (IsAdded text self.old.limit records added image next) result }
     {
         let gate = self.standing.gate;
         let count = payload.len();

@@ -61,15 +61,6 @@ impl Journal {
         self.standing.is_at_end = false;
     }
 
-    /// The next entry is this one.
-    pub fn go_to(&mut self, entry: &Entry)
-        requires { entry.now.at + 7 + entry.now.length ≤ self.old.known }
-        ensures { self.new ≡ moved self.old entry.now.at false }
-    {
-        self.standing.gate = entry.at;
-        self.standing.is_at_end = false;
-    }
-
     /// The next entry is the one behind this.
     pub fn go_behind(&mut self, entry: &Entry)
         requires { entry.now.at + 7 + entry.now.length ≤ self.old.known }
@@ -81,8 +72,8 @@ impl Journal {
     }
 
     /// Whether the journal stands at the closed gate behind all records: from a `next_entry` that answers `None`, or an
-    /// `append` that is Ok, until the next `rewind`, `go_to`, `go_behind`, or `next_entry` that answers an entry. Never again
-    /// once an `append` has failed.
+    /// `append` that is Ok, until the next `rewind`, `go_behind`, or `next_entry` that answers an entry. Never again once an
+    /// `append` has failed.
     pub fn at_end(&self) -> bool
         ensures value { result ≡ self.now.is_at_end }
         ensures stands { IsStanding self.now }

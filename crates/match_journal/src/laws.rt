@@ -15,18 +15,21 @@ ghost use Rattle.match_journal.specs.declared.faults.WalkFault.TheVariants as wa
 
 /// An image keeps one list of records of a product, and no other.
 pub fn an_image_keeps_one_list()
-    ensures { (product image : List ℕ) (limit : ℕ) (first second : List Record) → Keeps product limit first image → Keeps product limit second image → first ≡ second }
+    ensures { (product image : List ℕ) (limit : ℕ) (first second : List Record) → Keeps product limit first image → Keeps product limit second image
+        → first ≡ second }
 {}
 
 /// One answer of an opening fits an image, besides a fault of the store. So each comes exactly where it fits.
 pub fn an_image_has_one_answer()
-    ensures { (product image : List ℕ) (limit : ℕ) (first second : Result (Option Standing) StartFault) → Looks product limit image first → Looks product limit image second
+    ensures { (product image : List ℕ) (limit : ℕ) (first second : Result (Option Standing) StartFault) → Looks product limit image first
+        → Looks product limit image second
         → (first ≡ Err start.Store → ⊥) → (second ≡ Err start.Store → ⊥) → first ≡ second }
 {}
 
 /// An image that keeps some records of a product, or none, is never refused.
 pub fn a_kept_image_is_not_refused()
-    ensures { (product image : List ℕ) (limit : ℕ) (records : List Record) (fault : StartFault) → length product ≤ MOST_TEXT → Keeps product limit records image → IsStartFault product image fault
+    ensures { (product image : List ℕ) (limit : ℕ) (records : List Record) (fault : StartFault) → length product ≤ MOST_TEXT
+        → Keeps product limit records image → IsStartFault product image fault
         → (fault ≡ start.Store → ⊥) → ⊥ }
 {}
 

@@ -81,7 +81,8 @@ fn same_text<S: Station>(station: &mut S, size: u32, product: &[u8]) -> Result<(
     ensures store { IsErrOf result StartFault.Store → Rose (S.meanings.store_faults station.old) (S.meanings.store_faults station.new) }
     ensures none { (IsErrOf result StartFault.Store → ⊥) → S.meanings.store_faults station.new ≡ S.meanings.store_faults station.old }
     ensures size { OnOk result (size ≡ length product.now) }
-    ensures text { (image text : List ℕ) → S.meanings.holds station.old ≡ Some image → take size (drop 13 image) ≡ text → length text ≡ size → SameAnswers text product.now result }
+    ensures text { (image text : List ℕ) → S.meanings.holds station.old ≡ Some image → take size (drop 13 image) ≡ text → length text ≡ size
+        → SameAnswers text product.now result }
 {
     match difference(station, size as usize, product) {
         Ok(None) => Ok(()),
@@ -99,7 +100,8 @@ fn hold_text<S: Station>(station: &mut S, class: Class, product: &[u8]) -> Resul
     ensures store { IsErrOf result StartFault.Store → Rose (S.meanings.store_faults station.old) (S.meanings.store_faults station.new) }
     ensures none { (IsErrOf result StartFault.Store → ⊥) → S.meanings.store_faults station.new ≡ S.meanings.store_faults station.old }
     ensures least { OnOk result (least_of_class (length product.now) class ≡ least_length class) }
-    ensures text { (image : List ℕ) → S.meanings.holds station.old ≡ Some image → IsFront image class → has_closed_end image class → HoldAnswers product.now image class result }
+    ensures text { (image : List ℕ) → S.meanings.holds station.old ≡ Some image → IsFront image class → has_closed_end image class
+        → HoldAnswers product.now image class result }
 {
     match class {
         Class::Sealed(size) => same_text(station, size, product),
@@ -149,7 +151,8 @@ impl Journal {
         ensures looks { LooksOnly S.meanings station.old station.new MOST_UNFINISHED }
         ensures store { IsErrOf result StartFault.Store → Rose (S.meanings.store_faults station.old) (S.meanings.store_faults station.new) }
         ensures none { (IsErrOf result StartFault.Store → ⊥) → S.meanings.store_faults station.new ≡ S.meanings.store_faults station.old }
-        ensures place { IfOk result (λ found. IfSome found (λ journal. (journal ≡ at_first (13 + length product.now) journal.known limit) × IsStanding journal)) }
+        ensures place { IfOk result
+            (λ found. IfSome found (λ journal. (journal ≡ at_first (13 + length product.now) journal.known limit) × IsStanding journal)) }
         ensures reach { IfOk result (λ found. IfSome found (λ journal. journal.known ≤ S.meanings.reach station.new)) }
         ensures answers { (image : List ℕ) → S.meanings.holds station.old ≡ Some image → Looks product.now limit image result }
     {

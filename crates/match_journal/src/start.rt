@@ -37,7 +37,9 @@ fn create<S: Station>(station: &mut S, product: &[u8]) -> Result<(), Failed>
     ensures puts { Puts S.meanings station.old station.new result }
     ensures reach { OnOk result (14 + length product.now ≤ S.meanings.reach station.new) }
     ensures settled { OnOk result (S.meanings.is_honest station.old → IsSettled S.meanings station.new) }
-    ensures steps { (image : List ℕ) (limit : ℕ) → LEAST_LIMIT ≤ limit → IsClosed image → Steps S.meanings station.old station.new image (IsOpening product.now limit [] image) (IsMade product.now limit (max (length image) (14 + length product.now))) result }
+    ensures steps { (image : List ℕ) (limit : ℕ) → LEAST_LIMIT ≤ limit → IsClosed image
+        → Steps S.meanings station.old station.new image (IsOpening product.now limit [] image)
+        (IsMade product.now limit (max (length image) (14 + length product.now))) result }
 {
     store_parts(station, 1, &head_of(product.len() as u32), product, &[0])?;
     store(station, 0, &[1])
@@ -52,10 +54,13 @@ fn finish<S: Station>(station: &mut S, found: &Found, product: &[u8]) -> Result<
     ensures reach { OnOk result (max found.now.len (14 + length product.now) ≤ S.meanings.reach station.new) }
     ensures settled { OnOk result (S.meanings.is_honest station.old → IsSettled S.meanings station.old → IsSettled S.meanings station.new) }
     ensures opened { is_open found.now.class ≡ true → station.new ≡ station.old }
-    ensures known { (image : List ℕ) → IsFound product.now image found.now → S.meanings.holds station.old ≡ Some image → OnOk result (HoldsOne S.meanings (λ last. length last ≡ max found.now.len (14 + length product.now)) station.new) }
-    ensures makes { (image : List ℕ) (limit : ℕ) → LEAST_LIMIT ≤ limit → is_sealed found.now.class ≡ true → IsSealed product.now image → S.meanings.holds station.old ≡ Some image
+    ensures known { (image : List ℕ) → IsFound product.now image found.now → S.meanings.holds station.old ≡ Some image
+        → OnOk result (HoldsOne S.meanings (λ last. length last ≡ max found.now.len (14 + length product.now)) station.new) }
+    ensures makes { (image : List ℕ) (limit : ℕ) → LEAST_LIMIT ≤ limit → is_sealed found.now.class ≡ true → IsSealed product.now image
+        → S.meanings.holds station.old ≡ Some image
         → OnOk result (HoldsOne S.meanings (IsJournal product.now limit []) station.new) }
-    ensures steps { (image : List ℕ) (limit : ℕ) (records : List Record) → LEAST_LIMIT ≤ limit → IsFound product.now image found.now → Keeps product.now limit records image
+    ensures steps { (image : List ℕ) (limit : ℕ) (records : List Record) → LEAST_LIMIT ≤ limit → IsFound product.now image found.now
+        → Keeps product.now limit records image
         → Steps S.meanings station.old station.new image (IsOpening product.now limit records image) (IsJournal product.now limit records) result }
 {
     match found.class {
@@ -94,16 +99,19 @@ impl Journal {
         ensures bytes_read { ReadsAtMost MOST_UNFINISHED (S.meanings.bytes_read station.old) (S.meanings.bytes_read station.new) }
         ensures place { IfOk result (λ journal. (journal ≡ at_first (13 + length product.now) journal.known limit) × IsStanding journal) }
         ensures reach { IfOk result (λ journal. journal.known ≤ S.meanings.reach station.new) }
-        ensures known { IfOk result (λ journal. (before after : List ℕ) → S.meanings.holds station.old ≡ Some before → S.meanings.holds station.new ≡ Some after → length after ≡ journal.known) }
+        ensures known { IfOk result (λ journal. (before after : List ℕ) → S.meanings.holds station.old ≡ Some before
+            → S.meanings.holds station.new ≡ Some after → length after ≡ journal.known) }
         // Which images are opened, and which fault comes with the others, at which place.
         ensures answers { (image : List ℕ) → S.meanings.holds station.old ≡ Some image → Starts product.now image result }
         // An image that keeps some records is opened by images that keep the same.
         ensures starts { (image : List ℕ) (records : List Record) → Keeps product.now limit records image
             → StepsFrom S.meanings station.old station.new image (IsOpening product.now limit records image) (IsJournal product.now limit records) result }
         // A blank image, and a sealed one of this product, are made a journal that keeps nothing.
-        ensures makes { (image : List ℕ) → S.meanings.holds station.old ≡ Some image → IsBlank image ⊎ IsSealed product.now image → OnOk result (HoldsOne S.meanings (IsJournal product.now limit []) station.new) }
+        ensures makes { (image : List ℕ) → S.meanings.holds station.old ≡ Some image → IsBlank image ⊎ IsSealed product.now image
+            → OnOk result (HoldsOne S.meanings (IsJournal product.now limit []) station.new) }
         // Whatever the answer, a read gives an image that keeps the same then.
-        ensures keeps { (image : List ℕ) (records : List Record) → S.meanings.is_honest station.old → S.meanings.holds station.old ≡ Some image → Keeps product.now limit records image
+        ensures keeps { (image : List ℕ) (records : List Record) → S.meanings.is_honest station.old → S.meanings.holds station.old ≡ Some image
+            → Keeps product.now limit records image
             → HoldsOne S.meanings (IsOpening product.now limit records image) station.new }
         // Whatever the image was, nothing is pending at the end.
         ensures settles { OnOk result (S.meanings.is_honest station.old → IsSettled S.meanings station.new) }

@@ -21,7 +21,8 @@ fn same_in<S: Station>(station: &mut S, at: u64, part: &[u8]) -> Result<usize, F
     ensures reach { S.meanings.reach station.new ≡ S.meanings.reach station.old }
     ensures on_store { OnStore S.meanings station.old station.new result }
     ensures within { IfOk result (λ same. same ≤ length part.now) }
-    ensures value { IfOk result (λ same. (image : List ℕ) → S.meanings.holds station.old ≡ Some image → same ≡ first_difference (take (length part.now) (drop at image)) part.now) }
+    ensures value { IfOk result (λ same. (image : List ℕ) → S.meanings.holds station.old ≡ Some image
+        → same ≡ first_difference (take (length part.now) (drop at image)) part.now) }
 {
     let mut piece = [0; PIECE];
     let count = part.len();
@@ -42,7 +43,8 @@ pub(crate) fn difference<S: Station>(
     ensures on_store { OnStore S.meanings station.old station.new result }
     ensures size { IfOk result (λ found. found ≡ None → size ≡ length product.now) }
     ensures within { IfOk result (λ found. IfSome found (λ at. at ≤ size)) }
-    ensures text { (image text : List ℕ) → S.meanings.holds station.old ≡ Some image → take size (drop 13 image) ≡ text → length text ≡ size → IfOk result (TextAnswers text product.now) }
+    ensures text { (image text : List ℕ) → S.meanings.holds station.old ≡ Some image → take size (drop 13 image) ≡ text → length text ≡ size
+        → IfOk result (TextAnswers text product.now) }
 {
     let most = size.min(product.len());
     let mut at = 0;

@@ -66,7 +66,8 @@ fn read_head<S: Station>(station: &mut S, standing: &Standing) -> Result<Option<
     ensures store { IsErrOf result WalkFault.Store → Rose (S.meanings.store_faults station.old) (S.meanings.store_faults station.new) }
     ensures none { (IsErrOf result WalkFault.Store → ⊥) → S.meanings.store_faults station.new ≡ S.meanings.store_faults station.old }
     ensures entry { IfOk result (λ found. IfSome found (λ entry. (entry.at ≡ standing.now.gate) × Fits standing.now.known standing.now.limit entry)) }
-    ensures walks { (image : List ℕ) → S.meanings.holds station.old ≡ Some image → length image ≡ standing.now.known → Walks image standing.now.limit standing.now.gate result }
+    ensures walks { (image : List ℕ) → S.meanings.holds station.old ≡ Some image → length image ≡ standing.now.known
+        → Walks image standing.now.limit standing.now.gate result }
 {
     let gate = standing.gate;
     let count = (standing.known - gate).min(HEAD as u64) as usize;
@@ -96,9 +97,11 @@ impl Journal {
         ensures stands { IsStanding self.new }
         ensures moves { self.new ≡ stands_then self.old result }
         ensures entry { IfOk result (λ found. IfSome found (λ entry. (entry.at ≡ self.old.gate) × Fits self.old.known self.old.limit entry)) }
-        ensures walks { (image : List ℕ) → S.meanings.holds station.old ≡ Some image → length image ≡ self.old.known → Walks image self.old.limit self.old.gate result }
+        ensures walks { (image : List ℕ) → S.meanings.holds station.old ≡ Some image → length image ≡ self.old.known
+            → Walks image self.old.limit self.old.gate result }
         ensures in_order { (text image : List ℕ) (before after : List Record) → S.meanings.holds station.old ≡ Some image → length image ≡ self.old.known
-            → IsJournal text self.old.limit (before ++ after) image → self.old.gate ≡ length (journal_front text before) → InOrder text image before after self.new.gate result }
+            → IsJournal text self.old.limit (before ++ after) image → self.old.gate ≡ length (journal_front text before)
+            → InOrder text image before after self.new.gate result }
     {
         match read_head(station, &self.standing) {
             Ok(Some(entry)) => {
@@ -129,7 +132,8 @@ impl Journal {
         ensures reach { S.meanings.reach station.new ≡ S.meanings.reach station.old }
         ensures on_store { OnStore S.meanings station.old station.new result }
         ensures size { length into.new ≡ length into.old }
-        ensures bytes { OnOk result ((image : List ℕ) → S.meanings.holds station.old ≡ Some image → into.new ≡ take entry.now.length (drop (entry.now.at + 6) image)) }
+        ensures bytes { OnOk result ((image : List ℕ) → S.meanings.holds station.old ≡ Some image
+            → into.new ≡ take entry.now.length (drop (entry.now.at + 6) image)) }
         ensures payload { OnOk result ((text image : List ℕ) (before after : List Record) (gate : ℕ) → S.meanings.holds station.old ≡ Some image
             → (next : IsNext text image before after gate entry.now) → into.new ≡ next.found.payload) }
     {

@@ -19,7 +19,8 @@ use Rattle.level_sweep.specs.Sweep.{IsSweepDone, wanted_step, level_match, withi
 use Rattle.level_sweep.proofs.Done.{LastOr, last-more, last-first, next-takes}
 use Rattle.level_sweep.proofs.Advance.{head-wants}
 use Rattle.level_sweep.proofs.Rounds.{rounds-none, rounds-more}
-use Rattle.level_sweep.proofs.Showing.{IsShowing, AreShowing, showing-head, showing-wanted, showing-match}
+use Rattle.level_sweep.proofs.Showing.{IsShowing, AreShowing}
+use Rattle.sweep_laws.proofs.SweptBooks.{showing-head, showing-wanted, showing-match}
 
 abbrev LevelDone : Price → MatchState → Type 0
 LevelDone price m = IsLevelDone price m.book m.taker

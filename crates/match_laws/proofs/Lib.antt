@@ -3,7 +3,6 @@ pub mod Done
 pub mod Uncrossed
 -- What the proofs of this crate alone cite.
 mod Lots
-mod Others
 mod StopRounds
 mod StopsLeft
 mod Tops

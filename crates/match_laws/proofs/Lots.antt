@@ -19,19 +19,21 @@ use Rattle.step_config.specs.RightSteps.{IsRightStep}
 use Rattle.plain_book.specs.declared.entry.Entry.{Entry}
 use Rattle.plain_book.specs.Orders.{Level, level_of, is_level, HasSlot, order_of, orders_at, is_slot, is_at, opposite, top_of}
 use Rattle.plain_book.specs.Book.{AllDiffer}
-use Rattle.plain_book.specs.Match.{MatchState, Share, trade, marked, trade_share, trade_shares}
+use Rattle.plain_book.specs.Match.{MatchState, Share, trade, share_noted, trade_share, trade_shares}
 use Rattle.plain_book.specs.Steps.{facing, level_now, spent, top_shares, lmm_shares, prorata_share, prorata_shares, ones, trade_head, fifo_rounds}
 use Rattle.plain_book.proofs.Levels.{HasSlot-filter, AllDiffer-filter, order_of-filter, is_level-same, is_level-refl, same}
 use Rattle.plain_book.proofs.Live.{orders-at}
 use Rattle.plain_book.proofs.Pairs.{all-filter, all-with, all-both, all-passing}
 use Rattle.plain_book.proofs.Tops.{at-slot}
 use Rattle.plain_book.proofs.TradedShares.{share-leaves, shares-append}
-use Rattle.level_sweep.specs.Sweep.{step_of}
+use Rattle.level_sweep.specs.Sweep.{after_step}
 use Rattle.level_sweep.proofs.EachTrade.{each-share}
-use Rattle.level_sweep.proofs.Showing.{IsShowing, AreShowing, ShowingStays, showing-kept, showing-head}
-use Rattle.level_sweep.proofs.StepShares.{AreApart, IsGiven, AreOf, AllShow, lots-cons, spent-of, spent-wanted, split-part, top_share, top-of, top-wanted, firm_of, is_of_firm, is_other, lots-append, lmm-others, distinct-first, distinct-more, lmm-of, lmm-fits, share-shown, prorata-of, prorata-wanted, leveling-of, ones-wanted, is_left_out}
-use Rattle.match_laws.specs.Laws.{lots_of, shown_by, AreFit, TradesFitShares}
-use Rattle.match_laws.proofs.Others.{HoldsOf, HoldsAt, holds-order, holds-share}
+use Rattle.level_sweep.proofs.Showing.{IsShowing, AreShowing, ShowingStays, showing-kept}
+use Rattle.sweep_laws.proofs.SweptBooks.{showing-head}
+use Rattle.level_sweep.proofs.StepShares.{AreApart, IsGiven, AreOf, AllShow, spent-of, top-of, firm_of, is_of_firm, is_other, lmm-others, distinct-first, distinct-more, lmm-of, share-shown, prorata-of, leveling-of, is_left_out}
+use Rattle.sweep_laws.proofs.ShareLots.{lots-cons, spent-wanted, split-part, top_share, top-wanted, lots-append, lmm-fits, prorata-wanted, ones-wanted}
+use Rattle.match_laws.specs.Laws.{lots_shared, shown_by, AreFit, TradesFitShares}
+use Rattle.sweep_laws.proofs.SlotHolds.{HoldsOf, HoldsAt, holds-order, holds-share}
 
 shown-cons : (e : Entry) (es : List Entry) → shown_by (e ∷ es) ≡ e.order.shown + shown_by es
 shown-cons e es = sum_by-cons (λ (x : Entry). x.order.shown) e es
@@ -63,13 +65,13 @@ halves-shown p (e ∷ es) =
 
 -- ---- one share for each order
 
-lots-shown : (f : Entry → ℕ) → ((e : Entry) → f e ≤ e.order.shown) → (es : List Entry) → lots_of (map (λ (e : Entry). (e.slot, f e)) es) ≤ shown_by es
+lots-shown : (f : Entry → ℕ) → ((e : Entry) → f e ≤ e.order.shown) → (es : List Entry) → lots_shared (map (λ (e : Entry). (e.slot, f e)) es) ≤ shown_by es
 lots-shown f h [] = omega arith
 lots-shown f h (e ∷ es) = omega (arith, lots-cons (e.slot, f e) (map (λ (x : Entry). (x.slot, f x)) es), shown-cons e es, h e, lots-shown f h es)
 
 -- ---- lots that are spent
 
-spent-shown : (n : ℕ) (es : List Entry) → lots_of (spent n es) ≤ shown_by es
+spent-shown : (n : ℕ) (es : List Entry) → lots_shared (spent n es) ≤ shown_by es
 spent-shown n [] = omega arith
 spent-shown n (e ∷ es) =
     let g = min n e.order.shown in
@@ -77,7 +79,7 @@ spent-shown n (e ∷ es) =
 
 -- ---- the TOP order
 
-top-shown : (most : ℕ) (top : Option ℕ) (q : ℕ) (es : List Entry) → lots_of (top_shares most top q es) ≤ shown_by es
+top-shown : (most : ℕ) (top : Option ℕ) (q : ℕ) (es : List Entry) → lots_shared (top_shares most top q es) ≤ shown_by es
 top-shown most None q es = omega arith
 top-shown most (Some s) q es = omega (arith, lots-shown (top_share most q) (λ e. omega arith) (filter (is_slot s) es), part-shown (is_slot s) es)
 
@@ -86,24 +88,24 @@ top-shown most (Some s) q es = omega (arith, lots-shown (top_share most q) (λ e
 abbrev orders_of : ℕ → List Entry → List Entry
 orders_of firm es = filter (is_of_firm firm) es
 
-lmm-shown : (fs : List LmmShare) (q : ℕ) (es : List Entry) → IsDistinct (λ a b. a == b) (map firm_of fs) → lots_of (lmm_shares fs q es) ≤ shown_by es
+lmm-shown : (fs : List LmmShare) (q : ℕ) (es : List Entry) → IsDistinct (λ a b. a == b) (map firm_of fs) → lots_shared (lmm_shares fs q es) ≤ shown_by es
 lmm-shown [] q es d = omega arith
 lmm-shown (f ∷ fs) q es d =
     let n = q * f.percent / 100 in
     let rest = filter (is_other f.firm) es in
-    let same : lots_of (lmm_shares fs q rest) ≡ lots_of (lmm_shares fs q es) = ap lots_of (lmm-others f.firm fs q es (distinct-first f fs d)) in
+    let same : lots_shared (lmm_shares fs q rest) ≡ lots_shared (lmm_shares fs q es) = ap lots_shared (lmm-others f.firm fs q es (distinct-first f fs d)) in
     omega (arith, lots-append (spent n (orders_of f.firm es)) (lmm_shares fs q es), spent-shown n (orders_of f.firm es), same, lmm-shown fs q rest (distinct-more f fs d), halves-shown (is_of_firm f.firm) es)
 
 -- ---- in proportion
 
-prorata-shown : (least q : ℕ) (es : List Entry) → lots_of (prorata_shares least q es) ≤ shown_by es
+prorata-shown : (least q : ℕ) (es : List Entry) → lots_shared (prorata_shares least q es) ≤ shown_by es
 prorata-shown least q es =
     let total = shown_by es in
     lots-shown (λ (e : Entry). prorata_share least (min q total) total e.order.shown) (λ e. share-shown least (min q total) total e.order.shown (omega arith)) es
 
 -- ---- one lot each
 
-ones-shown : (q : ℕ) (es : List Entry) → AllShow es → lots_of (ones q es) ≤ shown_by es
+ones-shown : (q : ℕ) (es : List Entry) → AllShow es → lots_shared (ones q es) ≤ shown_by es
 ones-shown q [] h = omega arith
 ones-shown q (e ∷ es) h = omega (arith, lots-cons (e.slot, min q 1) (ones (q - 1) es), shown-cons e es, h.0, ones-shown (q - 1) es h.1)
 
@@ -141,7 +143,7 @@ holds-given k x es d h =
 -- the incoming order meets the same level
 faces-still : (step : StepName) (s n : ℕ) (price : Price) (m : MatchState) → facing price (trade_share step s n m).taker ≡ facing price m.taker
 faces-still step s n price m =
-    let k = marked step s n m in
+    let k = share_noted step s n m in
     let go : (c : Bool) → facing price (cond c k (trade step s n k)).taker ≡ facing price m.taker = elim [ true ↦ refl | false ↦ refl ] in
     go (n == 0)
 
@@ -154,7 +156,7 @@ given-still step price x y m a other given =
     let holds = holds-share (Gives k y.1) (λ o n h. h) step y.0 x.0 x.1 m other (given-holds k y m.book.resting a.in_order.differ given) in
     subst (λ (l : Level). IsGiven (orders_at l after.book.resting) y) (sym (faces-still step x.0 x.1 price m)) (holds-given k y after.book.resting now.in_order.differ holds)
 
-shares-fit : (step : StepName) (price : Price) (xs : List Share) (m : MatchState) → AreShowing m.book.resting → AreApart xs → AllByRecursion (IsGiven (level_now price m)) xs → lots_of xs ≤ m.taker.order.leaves
+shares-fit : (step : StepName) (price : Price) (xs : List Share) (m : MatchState) → AreShowing m.book.resting → AreApart xs → AllByRecursion (IsGiven (level_now price m)) xs → lots_shared xs ≤ m.taker.order.leaves
     → AreFit step price xs m
 shares-fit step price [] m a apart given few = tt
 shares-fit step price (x ∷ xs) m a apart given few =
@@ -214,7 +216,7 @@ fifo-fit (suc n) price m a =
     (subst (AreFit name.Fifo price more) (head-traded es m) (fifo-fit n price after (showing-head es m a)))
 
 -- shares that are fit are together no more than what is wanted
-fit-wanted : (step : StepName) (price : Price) (xs : List Share) (m : MatchState) → AreFit step price xs m → lots_of xs ≤ m.taker.order.leaves
+fit-wanted : (step : StepName) (price : Price) (xs : List Share) (m : MatchState) → AreFit step price xs m → lots_shared xs ≤ m.taker.order.leaves
 fit-wanted step price [] m h = omega arith
 fit-wanted step price (x ∷ xs) m h =
     omega (arith, lots-cons x xs, h.0.wanted, share-leaves step x.0 x.1 m, fit-wanted step price xs (trade_share step x.0 x.1 m) h.1)
@@ -235,7 +237,7 @@ module _ (price : Price) (m : MatchState) (a : AreShowing m.book.resting) where
   show = all-filter (λ (e : Entry). 1 ≤ e.order.shown) (is_at (facing price m.taker)) m.book.resting (all-with (λ (e : Entry). IsShowing e.order) (λ (e : Entry). 1 ≤ e.order.shown) (λ e k. k.0) m.book.resting a.each)
 
   -- the shares of a step go to different orders of the level
-  once : (step : Step) (xs : List Share) → step_of step price m ≡ trade_shares (name_of step) xs m → AreOf here xs → lots_of xs ≤ q → lots_of xs ≤ shown_by here → TradesFitShares step price m
+  once : (step : Step) (xs : List Share) → after_step step price m ≡ trade_shares (name_of step) xs m → AreOf here xs → lots_shared xs ≤ q → lots_shared xs ≤ shown_by here → TradesFitShares step price m
   once step xs is of few shown = record {
     shares = xs;
     traded = is;
@@ -263,7 +265,7 @@ module _ (price : Price) (m : MatchState) (a : AreShowing m.book.resting) where
       ]
   trades-fit Leveling h =
       let left = filter is_left_out here in
-      let shown : lots_of (ones q left) ≤ shown_by here =
+      let shown : lots_shared (ones q left) ≤ shown_by here =
       omega (arith, ones-shown q left (all-filter (λ (e : Entry). 1 ≤ e.order.shown) is_left_out here show), part-shown is_left_out here) in
       once Leveling (ones q left) refl (leveling-of q here show differ) (ones-wanted q left) shown
   trades-fit Fifo h =

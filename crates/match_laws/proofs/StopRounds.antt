@@ -1,4 +1,4 @@
--- A cascade of stops: it goes on while a waiting stop is marked, and ends once none is.
+-- A cascade of stops: it goes on while a waiting stop is reached, and ends once none is.
 use Rattle.std.proofs.Common.{◌≡◌, ◌≢◌, ℕ, ◌+◌, ◌≤◌, ◌<◌, Bool, true, false, cond, not, List, [], ◌∷◌, filter, length, Option, Some, None, refl, sym, ap, subst, ◌∙◌, arith, inl, inr, ◌⊎◌}
 use Prim.Native.Nat.{zero, suc}
 use Rattle.std.specs.Prelude.{◌==◌}
@@ -11,7 +11,7 @@ use Rattle.plain_book.specs.Book.{Book}
 use Rattle.plain_book.specs.Match.{MatchState}
 use Rattle.plain_book.proofs.Levels.{HasSlot-filter}
 use Rattle.plain_book.proofs.Live.{first-has}
-use Rattle.order_kinds.specs.Stops.{Naming, fill_range, is_marked, first_entry, first_marked, next_stop, stop_triggered, stop_entered, stop_rounds, stops_entered}
+use Rattle.order_kinds.specs.Stops.{Naming, fill_range, is_reached_by, first_entry, first_reached, next_stop, stop_triggered, stop_entered, stop_rounds, stops_entered}
 use Rattle.order_kinds.proofs.Cascade.{rest-entered}
 
 -- ---- a stop leaves those that wait
@@ -39,14 +39,14 @@ first-slot : (es : List Entry) (e : Entry) → first_entry es ≡ Some e → slo
 first-slot [] e is = absurd (let k : None ≡ Some e = is in cc)
 first-slot (x ∷ es) e is = let k : Some x ≡ Some e = is in let same : x ≡ e = cc in ap (λ (y : Entry). Some y.slot) same
 
-marked-waits : (instrument : ℕ) (range : Option (Price × Price)) (waiting : List Entry) (e : Entry) → first_marked instrument range waiting ≡ Some e → HasSlot e.slot waiting
+marked-waits : (instrument : ℕ) (range : Option (Price × Price)) (waiting : List Entry) (e : Entry) → first_reached instrument range waiting ≡ Some e → HasSlot e.slot waiting
 marked-waits instrument None waiting e is = absurd (let k : None ≡ Some e = is in cc)
 marked-waits instrument (Some range) waiting e is =
     let stops = stops_of instrument waiting in
-    let marked = filter (is_marked range) stops in
-    HasSlot-filter (is_of instrument) e.slot waiting (HasSlot-filter (is_marked range) e.slot stops (first-has e.slot marked (first-slot marked e is)))
+    let marked = filter (is_reached_by range) stops in
+    HasSlot-filter (is_of instrument) e.slot waiting (HasSlot-filter (is_reached_by range) e.slot stops (first-has e.slot marked (first-slot marked e is)))
 
-none-waits : (instrument : ℕ) (range : Option (Price × Price)) → first_marked instrument range [] ≡ None
+none-waits : (instrument : ℕ) (range : Option (Price × Price)) → first_reached instrument range [] ≡ None
 none-waits instrument None = refl
 none-waits instrument (Some range) = refl
 
@@ -67,14 +67,14 @@ module _ (steps : List Step) where
   abbrev IsDone : MatchState → Type 0
   IsDone m = next_stop m ≡ None
 
-  -- if no stop is marked, nothing is done
+  -- if no stop is reached, nothing is done
   rounds-stay : (n : ℕ) (naming : Naming) (m : MatchState) → IsDone m → stop_rounds n naming steps m ≡ m
   rounds-stay zero naming m done = refl
   rounds-stay (suc n) naming m done =
       ap (λ (x : MatchState). stop_entered (next_stop x) (naming n) steps x) (rounds-stay n naming m done)
       ∙ ap (λ (e : Option Entry). stop_entered e (naming n) steps m) done
 
-  -- after some rounds no stop is marked, or as many stops fewer wait
+  -- after some rounds no stop is reached, or as many stops fewer wait
   rounds-fewer : (n : ℕ) (naming : Naming) (m : MatchState) → IsDone (stop_rounds n naming steps m) ⊎ (waits (stop_rounds n naming steps m) + n ≤ waits m)
   rounds-fewer zero naming m = inr (omega arith)
   rounds-fewer (suc n) naming m =
@@ -90,7 +90,7 @@ module _ (steps : List Step) where
       ]
 
   done-none : (m : MatchState) → m.book.waiting ≡ [] → IsDone m
-  done-none m none = ap (first_marked m.taker.order.instrument (fill_range m.events)) none ∙ none-waits m.taker.order.instrument (fill_range m.events)
+  done-none m none = ap (first_reached m.taker.order.instrument (fill_range m.events)) none ∙ none-waits m.taker.order.instrument (fill_range m.events)
 
   empty : (es : List Entry) → length es ≤ 0 → es ≡ []
   empty [] h = refl
@@ -129,7 +129,7 @@ module _ (steps : List Step) where
 
   -- ---- the cascade
 
-  -- if no stop is marked, nothing is done
+  -- if no stop is reached, nothing is done
   pub stops-stay : (naming : Naming) (m : MatchState) → IsDone m → stops_entered naming steps m ≡ m
   stops-stay naming m done = rounds-stay (waits m) naming m done
 
@@ -146,6 +146,6 @@ module _ (steps : List Step) where
             ∙ rounds-more (waits after) n (later naming) after (omega (arith, fewer, some)) (rounds-done (later naming) after)
       ] in go (waits m) refl
 
-  -- in the end no stop is marked
+  -- in the end no stop is reached
   pub stops-end : (naming : Naming) (m : MatchState) → IsDone (stops_entered naming steps m)
   stops-end naming m = rounds-done naming m

@@ -29,10 +29,10 @@ use Rattle.order_kinds.specs.OrderRules.{is_reached}
 use Rattle.order_kinds.specs.State.{State}
 use Rattle.order_kinds.specs.Instruments.{ListedInstrument}
 use Rattle.order_kinds.specs.NewOrders.{Terms, terms_of}
-use Rattle.order_kinds.specs.Accepting.{new_start, new_by, new_step}
-use Rattle.order_kinds.specs.Replaces.{replace_terms, keeps_place, replaced_in_place, replaced_start, replaced_anew, replaced_by, replace_by, replace_step}
+use Rattle.order_kinds.specs.Accepting.{new_start, accepted_or_refused, new_step}
+use Rattle.order_kinds.specs.Replaces.{replace_terms, keeps_place, replaced_in_place, replaced_start, replaced_anew, replaced_or_refused, replace_at, replace_step}
 use Rattle.order_kinds.specs.Entering.{entered}
-use Rattle.order_kinds.specs.Stops.{Naming, fill_range_from, fill_range, stop_end, is_marked, first_entry, first_marked, next_stop, stop_triggered, stop_entered, stop_rounds, stops_entered, entered_with_stops, taker_waiting, come_in_as}
+use Rattle.order_kinds.specs.Stops.{Naming, fill_range_from, fill_range, stop_end, is_reached_by, first_entry, first_reached, next_stop, stop_triggered, stop_entered, stop_rounds, stops_entered, entered_with_stops, taker_waiting, come_in_as}
 use Rattle.order_kinds.proofs.Cascade.{entered-instrument}
 use Rattle.match_laws.specs.Stops.{IsUnreached, NoStopIsLeft, LeavesNoStop}
 use Rattle.match_laws.proofs.StopRounds.{stops-end}
@@ -100,22 +100,22 @@ fills-unreached side stop range (_ ∷ events) h = fills-unreached side stop ran
 abbrev IsPassed : ℕ → Option (Price × Price) → Entry → Type 0
 IsPassed instrument range e = e.order.instrument ≡ instrument → AllUnreached e.order.side e.order.trigger range
 
-first-none : (instrument : ℕ) (range : Price × Price) (waiting : List Entry) → first_entry (filter (is_marked range) (stops_of instrument waiting)) ≡ None → AllByRecursion (IsPassed instrument (Some range)) waiting
+first-none : (instrument : ℕ) (range : Price × Price) (waiting : List Entry) → first_entry (filter (is_reached_by range) (stops_of instrument waiting)) ≡ None → AllByRecursion (IsPassed instrument (Some range)) waiting
 first-none instrument range [] none = tt
 first-none instrument range (e ∷ es) none =
     let S = stops_of instrument es in
-    let F = filter (is_marked range) S in
+    let F = filter (is_reached_by range) S in
     let rest = first-none instrument range es in
-    let marked : (c : Bool) → is_marked range e ≡ c → first_entry (cond c (e ∷ F) F) ≡ None → AllByRecursion (IsPassed instrument (Some range)) (e ∷ es) = elim [
+    let marked : (c : Bool) → is_reached_by range e ≡ c → first_entry (cond c (e ∷ F) F) ≡ None → AllByRecursion (IsPassed instrument (Some range)) (e ∷ es) = elim [
       | true ↦ λ is k. absurd (let no : Some e ≡ None = k in cc)
       | false ↦ λ is k. ((λ _. is), rest k)
     ] in
-    let go : (c : Bool) → is_of instrument e ≡ c → first_entry (filter (is_marked range) (cond c (e ∷ S) S)) ≡ None → AllByRecursion (IsPassed instrument (Some range)) (e ∷ es) = elim [
-      | true ↦ λ on k. marked (is_marked range e) refl k
+    let go : (c : Bool) → is_of instrument e ≡ c → first_entry (filter (is_reached_by range) (cond c (e ∷ S) S)) ≡ None → AllByRecursion (IsPassed instrument (Some range)) (e ∷ es) = elim [
+      | true ↦ λ on k. marked (is_reached_by range e) refl k
       | false ↦ λ off k. ((λ is. absurd (true≢false (sym (ap (λ (n : ℕ). n == instrument) is ∙ same instrument) ∙ off))), rest k)
     ] in go (is_of instrument e) refl none
 
-all-passed : (instrument : ℕ) (range : Option (Price × Price)) (waiting : List Entry) → first_marked instrument range waiting ≡ None → AllByRecursion (IsPassed instrument range) waiting
+all-passed : (instrument : ℕ) (range : Option (Price × Price)) (waiting : List Entry) → first_reached instrument range waiting ≡ None → AllByRecursion (IsPassed instrument range) waiting
 all-passed instrument None [] none = tt
 all-passed instrument None (e ∷ es) none = ((λ _. tt), all-passed instrument None es none)
 all-passed instrument (Some range) waiting none = first-none instrument range waiting none
@@ -132,7 +132,7 @@ none-left instrument (Fill head o lots price step trade ∷ events) waiting h = 
 )
 none-left instrument (_ ∷ events) waiting h = none-left instrument events waiting h
 
--- if no waiting stop is marked, no fill reaches one
+-- if no waiting stop is reached, no fill reaches one
 done-left : (m : MatchState) → next_stop m ≡ None → NoStopIsLeft m.taker.order.instrument m.events m.book.waiting
 done-left m done =
     let i = m.taker.order.instrument in
@@ -147,12 +147,12 @@ first-of : (instrument : ℕ) (es : List Entry) (e : Entry) → AllByRecursion (
 first-of instrument [] e a is = absurd (let k : None ≡ Some e = is in cc)
 first-of instrument (x ∷ es) e a is = let k : Some x ≡ Some e = is in let here : x ≡ e = cc in subst (λ (y : Entry). y.order.instrument ≡ instrument) here a.0
 
-marked-of : (instrument : ℕ) (range : Option (Price × Price)) (waiting : List Entry) (e : Entry) → first_marked instrument range waiting ≡ Some e → e.order.instrument ≡ instrument
+marked-of : (instrument : ℕ) (range : Option (Price × Price)) (waiting : List Entry) (e : Entry) → first_reached instrument range waiting ≡ Some e → e.order.instrument ≡ instrument
 marked-of instrument None waiting e is = absurd (let k : None ≡ Some e = is in cc)
 marked-of instrument (Some range) waiting e is =
     let On = λ (x : Entry). x.order.instrument ≡ instrument in
     let stops = all-passing On (is_of instrument) (λ x on. (Decides-eqb x.order.instrument instrument).0 on) waiting in
-    first-of instrument (filter (is_marked range) (stops_of instrument waiting)) e (all-filter On (is_marked range) (stops_of instrument waiting) stops) is
+    first-of instrument (filter (is_reached_by range) (stops_of instrument waiting)) e (all-filter On (is_reached_by range) (stops_of instrument waiting) stops) is
 
 module _ (steps : List Step) where
   abbrev Keeps : MatchState → MatchState → Type 0
@@ -187,7 +187,7 @@ come-left Market naming steps m none = no-stop-left steps naming m
 pub new-left : (naming : Naming) (product : ProductLists) (new : NewOrder) (state : State) (terms : Terms) → terms_of product new state ≡ Ok terms → LeavesNoStop terms.instrument.number (new_step naming product new state)
 new-left naming product new state terms is =
     let start = new_start terms new state in
-    subst (λ (r : Result Terms NewFault). LeavesNoStop terms.instrument.number (new_by naming r new state)) (sym is)
+    subst (λ (r : Result Terms NewFault). LeavesNoStop terms.instrument.number (accepted_or_refused naming r new state)) (sym is)
     (come-left start.taker.order.kind naming terms.instrument.rule.steps start (λ waiting. tt))
 
 pub replaced-left : (naming : Naming) (product : ProductLists) (request : ReplaceOrder) (state : State) (slot : ℕ) → slot_named request.sender.firm request.old (live_orders state.book) ≡ Some slot
@@ -199,8 +199,8 @@ replaced-left naming product request state slot is =
       | true ↦ tt
       | false ↦ come-left start.taker.order.kind naming on.rule.steps start (λ waiting. tt)
     ] in
-    let go : (r : Result ListedInstrument ChangeFault) → LeavesNoStop before.instrument (replaced_by r naming request slot state) = elim [
+    let go : (r : Result ListedInstrument ChangeFault) → LeavesNoStop before.instrument (replaced_or_refused r naming request slot state) = elim [
       | Ok on ↦ accepted on (keeps_place request before)
       | Err f ↦ tt
     ] in
-    subst (λ (at : Option ℕ). LeavesNoStop before.instrument (replace_by at naming product request state)) (sym is) (go (replace_terms product request before state))
+    subst (λ (at : Option ℕ). LeavesNoStop before.instrument (replace_at at naming product request state)) (sym is) (go (replace_terms product request before state))

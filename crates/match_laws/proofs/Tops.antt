@@ -10,7 +10,7 @@ use Rattle.gx_base.proofs.Tests.{not-both}
 use Rattle.step_config.specs.declared.step.Step.{Step}
 use Rattle.plain_book.specs.declared.entry.Entry.{Entry}
 use Rattle.plain_book.specs.Orders.{order_of, is_on, is_side, side_of, slot_of, top_of, without}
-use Rattle.plain_book.specs.Book.{Book, AllDiffer, EachPair, AllowsTop, IsRight}
+use Rattle.plain_book.specs.Book.{Book, AllDiffer, EachPair, MayPrecedeTop, IsRight}
 use Rattle.plain_book.specs.Match.{MatchState}
 use Rattle.plain_book.proofs.Levels.{same, is_side-same, is_side-refl, and-left, and-right, AllDiffer-front}
 use Rattle.plain_book.proofs.Pairs.{all-filter, all-with, all-both, differ-pairs}
@@ -75,7 +75,7 @@ module _ (i : ℕ) (d : Side) where
       ] in go (is_on i d e) refl h
 
   -- each order of the side that is marked is its TOP
-  pub marked-top : (es : List Entry) → EachPair AllowsTop es → AllByRecursion (Marked (λ s. top_of i d es ≡ Some s)) es
+  pub marked-top : (es : List Entry) → EachPair MayPrecedeTop es → AllByRecursion (Marked (λ s. top_of i d es ≡ Some s)) es
   marked-top [] t = tt
   marked-top (e ∷ es) t =
       let S = side_of i d es in
@@ -85,7 +85,7 @@ module _ (i : ℕ) (d : Side) where
       let first : is_on i d e ≡ true → (c : Bool) → e.is_top ≡ c → All (slot_of (cond c (e ∷ F) F)) = λ on. elim [
         | true ↦ λ top. (
           (λ _ _. refl),
-          all-with (AllowsTop e) (Marked (λ s. Some e.slot ≡ Some s)) (λ x r m o. not-both e.is_top top (r m (on-both i d x e o on)).0) es t.0,
+          all-with (MayPrecedeTop e) (Marked (λ s. Some e.slot ≡ Some s)) (λ x r m o. not-both e.is_top top (r m (on-both i d x e o on)).0) es t.0,
         )
         | false ↦ λ top. ((λ m _. not-both e.is_top m top), rest)
       ] in

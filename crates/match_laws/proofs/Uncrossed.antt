@@ -11,7 +11,7 @@ use Rattle.gx_base.specs.declared.order.Taker.{Taker}
 use Rattle.step_config.specs.declared.step.Step.{Step}
 use Rattle.plain_book.specs.declared.entry.Entry.{Entry}
 use Rattle.plain_book.specs.Orders.{Level, level_of, opposite, is_side, is_on, is_better, is_best_price, is_new_best, is_at_earlier_level, best_of, placed, with_top, topped}
-use Rattle.plain_book.specs.Book.{Book, IsRight, EachPair, AreInBookOrder, first_shown, is_enough, resting_placed, book_placed}
+use Rattle.plain_book.specs.Book.{Book, IsRight, EachPair, AreInBookOrder, first_shown, makes_top, resting_placed, book_placed}
 use Rattle.plain_book.specs.Match.{MatchState}
 use Rattle.plain_book.proofs.Levels.{same, is_side-refl}
 use Rattle.plain_book.proofs.Pairs.{all-with, all-both, all-map}
@@ -19,7 +19,8 @@ use Rattle.plain_book.proofs.Live.{orders-placed}
 use Rattle.plain_book.proofs.Tops.{behind-on, new-best-all}
 use Rattle.level_sweep.specs.Sweep.{sweep, within_limit, IsSweepDone}
 use Rattle.match_laws.specs.Laws.{AreApart, IsUncrossed}
-use Rattle.level_sweep.proofs.Standing.{Levels, sweep-levels, sweep-in-order, right-in-order}
+use Rattle.level_sweep.proofs.Standing.{right-in-order}
+use Rattle.sweep_laws.proofs.SweptBooks.{Levels, sweep-levels, sweep-in-order}
 use Rattle.level_sweep.proofs.Swept.{sweep-order}
 
 -- where no level is added, none is crossed
@@ -100,8 +101,8 @@ resting-uncrossed slot o top_min es clear h =
     let marked = with_top o.instrument o.side None es in
     let keep : (P : Level → Type 0) → Levels P es → Levels P marked = λ P a. levels-topped o.instrument o.side None P es a in
     let newcomer = λ (top : Bool). let n : Entry = record { slot = slot; order = record o { shown = first_shown o }; is_top = top } in n in
-    let go : (c : Bool) → IsUncrossed (placed (newcomer (c && is_enough top_min o.leaves)) (cond c marked es)) = elim [
-      | true ↦ uncrossed-placed (newcomer (is_enough top_min o.leaves)) marked (keep (AreClear (level_of o)) clear) (uncrossed-moved es marked keep h)
+    let go : (c : Bool) → IsUncrossed (placed (newcomer (c && makes_top top_min o.leaves)) (cond c marked es)) = elim [
+      | true ↦ uncrossed-placed (newcomer (makes_top top_min o.leaves)) marked (keep (AreClear (level_of o)) clear) (uncrossed-moved es marked keep h)
       | false ↦ uncrossed-placed (newcomer false) es clear h
     ] in go (is_new_best o es)
 

@@ -10,13 +10,13 @@ use Rattle.plain_book.specs.declared.entry.Entry.{Entry}
 use Rattle.plain_book.specs.Orders.{Level, level_of, HasSlot, order_of}
 use Rattle.plain_book.specs.Match.{MatchState, Share, trade_share, trade_shares}
 use Rattle.plain_book.specs.Steps.{level_now}
-use Rattle.level_sweep.specs.Sweep.{step_of}
+use Rattle.level_sweep.specs.Sweep.{after_step}
 
 -- ---- the shares of a step
 
 -- the lots of some shares
-abbrev pub lots_of : List Share → ℕ
-lots_of shares = sum_by (λ (s : Share). s.1) shares
+abbrev pub lots_shared : List Share → ℕ
+lots_shared shares = sum_by (λ (s : Share). s.1) shares
 
 -- what some orders show
 abbrev pub shown_by : List Entry → ℕ
@@ -37,10 +37,10 @@ AreFit step price (share ∷ shares) m = IsFit price share m × AreFit step pric
 -- than what is wanted as the step starts, and for each step but FIFO no more than what the level shows then.
 pub record TradesFitShares (step : Step) (price : Price) (m : MatchState) : Type 0 where
   pub shares : List Share
-  pub traded : step_of step price m ≡ trade_shares (name_of step) shares m
+  pub traded : after_step step price m ≡ trade_shares (name_of step) shares m
   pub fit : AreFit (name_of step) price shares m
-  pub wanted : lots_of shares ≤ m.taker.order.leaves
-  pub shown : is_fifo step ≡ false → lots_of shares ≤ shown_by (level_now price m)
+  pub wanted : lots_shared shares ≤ m.taker.order.leaves
+  pub shown : is_fifo step ≡ false → lots_shared shares ≤ shown_by (level_now price m)
 
 -- ---- crossed books
 

@@ -37,41 +37,49 @@ pub fn fifo_goes_on()
 
 /// A level match, in whose list FIFO stands last, leaves nothing wanted or no order at the price.
 pub fn level_matches_end()
-    ensures { (steps : List Step) (price : Price) (m : MatchState) → AreRightSteps steps → IsRight m.book → IsLevelDone price (level_match steps price m).book (level_match steps price m).taker }
+    ensures { (steps : List Step) (price : Price) (m : MatchState) → AreRightSteps steps → IsRight m.book
+        → IsLevelDone price (level_match steps price m).book (level_match steps price m).taker }
 {}
 
 /// A sweep without a count of rounds: where there is no next price, it does nothing; else there is a level match at the next
 /// price, and the sweep goes on.
 pub fn sweeps_go_on()
     ensures none { (steps : List Step) (limit : Price) (m : MatchState) → next_price limit m.book m.taker ≡ None → sweep steps limit m ≡ m }
-    ensures next { (steps : List Step) (limit : Price) (m : MatchState) (price : Price) → AreRightSteps steps → IsRight m.book → next_price limit m.book m.taker ≡ Some price → sweep steps limit m ≡ sweep steps limit (level_match steps price m) }
+    ensures next { (steps : List Step) (limit : Price) (m : MatchState) (price : Price) → AreRightSteps steps → IsRight m.book
+        → next_price limit m.book m.taker ≡ Some price → sweep steps limit m ≡ sweep steps limit (level_match steps price m) }
 {}
 
 /// A sweep leaves nothing wanted or no price within the limit.
 pub fn sweeps_end()
-    ensures { (steps : List Step) (limit : Price) (m : MatchState) → AreRightSteps steps → IsRight m.book → IsSweepDone limit (sweep steps limit m).book (sweep steps limit m).taker }
+    ensures { (steps : List Step) (limit : Price) (m : MatchState) → AreRightSteps steps → IsRight m.book
+        → IsSweepDone limit (sweep steps limit m).book (sweep steps limit m).taker }
 {}
 
 /// A book that is not crossed is not crossed after a sweep to the limit of the incoming order either, once what is left of
 /// that order has come to rest.
 pub fn no_book_is_crossed()
-    ensures { (steps : List Step) (m : MatchState) (slot : ℕ) (top_min : Option ℕ) → AreRightSteps steps → IsRight m.book → IsUncrossed m.book.resting → let end = sweep steps m.taker.order.price m in 1 ≤ end.taker.order.leaves → IsUncrossed (book_placed slot end.taker.order top_min end.book).resting }
+    ensures { (steps : List Step) (m : MatchState) (slot : ℕ) (top_min : Option ℕ) → AreRightSteps steps → IsRight m.book → IsUncrossed m.book.resting
+        → let end = sweep steps m.taker.order.price m in 1 ≤ end.taker.order.leaves
+        → IsUncrossed (book_placed slot end.taker.order top_min end.book).resting }
 {}
 
 /// No order inherits TOP: who is TOP after a sweep, or after an order has left, was TOP before.
 pub fn nobody_inherits_top()
-    ensures swept { (steps : List Step) (limit : Price) (m : MatchState) (instrument : ℕ) (side : Side) (slot : ℕ) → IsRight m.book → top_of instrument side (sweep steps limit m).book.resting ≡ Some slot → top_of instrument side m.book.resting ≡ Some slot }
-    ensures left { (b : Book) (gone : ℕ) (instrument : ℕ) (side : Side) (slot : ℕ) → IsRight b → top_of instrument side (book_without gone b).resting ≡ Some slot → top_of instrument side b.resting ≡ Some slot }
+    ensures swept { (steps : List Step) (limit : Price) (m : MatchState) (instrument : ℕ) (side : Side) (slot : ℕ) → IsRight m.book
+        → top_of instrument side (sweep steps limit m).book.resting ≡ Some slot → top_of instrument side m.book.resting ≡ Some slot }
+    ensures left { (b : Book) (gone : ℕ) (instrument : ℕ) (side : Side) (slot : ℕ) → IsRight b
+        → top_of instrument side (book_without gone b).resting ≡ Some slot → top_of instrument side b.resting ≡ Some slot }
 {}
 
-/// A cascade of stops without a count of rounds: if no waiting stop is marked, nothing is done; else the next stop is
+/// A cascade of stops without a count of rounds: if no waiting stop is reached, nothing is done; else the next stop is
 /// triggered and entered, and the cascade goes on.
 pub fn stops_go_on()
     ensures none { (naming : Naming) (steps : List Step) (m : MatchState) → next_stop m ≡ None → stops_entered naming steps m ≡ m }
-    ensures next { (naming : Naming) (steps : List Step) (m : MatchState) (stop : Entry) → next_stop m ≡ Some stop → stops_entered naming steps m ≡ stops_entered (λ before. naming (before + 1)) steps (stop_entered (Some stop) (naming 0) steps m) }
+    ensures next { (naming : Naming) (steps : List Step) (m : MatchState) (stop : Entry) → next_stop m ≡ Some stop
+        → stops_entered naming steps m ≡ stops_entered (λ before. naming (before + 1)) steps (stop_entered (Some stop) (naming 0) steps m) }
 {}
 
-/// A cascade of stops ends only once no waiting stop is marked.
+/// A cascade of stops ends only once no waiting stop is reached.
 pub fn stops_end()
     ensures { (naming : Naming) (steps : List Step) (m : MatchState) → next_stop (stops_entered naming steps m) ≡ None }
 {}
@@ -80,7 +88,11 @@ pub fn stops_end()
 /// entered with the stops that follow, nor a new order that is accepted, nor a replace of a live order. Other messages have no
 /// fills.
 pub fn no_stop_is_left()
-    ensures entered { (naming : Naming) (steps : List Step) (m : MatchState) → let end = entered_with_stops naming steps m in NoStopIsLeft m.taker.order.instrument end.events end.book.waiting }
-    ensures accepted { (naming : Naming) (product : ProductLists) (new : NewOrder) (state : State) (terms : Terms) → terms_of product new state ≡ Ok terms → LeavesNoStop terms.instrument.number (new_step naming product new state) }
-    ensures replaced { (naming : Naming) (product : ProductLists) (request : ReplaceOrder) (state : State) (slot : ℕ) → let live = live_orders state.book in slot_named request.sender.firm request.old live ≡ Some slot → LeavesNoStop (order_of slot live).instrument (replace_step naming product request state) }
+    ensures entered { (naming : Naming) (steps : List Step) (m : MatchState)
+        → let end = entered_with_stops naming steps m in NoStopIsLeft m.taker.order.instrument end.events end.book.waiting }
+    ensures accepted { (naming : Naming) (product : ProductLists) (new : NewOrder) (state : State) (terms : Terms) → terms_of product new state ≡ Ok terms
+        → LeavesNoStop terms.instrument.number (new_step naming product new state) }
+    ensures replaced { (naming : Naming) (product : ProductLists) (request : ReplaceOrder) (state : State) (slot : ℕ)
+        → let live = live_orders state.book in slot_named request.sender.firm request.old live ≡ Some slot
+        → LeavesNoStop (order_of slot live).instrument (replace_step naming product request state) }
 {}

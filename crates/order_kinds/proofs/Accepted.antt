@@ -20,7 +20,7 @@ use Rattle.plain_book.proofs.TradedShares.{match_with}
 use Rattle.plain_book.proofs.LineCounts.{line-counted}
 use Rattle.order_kinds.specs.State.{State}
 use Rattle.order_kinds.specs.NewOrders.{may_rest, Terms, terms_of, order_on}
-use Rattle.order_kinds.specs.Accepting.{refusal, refused, new_start, accepted, new_by, new_step}
+use Rattle.order_kinds.specs.Accepting.{refusal, refused, new_start, accepted, accepted_or_refused, new_step}
 use Rattle.order_kinds.specs.Stops.{by_number}
 use Rattle.order_kinds.specs.Inner.Terms.{IsAccepted}
 use Rattle.order_kinds.specs.Inner.Apart.{NewApart}
@@ -153,15 +153,17 @@ accepted-rose old terms new desk after order head is asked few rose =
 
 -- ---- it is refused
 
-pub takes-refusal : {E : Type 0} (m : EmitMeanings E) (product : ProductLists) (new : NewOrder) (old : State) (fault : NewFault) (desk : Desk) (a b : E) → terms_of product new old ≡ Err fault
+pub takes-refusal : {E : Type 0} (m : EmitMeanings E) (product : ProductLists) (new : NewOrder) {old seen : State} → old ≡ seen → (fault : NewFault) (desk : Desk) (a b : E) → terms_of product new seen ≡ Err fault
     → desk ≡ report_counted old.desk new.sender.firm → Emits m a b (refusal fault new old.desk ∷ [])
-    → Takes m (λ state. NewApart (terms_of product new state) new state) (λ naming. new_step naming product new) old (record old { desk = desk }) a b
-takes-refusal m product new old fault desk a b is counted emits =
-    takes-known m (λ state. NewApart (terms_of product new state) new state) (λ naming. new_step naming product new) old a b by_number (refused fault new old) (record old { desk = desk })
-    (subst (λ (r : Result Terms NewFault). NewApart r new old by_number) (sym is) tt)
-    (ap (λ (r : Result Terms NewFault). new_by by_number r new old) is)
+    → Takes m (λ state. NewApart (terms_of product new state) new state) (λ naming. new_step naming product new) seen (record old { desk = desk }) a b
+takes-refusal m product new {old} {seen} at fault desk a b is counted emits =
+    let here : terms_of product new old ≡ Err fault = subst (λ (s : State). terms_of product new s ≡ Err fault) (sym at) is in
+    subst (λ (s : State). Takes m (λ state. NewApart (terms_of product new state) new state) (λ naming. new_step naming product new) s (record old { desk = desk }) a b) at
+    (takes-known m (λ state. NewApart (terms_of product new state) new state) (λ naming. new_step naming product new) old a b by_number (refused fault new old) (record old { desk = desk })
+    (subst (λ (r : Result Terms NewFault). NewApart r new old by_number) (sym here) tt)
+    (ap (λ (r : Result Terms NewFault). accepted_or_refused by_number r new old) here)
     (ap (λ (d : Desk). record old { desk = d }) counted)
-    emits
+    emits)
 
 -- ---- all of it
 

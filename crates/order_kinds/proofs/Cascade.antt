@@ -1,4 +1,4 @@
--- The stops of a message: each is triggered in turn, until the prices of the message mark none that waits.
+-- The stops of a message: each is triggered in turn, until the prices of the message reach none that waits.
 use Rattle.std.proofs.Common.{◌≡◌, ◌≢◌, ℕ, ◌+◌, ◌≤◌, Bool, true, false, cond, List, [], ◌∷◌, ◌++◌, Option, Some, None, refl, sym, ap, ◌∙◌, arith, inl, inr, append_assoc}
 use Prim.Native.Nat.{zero, suc}
 use Rattle.std.specs.Prelude.{◌==◌, nat_lt}
@@ -137,7 +137,7 @@ rounds-same (suc turns) f g steps m h =
     same-stop (next_stop x) (f (turns + 1)) (g (turns + 1)) steps x (h (turns + 1) (omega arith))
     ∙ ap (λ (y : MatchState). stop_entered (next_stop y) (g (turns + 1)) steps y) (rounds-same turns f g steps m (λ k le. h k (omega arith)))
 
--- where no stop is marked, further turns do nothing
+-- if no stop is reached, further turns do nothing
 pub rounds-done : (turns : ℕ) (naming : Naming) (steps : List Step) (m : MatchState) → next_stop (rounds turns naming steps m) ≡ None → (more : ℕ) → turns ≤ more → rounds more naming steps m ≡ rounds turns naming steps m
 rounds-done turns naming steps m none zero le = let e : zero ≡ turns = omega arith in ap (λ (n : ℕ). rounds n naming steps m) e
 rounds-done turns naming steps m none (suc more) le = elim (eqb_tells turns (suc more)) [

@@ -22,8 +22,8 @@ use Rattle.level_sweep.proofs.EachTrade.{Relation, IsKept, each-sweep}
 use Rattle.level_sweep.proofs.Swept.{sweep-order}
 use Rattle.order_kinds.specs.NewOrders.{may_rest}
 use Rattle.order_kinds.specs.Entering.{as_limit, top_min_of, taker_cancelled, taker_rested, open_for, entered}
-use Rattle.order_kinds.specs.Stops.{fill_range, is_marked, first_entry, first_marked, next_stop, as_triggered, stop_triggered, Naming, stop_entered, stop_rounds, entered_with_stops, taker_waiting, come_in_as, come_in}
-use Rattle.order_kinds.proofs.Slots.{sweep-rest}
+use Rattle.order_kinds.specs.Stops.{fill_range, is_reached_by, first_entry, first_reached, next_stop, as_triggered, stop_triggered, Naming, stop_entered, stop_rounds, entered_with_stops, taker_waiting, come_in_as, come_in}
+use Rattle.level_sweep.proofs.Resting.{rest-sweep}
 use Rattle.order_kinds.proofs.Kept.{IgnoresTrades, all-swept, all-book_placed, all-book_waited, all-left}
 
 -- a fact on an order that stays true when it trades, comes to rest, or is triggered
@@ -32,16 +32,16 @@ pub record StaysTrue (P : Order → Type 0) : Type 0 where
   pub rests : (o : Order) → P o → P (as_limit o)
   pub triggers : (o : Order) → P o → P (as_triggered o)
 
--- the first of some stops that a range marks is one of them
+-- the first of some stops that a range reaches is one of them
 first-holds : (Each : Entry → Type 0) (es : List Entry) (e : Entry) → AllByRecursion Each es → first_entry es ≡ Some e → Each e
 first-holds Each [] e a is = absurd (let k : None ≡ Some e = is in cc)
 first-holds Each (x ∷ es) e a is = let k : Some x ≡ Some e = is in let here : x ≡ e = cc in subst Each here a.0
 
-marked-holds : (Each : Entry → Type 0) (instrument : ℕ) (range : Option (Price × Price)) (waiting : List Entry) (e : Entry) → AllByRecursion Each waiting → first_marked instrument range waiting ≡ Some e → Each e
+marked-holds : (Each : Entry → Type 0) (instrument : ℕ) (range : Option (Price × Price)) (waiting : List Entry) (e : Entry) → AllByRecursion Each waiting → first_reached instrument range waiting ≡ Some e → Each e
 marked-holds Each instrument None waiting e a is = absurd (let k : None ≡ Some e = is in cc)
 marked-holds Each instrument (Some range) waiting e a is =
     let stops = stops_of instrument waiting in
-    first-holds Each _ e (all-filter Each (is_marked range) stops (all-filter Each (is_of instrument) waiting a)) is
+    first-holds Each _ e (all-filter Each (is_reached_by range) stops (all-filter Each (is_of instrument) waiting a)) is
 
 -- a sweep gives no order a number
 abbrev NumberStays : Relation
@@ -70,7 +70,7 @@ module _ (P : Order → Type 0) (stays : StaysTrue P) (size : Book) (number : �
   held-swept : (steps : List Step) (limit : Price) (m : MatchState) → Holds m → Holds (sweep steps limit m)
   held-swept steps limit m h =
       let end = sweep steps limit m in
-      let rest = sweep-rest steps limit m in
+      let rest = rest-sweep steps limit m in
       let before = m.taker.order in
       let left = end.taker.order in
       record {

@@ -1,11 +1,10 @@
 -- The counters of a core: at the start, when a message is counted, and after it is applied.
-use Rattle.std.proofs.Common.{◌≡◌, ℕ, refl, sym, subst, arith}
+use Rattle.std.proofs.Common.{◌≡◌, sym, subst, arith}
 use Rattle.gx_base.specs.declared.limits.TheConstants.{ADDRESSEES}
 use Rattle.gx_base.specs.declared.order.Desk.{Desk}
 use Rattle.plain_book.proofs.Found.{all-zero}
 use Rattle.order_kinds.specs.State.{empty_desk}
 use Rattle.order_kinds.specs.Cores.{AreCounters}
-use Rattle.order_kinds.specs.Inner.Taking.{CountsRose}
 
 -- counters that have counted nothing
 pub counters-empty : (desk : Desk) → desk ≡ empty_desk → AreCounters desk
@@ -14,13 +13,3 @@ counters-empty desk is = subst AreCounters (sym is) (record {
   messages = omega arith;
   counts = record { trades = omega arith; reports = omega arith; lines = λ place. omega (arith, all-zero ADDRESSEES place) };
 })
-
--- no counter rose
-pub rose-none : (desk : Desk) (most : ℕ) → CountsRose most desk desk
-rose-none desk most = record {
-  messages = refl;
-  orders = refl;
-  trades = omega arith;
-  reports = omega arith;
-  lines = λ place. omega arith;
-}

@@ -1,8 +1,7 @@
 -- An order is entered: what becomes of it, one part after the other.
-use Rattle.std.proofs.Common.{◌≡◌, ◌≢◌, ℕ, ◌≤◌, Bool, true, false, cond, not, List, [], ◌∷◌, ◌++◌, length, refl, sym, ap, subst, ◌∙◌, arith, length-append, append_assoc}
+use Rattle.std.proofs.Common.{◌≡◌, ◌≢◌, ℕ, ◌≤◌, Bool, true, false, cond, not, List, [], ◌∷◌, length, refl, sym, ap, subst, ◌∙◌, arith, length-append, append_assoc}
 use Rattle.std.specs.Prelude.{◌==◌, nat_lt}
 use Rattle.std.proofs.lemmas.Bool.{ne_eqb}
-use Rattle.std.proofs.lemmas.List.{append-nil}
 use Rattle.gx_base.specs.declared.price.Price.{Price}
 use Rattle.gx_base.specs.declared.order.Order.{Order}
 use Rattle.gx_base.specs.declared.order.Desk.{Desk}
@@ -10,17 +9,18 @@ use Rattle.gx_base.specs.declared.order.Taker.{Taker}
 use Rattle.gx_base.specs.declared.event.Cause.{Cause}
 use Rattle.gx_base.specs.declared.event.Cause.TheVariants as cause
 use Rattle.gx_base.specs.Emits.{EmitMeanings, Emits}
-use Rattle.gx_base.specs.EmitLaws.{emits_none, emits_joined, emits_as}
+use Rattle.gx_base.specs.EmitLaws.{emits_none, emits_as}
 use Rattle.step_config.specs.declared.step.Step.{Step}
-use Rattle.plain_book.specs.Book.{Book, IsFitToRest, live_orders, book_placed}
+use Rattle.plain_book.specs.Book.{Book, IsFitToRest, live_orders}
 use Rattle.plain_book.specs.Match.{MatchState, match_start, report_counted, next_head}
 use Rattle.plain_book.specs.Matches.{MatchAt, match_at, start_at, IsNow, CanTrade, Matches}
+use Rattle.plain_book.proofs.Matching.{goes-on}
 use Rattle.plain_book.proofs.TradedShares.{match_with, with_events, IgnoresEvents}
 use Rattle.level_sweep.specs.Sweep.{sweep, with_resting}
 use Rattle.level_sweep.proofs.Events.{sweep-ignores}
 use Rattle.level_sweep.proofs.Swept.{filled_as, sweep-fewer, sweep-order}
 use Rattle.order_kinds.specs.NewOrders.{may_rest}
-use Rattle.order_kinds.specs.Entering.{cancel_event, taker_cancelled, as_limit, top_min_of, taker_rested, finished, open_for, entered}
+use Rattle.order_kinds.specs.Entering.{cancel_event, taker_cancelled, as_limit, taker_rested, finished, open_for, entered}
 use Rattle.order_kinds.specs.Inner.Taking.{TakesPart, CanRest}
 
 -- ---- after the sweep
@@ -38,11 +38,6 @@ pub finished-cancelled : (name : ℕ) (steps : List Step) (m : MatchState) → m
     → finished name steps m ≡ taker_cancelled cause.Fak m
 finished-cancelled name steps m some never =
     finished-some name steps m some ∙ ap (λ (c : Bool). cond c (taker_rested name steps m) (taker_cancelled cause.Fak m)) never
-
-pub finished-rested : (name : ℕ) (steps : List Step) (m : MatchState) → m.taker.order.leaves ≢ 0 → may_rest m.taker.order.life ≡ true
-    → finished name steps m ≡ taker_rested name steps m
-finished-rested name steps m some may =
-    finished-some name steps m some ∙ ap (λ (c : Bool). cond c (taker_rested name steps m) (taker_cancelled cause.Fak m)) may
 
 -- what is done does not depend on the events so far
 cancelled-ignores : (why : Cause) → IgnoresEvents (taker_cancelled why)
@@ -115,21 +110,6 @@ module _ {E : Type 0} (m : EmitMeanings E) where
         (sym (ap (λ (x : MatchState). x.events) is)) emits;
   }
 
-  -- the order comes to rest
-  pub takes-rested : (part : ℕ → MatchState → MatchState) (steps : List Step) (a : MatchAt E) (book : Book)
-      → (rested : (name : ℕ) × (book ≡ book_placed name (as_limit a.taker.order) (top_min_of steps) a.book))
-      → part rested.0 (start_at a) ≡ taker_rested rested.0 steps (start_at a)
-      → TakesPart m part a (match_at book a.desk a.taker a.out)
-  takes-rested part steps a book rested is = record {
-    name = rested.0;
-    now = record {
-      book = rested.1 ∙ sym (ap (λ (x : MatchState). x.book) is);
-      desk = sym (ap (λ (x : MatchState). x.desk) is);
-      taker = sym (ap (λ (x : MatchState). x.taker) is);
-    };
-    emits = emits_as m a.out a.out [] (part rested.0 (start_at a)).events (sym (ap (λ (x : MatchState). x.events) is)) (emits_none m a.out);
-  }
-
   -- what was done is also something else
   pub takes-as : (f g : ℕ → MatchState → MatchState) (a b : MatchAt E) → ((name : ℕ) → f name (start_at a) ≡ g name (start_at a)) → TakesPart m f a b → TakesPart m g a b
   takes-as f g a b same done = record {
@@ -142,24 +122,8 @@ module _ {E : Type 0} (m : EmitMeanings E) where
   takes-then : (f : MatchState → MatchState) (g : ℕ → MatchState → MatchState) (a b c : MatchAt E) → ((name : ℕ) → IgnoresEvents (g name)) → Matches m f a b → TakesPart m g b c
       → TakesPart m (λ name s. g name (f s)) a c
   takes-then f g a b c ignores first second =
-      let r = f (start_at a) in
-      let h = g second.name in
-      let is = first.now in
-      let start : with_events r.events (start_at b) ≡ r =
-      ap (match_with b.book b.desk b.taker) (append-nil r.events)
-      ∙ ap (λ (x : Book). match_with x b.desk b.taker r.events) is.book ∙ ap (λ (x : Desk). match_with r.book x b.taker r.events) is.desk ∙ ap (λ (x : Taker). match_with r.book r.desk x r.events) is.taker in
-      let done : with_events r.events (h (start_at b)) ≡ h r = sym (ignores second.name r.events (start_at b)) ∙ ap h start in
-      let now = second.now in
-      record {
-        name = second.name;
-        now = record {
-          book = now.book ∙ ap (λ (x : MatchState). x.book) done;
-          desk = now.desk ∙ ap (λ (x : MatchState). x.desk) done;
-          taker = now.taker ∙ ap (λ (x : MatchState). x.taker) done;
-        };
-        emits = emits_as m a.out c.out (r.events ++ (h (start_at b)).events) (h r).events (ap (λ (x : MatchState). x.events) done)
-            (emits_joined m a.out b.out c.out r.events (h (start_at b)).events first.emits second.emits);
-      }
+      let on = goes-on m a.out (f (start_at a)) b c (g second.name) (ignores second.name) first.now first.emits second.now second.emits in
+      record { name = second.name; now = on.0; emits = on.1 }
 
   -- it sweeps the other side, and then what is left of it rests or is cancelled
   pub takes-swept : (steps : List Step) (a b c : MatchAt E) → nat_lt (open_for (start_at a)) a.taker.order.min ≡ false

@@ -13,7 +13,6 @@ use Rattle.gx_base.specs.declared.event.Cause.TheVariants as cause
 use Rattle.gx_base.specs.declared.event.StepName.{StepName}
 use Rattle.step_config.specs.declared.step.Step.{Step}
 use Rattle.plain_book.specs.Orders.{order_of, filled_by}
-use Rattle.plain_book.specs.Book.{book_traded}
 use Rattle.plain_book.specs.Match.{MatchState, next_head, report, fill, taken_by, trade, lower, higher, lengthened}
 use Rattle.level_sweep.specs.Sweep.{sweep}
 use Rattle.level_sweep.proofs.EachTrade.{Relation, IsKept, each-sweep}
@@ -21,7 +20,7 @@ use Rattle.order_kinds.specs.NewOrders.{may_rest}
 use Rattle.order_kinds.specs.Entering.{cancel_event, taker_cancelled, taker_rested, finished, open_for, entered, last_fill_from, last_fill}
 use Rattle.order_kinds.specs.Stops.{fill_range_from, fill_range}
 use Rattle.order_kinds.specs.Inner.Triggering.{joined, later_price}
-use Rattle.order_kinds.proofs.PriceRanges.{price-same, either-same}
+use Rattle.order_kinds.proofs.PriceRanges.{traded_at, price-same, either-same}
 
 -- ---- prices
 
@@ -31,9 +30,6 @@ cond-price false a b = refl
 
 least-as : (a b : ℤ) → cond (int_lt a b) a b ≡ cond (int_lt b a) b a
 least-as a b = grind (arith, ints)
-
-most-as : (a b : ℤ) → cond (int_lt a b) b a ≡ cond (int_lt b a) a b
-most-as a b = grind (arith, ints)
 
 least-both : (a b c : ℤ) → cond (int_lt c (cond (int_lt a b) a b)) c (cond (int_lt a b) a b) ≡ cond (int_lt (cond (int_lt c b) c b) a) (cond (int_lt c b) c b) a
 least-both a b c = grind (arith, ints)
@@ -171,11 +167,7 @@ range-traded step s n m h =
     let number = m.desk.trades + 1 in
     let given : Order = filled_by n resting in
     let taken : Order = taken_by n m.taker.order in
-    let traded : MatchState = record m {
-      book = book_traded s n m.book;
-      desk = record m.desk { trades = number };
-      taker = record m.taker { order = taken; range = lengthened price m.taker.range };
-    } in
+    let traded = traded_at s n m in
     let first = report (fill n price step number) given traded in
     range-of-fill None first.events (next_head first.desk taken.firm first.taker.time) taken n price step number
     ∙ ap (lengthened price) (range-of-fill None m.events (next_head traded.desk given.firm traded.taker.time) given n price step number)

@@ -6,7 +6,7 @@ use Rattle.gx_base.specs.declared.order.Order.{Order}
 use Rattle.step_config.specs.declared.step.Step.{Step}
 use Rattle.plain_book.specs.declared.entry.Entry.{Entry}
 use Rattle.plain_book.specs.Orders.{order_of, is_of_earlier_instrument, is_new_best, with_top, topped}
-use Rattle.plain_book.specs.Book.{Book, live_orders, first_shown, is_enough, book_placed, book_waited, book_without, book_changed, changed_to}
+use Rattle.plain_book.specs.Book.{Book, live_orders, first_shown, makes_top, book_placed, book_waited, book_without, book_changed, changed_to}
 use Rattle.plain_book.specs.Match.{MatchState}
 use Rattle.plain_book.proofs.Pairs.{all-append, all-front, all-back, all-filter, all-map}
 use Rattle.plain_book.proofs.Live.{AllOrders, orders-placed, orders-with_order}
@@ -14,7 +14,7 @@ use Rattle.plain_book.proofs.Right.{live-without, live-reordered}
 use Rattle.level_sweep.specs.Sweep.{sweep}
 use Rattle.level_sweep.proofs.EachTrade.{each-sweep}
 use Rattle.level_sweep.proofs.EachOrder.{StaysTrue, AllStay, all-kept}
-use Rattle.order_kinds.proofs.Slots.{sweep-rest}
+use Rattle.level_sweep.proofs.Resting.{rest-sweep}
 
 -- a fact on an order that does not look at what is filled, open, shown or shared out
 pub record IgnoresTrades (P : Order → Type 0) : Type 0 where
@@ -35,7 +35,7 @@ module _ (P : Order → Type 0) (ignores : IgnoresTrades P) where
   all-swept steps limit m a =
       let b = m.book in
       let end = sweep steps limit m in
-      let waits : end.book.waiting ≡ b.waiting = ap (λ (x : Book). x.waiting) (sweep-rest steps limit m) in
+      let waits : end.book.waiting ≡ b.waiting = ap (λ (x : Book). x.waiting) (rest-sweep steps limit m) in
       all-append Each end.book.resting end.book.waiting
       (each-sweep (AllStay Each stays) (all-kept Each stays) steps limit m (all-front Each b.resting b.waiting a))
       (subst (AllOrders P) (sym waits) (all-back Each b.resting b.waiting a))
@@ -48,7 +48,7 @@ module _ (P : Order → Type 0) (ignores : IgnoresTrades P) where
       let cleared : Bool → List Entry = λ c. cond c (with_top o.instrument o.side None es) es in
       let topped_all : AllOrders P (with_top o.instrument o.side None es) = all-map Each Each (topped o.instrument o.side None) (λ x k. k) es rests in
       let kept : (c : Bool) → AllOrders P (cleared c) = elim [ true ↦ topped_all | false ↦ rests ] in
-      let n : Entry = record { slot = slot; order = record o { shown = first_shown o }; is_top = best && is_enough top_min o.leaves } in
+      let n : Entry = record { slot = slot; order = record o { shown = first_shown o }; is_top = best && makes_top top_min o.leaves } in
       all-append Each _ b.waiting (orders-placed P n (cleared best) (ignores.other o o.filled o.leaves (first_shown o) o.prorated p) (kept best)) (all-back Each es b.waiting a)
 
   pub all-book_waited : (slot : ℕ) (o : Order) (b : Book) → P o → AllOrders P (live_orders b) → AllOrders P (live_orders (book_waited slot o b))

@@ -20,14 +20,14 @@ use Rattle.step_config.specs.declared.step.Step.TheVariants.{Top, Lmm, Split, Pr
 use Rattle.step_config.specs.RightSteps.{IsRightStep, AreRightSteps}
 use Rattle.plain_book.specs.declared.entry.Entry.{Entry}
 use Rattle.plain_book.specs.Orders.{Level, level_of, opposite, is_on, is_at, is_better, is_within, side_of, price_of, best_of, top_of, HasSlot, order_of, filled_by}
-use Rattle.plain_book.specs.Book.{Book, IsRight, AllDiffer, book_traded}
-use Rattle.plain_book.specs.Match.{MatchState, Share, next_head, report, fill, taken_by, lengthened, trade, is_prorata, book_marked, marked, trade_share, trade_shares}
+use Rattle.plain_book.specs.Book.{Book, IsRight, AllDiffer}
+use Rattle.plain_book.specs.Match.{MatchState, Share, next_head, report, fill, taken_by, lengthened, trade, is_prorata, book_share_noted, share_noted, trade_share, trade_shares}
 use Rattle.plain_book.specs.Steps.{facing, level_now, trade_head, fifo_rounds, prorata_shares, top_shares, lmm_shares, split_shares, leveling_shares}
 use Rattle.plain_book.proofs.Levels.{HasSlot-filter, AllDiffer-filter, is_level-same}
 use Rattle.plain_book.proofs.Walks.{HasSlot-with_order}
 use Rattle.plain_book.proofs.Pairs.{all-with, all-both, all-filter, all-from}
 use Rattle.plain_book.proofs.Tops.{best-is-best}
-use Rattle.level_sweep.specs.Sweep.{step_of, wanted_step, level_match, facing_best, within_limit, next_price, match_next, sweep_rounds, sweep}
+use Rattle.level_sweep.specs.Sweep.{after_step, wanted_step, level_match, facing_best, within_limit, next_price, match_next, sweep_rounds, sweep}
 use Rattle.level_sweep.proofs.EachTrade.{each-marked, each-share}
 use Rattle.level_sweep.proofs.EachOrder.{StaysTrue, AllStay, all-kept}
 use Rattle.level_sweep.proofs.Showing.{IsShowing, AreShowing, ShowingStays, showing-kept, showing-right}
@@ -36,7 +36,7 @@ use Rattle.level_sweep.proofs.StepShares.{AreApart, IsGiven, AreOf, AllShow, spe
 use Rattle.order_kinds.specs.NewOrders.{may_rest}
 use Rattle.order_kinds.specs.Entering.{cancel_event, taker_cancelled, taker_rested, finished, open_for, entered, last_fill_from, last_fill}
 use Rattle.order_kinds.specs.Inner.Taking.{last_in_range}
-use Rattle.order_kinds.proofs.PriceRanges.{price-same, IsEnd, end-first, end-next, end-again, end-none}
+use Rattle.order_kinds.proofs.PriceRanges.{traded_at, price-same, IsEnd, end-first, end-next, end-again, end-none}
 
 -- ---- the price of the last fill
 
@@ -105,23 +105,23 @@ level-stands k s p es is d h = record { has = HasSlot-filter (is_at k) s es h; p
 
 -- ---- another order stays
 
-has-marked : (step : StepName) (t s n : ℕ) (m : MatchState) → HasSlot t m.book.resting → HasSlot t (marked step s n m).book.resting
+has-marked : (step : StepName) (t s n : ℕ) (m : MatchState) → HasSlot t m.book.resting → HasSlot t (share_noted step s n m).book.resting
 has-marked step t s n m h =
-    let go : (c : Bool) → HasSlot t (cond c (book_marked s n m.book) m.book).resting = elim [
+    let go : (c : Bool) → HasSlot t (cond c (book_share_noted s n m.book) m.book).resting = elim [
       | true ↦ HasSlot-with_order s t (record (order_of s m.book.resting) { prorated = n }) m.book.resting h
       | false ↦ h
     ] in go (is_prorata step)
 
 has-share : (step : StepName) (t s n : ℕ) (m : MatchState) → t ≢ s → HasSlot t m.book.resting → HasSlot t (trade_share step s n m).book.resting
 has-share step t s n m other h =
-    let k = marked step s n m in
+    let k = share_noted step s n m in
     let here = has-marked step t s n m h in
     let go : (c : Bool) → HasSlot t (cond c k (trade step s n k)).book.resting = elim [
       | true ↦ here
       | false ↦ HasSlot-settled t s (filled_by n (order_of s k.book.resting)) k.book.resting other here
     ] in go (n == 0)
 
-stands-marked : (step : StepName) (t s n : ℕ) (p : Price) (m : MatchState) → StandsAt t p m.book.resting → StandsAt t p (marked step s n m).book.resting
+stands-marked : (step : StepName) (t s n : ℕ) (p : Price) (m : MatchState) → StandsAt t p m.book.resting → StandsAt t p (share_noted step s n m).book.resting
 stands-marked step t s n p m h = record {
   has = has-marked step t s n m h.has;
   price = each-marked (AllStay (HasPrice t p) (price-stays t p)) (all-kept (HasPrice t p) (price-stays t p)) step s n m h.price;
@@ -153,7 +153,7 @@ module _ (i : ℕ) (side : Side) where
     last : last_fill m.events ≡ last_in_range side m.taker.range
 
   module _ (p : Price) where
-    at-marked : (step : StepName) (s n : ℕ) (m : MatchState) → TradesAt p m → TradesAt p (marked step s n m)
+    at-marked : (step : StepName) (s n : ℕ) (m : MatchState) → TradesAt p m → TradesAt p (share_noted step s n m)
     at-marked step s n m h = record {
       instrument = h.instrument;
       side_is = h.side_is;
@@ -169,11 +169,7 @@ module _ (i : ℕ) (side : Side) where
         let r = resting.price in
         let number = m.desk.trades + 1 in
         let taken : Order = taken_by n m.taker.order in
-        let traded : MatchState = record m {
-          book = book_traded s n m.book;
-          desk = record m.desk { trades = number };
-          taker = record m.taker { order = taken; range = lengthened r m.taker.range };
-        } in
+        let traded = traded_at s n m in
         record {
           instrument = h.instrument;
           side_is = h.side_is;
@@ -185,7 +181,7 @@ module _ (i : ℕ) (side : Side) where
 
     at-share : (step : StepName) (s n : ℕ) (m : MatchState) → StandsAt s p m.book.resting → TradesAt p m → TradesAt p (trade_share step s n m)
     at-share step s n m stands h =
-        let k = marked step s n m in
+        let k = share_noted step s n m in
         let here = at-marked step s n m h in
         let there = stands-marked step s s n p m stands in
         let go : (c : Bool) → TradesAt p (cond c k (trade step s n k)) = elim [
@@ -227,7 +223,7 @@ module _ (i : ℕ) (side : Side) where
         all-filter (λ (e : Entry). 1 ≤ e.order.shown) (is_at (facing p m.taker)) m.book.resting
         (all-with (λ (e : Entry). IsShowing e.order) (λ (e : Entry). 1 ≤ e.order.shown) (λ e shows. shows.0) m.book.resting h.showing.each)
 
-    at-step : (step : Step) (m : MatchState) → IsRightStep step → TradesAt p m → TradesAt p (step_of step p m)
+    at-step : (step : Step) (m : MatchState) → IsRightStep step → TradesAt p m → TradesAt p (after_step step p m)
     at-step (Top rule) m right h =
         let top = top_of m.taker.order.instrument (opposite m.taker.order.side) m.book.resting in
         at-level name.Top (top_shares rule.max top m.taker.order.leaves (level_now p m)) m h (top-of rule.max top m.taker.order.leaves (level_now p m) (differ-now m h))
@@ -245,7 +241,7 @@ module _ (i : ℕ) (side : Side) where
 
     at-wanted : (step : Step) (m : MatchState) → IsRightStep step → TradesAt p m → TradesAt p (wanted_step step p m)
     at-wanted step m right h =
-        let go : (c : Bool) → TradesAt p (cond c m (step_of step p m)) = elim [ true ↦ h | false ↦ at-step step m right h ] in
+        let go : (c : Bool) → TradesAt p (cond c m (after_step step p m)) = elim [ true ↦ h | false ↦ at-step step m right h ] in
         go (m.taker.order.leaves == 0)
 
     at-match : (steps : List Step) (m : MatchState) → AllByRecursion IsRightStep steps → TradesAt p m → TradesAt p (level_match steps p m)

@@ -23,9 +23,9 @@ use Rattle.order_kinds.specs.State.{State}
 use Rattle.order_kinds.specs.Stops.{Naming, come_in}
 use Rattle.order_kinds.specs.NewOrders.{Terms, terms_of}
 use Rattle.order_kinds.specs.Entering.{last_fill, last_after}
-use Rattle.order_kinds.specs.Accepting.{new_start, after_match, accepted, new_by}
+use Rattle.order_kinds.specs.Accepting.{new_start, after_match, accepted, accepted_or_refused}
 use Rattle.order_kinds.specs.Cancels.{cancel_by}
-use Rattle.order_kinds.specs.Replaces.{replace_terms, keeps_place, least_after, replaced_in_place, replaced_start, replaced_anew, replaced, replaced_by, replace_by}
+use Rattle.order_kinds.specs.Replaces.{replace_terms, keeps_place, least_after, replaced_in_place, replaced_start, replaced_anew, replaced, replaced_or_refused, replace_at}
 use Rattle.order_kinds.specs.Step.{request_step_as}
 use Rattle.order_kinds.specs.Cores.{IsListedOrder, FitsProduct}
 use Rattle.order_kinds.proofs.Kept.{all-left, all-changed}
@@ -77,7 +77,7 @@ module _ (naming : Naming) (product : ProductLists) (state : State) (fits : Fits
           trigger = price-range new.trigger _ valid.trigger (lit≤ tt);
         } in match-fits terms.instrument.number terms.instrument.rule.steps (new_start terms new state) refl refl fits.orders own
 
-    new-fits : (found : Result Terms NewFault) → terms_of product new state ≡ found → FitsProduct product (new_by naming found new state).0
+    new-fits : (found : Result Terms NewFault) → terms_of product new state ≡ found → FitsProduct product (accepted_or_refused naming found new state).0
     new-fits (Ok terms) is = accepted-fits terms (terms-listed product new state terms valid is)
     new-fits (Err f) is = unchanged-fits _
 
@@ -113,11 +113,11 @@ module _ (naming : Naming) (product : ProductLists) (state : State) (fits : Fits
             | false ↦ anew-fits instrument
           ] in go (keeps_place request (order_of slot (live_orders state.book)))
 
-      by-fits : (terms : Result ListedInstrument ChangeFault) → FitsProduct product (replaced_by terms naming request slot state).0
+      by-fits : (terms : Result ListedInstrument ChangeFault) → FitsProduct product (replaced_or_refused terms naming request slot state).0
       by-fits (Ok instrument) = replaced-fits instrument
       by-fits (Err f) = unchanged-fits _
 
-    replace-fits : (found : Option ℕ) → slot_named request.sender.firm request.old (live_orders state.book) ≡ found → FitsProduct product (replace_by found naming product request state).0
+    replace-fits : (found : Option ℕ) → slot_named request.sender.firm request.old (live_orders state.book) ≡ found → FitsProduct product (replace_at found naming product request state).0
     replace-fits None is = unchanged-fits _
     replace-fits (Some slot) is =
         by-fits slot (named-has request.sender.firm request.old slot (live_orders state.book) is) (replace_terms product request (order_of slot (live_orders state.book)) state)

@@ -14,7 +14,7 @@ use Rattle.order_kinds.specs.Instruments.{ListedInstrument}
 use Rattle.order_kinds.specs.State.{State, state_numbered}
 use Rattle.order_kinds.specs.Stops.{Naming, by_number, come_in}
 use Rattle.order_kinds.specs.Accepting.{after_match}
-use Rattle.order_kinds.specs.Replaces.{replace_terms, keeps_place, least_after, replaced_order, replace_event, replaced_in_place, replaced_start, replaced_anew, replaced, replace_refused, replaced_by, replace_by, replace_step}
+use Rattle.order_kinds.specs.Replaces.{replace_terms, keeps_place, least_after, replaced_order, replace_event, replaced_in_place, replaced_start, replaced_anew, replaced, replace_refused, replaced_or_refused, replace_at, replace_step}
 use Rattle.order_kinds.specs.Cores.{AreNumbered}
 use Rattle.order_kinds.specs.Inner.Apart.{ComeApart, ReplacedApart, ReplaceApartBy, ReplaceApart}
 use Rattle.order_kinds.proofs.Slots.{left-differ}
@@ -104,23 +104,23 @@ module _ (naming : Naming) (product : ProductLists) (request : ReplaceOrder) (st
     -- ---- or a rule refuses it
 
     by-same : (terms : Result ListedInstrument ChangeFault) → ReplaceApartBy terms request s state naming
-        → replaced_by terms by_number request number (state_numbered state) ≡ outcome_numbered (replaced_by terms naming request s state)
+        → replaced_or_refused terms by_number request number (state_numbered state) ≡ outcome_numbered (replaced_or_refused terms naming request s state)
     by-same (Ok instrument) apart = replaced-same instrument apart
     by-same (Err f) apart = ap (λ (o : Order). replace_refused f request o.number o.filled (state_numbered state)) same
 
-    by-numbered : (terms : Result ListedInstrument ChangeFault) → ReplaceApartBy terms request s state naming → AreNumbered (replaced_by terms naming request s state).0
+    by-numbered : (terms : Result ListedInstrument ChangeFault) → ReplaceApartBy terms request s state naming → AreNumbered (replaced_or_refused terms naming request s state).0
     by-numbered (Ok instrument) apart = replaced-numbered instrument apart
     by-numbered (Err f) apart = record { differ = are.differ; given = are.given }
 
     terms-by-same : replace_terms product request (order_of number (live_orders (book_numbered state.book))) (state_numbered state) ≡ replace_terms product request before state
     terms-by-same = ap (λ (o : Order). replace_terms product request o (state_numbered state)) same ∙ replace-terms-same product request before state
 
-    some-same : ReplaceApart (Some s) product request state naming → replace_by (Some number) by_number product request (state_numbered state) ≡ outcome_numbered (replace_by (Some s) naming product request state)
+    some-same : ReplaceApart (Some s) product request state naming → replace_at (Some number) by_number product request (state_numbered state) ≡ outcome_numbered (replace_at (Some s) naming product request state)
     some-same apart =
-        ap (λ (terms : Result ListedInstrument ChangeFault). replaced_by terms by_number request number (state_numbered state)) terms-by-same
+        ap (λ (terms : Result ListedInstrument ChangeFault). replaced_or_refused terms by_number request number (state_numbered state)) terms-by-same
         ∙ by-same (replace_terms product request before state) apart
 
-    some-numbered : ReplaceApart (Some s) product request state naming → AreNumbered (replace_by (Some s) naming product request state).0
+    some-numbered : ReplaceApart (Some s) product request state naming → AreNumbered (replace_at (Some s) naming product request state).0
     some-numbered apart = by-numbered (replace_terms product request before state) apart
 
   -- ---- whatever is found
@@ -129,16 +129,16 @@ module _ (naming : Naming) (product : ProductLists) (request : ReplaceOrder) (st
   asked = slot_named request.sender.firm request.old (live_orders state.book)
 
   by-found : (found : Option ℕ) → asked ≡ found → ReplaceApart found product request state naming
-      → replace_by (option_map (λ s. (order_of s (live_orders state.book)).number) found) by_number product request (state_numbered state) ≡ outcome_numbered (replace_by found naming product request state)
+      → replace_at (option_map (λ s. (order_of s (live_orders state.book)).number) found) by_number product request (state_numbered state) ≡ outcome_numbered (replace_at found naming product request state)
   by-found None is apart = refl
   by-found (Some s) is apart = some-same s (named-has request.sender.firm request.old s (live_orders state.book) is) apart
 
   pub replace-same : ReplaceApart asked product request state naming → replace_step by_number product request (state_numbered state) ≡ outcome_numbered (replace_step naming product request state)
   replace-same apart =
-      ap (λ (found : Option ℕ). replace_by found by_number product request (state_numbered state)) (named-numbered request.sender.firm request.old state.book slots)
+      ap (λ (found : Option ℕ). replace_at found by_number product request (state_numbered state)) (named-numbered request.sender.firm request.old state.book slots)
       ∙ by-found asked refl apart
 
-  numbered-by : (found : Option ℕ) → asked ≡ found → ReplaceApart found product request state naming → AreNumbered (replace_by found naming product request state).0
+  numbered-by : (found : Option ℕ) → asked ≡ found → ReplaceApart found product request state naming → AreNumbered (replace_at found naming product request state).0
   numbered-by None is apart = record { differ = are.differ; given = are.given }
   numbered-by (Some s) is apart = some-numbered s (named-has request.sender.firm request.old s (live_orders state.book) is) apart
 

@@ -18,7 +18,7 @@ use Rattle.level_sweep.proofs.Renamed.{live-numbered}
 use Rattle.order_kinds.specs.State.{State, state_numbered}
 use Rattle.order_kinds.specs.Stops.{Naming, by_number}
 use Rattle.order_kinds.specs.NewOrders.{Terms, terms_of}
-use Rattle.order_kinds.specs.Accepting.{new_start, accepted, new_by, new_step}
+use Rattle.order_kinds.specs.Accepting.{new_start, accepted, accepted_or_refused, new_step}
 use Rattle.order_kinds.specs.Cancels.{cancel_by, cancel_step, order_cancelled}
 use Rattle.order_kinds.specs.Step.{request_step_as, request_step}
 use Rattle.order_kinds.specs.Cores.{AreNumbered}
@@ -58,17 +58,17 @@ module _ (state : State) (slots : AllDiffer (live_orders state.book)) (are : Are
         all-with (λ (e : Entry). e.order.number ≤ n) (λ (e : Entry). e.order.number ≤ n + 1) (λ e h. omega (arith, h)) (live_orders state.book) are.given in
         match-numbered terms.instrument.number state naming terms.instrument.rule.steps (new_start terms new state) (start-incoming terms) apart given (omega arith)
 
-    by-same : (terms : Result Terms NewFault) → NewApart terms new state naming → new_by by_number terms new (state_numbered state) ≡ outcome_numbered (new_by naming terms new state)
+    by-same : (terms : Result Terms NewFault) → NewApart terms new state naming → accepted_or_refused by_number terms new (state_numbered state) ≡ outcome_numbered (accepted_or_refused naming terms new state)
     by-same (Ok terms) apart = accepted-same terms apart
     by-same (Err f) apart = refl
 
-    by-numbered : (terms : Result Terms NewFault) → NewApart terms new state naming → AreNumbered (new_by naming terms new state).0
+    by-numbered : (terms : Result Terms NewFault) → NewApart terms new state naming → AreNumbered (accepted_or_refused naming terms new state).0
     by-numbered (Ok terms) apart = accepted-numbered terms apart
     by-numbered (Err f) apart = record { differ = are.differ; given = are.given }
 
     new-same : (product : ProductLists) → NewApart (terms_of product new state) new state naming → new_step by_number product new (state_numbered state) ≡ outcome_numbered (new_step naming product new state)
     new-same product apart =
-        ap (λ (terms : Result Terms NewFault). new_by by_number terms new (state_numbered state)) (terms-same product new state)
+        ap (λ (terms : Result Terms NewFault). accepted_or_refused by_number terms new (state_numbered state)) (terms-same product new state)
         ∙ by-same (terms_of product new state) apart
 
   -- ---- a cancel

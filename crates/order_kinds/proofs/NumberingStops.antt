@@ -14,13 +14,13 @@ use Rattle.plain_book.specs.Orders.{HasSlot, order_of, is_of, stops_of}
 use Rattle.plain_book.specs.Book.{Book, AllDiffer, live_orders, book_without}
 use Rattle.plain_book.specs.Match.{MatchState, report}
 use Rattle.plain_book.specs.Numbers.{numbered, book_numbered, match_numbered}
-use Rattle.plain_book.specs.Numbers.{by_number as entry_numbered}
+use Rattle.plain_book.specs.Numbers.{entry_numbered}
 use Rattle.plain_book.proofs.Live.{AllOrders}
 use Rattle.plain_book.proofs.Levels.{same, order_of-filter, HasSlot-filter, HasSlot-right, order_of-right, slots-apart, AllDiffer-back, AllDiffer-filter}
 use Rattle.level_sweep.proofs.Numbered.{filter-order}
 use Rattle.order_kinds.specs.State.{State, state_numbered}
 use Rattle.order_kinds.specs.Entering.{entered}
-use Rattle.order_kinds.specs.Stops.{fill_range, is_marked, first_entry, first_marked, next_stop, as_triggered, stop_triggered, Naming, by_number, stop_entered, stop_rounds, stops_entered, entered_with_stops, come_in_as, come_in}
+use Rattle.order_kinds.specs.Stops.{fill_range, is_reached_by, first_entry, first_reached, next_stop, as_triggered, stop_triggered, Naming, by_number, stop_entered, stop_rounds, stops_entered, entered_with_stops, come_in_as, come_in}
 use Rattle.order_kinds.specs.Accepting.{after_match}
 use Rattle.order_kinds.specs.Cores.{AreNumbered}
 use Rattle.order_kinds.specs.Inner.Apart.{EnterApart, ComeApartAs, ComeApart}
@@ -36,16 +36,16 @@ first-numbered : (es : List Entry) → first_entry (numbered es) ≡ option_map 
 first-numbered [] = refl
 first-numbered (e ∷ es) = refl
 
-first_marked-numbered : (instrument : ℕ) (range : Option (Price × Price)) (waiting : List Entry)
-    → first_marked instrument range (numbered waiting) ≡ option_map entry_numbered (first_marked instrument range waiting)
-first_marked-numbered instrument None waiting = refl
-first_marked-numbered instrument (Some range) waiting =
-    ap (λ (es : List Entry). first_entry (filter (is_marked range) es)) (filter-order (is_of instrument) (λ e. refl) waiting)
-    ∙ ap first_entry (filter-order (is_marked range) (λ e. refl) (stops_of instrument waiting))
-    ∙ first-numbered (filter (is_marked range) (stops_of instrument waiting))
+first_reached-numbered : (instrument : ℕ) (range : Option (Price × Price)) (waiting : List Entry)
+    → first_reached instrument range (numbered waiting) ≡ option_map entry_numbered (first_reached instrument range waiting)
+first_reached-numbered instrument None waiting = refl
+first_reached-numbered instrument (Some range) waiting =
+    ap (λ (es : List Entry). first_entry (filter (is_reached_by range) es)) (filter-order (is_of instrument) (λ e. refl) waiting)
+    ∙ ap first_entry (filter-order (is_reached_by range) (λ e. refl) (stops_of instrument waiting))
+    ∙ first-numbered (filter (is_reached_by range) (stops_of instrument waiting))
 
 next_stop-numbered : (m : MatchState) → next_stop (match_numbered m) ≡ option_map entry_numbered (next_stop m)
-next_stop-numbered m = first_marked-numbered m.taker.order.instrument (fill_range m.events) m.book.waiting
+next_stop-numbered m = first_reached-numbered m.taker.order.instrument (fill_range m.events) m.book.waiting
 
 -- its slot is that of its order
 abbrev pub StandsIn : Entry → List Entry → Type 0
@@ -61,12 +61,12 @@ first-stands (x ∷ es) e is =
 stands-filter : (p : Entry → Bool) (e : Entry) (es : List Entry) → AllDiffer es → StandsIn e (filter p es) → StandsIn e es
 stands-filter p e es d stands = (HasSlot-filter p e.slot es stands.0, sym (order_of-filter p e.slot es d stands.0) ∙ stands.1)
 
-marked-stands : (instrument : ℕ) (range : Option (Price × Price)) (waiting : List Entry) (e : Entry) → AllDiffer waiting → first_marked instrument range waiting ≡ Some e → StandsIn e waiting
+marked-stands : (instrument : ℕ) (range : Option (Price × Price)) (waiting : List Entry) (e : Entry) → AllDiffer waiting → first_reached instrument range waiting ≡ Some e → StandsIn e waiting
 marked-stands instrument None waiting e d is = absurd (let k : None ≡ Some e = is in cc)
 marked-stands instrument (Some range) waiting e d is =
     let stops = stops_of instrument waiting in
     stands-filter (is_of instrument) e waiting d
-    (stands-filter (is_marked range) e stops (AllDiffer-filter (is_of instrument) waiting d) (first-stands (filter (is_marked range) stops) e is))
+    (stands-filter (is_reached_by range) e stops (AllDiffer-filter (is_of instrument) waiting d) (first-stands (filter (is_reached_by range) stops) e is))
 
 next-stands : (m : MatchState) (e : Entry) → AllDiffer (live_orders m.book) → next_stop m ≡ Some e → StandsIn e (live_orders m.book)
 next-stands m e d is =

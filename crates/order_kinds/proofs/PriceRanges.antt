@@ -1,17 +1,23 @@
 -- The end of a price range, where prices never improve.
-use Rattle.std.proofs.Common.{◌≡◌, Bool, true, false, cond, Option, Some, None, refl, sym, ap, ◌∙◌, arith}
+use Rattle.std.proofs.Common.{◌≡◌, ℕ, ◌+◌, Bool, true, false, cond, Option, Some, None, refl, sym, ap, ◌∙◌}
 use Rattle.std.specs.Prelude.{ℤ, int_lt}
-use Rattle.std.proofs.lemmas.Int.{ints}
 use Rattle.gx_base.specs.declared.price.Price.{Price}
 use Rattle.gx_base.specs.declared.order.Side.{Side}
 use Rattle.gx_base.specs.declared.order.Side.TheVariants.{Buy, Sell}
 use Rattle.gx_base.proofs.Tests.{int-same}
-use Rattle.plain_book.specs.Orders.{is_better, opposite}
-use Rattle.plain_book.specs.Match.{lower, higher, lengthened}
+use Rattle.book_order.proofs.Before.{int-past}
+use Rattle.plain_book.specs.Orders.{is_better, opposite, order_of}
+use Rattle.plain_book.specs.Book.{book_traded}
+use Rattle.plain_book.specs.Match.{MatchState, taken_by, lower, higher, lengthened}
 use Rattle.order_kinds.specs.Inner.Taking.{last_in_range}
 
-int-past : (a b c : ℤ) → int_lt a b ≡ true → int_lt c b ≡ false → int_lt a c ≡ true
-int-past a b c h g = grind (arith, ints)
+-- a match whose lots are traded, before the fills are put
+abbrev pub traded_at : ℕ → ℕ → MatchState → MatchState
+traded_at s n m = record m {
+  book = book_traded s n m.book;
+  desk = record m.desk { trades = m.desk.trades + 1 };
+  taker = record m.taker { order = taken_by n m.taker.order; range = lengthened (order_of s m.book.resting).price m.taker.range };
+}
 
 pub price-same : (p q : Price) → p.0 ≡ q.0 → p ≡ q
 price-same p q h = let mk : ℤ → Price = λ z. record { 0 = z } in ap mk h

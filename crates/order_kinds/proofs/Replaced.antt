@@ -33,7 +33,7 @@ use Rattle.order_kinds.specs.Reports.{unchanged}
 use Rattle.order_kinds.specs.Stops.{by_number}
 use Rattle.order_kinds.specs.Cores.{FitsProduct}
 use Rattle.order_kinds.specs.NewOrders.{may_rest}
-use Rattle.order_kinds.specs.Replaces.{is_kind, replace_terms, new_price, least_kept, least_after, replaced_order, replaced_in_place, replaced_start, replaced_anew, keeps_place, replaced_by, replace_by}
+use Rattle.order_kinds.specs.Replaces.{is_kind, replace_terms, new_price, least_kept, least_after, replaced_order, replaced_in_place, replaced_start, replaced_anew, keeps_place, replaced_or_refused, replace_at}
 use Rattle.order_kinds.specs.Inner.Apart.{ReplacedApart, ReplaceApartBy, ReplaceApart}
 use Rattle.order_kinds.specs.Inner.Replacing.{IsAllowed}
 use Rattle.order_kinds.specs.Inner.Taking.{Takes, CountsRose, IsCounted, CanRest}
@@ -93,6 +93,15 @@ found-allowed product request s old o on right fits valid named was is =
     let known = replace-allowed product request o old on valid own is in
     (known.0, subst (λ (n : ℕ). on.number < n) (sym fits.prices) known.1)
 
+-- the same of the state that is seen
+pub seen-allowed : (product : ProductLists) (request : ReplaceOrder) (s : ℕ) {old seen : State} → old ≡ seen → (o : Order) (on : ListedInstrument) → IsRight old.book → FitsProduct product seen → IsValidReplace product.names request
+    → slot_named request.sender.firm request.old (live_orders seen.book) ≡ Some s → o ≡ order_of s (live_orders old.book) → replace_terms product request o seen ≡ Ok on
+    → IsAllowed seen.book request (order_of s (live_orders seen.book)) × (on.number < length seen.last)
+seen-allowed product request s {seen = seen} at o on right fits valid named was is =
+    let order : o ≡ order_of s (live_orders seen.book) = subst (λ (x : State). o ≡ order_of s (live_orders x.book)) at was in
+    let allowed = found-allowed product request s seen o on (subst (λ (x : State). IsRight x.book) at right) fits valid named order is in
+    (subst (IsAllowed seen.book request) order allowed.0, allowed.1)
+
 -- ---- the step, by what its rules say
 
 module _ (product : ProductLists) (request : ReplaceOrder) (s : ℕ) (old : State) (o : Order) (was : o ≡ order_of s (live_orders old.book)) where
@@ -100,21 +109,21 @@ module _ (product : ProductLists) (request : ReplaceOrder) (s : ℕ) (old : Stat
   Apart terms = ReplaceApartBy terms request s old by_number
 
   abbrev stepped : Result ListedInstrument ChangeFault → State × List Event
-  stepped terms = replaced_by terms by_number request s old
+  stepped terms = replaced_or_refused terms by_number request s old
 
   terms-are : (terms : Result ListedInstrument ChangeFault) → replace_terms product request o old ≡ terms → replace_terms product request (order_of s (live_orders old.book)) old ≡ terms
   terms-are terms is = ap (λ (x : Order). replace_terms product request x old) (sym was) ∙ is
 
   pub step-refused : (f : ChangeFault) → replace_terms product request o old ≡ Err f
       → ReplaceApart (Some s) product request old by_number
-      × (replace_by (Some s) by_number product request old ≡ unchanged request.sender request.id request.old o.number o.filled true f old)
+      × (replace_at (Some s) by_number product request old ≡ unchanged request.sender request.id request.old o.number o.filled true f old)
   step-refused f is = (
     subst Apart (sym (terms-are (Err f) is)) tt,
     ap stepped (terms-are (Err f) is) ∙ ap (λ (x : Order). unchanged request.sender request.id request.old x.number x.filled true f old) (sym was),
   )
 
   pub step-in_place : (on : ListedInstrument) → replace_terms product request o old ≡ Ok on → keeps_place request o ≡ true
-      → ReplaceApart (Some s) product request old by_number × (replace_by (Some s) by_number product request old ≡ replaced_in_place request s old)
+      → ReplaceApart (Some s) product request old by_number × (replace_at (Some s) by_number product request old ≡ replaced_in_place request s old)
   step-in_place on is keeps =
       let stays : keeps_place request (order_of s (live_orders old.book)) ≡ true = ap (keeps_place request) (sym was) ∙ keeps in (
         subst Apart (sym (terms-are (Ok on) is)) (subst (λ (c : Bool). ReplacedApart c on request s old by_number) (sym stays) tt),

@@ -16,7 +16,7 @@ use Rattle.plain_book.proofs.TradedShares.{with_events}
 use Rattle.order_kinds.specs.Instruments.{ListedInstrument}
 use Rattle.order_kinds.specs.State.{State}
 use Rattle.order_kinds.specs.Entering.{entered, last_fill, last_after}
-use Rattle.order_kinds.specs.Stops.{Naming, fill_range, first_marked, next_stop, stop_triggered, stop_entered, stop_rounds, entered_with_stops, come_in_as, come_in}
+use Rattle.order_kinds.specs.Stops.{Naming, fill_range, first_reached, next_stop, stop_triggered, stop_entered, stop_rounds, entered_with_stops, come_in_as, come_in}
 use Rattle.order_kinds.specs.Accepting.{after_match}
 use Rattle.order_kinds.specs.Inner.Apart.{EnterApart, ComeApartAs, ComeApart}
 use Rattle.order_kinds.specs.Inner.ComingIn.{brought_in, BroughtApart}
@@ -33,7 +33,7 @@ module _ (event : Event) (none : IsNoFill event) (steps : List Step) where
   after m = with_events (event ∷ []) m
 
   next-after : (m : MatchState) → next_stop (after m) ≡ next_stop m
-  next-after m = ap (λ (range : Option (Price × Price)). first_marked m.taker.order.instrument range m.book.waiting) (none.range m.events)
+  next-after m = ap (λ (range : Option (Price × Price)). first_reached m.taker.order.instrument range m.book.waiting) (none.range m.events)
 
   stop-after : (e : Option Entry) (name : ℕ → ℕ) (m : MatchState) → stop_entered e name steps (after m) ≡ after (stop_entered e name steps m)
   stop-after None name m = refl

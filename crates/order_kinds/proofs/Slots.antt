@@ -9,14 +9,15 @@ use Rattle.gx_base.specs.declared.order.Order.{Order}
 use Rattle.step_config.specs.declared.step.Step.{Step}
 use Rattle.plain_book.specs.declared.entry.Entry.{Entry}
 use Rattle.plain_book.specs.Orders.{HasSlot, order_of, no_order, without, with_order, placed, lined_up, settled, traded, refreshed, filled_by, is_at_earlier_level, is_of_earlier_instrument, is_new_best, with_top}
-use Rattle.plain_book.specs.Book.{Book, AllDiffer, live_orders, first_shown, is_enough, book_placed, book_waited, book_without}
+use Rattle.plain_book.specs.Book.{Book, AllDiffer, live_orders, first_shown, makes_top, book_placed, book_waited, book_without}
 use Rattle.plain_book.specs.Match.{MatchState}
 use Rattle.plain_book.proofs.Levels.{AllDiffer-filter}
 use Rattle.plain_book.proofs.Right.{live-without}
 use Rattle.plain_book.proofs.Walks.{slot-reordered}
-use Rattle.level_sweep.specs.Sweep.{sweep, with_resting}
+use Rattle.level_sweep.specs.Sweep.{sweep}
 use Rattle.level_sweep.proofs.EachTrade.{Relation, IsKept, each-sweep}
 use Rattle.level_sweep.proofs.EachOrder.{none-traded}
+use Rattle.level_sweep.proofs.Resting.{rest-sweep}
 
 -- 1 where the slots are the same
 abbrev pub once_of : ℕ → ℕ → ℕ
@@ -170,26 +171,11 @@ often = record {
   marks = λ s n m t. omega (arith, times-with_order t s (record (order_of s m.book.resting) { prorated = n }) m.book.resting);
 }
 
--- the resting orders of the book change alone
-abbrev pub RestStays : Relation
-RestStays a b = b.book ≡ with_resting b.book.resting a.book
-
-rest : IsKept RestStays
-rest = record {
-  same = λ m. refl;
-  both = λ a b c h k. k ∙ ap (with_resting c.book.resting) h;
-  trades = λ step s n m. refl;
-  marks = λ s n m. refl;
-}
-
-pub sweep-rest : (steps : List Step) (limit : Price) (m : MatchState) → RestStays m (sweep steps limit m)
-sweep-rest steps limit m = each-sweep RestStays rest steps limit m
-
 often-live : (a b : Book) → NoMoreOften a.resting b.resting → b.waiting ≡ a.waiting → NoMoreOften (live_orders a) (live_orders b)
 often-live a b h w s = omega (arith, h s, times-append s a.resting a.waiting, times-append s b.resting b.waiting, ap (times s) w)
 
 fewer-swept : (steps : List Step) (limit : Price) (m : MatchState) → NoMoreOften (live_orders m.book) (live_orders (sweep steps limit m).book)
-fewer-swept steps limit m = often-live m.book (sweep steps limit m).book (each-sweep Often often steps limit m) (ap (λ (b : Book). b.waiting) (sweep-rest steps limit m))
+fewer-swept steps limit m = often-live m.book (sweep steps limit m).book (each-sweep Often often steps limit m) (ap (λ (b : Book). b.waiting) (rest-sweep steps limit m))
 
 -- slots differ after a sweep, where they did before it
 pub sweep-differ : (steps : List Step) (limit : Price) (m : MatchState) → AllDiffer (live_orders m.book) → AllDiffer (live_orders (sweep steps limit m).book)
@@ -219,7 +205,7 @@ one-more-differ slot es fs more d fresh = once-differ fs (λ s.
     ])
 
 abbrev new_entry : ℕ → Order → Option ℕ → Book → Entry
-new_entry slot o top_min b = record { slot = slot; order = record o { shown = first_shown o }; is_top = is_new_best o b.resting && is_enough top_min o.leaves }
+new_entry slot o top_min b = record { slot = slot; order = record o { shown = first_shown o }; is_top = is_new_best o b.resting && makes_top top_min o.leaves }
 
 -- it comes to rest
 pub placed-differ : (slot : ℕ) (o : Order) (top_min : Option ℕ) (b : Book) → AllDiffer (live_orders b) → (HasSlot slot (live_orders b) → ⊥) → AllDiffer (live_orders (book_placed slot o top_min b))

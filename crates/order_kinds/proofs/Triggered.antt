@@ -1,6 +1,5 @@
 -- A waiting stop is triggered: it can be entered and can come to rest, and what all of it comes to.
-use Rattle.std.proofs.Common.{◌≡◌, ℕ, ◌+◌, ◌*◌, ◌<◌, ◌≤◌, true, false, List, [], ◌∷◌, ◌++◌, length, None, refl, sym, ap, subst, ◌∙◌, arith}
-use Rattle.std.proofs.lemmas.List.{append-nil}
+use Rattle.std.proofs.Common.{◌≡◌, ℕ, ◌+◌, ◌*◌, ◌<◌, ◌≤◌, true, false, List, [], ◌∷◌, length, None, refl, sym, ap, subst, ◌∙◌, arith}
 use Rattle.gx_base.specs.declared.limits.TheConstants.{MOST_FIRMS}
 use Rattle.gx_base.specs.declared.order.Order.{Order}
 use Rattle.gx_base.specs.declared.order.Desk.{Desk}
@@ -8,19 +7,20 @@ use Rattle.gx_base.specs.declared.order.Taker.{Taker}
 use Rattle.gx_base.specs.declared.event.Head.{Head}
 use Rattle.gx_base.specs.declared.event.Event.TheVariants.{Triggered}
 use Rattle.gx_base.specs.Emits.{EmitMeanings, Emits}
-use Rattle.gx_base.specs.EmitLaws.{emits_joined, emits_as}
+use Rattle.gx_base.specs.EmitLaws.{emits_as}
 use Rattle.step_config.specs.declared.step.Step.{Step}
 use Rattle.plain_book.specs.declared.entry.Entry.{Entry}
 use Rattle.plain_book.specs.Orders.{HasSlot, order_of, is_named, is_live, without}
 use Rattle.plain_book.specs.Book.{Book, IsRight, IsWaiting, live_orders, book_without}
 use Rattle.plain_book.specs.Match.{MatchState, match_start, next_head, report_counted}
-use Rattle.plain_book.specs.Matches.{MatchAt, match_at, start_at, IsNow, CanTrade}
+use Rattle.plain_book.specs.Matches.{MatchAt, match_at, IsNow, CanTrade}
 use Rattle.plain_book.proofs.Levels.{HasSlot-right, slots-apart, order_of-right}
 use Rattle.plain_book.proofs.Live.{AllOrders, orders-at}
 use Rattle.plain_book.proofs.Named.{Unnamed, unnamed-without}
 use Rattle.plain_book.proofs.Pairs.{any-none}
 use Rattle.plain_book.proofs.Right.{live-without, length-without}
-use Rattle.plain_book.proofs.TradedShares.{match_with, with_events, IgnoresEvents}
+use Rattle.plain_book.proofs.Matching.{goes-on}
+use Rattle.plain_book.proofs.TradedShares.{IgnoresEvents}
 use Rattle.order_kinds.specs.NewOrders.{may_rest}
 use Rattle.order_kinds.specs.Entering.{entered}
 use Rattle.order_kinds.specs.Stops.{as_triggered, stop_triggered}
@@ -134,21 +134,8 @@ module _ {E : Type 0} (m : EmitMeanings E) where
   pub stands-then : (out : E) (x : MatchState) (b c : MatchAt E) (part : ℕ → MatchState → MatchState) → ((name : ℕ) → IgnoresEvents (part name))
       → Stands m out x b → (done : TakesPart m part b c) → Stands m out (part done.name x) c
   stands-then out x b c part ignores stands done =
-      let f = part done.name in
-      let is = stands.now in
-      let start : with_events x.events (start_at b) ≡ x =
-      ap (match_with b.book b.desk b.taker) (append-nil x.events)
-      ∙ ap (λ (k : Book). match_with k b.desk b.taker x.events) is.book ∙ ap (λ (k : Desk). match_with x.book k b.taker x.events) is.desk ∙ ap (λ (k : Taker). match_with x.book x.desk k x.events) is.taker in
-      let same : with_events x.events (f (start_at b)) ≡ f x = sym (ignores done.name x.events (start_at b)) ∙ ap f start in
-      record {
-        now = record {
-          book = done.now.book ∙ ap (λ (k : MatchState). k.book) same;
-          desk = done.now.desk ∙ ap (λ (k : MatchState). k.desk) same;
-          taker = done.now.taker ∙ ap (λ (k : MatchState). k.taker) same;
-        };
-        emits = emits_as m out c.out (x.events ++ (f (start_at b)).events) (f x).events (ap (λ (k : MatchState). k.events) same)
-            (emits_joined m out b.out c.out x.events (f (start_at b)).events stands.emits done.emits);
-      }
+      let on = goes-on m out x b c (part done.name) (ignores done.name) stands.now stands.emits done.now done.emits in
+      record { now = on.0; emits = on.1 }
 
   -- all of it
   pub takes-stop : (b : Book) (right : IsRight b) (slot : ℕ) (waits : HasSlot slot b.waiting) (o : Order) (left : Book) → o ≡ as_triggered (order_of slot (live_orders b)) → left ≡ book_without slot b

@@ -18,10 +18,10 @@ use Rattle.plain_book.specs.Matches.{MatchAt, start_at, IsNow, CanTrade}
 use Rattle.plain_book.proofs.Levels.{AllDiffer-back, same}
 use Rattle.plain_book.proofs.Right.{right-without, length-without}
 use Rattle.order_kinds.specs.Entering.{entered, last_fill}
-use Rattle.order_kinds.specs.Stops.{Naming, fill_range, first_marked, next_stop, stop_triggered, stop_entered, entered_with_stops}
+use Rattle.order_kinds.specs.Stops.{Naming, fill_range, first_reached, next_stop, stop_triggered, stop_entered, entered_with_stops}
 use Rattle.order_kinds.specs.Inner.Apart.{EnterApart}
 use Rattle.order_kinds.specs.Inner.Taking.{TakesPart, CountsRose, last_in_range}
-use Rattle.order_kinds.specs.Inner.Triggering.{joined, later_price, ComesIn, IsPassed, IsFirstMarked, HasRoomToComeIn, HasRoomToTrigger, slot_entered}
+use Rattle.order_kinds.specs.Inner.Triggering.{joined, later_price, ComesIn, IsPassed, IsFirstReached, HasRoomToComeIn, HasRoomToTrigger, slot_entered}
 use Rattle.order_kinds.proofs.Counts.{rose-both, rose-within}
 use Rattle.order_kinds.proofs.FillRanges.{range-entered}
 use Rattle.order_kinds.proofs.LastPrices.{last-entered}
@@ -92,20 +92,20 @@ module _ {E : Type 0} (m : EmitMeanings E) (steps : List Step) (before : MatchAt
     abbrev state : MatchState
     state = rounds has.turns has.naming steps (start_at before)
 
-    -- what is marked next
-    next-is : (next : Option Entry) → first_marked instrument range now.book.waiting ≡ next → next_stop state ≡ next
+    -- what is reached next
+    next-is : (next : Option Entry) → first_reached instrument range now.book.waiting ≡ next → next_stop state ≡ next
     next-is next first =
         let is = has.stands.now in
         let x = state in
-        ap (λ (t : Taker). first_marked t.order.instrument (fill_range x.events) x.book.waiting) (sym is.taker)
-        ∙ ap (λ (i : ℕ). first_marked i (fill_range x.events) x.book.waiting) has.same_instrument
-        ∙ ap (λ (r : Option (Price × Price)). first_marked instrument r x.book.waiting) (sym has.is_range)
-        ∙ ap (λ (b : Book). first_marked instrument range b.waiting) (sym is.book)
+        ap (λ (t : Taker). first_reached t.order.instrument (fill_range x.events) x.book.waiting) (sym is.taker)
+        ∙ ap (λ (i : ℕ). first_reached i (fill_range x.events) x.book.waiting) has.same_instrument
+        ∙ ap (λ (r : Option (Price × Price)). first_reached instrument r x.book.waiting) (sym has.is_range)
+        ∙ ap (λ (b : Book). first_reached instrument range b.waiting) (sym is.book)
         ∙ first
 
     -- ---- one stop more
 
-    module _ (right : IsRight now.book) (slot : ℕ) (behind : Option ℕ) (found : IsFirstMarked instrument range now.book.waiting slot behind) where
+    module _ (right : IsRight now.book) (slot : ℕ) (behind : Option ℕ) (found : IsFirstReached instrument range now.book.waiting slot behind) where
       pub found-waits : HasSlot slot now.book.waiting
       found-waits = subst (λ (n : ℕ). HasSlot n now.book.waiting) found.has (stop-waits instrument now.book right found.front found.back found.stop found.whole)
 
@@ -159,7 +159,7 @@ module _ {E : Type 0} (m : EmitMeanings E) (steps : List Step) (before : MatchAt
           back = found.back;
           whole = ap (stops_of instrument) waiting-after ∙ stops-left;
           next = found.next;
-          unmarked = found.unmarked;
+          unreached = found.unreached;
         })
 
         pub triggered-more : IsRight after.book → AreRightSteps steps → CountsRose 2000000 now.desk after.desk → (more : Option (Price × Price)) (later : Option Price)
@@ -223,8 +223,8 @@ module _ {E : Type 0} (m : EmitMeanings E) (steps : List Step) (before : MatchAt
       };
     }
 
-    -- no stop that waits is marked
-    pub triggered-all : first_marked instrument range now.book.waiting ≡ None
+    -- no stop that waits is reached
+    pub triggered-all : first_reached instrument range now.book.waiting ≡ None
         → ComesIn m (λ naming. EnterApart naming steps) (λ naming. entered_with_stops naming steps) before now last
     triggered-all none =
         let start = start_at before in

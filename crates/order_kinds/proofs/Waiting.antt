@@ -10,32 +10,11 @@ use Rattle.plain_book.specs.declared.entry.Entry.{Entry}
 use Rattle.plain_book.specs.Orders.{HasSlot, order_of, slot_of, slot_after, is_of, stops_of, without}
 use Rattle.plain_book.specs.Book.{Book, IsRight, AllDiffer, live_orders}
 use Rattle.plain_book.proofs.Filters.{filter-comm}
-use Rattle.plain_book.proofs.Levels.{HasSlot-filter, AllDiffer-filter, AllDiffer-back, HasSlot-middle, order_of-middle, order_of-filter, order_of-right, slots-apart, slot_after-middle, without-middle, same, other}
+use Rattle.plain_book.proofs.Levels.{HasSlot-filter, AllDiffer-filter, AllDiffer-back, HasSlot-middle, order_of-middle, order_of-filter, order_of-right, slots-apart, slot_after-middle, without-middle}
+use Rattle.plain_book.proofs.LeftFrom.{left_from, left-is}
 use Rattle.plain_book.proofs.Pairs.{all-append, all-back, all-passing}
-use Rattle.order_kinds.specs.Stops.{is_marked, first_entry, first_marked}
-use Rattle.order_kinds.specs.Inner.Triggering.{IsUnmarked, IsPassed, FindsMarked}
-
--- ---- how many stops are still to be looked at
-
-count_from : ℕ → List Entry → ℕ
-count_from slot [] = 0
-count_from slot (e ∷ es) = cond (e.slot == slot) (suc (length es)) (count_from slot es)
-
--- the stops from one of them on, or none
-pub stops_from : Option ℕ → List Entry → ℕ
-stops_from None es = 0
-stops_from (Some slot) es = count_from slot es
-
-count-middle : (xs ys : List Entry) (e : Entry) → AllDiffer (xs ++ e ∷ ys) → count_from e.slot (xs ++ e ∷ ys) ≡ suc (length ys)
-unfolding count_from
-count-middle [] ys e d = ap (λ (b : Bool). cond b (suc (length ys)) (count_from e.slot ys)) (same e.slot)
-count-middle (x ∷ xs) ys e d =
-    ap (λ (b : Bool). cond b (suc (length (xs ++ e ∷ ys))) (count_from e.slot (xs ++ e ∷ ys))) (other x e xs ys d) ∙ count-middle xs ys e d.1
-
-from-back : (xs ys : List Entry) → AllDiffer (xs ++ ys) → stops_from (slot_of ys) (xs ++ ys) ≡ length ys
-unfolding stops_from
-from-back xs [] d = refl
-from-back xs (e ∷ ys) d = count-middle xs ys e d
+use Rattle.order_kinds.specs.Stops.{is_reached_by, first_entry, first_reached}
+use Rattle.order_kinds.specs.Inner.Triggering.{IsUnreached, IsPassed, FindsReached}
 
 -- ---- filters
 
@@ -92,56 +71,56 @@ pub record StandsAtStop (instrument : ℕ) (range : Option (Price × Price)) (wa
   pub back : List Entry
   pub whole : stops_of instrument waiting ≡ front ++ stop ∷ back
   pub has : stop.slot ≡ slot
-  pub unmarked : AllByRecursion (IsUnmarked range) front
+  pub unreached : AllByRecursion (IsUnreached range) front
 
 module _ (instrument : ℕ) (range : Option (Price × Price)) (waiting : List Entry) where
   -- nothing was looked at yet
   pub passed-none : (at : Option ℕ) → at ≡ slot_of (stops_of instrument waiting) → IsPassed instrument range waiting at
-  passed-none at is = record { front = []; back = stops_of instrument waiting; whole = refl; next = is; unmarked = tt }
+  passed-none at is = record { front = []; back = stops_of instrument waiting; whole = refl; next = is; unreached = tt }
 
   pub passed-at : (at : Option ℕ) (slot : ℕ) → IsPassed instrument range waiting at → at ≡ Some slot → StandsAtStop instrument range waiting slot
   passed-at at slot passed is =
       let go : (back : List Entry) → stops_of instrument waiting ≡ passed.front ++ back → at ≡ slot_of back → StandsAtStop instrument range waiting slot = elim [
         | [] ↦ λ whole next. absurd (let e : None ≡ Some slot = sym next ∙ is in cc)
         | stop ∷ back ↦ λ whole next.
-            record { front = passed.front; stop = stop; back = back; whole = whole; has = let e : Some stop.slot ≡ Some slot = sym next ∙ is in cc; unmarked = passed.unmarked }
+            record { front = passed.front; stop = stop; back = back; whole = whole; has = let e : Some stop.slot ≡ Some slot = sym next ∙ is in cc; unreached = passed.unreached }
       ] in go passed.back passed.whole passed.next
 
   module _ (slot : ℕ) (s : StandsAtStop instrument range waiting slot) where
-    -- it was not marked
-    pub passed-more : IsUnmarked range s.stop → (at : Option ℕ) → at ≡ slot_of s.back → IsPassed instrument range waiting at
-    passed-more unmarked at is = record {
+    -- it was not reached
+    pub passed-more : IsUnreached range s.stop → (at : Option ℕ) → at ≡ slot_of s.back → IsPassed instrument range waiting at
+    passed-more unreached at is = record {
       front = s.front ++ s.stop ∷ [];
       back = s.back;
       whole = s.whole ∙ sym (append_assoc s.front (s.stop ∷ []) s.back);
       next = is;
-      unmarked = all-append (IsUnmarked range) s.front (s.stop ∷ []) s.unmarked (unmarked, tt);
+      unreached = all-append (IsUnreached range) s.front (s.stop ∷ []) s.unreached (unreached, tt);
     }
 
 module _ (instrument : ℕ) (range : Price × Price) (waiting : List Entry) where
-  -- it is marked
-  pub finds-first : (slot : ℕ) (s : StandsAtStop instrument (Some range) waiting slot) → is_marked range s.stop ≡ true → (at : Option ℕ) → at ≡ slot_of s.back
-      → FindsMarked instrument (Some range) waiting (Some slot) at
-  finds-first slot s marked at is = record {
+  -- it is reached
+  pub finds-first : (slot : ℕ) (s : StandsAtStop instrument (Some range) waiting slot) → is_reached_by range s.stop ≡ true → (at : Option ℕ) → at ≡ slot_of s.back
+      → FindsReached instrument (Some range) waiting (Some slot) at
+  finds-first slot s reached at is = record {
     front = s.front;
     stop = s.stop;
     back = s.back;
     whole = s.whole;
     has = s.has;
     next = is;
-    unmarked = s.unmarked;
+    unreached = s.unreached;
     first =
-        ap (λ (es : List Entry). first_entry (filter (is_marked range) es)) s.whole
-        ∙ ap first_entry (none-passing (is_marked range) s.front (s.stop ∷ s.back) s.unmarked)
-        ∙ ap (λ (b : Bool). first_entry (cond b (s.stop ∷ filter (is_marked range) s.back) (filter (is_marked range) s.back))) marked;
+        ap (λ (es : List Entry). first_entry (filter (is_reached_by range) es)) s.whole
+        ∙ ap first_entry (none-passing (is_reached_by range) s.front (s.stop ∷ s.back) s.unreached)
+        ∙ ap (λ (b : Bool). first_entry (cond b (s.stop ∷ filter (is_reached_by range) s.back) (filter (is_reached_by range) s.back))) reached;
   }
 
   -- all were looked at
-  pub finds-none : (at : Option ℕ) → IsPassed instrument (Some range) waiting at → at ≡ None → (behind : Option ℕ) → FindsMarked instrument (Some range) waiting None behind
+  pub finds-none : (at : Option ℕ) → IsPassed instrument (Some range) waiting at → at ≡ None → (behind : Option ℕ) → FindsReached instrument (Some range) waiting None behind
   finds-none at passed is behind =
-      let go : (back : List Entry) → stops_of instrument waiting ≡ passed.front ++ back → at ≡ slot_of back → first_marked instrument (Some range) waiting ≡ None = elim [
+      let go : (back : List Entry) → stops_of instrument waiting ≡ passed.front ++ back → at ≡ slot_of back → first_reached instrument (Some range) waiting ≡ None = elim [
         | [] ↦ λ whole next.
-            ap (λ (es : List Entry). first_entry (filter (is_marked range) es)) whole ∙ ap first_entry (none-passing (is_marked range) passed.front [] passed.unmarked)
+            ap (λ (es : List Entry). first_entry (filter (is_reached_by range) es)) whole ∙ ap first_entry (none-passing (is_reached_by range) passed.front [] passed.unreached)
         | stop ∷ back ↦ λ whole next. absurd (let e : Some stop.slot ≡ None = sym next ∙ is in cc)
       ] in go passed.back passed.whole passed.next
 
@@ -158,13 +137,13 @@ module _ (instrument : ℕ) (range : Option (Price × Price)) (b : Book) (right 
       ∙ stop-next instrument b right s.front s.back s.stop s.whole
 
   -- fewer are left behind it
-  pub at-fewer : (now next : Option ℕ) → now ≡ Some slot → next ≡ slot_of s.back → stops_from next (stops_of instrument b.waiting) < stops_from now (stops_of instrument b.waiting)
+  pub at-fewer : (now next : Option ℕ) → now ≡ Some slot → next ≡ slot_of s.back → left_from next (stops_of instrument b.waiting) < left_from now (stops_of instrument b.waiting)
   at-fewer now next is behind =
       let stops = stops_of instrument b.waiting in
       let differ = parts-differ instrument b right s.front s.back s.stop s.whole in
-      let whole-from : stops_from now stops ≡ suc (length s.back) =
-      ap (λ (at : Option ℕ). stops_from at stops) (is ∙ ap (λ (n : ℕ). Some n) (sym s.has)) ∙ ap (stops_from (Some s.stop.slot)) s.whole ∙ from-back s.front (s.stop ∷ s.back) differ in
+      let whole-from : left_from now stops ≡ suc (length s.back) =
+      ap (λ (at : Option ℕ). left_from at stops) (is ∙ ap (λ (n : ℕ). Some n) (sym s.has)) ∙ ap (left_from (Some s.stop.slot)) s.whole ∙ left-is s.front (s.stop ∷ s.back) differ in
       let moved : s.front ++ s.stop ∷ s.back ≡ (s.front ++ s.stop ∷ []) ++ s.back = sym (append_assoc s.front (s.stop ∷ []) s.back) in
-      let back-from : stops_from next stops ≡ length s.back =
-      ap (λ (at : Option ℕ). stops_from at stops) behind ∙ ap (stops_from (slot_of s.back)) (s.whole ∙ moved) ∙ from-back (s.front ++ s.stop ∷ []) s.back (subst AllDiffer moved differ) in
+      let back-from : left_from next stops ≡ length s.back =
+      ap (λ (at : Option ℕ). left_from at stops) behind ∙ ap (left_from (slot_of s.back)) (s.whole ∙ moved) ∙ left-is (s.front ++ s.stop ∷ []) s.back (subst AllDiffer moved differ) in
       omega (arith, whole-from, back-from)

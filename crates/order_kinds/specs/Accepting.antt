@@ -51,10 +51,10 @@ after_match instrument state end =
 abbrev pub accepted : Naming → Terms → NewOrder → State → State × List Event
 accepted naming terms new state = after_match terms.instrument.number state (new_of naming terms new state)
 
-abbrev pub new_by : Naming → Result Terms NewFault → NewOrder → State → State × List Event
-new_by naming (Ok terms) new state = accepted naming terms new state
-new_by naming (Err f) new state = refused f new state
+abbrev pub accepted_or_refused : Naming → Result Terms NewFault → NewOrder → State → State × List Event
+accepted_or_refused naming (Ok terms) new state = accepted naming terms new state
+accepted_or_refused naming (Err f) new state = refused f new state
 
 -- a new order is refused by the first rule that holds, or else accepted
 abbrev pub new_step : Naming → ProductLists → NewOrder → State → State × List Event
-new_step naming product new state = new_by naming (terms_of product new state) new state
+new_step naming product new state = accepted_or_refused naming (terms_of product new state) new state

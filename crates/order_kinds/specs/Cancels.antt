@@ -12,7 +12,7 @@ use Rattle.plain_book.specs.Orders.{order_of, slot_named}
 use Rattle.plain_book.specs.Book.{live_orders, book_without}
 use Rattle.plain_book.specs.Match.{report_counted, next_head}
 use Rattle.order_kinds.specs.State.{State}
-use Rattle.order_kinds.specs.Reports.{line_head, line_counted, unchanged}
+use Rattle.order_kinds.specs.Reports.{next_line_head, line_counted, unchanged}
 use Rattle.order_kinds.specs.Entering.{closed}
 
 -- ---- cancels
@@ -44,7 +44,7 @@ cancel_step request state = cancel_by (slot_named request.sender.firm request.ol
 -- ---- messages that a session rule refuses
 
 abbrev pub rejected : Refusal → Desk → Event
-rejected refusal desk = RefusedSession (line_head desk refusal.firm refusal.time) refusal.seq refusal.tag refusal.reason refusal.rule
+rejected refusal desk = RefusedSession (next_line_head desk refusal.firm refusal.time) refusal.seq refusal.tag refusal.reason refusal.rule
 
 -- a reject is reported to the sender, as far as it is known
 abbrev pub session_step : Refusal → State → State × List Event

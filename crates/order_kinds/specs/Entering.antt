@@ -41,8 +41,7 @@ top_min_of steps = option_map (λ (rule : TopRule). rule.min) (top_rule_of steps
 abbrev pub as_limit : Order → Order
 as_limit o = record o { kind = Limit; min = 0 }
 
--- What is open of the incoming order comes to rest, under a name in the list: its number in the state of the engine, its slot
--- in that of a core.
+-- What is open of the incoming order comes to rest under its number. (A core names it by its slot.)
 abbrev pub taker_rested : ℕ → List Step → MatchState → MatchState
 taker_rested name steps m = record m { book = book_placed name (as_limit m.taker.order) (top_min_of steps) m.book }
 

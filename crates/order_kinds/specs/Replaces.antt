@@ -127,17 +127,17 @@ replaced naming instrument request slot state =
 abbrev pub replace_refused : ChangeFault → ReplaceOrder → ℕ → ℕ → State → State × List Event
 replace_refused f request number filled state = unchanged request.sender request.id request.old number filled true f state
 
-abbrev pub replaced_by : Result ListedInstrument ChangeFault → Naming → ReplaceOrder → ℕ → State → State × List Event
-replaced_by (Ok instrument) naming request slot state = replaced naming instrument request slot state
-replaced_by (Err f) naming request slot state =
+abbrev pub replaced_or_refused : Result ListedInstrument ChangeFault → Naming → ReplaceOrder → ℕ → State → State × List Event
+replaced_or_refused (Ok instrument) naming request slot state = replaced naming instrument request slot state
+replaced_or_refused (Err f) naming request slot state =
     let o = order_of slot (live_orders state.book) in replace_refused f request o.number o.filled state
 
-abbrev pub replace_by : Option ℕ → Naming → ProductLists → ReplaceOrder → State → State × List Event
-replace_by None naming product request state = replace_refused fault.Unknown request 0 0 state
-replace_by (Some slot) naming product request state =
-    replaced_by (replace_terms product request (order_of slot (live_orders state.book)) state) naming request slot state
+abbrev pub replace_at : Option ℕ → Naming → ProductLists → ReplaceOrder → State → State × List Event
+replace_at None naming product request state = replace_refused fault.Unknown request 0 0 state
+replace_at (Some slot) naming product request state =
+    replaced_or_refused (replace_terms product request (order_of slot (live_orders state.book)) state) naming request slot state
 
 -- the live order of the firm with the old id is replaced, or the replace is refused by the first rule that holds
 abbrev pub replace_step : Naming → ProductLists → ReplaceOrder → State → State × List Event
 replace_step naming product request state =
-    replace_by (slot_named request.sender.firm request.old (live_orders state.book)) naming product request state
+    replace_at (slot_named request.sender.firm request.old (live_orders state.book)) naming product request state

@@ -15,8 +15,8 @@ line_place None = MOST_FIRMS
 line_place (Some firm) = firm
 
 -- the head of the next line to an addressee
-abbrev pub line_head : Desk → Option ℕ → List ℕ → Head
-line_head desk firm time = record { firm = firm; line = slice_index desk.lines (line_place firm) + 1; report = 0; time = time }
+abbrev pub next_line_head : Desk → Option ℕ → List ℕ → Head
+next_line_head desk firm time = record { firm = firm; line = slice_index desk.lines (line_place firm) + 1; report = 0; time = time }
 
 -- the counters after it
 abbrev pub line_counted : Desk → Option ℕ → Desk
@@ -26,7 +26,7 @@ line_counted desk firm = record desk { lines = slice_set desk.lines (line_place 
 -- change, or 0 where there is none.
 abbrev pub change_refused : Sender → List ℕ → List ℕ → ℕ → ℕ → Bool → ChangeFault → Desk → Event
 change_refused sender id old number filled replace fault desk =
-    RefusedChange (line_head desk (Some sender.firm) sender.time) id old number filled replace fault
+    RefusedChange (next_line_head desk (Some sender.firm) sender.time) id old number filled replace fault
 
 -- it is reported to its firm, and changes nothing
 abbrev pub unchanged : Sender → List ℕ → List ℕ → ℕ → ℕ → Bool → ChangeFault → State → State × List Event

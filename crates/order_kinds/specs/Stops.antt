@@ -28,29 +28,29 @@ fill_range_from range (_ ∷ events) = fill_range_from range events
 abbrev pub fill_range : List Event → Option (Price × Price)
 fill_range events = fill_range_from None events
 
--- ---- marked stops
+-- ---- stops that are reached
 
 -- the end of a range that reaches the most stops of a side: the greatest price for buys, the least for sells
 abbrev pub stop_end : Side → Price × Price → Price
 stop_end Buy range = range.1
 stop_end Sell range = range.0
 
--- a stop is marked where some price of the range reaches its stop price
-abbrev pub is_marked : Price × Price → Entry → Bool
-is_marked range e = is_reached e.order.side e.order.trigger (stop_end e.order.side range)
+-- a stop is reached if some price of the range reaches its stop price
+abbrev pub is_reached_by : Price × Price → Entry → Bool
+is_reached_by range e = is_reached e.order.side e.order.trigger (stop_end e.order.side range)
 
 abbrev pub first_entry : List Entry → Option Entry
 first_entry [] = None
 first_entry (e ∷ es) = Some e
 
--- the first waiting stop of an instrument that a range marks, if there is one
-abbrev pub first_marked : ℕ → Option (Price × Price) → List Entry → Option Entry
-first_marked instrument None waiting = None
-first_marked instrument (Some range) waiting = first_entry (filter (is_marked range) (stops_of instrument waiting))
+-- the first waiting stop of an instrument that a range reaches, if there is one
+abbrev pub first_reached : ℕ → Option (Price × Price) → List Entry → Option Entry
+first_reached instrument None waiting = None
+first_reached instrument (Some range) waiting = first_entry (filter (is_reached_by range) (stops_of instrument waiting))
 
--- the next stop that is triggered: the first that the fills of the message so far mark
+-- the next stop that is triggered: the first that the fills of the message so far reach
 abbrev pub next_stop : MatchState → Option Entry
-next_stop m = first_marked m.taker.order.instrument (fill_range m.events) m.book.waiting
+next_stop m = first_reached m.taker.order.instrument (fill_range m.events) m.book.waiting
 
 -- ---- triggering
 
@@ -64,8 +64,9 @@ stop_triggered e m =
     let o = as_triggered e.order in
     report Triggered o (record m { book = book_without e.slot m.book; taker = record { order = o; time = m.taker.time; range = None } })
 
--- Under which name in the list an order comes to rest or waits: by how many orders of the message came in before it, and by
--- its number. In the state of the engine it is the number, in that of a core the slot that its book gives.
+-- The name under which an order comes to rest or waits, by how many orders of the message came in before it and by its number. Read it as
+-- *its number*, which it is in the state of the engine (`by_number`). A core names an order by the slot that its book gives, so the rules
+-- take the name from outside.
 abbrev pub Naming : Type 0
 Naming = ℕ → ℕ → ℕ
 
@@ -82,7 +83,7 @@ abbrev pub stop_rounds : ℕ → Naming → List Step → MatchState → MatchSt
 stop_rounds zero naming steps m = m
 stop_rounds (suc n) naming steps m = let before = stop_rounds n naming steps m in stop_entered (next_stop before) (naming n) steps before
 
--- Until none is marked, the next stop is triggered and entered: the laws `stops_go_on` and `stops_end` say it so. Each round
+-- Until none is reached, the next stop is triggered and entered: the laws `stops_go_on` and `stops_end` say it so. Each round
 -- takes one stop out, so as many rounds as stops wait are enough.
 abbrev pub stops_entered : Naming → List Step → MatchState → MatchState
 stops_entered naming steps m = stop_rounds (length m.book.waiting) naming steps m

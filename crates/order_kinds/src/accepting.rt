@@ -60,7 +60,8 @@ pub(crate) fn bring_in<B: Book, E: Emit>(
 )
     requires can { CanComeIn state.old.book state.old.desk taker }
     requires priced { instrument.now.number < length state.old.last }
-    ensures takes { let on = listed_instrument instrument.now in Takes E.meanings (BroughtApart on taker) (λ naming. brought_in naming on taker) state.old state.new out.old out.new }
+    ensures takes { let on = listed_instrument instrument.now in Takes E.meanings (BroughtApart on taker) (λ naming. brought_in naming on taker) state.old
+        state.new out.old out.new }
     ensures rose { CountsRose (most_reports taker state.old.book) state.old.desk state.new.desk }
 {
     let mut taker = taker;
@@ -84,7 +85,8 @@ fn accept_new<B: Book, E: Emit>(
     requires accepted { IsAccepted state.old (terms_seen terms.now) new.now }
     requires counted { IsCounted state.old.desk }
     requires few { length state.old.book.waiting ≤ MOST_ORDERS }
-    ensures takes { Takes E.meanings (NewApart (Ok (terms_seen terms.now)) new.now) (λ naming. accepted naming (terms_seen terms.now) new.now) state.old state.new out.old out.new }
+    ensures takes { Takes E.meanings (NewApart (Ok (terms_seen terms.now)) new.now) (λ naming. accepted naming (terms_seen terms.now) new.now) state.old
+        state.new out.old out.new }
     ensures rose { CountsRose (2 ^ 38) (record state.old.desk { orders = state.old.desk.orders + 1 }) state.new.desk }
 {
     state.desk.orders += 1;
@@ -111,7 +113,8 @@ pub(crate) fn apply_new<B: Book, E: Emit>(
     requires valid { IsValidNew product.now.names new.now }
     requires fits { FitsProduct product.now state.old }
     requires counted { IsCounted state.old.desk }
-    ensures takes { Takes E.meanings (λ state. NewApart (terms_of product.now new.now state) new.now state) (λ naming. new_step naming product.now new.now) state.old state.new out.old out.new }
+    ensures takes { Takes E.meanings (λ state. NewApart (terms_of product.now new.now state) new.now state) (λ naming. new_step naming product.now new.now)
+        state.old state.new out.old out.new }
     ensures orders { state.new.desk.orders ≤ state.old.desk.orders + 1 }
     ensures rose { CountsRose (2 ^ 38) (record state.old.desk { orders = state.new.desk.orders }) state.new.desk }
 {

@@ -189,7 +189,8 @@ fn apply_counted<B: Book, E: Emit>(
     requires counted { IsCounted state.old.desk }
     requires valid { IsValidRequest product.now request.now }
     requires fits { FitsProduct product.now state.old }
-    ensures takes { Takes E.meanings (StayApart product.now request.now) (λ naming. request_step_as naming product.now request.now) state.old state.new out.old out.new }
+    ensures takes { Takes E.meanings (StayApart product.now request.now) (λ naming. request_step_as naming product.now request.now) state.old state.new
+        out.old out.new }
     ensures silent { IsTrue (is_passed request.now) → out.new ≡ out.old }
     ensures orders { state.new.desk.orders ≤ state.old.desk.orders + 1 }
     ensures rose { CountsRose (2 ^ 38) (record state.old.desk { orders = state.new.desk.orders }) state.new.desk }

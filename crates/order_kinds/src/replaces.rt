@@ -5,7 +5,7 @@ ghost use Rattle.product_file.specs.declared.limits.TheConstants.{MOST_ORDERS};
 ghost use Rattle.fix_request.specs.ValidRequests.{IsValidReplace};
 ghost use Rattle.plain_book.specs.Orders.{HasSlot, order_of, slot_named, is_side};
 ghost use Rattle.plain_book.specs.Book.{live_orders};
-ghost use Rattle.order_kinds.specs.Replaces.{is_kind, is_same_order, replace_terms, new_price, least_after, keeps_place, replaced_order, replaced_in_place, replaced_anew, replace_by, replace_step};
+ghost use Rattle.order_kinds.specs.Replaces.{is_kind, is_same_order, replace_terms, new_price, least_after, keeps_place, replaced_order, replaced_in_place, replaced_anew, replace_at, replace_step};
 ghost use Rattle.order_kinds.specs.Cores.{FitsProduct};
 ghost use Rattle.order_kinds.specs.Inner.Terms.{listed_instrument, map_instrument};
 ghost use Rattle.order_kinds.specs.Inner.Replacing.{IsAllowed};
@@ -178,7 +178,8 @@ fn replace_anew<B: Book, E: Emit>(
     requires priced { instrument.now.number < length state.old.last }
     requires counted { IsCounted state.old.desk }
     requires few { length state.old.book.waiting ≤ MOST_ORDERS }
-    ensures takes { let on = listed_instrument instrument.now in Takes E.meanings (ReplacedApart false on request.now slot.0) (λ naming. replaced_anew naming on request.now slot.0) state.old state.new out.old out.new }
+    ensures takes { let on = listed_instrument instrument.now in Takes E.meanings (ReplacedApart false on request.now slot.0)
+        (λ naming. replaced_anew naming on request.now slot.0) state.old state.new out.old out.new }
     ensures rose { CountsRose (2 ^ 38) state.old.desk state.new.desk }
 {
     state.book.rules();
@@ -225,7 +226,8 @@ fn replace_order<B: Book, E: Emit>(
     requires valid { IsValidReplace product.now.names request.now }
     requires fits { FitsProduct product.now state.old }
     requires counted { IsCounted state.old.desk }
-    ensures takes { Takes E.meanings (ReplaceApart (Some slot.0) product.now request.now) (λ naming. replace_by (Some slot.0) naming product.now request.now) state.old state.new out.old out.new }
+    ensures takes { Takes E.meanings (ReplaceApart (Some slot.0) product.now request.now) (λ naming. replace_at (Some slot.0) naming product.now request.now)
+        state.old state.new out.old out.new }
     ensures rose { CountsRose (2 ^ 38) state.old.desk state.new.desk }
 {
     product.limits();
@@ -254,7 +256,9 @@ pub(crate) fn apply_replace<B: Book, E: Emit>(
     requires valid { IsValidReplace product.now.names request.now }
     requires fits { FitsProduct product.now state.old }
     requires counted { IsCounted state.old.desk }
-    ensures takes { Takes E.meanings (λ state. ReplaceApart (slot_named request.now.sender.firm request.now.old (live_orders state.book)) product.now request.now state) (λ naming. replace_step naming product.now request.now) state.old state.new out.old out.new }
+    ensures takes { Takes E.meanings
+        (λ state. ReplaceApart (slot_named request.now.sender.firm request.now.old (live_orders state.book)) product.now request.now state)
+        (λ naming. replace_step naming product.now request.now) state.old state.new out.old out.new }
     ensures rose { CountsRose (2 ^ 38) state.old.desk state.new.desk }
 {
     product.limits();

@@ -1,7 +1,7 @@
 //! Report lines that are no execution reports.
 ghost use Rattle.std.specs.Prelude.{◌≡◌, ◌<◌, ◌^◌, [], ◌∷◌, IfSome, Some, slice_index};
 ghost use Rattle.gx_base.specs.Emits.{Emits};
-ghost use Rattle.order_kinds.specs.Reports.{line_place, line_head, line_counted, change_refused};
+ghost use Rattle.order_kinds.specs.Reports.{line_place, next_line_head, line_counted, change_refused};
 
 use fix_request::Sender;
 use gx_base::{ChangeFault, Desk, Emit, Event, Head, MOST_FIRMS, ShortId, Stamp};
@@ -10,7 +10,7 @@ use gx_base::{ChangeFault, Desk, Emit, Event, Head, MOST_FIRMS, ShortId, Stamp};
 pub(crate) fn count_line(desk: &mut Desk, firm: Option<u8>, time: Stamp) -> Head
     requires firm { IfSome firm (λ number. number < MOST_FIRMS) }
     requires room { slice_index desk.old.lines (line_place firm) < 2 ^ 63 }
-    ensures head { result ≡ line_head desk.old firm time }
+    ensures head { result ≡ next_line_head desk.old firm time }
     ensures desk { desk.new ≡ line_counted desk.old firm }
 {
     let place = firm.map_or(MOST_FIRMS, usize::from);
@@ -41,7 +41,8 @@ impl RefusedChange<'_> {
         requires firm { self.now.sender.now.firm < MOST_FIRMS }
         requires lines { slice_index desk.old.lines self.now.sender.now.firm < 2 ^ 63 }
         ensures desk { desk.new ≡ line_counted desk.old (Some self.now.sender.now.firm) }
-        ensures emits { Emits E.meanings out.old out.new (change_refused self.now.sender.now self.now.id self.now.old self.now.number self.now.filled self.now.replace fault desk.old ∷ []) }
+        ensures emits { Emits E.meanings out.old out.new
+            (change_refused self.now.sender.now self.now.id self.now.old self.now.number self.now.filled self.now.replace fault desk.old ∷ []) }
     {
         let head = count_line(desk, Some(self.sender.firm), self.sender.time);
         out.put(&Event::RefusedChange {

@@ -8,10 +8,10 @@ ghost use Rattle.order_kinds.specs.NewOrders.{may_rest};
 ghost use Rattle.order_kinds.specs.Stops.{as_triggered, entered_with_stops, come_in};
 ghost use Rattle.order_kinds.specs.Inner.Taking.{TakesPart, CountsRose, CanRest};
 ghost use Rattle.order_kinds.specs.Inner.Apart.{EnterApart, ComeApart};
-ghost use Rattle.order_kinds.specs.Inner.Triggering.{ComesIn, IsPassed, FindsMarked, CanWait, HasRoomToComeIn, HasRoomToTrigger, slot_entered};
+ghost use Rattle.order_kinds.specs.Inner.Triggering.{ComesIn, IsPassed, FindsReached, CanWait, HasRoomToComeIn, HasRoomToTrigger, slot_entered};
 
 use crate::entering::enter;
-use crate::trades::{PriceRange, Trades, is_marked};
+use crate::trades::{PriceRange, Trades, is_reached_by};
 use gx_base::{Desk, Emit, Event, Kind, Order, Price, Slot, Taker};
 use plain_book::{Book, count_report};
 use step_config::Steps;
@@ -37,17 +37,17 @@ impl StopSearch {
         }
     }
 
-    /// The next waiting stop that a range marks, and the search goes on behind it. `None` where there is none.
-    fn next_marked<B: Book>(&mut self, book: &B, range: Option<PriceRange>) -> Option<Slot>
+    /// The next waiting stop that a range reaches, and the search goes on behind it. `None` where there is none.
+    fn next_reached<B: Book>(&mut self, book: &B, range: Option<PriceRange>) -> Option<Slot>
         requires passed { IsPassed self.old.instrument range (B.book book.now).waiting (option_map slot_number self.old.at) }
         ensures instrument { self.new.instrument ≡ self.old.instrument }
-        ensures found { FindsMarked self.old.instrument range (B.book book.now).waiting (option_map slot_number result) (option_map slot_number self.new.at) }
+        ensures found { FindsReached self.old.instrument range (B.book book.now).waiting (option_map slot_number result) (option_map slot_number self.new.at) }
     {
         book.rules();
         let range = range?;
         while let Some(slot) = self.at {
             self.at = book.next_waiting(slot);
-            if is_marked(range, book.order(slot)) {
+            if is_reached_by(range, book.order(slot)) {
                 return Some(slot);
             }
         }
@@ -122,7 +122,7 @@ fn enter_with_stops<B: Book, E: Emit>(
     }
     let instrument = taker.order.instrument;
     let mut stops = StopSearch::start(book, instrument);
-    while let Some(slot) = stops.next_marked(book, trades.range) {
+    while let Some(slot) = stops.next_reached(book, trades.range) {
         trigger(book, desk, taker, slot, steps, out);
         book.rules();
         if trades.add(taker) {

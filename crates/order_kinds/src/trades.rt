@@ -1,7 +1,7 @@
 //! What the trades of a message come to.
 ghost use Rattle.std.specs.Prelude.{◌≡◌, false, Some};
 ghost use Rattle.order_kinds.specs.OrderRules.{is_reached};
-ghost use Rattle.order_kinds.specs.Stops.{stop_end, is_marked};
+ghost use Rattle.order_kinds.specs.Stops.{stop_end, is_reached_by};
 ghost use Rattle.order_kinds.specs.Inner.Taking.{last_in_range};
 ghost use Rattle.order_kinds.specs.Inner.Triggering.{joined, later_price};
 
@@ -31,7 +31,7 @@ fn last_price(taker: &Taker) -> Option<Price>
 }
 
 /// Whether a trade at one of these prices reaches the stop price of a stop.
-pub(crate) fn is_marked(range: PriceRange, stop: &Order) -> bool
+pub(crate) fn is_reached_by(range: PriceRange, stop: &Order) -> bool
     ensures { result ≡ is_reached stop.now.side stop.now.trigger (stop_end stop.now.side range) }
 {
     let (least, greatest) = range;

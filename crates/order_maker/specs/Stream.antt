@@ -82,5 +82,5 @@ pub record MadeStream : Type 0 where
   pub reads : ℕ
 
 -- it tells what is left, and no read fails
-abbrev pub maker_meanings : SourceMeanings MadeStream
-maker_meanings = record { left = λ s. Some s.left; faults = λ s. 0; reads = λ s. s.reads }
+abbrev pub generator_meanings : SourceMeanings MadeStream
+generator_meanings = record { left = λ s. Some s.left; faults = λ s. 0; reads = λ s. s.reads }

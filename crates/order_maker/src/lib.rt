@@ -1,4 +1,4 @@
-//! A source of messages that are made by rule: always the same stream for a product, a first number and a count.
+//! A generator of messages, which are made by rule: always the same stream for a product, a first number and a count.
 #![tactic(auto)]
 
 mod body;

@@ -2,7 +2,7 @@
 ghost use Rattle.std.specs.Prelude.{◌≡◌, ◌≢◌, ◌+◌, ◌^◌, ◌<◌, ◌≤◌, [], ◌++◌, ◌==◌, if◌then◌else◌, length, take, IfOk, IsOk};
 ghost use Rattle.gx_station.specs.Counts.{counted};
 ghost use Rattle.gx_station.specs.Sources.{Takes};
-ghost use Rattle.order_maker.specs.Stream.{MadeStream, maker_meanings, made_stream, frames_from};
+ghost use Rattle.order_maker.specs.Stream.{MadeStream, generator_meanings, made_stream, frames_from};
 
 use crate::frame::write_message;
 use crate::made::draw_message;
@@ -60,13 +60,13 @@ impl<'a> MakerSource<'a> {
 }
 
 impl<'a> Source for MakerSource<'a> {
-    ghost meanings = { maker_meanings };
+    ghost meanings = { generator_meanings };
 
     /// As the trait says. It never fails, and places whole frames, as many as are sure to fit: while one is left, less than
     /// `LONGEST_LINE` bytes stay unused.
     fn read(&mut self, into: &mut [u8]) -> Result<usize, Failed>
         requires { LEAST_READ ≤ length into.old }
-        ensures takes { Takes maker_meanings self.old self.new into.new result }
+        ensures takes { Takes generator_meanings self.old self.new into.new result }
         ensures no_fault { IsOk result }
         ensures full { IfOk result (λ count. self.new.left ≢ [] → length into.new < count + LONGEST_LINE) }
     {

@@ -1,6 +1,6 @@
 -- The cells of a block while its nodes change.
-use Rattle.std.proofs.Common.{◌≡◌, ℕ, ◌+◌, ◌<◌, ◌^◌, List, length, refl, sym, ap, ◌∙◌, arith, slice_set, subst, inl, inr, ◌≢◌}
-use Rattle.std.proofs.lemmas.List.{map-set, get_or-map, length-map, length-set, get_or-set_other}
+use Rattle.std.proofs.Common.{◌≡◌, ℕ, ◌+◌, ◌<◌, ◌^◌, List, get_or, length, refl, sym, ap, ◌∙◌, arith, slice_set, subst, inl, inr, ◌≢◌}
+use Rattle.std.proofs.lemmas.List.{get_or_read, map-set, get_or-map, length-map, length-set, get_or-set_other}
 use Rattle.std.proofs.lemmas.Grind.{get_or-set_at}
 use Rattle.std.proofs.lemmas.Bool.{cases_eq}
 use Rattle.std.specs.declared.vec.Vec.{Vec}
@@ -9,7 +9,7 @@ use denote.RawPtr.{Ptr, block_ptr, null_ptr, InBlock}
 use Rattle.order_pool.specs.declared.node.Node.{Node}
 use Rattle.gx_base.specs.declared.order.Order.{Order}
 use Rattle.order_pool.specs.Inner.Places.{place, index_of, IsPlace}
-use Rattle.order_pool.specs.Inner.Block.{Cell, cell_of, cells_of, node_at, cell_at, no_node, no_cell, node_size, with_order, with_next, with_prev, detached, attached, IsLinked, AllLinked, IsFull, IsClosed, closed_node, IsBlank, blank_node, first_tag, IsFresh}
+use Rattle.order_pool.specs.Inner.Block.{Cell, cell_of, cells_of, node_at, cell_at, no_node, no_cell, node_size, with_order, with_next, with_prev, detached, attached, IsLinked, AllLinked, HasNoRoomLeft, IsClosed, closed_node, IsBlank, blank_node, first_tag, IsFresh}
 use Rattle.order_pool.specs.Queues.{no_order}
 
 pub index_of-place : (base : Ptr) (k : ℕ) → InBlock base → index_of node_size base (place node_size base k) ≡ k
@@ -21,6 +21,10 @@ pub IsPlace-place : (base : Ptr) (n k : ℕ) → InBlock base → k < n → IsPl
 IsPlace-place base n k h lt =
     let e = index_of-place base k h in
     record { within = rw e lt; is = ap (place node_size base) (sym e) }
+
+-- a node that is read and written back, changed
+pub node_changed : {Z : Type 0} (v : Vec Node Z) (i : ℕ) (read : Node) (change : Node → Node) → i < length v.items → read ≡ get_or v.items i read → with_item v i (change read) ≡ with_item v i (change (node_at v.items i))
+node_changed v i read change lt is = ap (λ (n : Node). with_item v i (change n)) (get_or_read v.items i read lt is no_node)
 
 pub cell_at-cells : (base : Ptr) (ns : List Node) (i : ℕ) → i < length ns → cell_at (cells_of base ns) i ≡ cell_of base (node_at ns i)
 cell_at-cells base ns i lt = get_or-map (cell_of base) ns i no_node no_cell lt
@@ -133,8 +137,8 @@ module _ {Z : Type 0} where
   kept_room v w i m e = ap (λ (u : Vec Node Z). u.cap) e
 
   -- a Vec that is full still is once it was written
-  pub kept_full : (v w : Vec Node Z) (i : ℕ) (m : Node) → w ≡ with_item v i m → IsFull v → IsFull w
-  kept_full v w i m e full = subst IsFull (sym e) full
+  pub kept_full : (v w : Vec Node Z) (i : ℕ) (m : Node) → w ≡ with_item v i m → HasNoRoomLeft v → HasNoRoomLeft w
+  kept_full v w i m e full = subst HasNoRoomLeft (sym e) full
 
   -- a pointer to element i is still one once the Vec was written
   pub IsPlace-of : (v w : Vec Node Z) (i : ℕ) (p : Ptr) → w.ptr ≡ v.ptr → length w.items ≡ length v.items → InBlock v.ptr → p ≡ place node_size v.ptr i → i < length v.items → IsPlace node_size w.ptr w.len p

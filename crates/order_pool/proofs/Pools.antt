@@ -4,13 +4,12 @@ use Rattle.std.proofs.lemmas.List.{length-set, get_or-set_other}
 use Rattle.std.proofs.lemmas.Grind.{get_or-set_at}
 use Rattle.std.proofs.lemmas.Bool.{cases_eq}
 use Rattle.std.proofs.lemmas.Bool.Decides.{eqb_tells}
-use Rattle.order_pool.specs.Inner.Block.{Cell, detached}
+use Rattle.order_pool.specs.Inner.Block.{Cell}
 use Rattle.order_pool.specs.Inner.Rings.{order_at, queue_at, In, AreWholeRings, IsPoolWith, IsPool, ring_at, without, moved, cells_moved, entry, queues_with, queues_of}
 use Rattle.order_pool.specs.Queues.{Entry, Queues, entries_at, removed, appended, order_of, HasSlot, IsIn}
 use Rattle.order_pool.proofs.Paths.{each-in}
 use Rattle.order_pool.proofs.WholeRings.{rings_of-is, AreWholeRings-moved, without-elsewhere, length-left, moved-other, moved-here}
 use Rattle.order_pool.proofs.Views.{in-entries, entries_at-qs, length-qs, moved_in, moved_out}
-use Rattle.order_pool.proofs.RingMoves.{AreRings-detached}
 
 -- a slot in a queue, as the fields have it
 pub record Seen (cs : List Cell) (slots queues : ℕ) (L : List (List ℕ)) (i q : ℕ) : Type 0 where
@@ -97,52 +96,42 @@ module _ (cs : List Cell) (slots queues live : ℕ) (counts : List ℕ) (L : Lis
         ];
   }
 
+  -- the count of a queue is set to how many slots it has now, and the other queues stay
+  pool-set : (live' t n : ℕ) → t < queues → live' + length (ring_at M queues) ≡ slots → n ≡ length (ring_at M t) → ((k : ℕ) → k < queues → k ≢ t → length (ring_at M k) ≡ length (ring_at L k))
+      → IsPoolWith new slots queues live' (slice_set counts t n) M
+  pool-set live' t n low free is others = record {
+    whole = AreWholeRings-moved cs slots queues L whole i r li lr;
+    fits = pool.fits;
+    free = free;
+    many = length-set counts t n ∙ pool.many;
+    counted = λ k lk.
+        elim (cases_eq k t) [
+          | inl w ↦ get_or-set_at counts t k n 0 w (omega (arith, pool.many)) ∙ is ∙ ap (λ (j : ℕ). length (ring_at M j)) (sym w)
+          | inr nt ↦ get_or-set_other counts t k n 0 nt ∙ pool.counted k lk ∙ sym (others k lk nt)
+        ];
+  }
+
   -- from a queue to the free slots
   pub pool-out : (live' n : ℕ) → q < queues → r ≡ queues → live' + 1 ≡ live → n + 1 ≡ get_or counts q 0 → IsPoolWith new slots queues live' (slice_set counts q n) M
   pool-out live' n low e el en =
       let ne : q ≢ r = (λ w. omega arith) in
-      record {
-        whole = AreWholeRings-moved cs slots queues L whole i r li lr;
-        fits = pool.fits;
-        free = (let c = length-came ne in let d = ap (λ (k : ℕ). length (ring_at M k)) e in let f = ap (λ (k : ℕ). length (ring_at L k)) e in omega (arith, c, d, f, pool.free));
-        many = length-set counts q n ∙ pool.many;
-        counted = λ k lk.
-            elim (cases_eq k q) [
-              | inl w ↦
-                  let g = length-gone ne in
-                  let c = pool.counted q low in
-                  get_or-set_at counts q k n 0 w (omega (arith, pool.many)) ∙ (let s : n ≡ length (ring_at M q) = omega (arith, g, c, en) in s) ∙ ap (λ (j : ℕ). length (ring_at M j)) (sym w)
-              | inr nq ↦ get_or-set_other counts q k n 0 nq ∙ pool.counted k lk ∙ sym (length-other k (omega arith) (λ w. omega arith) nq)
-            ];
-      }
+      pool-set live' q n low
+      (let c = length-came ne in let d = ap (λ (k : ℕ). length (ring_at M k)) e in let f = ap (λ (k : ℕ). length (ring_at L k)) e in omega (arith, c, d, f, pool.free))
+      (let g = length-gone ne in let c = pool.counted q low in omega (arith, g, c, en))
+      (λ k lk nq. length-other k (omega arith) (λ w. omega arith) nq)
 
   -- from the free slots to a queue
   pub pool-in : (live' n : ℕ) → r < queues → q ≡ queues → live' ≡ live + 1 → n ≡ get_or counts r 0 + 1 → IsPoolWith new slots queues live' (slice_set counts r n) M
   pool-in live' n low e el en =
       let ne : q ≢ r = (λ w. omega arith) in
-      record {
-        whole = AreWholeRings-moved cs slots queues L whole i r li lr;
-        fits = pool.fits;
-        free = (let c = length-gone ne in let d = ap (λ (k : ℕ). length (ring_at M k)) e in let f = ap (λ (k : ℕ). length (ring_at L k)) e in omega (arith, c, d, f, pool.free));
-        many = length-set counts r n ∙ pool.many;
-        counted = λ k lk.
-            elim (cases_eq k r) [
-              | inl w ↦
-                  let g = length-came ne in
-                  let c = pool.counted r low in
-                  get_or-set_at counts r k n 0 w (omega (arith, pool.many)) ∙ (let s : n ≡ length (ring_at M r) = omega (arith, g, c, en) in s) ∙ ap (λ (j : ℕ). length (ring_at M j)) (sym w)
-              | inr nr ↦ get_or-set_other counts r k n 0 nr ∙ pool.counted k lk ∙ sym (length-other k (omega arith) nr (λ w. omega arith))
-            ];
-      }
+      pool-set live' r n low
+      (let c = length-gone ne in let d = ap (λ (k : ℕ). length (ring_at M k)) e in let f = ap (λ (k : ℕ). length (ring_at L k)) e in omega (arith, c, d, f, pool.free))
+      (let g = length-came ne in let c = pool.counted r low in omega (arith, g, c, en))
+      (λ k lk nr. length-other k (omega arith) nr (λ w. omega arith))
 
 -- ---- what a contract sees
 
 module _ (cs : List Cell) (slots queues : ℕ) (L : List (List ℕ)) (whole : AreWholeRings cs slots queues L) (i : ℕ) (li : i < slots) where
-  pub length-detached_is : length (detached cs i) ≡ length cs
-  length-detached_is =
-      let q = queue_at cs i in
-      (AreRings-detached cs slots queues L whole.are q i (whole.covers i li).0 (whole.covers i li).1).cells ∙ sym whole.are.cells
-
   abbrev qs : List (List Entry)
   qs = map (map (entry cs)) (take queues L)
 

@@ -95,6 +95,3 @@ rules cs slots queues L whole b shown =
           subst NoRepeat (sym (entries_at-qs cs slots queues L whole q lq)) (no_repeat cs (ring_at L q) (whole.are.each q (omega arith)).differ);
       below = λ i h. (seen cs slots queues L whole (queues_with cs slots queues L) i h.0 refl h.1).slot;
     })
-
-pub queues_many : (cs : List Cell) (slots queues : ℕ) (L : List (List ℕ)) (whole : AreWholeRings cs slots queues L) (b : Queues) → queues_with cs slots queues L ≡ b → queues ≡ length b.queues
-queues_many cs slots queues L whole b shown = sym (length-qs cs slots queues L whole) ∙ ap (λ (c : Queues). length c.queues) shown

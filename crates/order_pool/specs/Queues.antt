@@ -1,9 +1,7 @@
 -- Queues of orders, what the calls of a pool make of them, and what is true of them at every moment.
-use Rattle.std.specs.Prelude.{◌≡◌, ℕ, ◌<◌, ◌==◌, not, if◌then◌else◌, List, [], ◌∷◌, ◌++◌, length, map, filter, sum_by, slice_index_or, slice_set, replicate, ◌⊎◌, Option, Some, None, codes, pos}
+use Rattle.std.specs.Prelude.{◌≡◌, ℕ, ◌<◌, ◌==◌, not, if◌then◌else◌, List, [], ◌∷◌, ◌++◌, length, map, filter, sum_by, slice_index_or, slice_set, replicate, ◌⊎◌, Option, Some, None, codes}
 use Rattle.gx_base.specs.declared.order.Order.{Order}
-use Rattle.gx_base.specs.declared.order.Side.TheVariants.{Buy}
-use Rattle.gx_base.specs.declared.order.Kind.TheVariants.{Limit}
-use Rattle.gx_base.specs.declared.order.Life.TheVariants.{Day}
+use Rattle.gx_base.specs.Orders.{blank_order}
 use Rattle.gx_base.specs.declared.order.Slot.{Slot}
 
 abbrev pub slot_number : Slot → ℕ
@@ -43,24 +41,7 @@ abbrev pub live_of : Queues → ℕ
 live_of b = sum_by length b.queues
 
 abbrev pub no_order : Order
-no_order = record {
-  number = 0;
-  firm = 0;
-  instrument = 0;
-  side = Buy;
-  id = codes "UNKNOWN";
-  kind = Limit;
-  price = record { 0 = pos 0 };
-  trigger = record { 0 = pos 0 };
-  quantity = 0;
-  filled = 0;
-  leaves = 0;
-  show = 0;
-  shown = 0;
-  min = 0;
-  life = Day;
-  prorated = 0;
-}
+no_order = blank_order (codes "UNKNOWN")
 
 -- the order of a slot, or `no_order` where it is not there
 abbrev pub order_of : ℕ → List Entry → Order

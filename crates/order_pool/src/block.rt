@@ -17,13 +17,13 @@ pub(crate) struct Block {
 impl Model for Block {
     ghost use Rattle.std.specs.Prelude.{List};
     ghost use Rattle.std.specs.Vec.{vec_ptr};
-    ghost use Rattle.order_pool.specs.Inner.Block.{Cell, cells_of, AllLinked, IsFull};
+    ghost use Rattle.order_pool.specs.Inner.Block.{Cell, cells_of, AllLinked, HasNoRoomLeft};
 
     ghost Value = { List Cell };
 
     ghost view = { λ b. cells_of (vec_ptr b.nodes) b.nodes.items };
 
-    ghost invariant = { λ b. AllLinked (vec_ptr b.nodes) b.nodes.items × IsFull b.nodes };
+    ghost invariant = { λ b. AllLinked (vec_ptr b.nodes) b.nodes.items × HasNoRoomLeft b.nodes };
 }
 
 impl Block {

@@ -47,7 +47,8 @@ pub(crate) fn relink(
     queue: u32,
 )
     requires { IsPlace node_size (vec_ptr nodes.old) (vec_len nodes.old) at }
-    ensures { let i = index_of node_size (vec_ptr nodes.old) at in nodes.new ≡ with_item nodes.old i (record (node_at nodes.old.items i) { prev = prev; next = next; queue = queue }) }
+    ensures { let i = index_of node_size (vec_ptr nodes.old) at in nodes.new ≡ with_item nodes.old i
+        (record (node_at nodes.old.items i) { prev = prev; next = next; queue = queue }) }
 {
     let node = follow_mut(nodes, at);
     node.prev = prev;

@@ -93,7 +93,8 @@ impl Pool {
     /// The slot behind this one in its queue. `None` exactly where it is the last.
     pub fn next(&self, slot: Slot) -> Option<Slot>
         requires { IsLive self.now (slot_number slot) }
-        ensures value { (q : ℕ) → IsIn self.now (slot_number slot) q → option_map slot_number result ≡ next_slot (slot_number slot) (entries_at self.now.queues q) }
+        ensures value { (q : ℕ) → IsIn self.now (slot_number slot) q
+            → option_map slot_number result ≡ next_slot (slot_number slot) (entries_at self.now.queues q) }
         ensures live { (q : ℕ) → IsIn self.now (slot_number slot) q → IfSome result (λ s. IsIn self.now (slot_number s) q) }
     {
         let next = self.block.next(slot.0);
@@ -179,7 +180,11 @@ impl Pool {
     /// Puts an order at the end of its queue. It keeps its slot.
     pub fn to_back(&mut self, slot: Slot)
         requires { IsLive self.old (slot_number slot) }
-        ensures queues { (q : ℕ) → IsIn self.old (slot_number slot) q → self.new ≡ record self.old { queues = appended q (slot_number slot, order_of (slot_number slot) (entries_at self.old.queues q)) (removed (slot_number slot) self.old.queues) } }
+        ensures queues { (q : ℕ) → IsIn self.old (slot_number slot) q
+            → self.new ≡ record self.old {
+              queues = appended q (slot_number slot, order_of (slot_number slot) (entries_at self.old.queues q))
+                  (removed (slot_number slot) self.old.queues);
+            } }
         ensures live { live_of self.new ≡ live_of self.old }
     {
         let queue = self.block.queue(slot.0);

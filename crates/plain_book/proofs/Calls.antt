@@ -7,7 +7,7 @@ use Rattle.gx_base.specs.declared.order.Order.{Order}
 use Rattle.gx_base.specs.declared.order.Side.{Side}
 use Rattle.plain_book.specs.declared.entry.Entry.{Entry}
 use Rattle.plain_book.specs.Orders.{level_of, HasSlot, order_of, is_live, is_named, is_on, is_at_earlier_level, is_new_best, without, placed, with_top, topped}
-use Rattle.plain_book.specs.Book.{Book, live_orders, IsRight, IsResting, IsFitToRest, IsFitToWait, first_shown, is_enough, book_placed, book_waited, book_without}
+use Rattle.plain_book.specs.Book.{Book, live_orders, IsRight, IsResting, IsFitToRest, IsFitToWait, first_shown, makes_top, book_placed, book_waited, book_without}
 use Rattle.plain_book.proofs.Levels.{HasSlot-left, slots-apart, order_of-left, without-none}
 use Rattle.plain_book.proofs.Pairs.{all-from, all-filter, all-map, all-with, none-any}
 use Rattle.plain_book.proofs.Live.{AllOrders}
@@ -37,7 +37,7 @@ module _ (b : Book) (s : ℕ) (r : IsRight b) (room : length (live_orders b) < b
   right-book_placed o least p u =
       let i = o.instrument in
       let d = o.side in
-      let enough = is_enough least o.leaves in
+      let enough = makes_top least o.leaves in
       let rests : Order = record o { shown = first_shown o } in
       let newcomer : Bool → Entry = λ (top : Bool). record { slot = s; order = rests; is_top = top } in
       let unnamed : AllOrders (Unnamed rests) (live_orders b) = none-any (is_named o.firm o.id) (live_orders b) u in

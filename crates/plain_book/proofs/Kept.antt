@@ -7,7 +7,7 @@ use Rattle.gx_base.specs.declared.order.Order.{Order}
 use Rattle.gx_base.specs.declared.order.Side.{Side}
 use Rattle.plain_book.specs.declared.entry.Entry.{Entry}
 use Rattle.plain_book.specs.Orders.{level_of, HasSlot, order_of, is_live, is_named, is_new_best, without, with_order, reordered, placed, lined_up, settled, refreshed, filled_by, with_top}
-use Rattle.plain_book.specs.Book.{EachPair, AreInBookOrder, Book, live_orders, IsRight, IsResting, IsWaiting, IsFitToRest, IsFitToWait, CanBeTop, first_shown, is_enough, book_placed, book_waited, book_traded, book_with_order, book_without, book_changed, book_with_top, book_cleared, changed_to}
+use Rattle.plain_book.specs.Book.{EachPair, AreInBookOrder, Book, live_orders, IsRight, IsResting, IsWaiting, IsFitToRest, IsFitToWait, CanBeTop, first_shown, makes_top, book_placed, book_waited, book_traded, book_with_order, book_without, book_changed, book_with_top, changed_to}
 use Rattle.plain_book.specs.Inner.FreeSlots.{IsAmong, AreFree, IsKept, IsFreeList, freed}
 use Rattle.plain_book.proofs.Levels.{HasSlot-filter, HasSlot-left, slots-apart, order_of-left, order_of-right}
 use Rattle.plain_book.proofs.Walks.{HasSlot-before}
@@ -18,7 +18,7 @@ use Rattle.plain_book.proofs.Sorted.{inserted-slots, inserted-length}
 use Rattle.plain_book.proofs.Settled.{settled-gone, settled-back, settled-stays}
 use Rattle.plain_book.proofs.Fits.{fit-stays, fit-back, rest-changed, wait-changed}
 use Rattle.plain_book.proofs.Calls.{right-book_placed, right-book_waited, rests-alone, right-back}
-use Rattle.plain_book.proofs.Right.{other_slot, live-without, length-without, without-gone, right-without, resting_as, waiting_as, live-placed, live-lined, book_reordered, live-reordered, right-reordered, waiting-same, right-with_order, slots-marked, length-marked, right-marked, right-cleared}
+use Rattle.plain_book.proofs.Right.{other_slot, live-without, length-without, without-gone, right-without, resting_as, waiting_as, live-placed, live-lined, book_reordered, live-reordered, right-reordered, waiting-same, right-with_order, slots-marked, length-marked, right-marked}
 
 -- ---- the free slots
 
@@ -161,17 +161,6 @@ module _ (b : Book) (rr wr : ℕ) (ss : List ℕ) (fr rr' wr' fr' : ℕ) (k : Is
       (omega (arith, k.all, length-marked i d top b.resting b.waiting))
       (free-fewer ss (live_orders b) (live_orders (book_with_top i d top b)) (λ t h. slots-marked i d top t b.resting b.waiting h) k.free)
 
--- all orders go, and all slots are free
-pub kept-cleared : (b : Book) (rr wr : ℕ) (ss : List ℕ) (fr rr' wr' fr' : ℕ) (ss' : List ℕ) → IsKept b rr wr ss fr → rr ≤ rr' → wr ≤ wr' → IsFreeList b.capacity ss' fr' → IsKept (book_cleared b) rr' wr' ss' fr'
-kept-cleared b rr wr ss fr rr' wr' fr' ss' k lr lw f = record {
-  right = right-cleared b k.right;
-  resting = omega (arith, k.resting);
-  waiting = omega (arith, k.waiting);
-  fits = f.room;
-  all = omega (arith, f.all);
-  free = f.free;
-}
-
 -- an order comes, and takes the last of the free slots
 module _ (b : Book) (rr wr : ℕ) (ss : List ℕ) (fr rr' wr' fr' s : ℕ) (k : IsKept b rr wr (ss ++ s ∷ []) fr) (lr : rr ≤ rr') (lw : wr ≤ wr') (lf : fr ≤ fr') where
   one-more : length ss + 1 + length (live_orders b) ≡ b.capacity
@@ -193,7 +182,7 @@ module _ (b : Book) (rr wr : ℕ) (ss : List ℕ) (fr rr' wr' fr' s : ℕ) (k : 
   kept-placed o least p u =
       let i = o.instrument in
       let d = o.side in
-      let n : Bool → Entry = λ (top : Bool). record { slot = s; order = record o { shown = first_shown o }; is_top = top && is_enough least o.leaves } in
+      let n : Bool → Entry = λ (top : Bool). record { slot = s; order = record o { shown = first_shown o }; is_top = top && makes_top least o.leaves } in
       let placed_if : Bool → Book = λ (best : Bool). resting_as b (placed (n best) (cond best (with_top i d None b.resting) b.resting)) in
       let go : (best : Bool) → IsRight (placed_if best) → IsKept (placed_if best) rr' wr' ss fr' = elim [
         | true ↦ kept-put (with_top i d None b.resting) (n true) refl (right-marked b i d None k.right tt).ordered (length-marked i d None b.resting b.waiting) (λ t h. slots-marked i d None t b.resting b.waiting h)

@@ -5,6 +5,7 @@ pub mod Pairs
 pub mod Live
 pub mod Named
 pub mod Walks
+pub mod LeftFrom
 pub mod TradedShares
 pub mod Matching
 pub mod Found
@@ -19,6 +20,7 @@ pub mod Parts
 -- What the proofs of this crate alone cite.
 mod Mapped
 mod Kept
+mod KeptCalls
 mod Trading
 mod Marks
 mod WalkSteps

@@ -33,24 +33,30 @@ module _ {E : Type 0} (m : EmitMeanings E) where
     room = keeps-same a.desk a.taker.order.leaves;
   }
 
+  -- a part goes on from a state that was reached, whose events were put
+  pub goes-on : (out : E) (x : MatchState) (b c : MatchAt E) (f : MatchState → MatchState) → IgnoresEvents f → IsNow x b.book b.desk b.taker → Emits m out b.out x.events
+      → IsNow (f (start_at b)) c.book c.desk c.taker → Emits m b.out c.out (f (start_at b)).events → IsNow (f x) c.book c.desk c.taker × Emits m out c.out (f x).events
+  goes-on out x b c f ignores is puts now more =
+      let start : with_events x.events (start_at b) ≡ x =
+      ap (match_with b.book b.desk b.taker) (append-nil x.events)
+      ∙ ap (λ (k : Book). match_with k b.desk b.taker x.events) is.book ∙ ap (λ (k : Desk). match_with x.book k b.taker x.events) is.desk ∙ ap (λ (k : Taker). match_with x.book x.desk k x.events) is.taker in
+      let done : with_events x.events (f (start_at b)) ≡ f x = sym (ignores x.events (start_at b)) ∙ ap f start in (
+        record {
+          book = now.book ∙ ap (λ (k : MatchState). k.book) done;
+          desk = now.desk ∙ ap (λ (k : MatchState). k.desk) done;
+          taker = now.taker ∙ ap (λ (k : MatchState). k.taker) done;
+        },
+        emits_as m out c.out (x.events ++ (f (start_at b)).events) (f x).events (ap (λ (k : MatchState). k.events) done)
+            (emits_joined m out b.out c.out x.events (f (start_at b)).events puts more),
+      )
+
   -- f was done, and then g
   pub matches-then : (f g : MatchState → MatchState) (a b c : MatchAt E) → IgnoresEvents g → Matches m f a b → Matches m g b c → Matches m (λ s. g (f s)) a c
   matches-then f g a b c ignores first second =
-      let r = f (start_at a) in
-      let is = first.now in
-      let start : with_events r.events (start_at b) ≡ r =
-      ap (match_with b.book b.desk b.taker) (append-nil r.events)
-      ∙ ap (λ (x : Book). match_with x b.desk b.taker r.events) is.book ∙ ap (λ (x : Desk). match_with r.book x b.taker r.events) is.desk ∙ ap (λ (x : Taker). match_with r.book r.desk x r.events) is.taker in
-      let done : with_events r.events (g (start_at b)) ≡ g r = sym (ignores r.events (start_at b)) ∙ ap g start in
-      let now = second.now in
+      let on = goes-on a.out (f (start_at a)) b c g ignores first.now first.emits second.now second.emits in
       record {
-        now = record {
-          book = now.book ∙ ap (λ (x : MatchState). x.book) done;
-          desk = now.desk ∙ ap (λ (x : MatchState). x.desk) done;
-          taker = now.taker ∙ ap (λ (x : MatchState). x.taker) done;
-        };
-        emits = emits_as m a.out c.out (r.events ++ (g (start_at b)).events) (g r).events (ap (λ (x : MatchState). x.events) done)
-            (emits_joined m a.out b.out c.out r.events (g (start_at b)).events first.emits second.emits);
+        now = on.0;
+        emits = on.1;
         can = second.can;
         room = keeps-then a.desk b.desk c.desk a.taker.order.leaves b.taker.order.leaves c.taker.order.leaves first.room second.room;
       }

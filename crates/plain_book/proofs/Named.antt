@@ -1,5 +1,5 @@
 -- No firm has an id twice: what keeps it so.
-use Rattle.std.proofs.Common.{◌≡◌, ◌≢◌, ℕ, Bool, true, false, cond, not, ◌&&◌, List, [], ◌∷◌, ◌++◌, refl, sym, ap, subst, ◌∙◌, inl, inr}
+use Rattle.std.proofs.Common.{◌≡◌, ◌≢◌, ℕ, Bool, true, false, cond, not, ◌&&◌, List, [], ◌∷◌, refl, sym, ap, subst, ◌∙◌, inl, inr}
 use Rattle.std.proofs.lemmas.Bool.Decides.{eqb_tells, Decides-eqb}
 use Rattle.std.proofs.lemmas.Slice.Eq.{bytes_eq-Decides}
 use Rattle.std.specs.Prelude.{◌==◌, bytes_eq}
@@ -8,7 +8,7 @@ use Rattle.gx_base.specs.declared.order.Order.{Order}
 use Rattle.plain_book.specs.declared.entry.Entry.{Entry}
 use Rattle.plain_book.specs.Orders.{HasSlot, order_of, without, with_order, reordered}
 use Rattle.plain_book.specs.Book.{EachPair, AllDiffer, AreNamedApart}
-use Rattle.plain_book.proofs.Pairs.{all-with, all-filter, pairs-map, pairs-both, differ-pairs}
+use Rattle.plain_book.proofs.Pairs.{all-with, all-filter, all-front, all-back, pairs-map, pairs-both, differ-pairs}
 use Rattle.plain_book.proofs.Levels.{renewed}
 use Rattle.plain_book.proofs.Live.{AllOrders, IsUnnamed, orders-at}
 use Rattle.plain_book.proofs.Sorted.{IsInserted, inserted-pairs}
@@ -43,16 +43,8 @@ named-inserted n es fs r h u =
     let U = λ (e : Entry). Unnamed n.order e.order in
     let whole = subst (AllByRecursion U) r.whole u in
     inserted-pairs r AreNamedApart h
-    (all-with U (λ x. AreNamedApart x n) (λ x k. named-sym x.order n.order ∙ k) r.front (front-of U r.front r.back whole))
-    (back-of U r.front r.back whole)
-  where
-    front-of : (P : Entry → Type 0) (xs ys : List Entry) → AllByRecursion P (xs ++ ys) → AllByRecursion P xs
-    front-of P [] ys h = tt
-    front-of P (x ∷ xs) ys h = (h.0, front-of P xs ys h.1)
-
-    back-of : (P : Entry → Type 0) (xs ys : List Entry) → AllByRecursion P (xs ++ ys) → AllByRecursion P ys
-    back-of P [] ys h = h
-    back-of P (x ∷ xs) ys h = back-of P xs ys h.1
+    (all-with U (λ x. AreNamedApart x n) (λ x k. named-sym x.order n.order ∙ k) r.front (all-front U r.front r.back whole))
+    (all-back U r.front r.back whole)
 
 -- without the order of a slot, no order has its name
 pub unnamed-without : (s : ℕ) (es : List Entry) → EachPair AreNamedApart es → HasSlot s es → AllOrders (Unnamed (order_of s es)) (without s es)

@@ -10,7 +10,7 @@ use Rattle.gx_base.specs.declared.order.Order.{Order}
 use Rattle.gx_base.specs.declared.order.Side.{Side}
 use Rattle.plain_book.specs.declared.entry.Entry.{Entry}
 use Rattle.plain_book.specs.Orders.{Level, level_of, HasSlot, order_of, is_on, is_before, is_at_earlier_level, is_of_earlier_instrument, without, with_order, reordered, placed, lined_up, with_top, topped}
-use Rattle.plain_book.specs.Book.{Book, live_orders, IsRight, IsResting, IsWaiting, AllDiffer, EachPair, AreNamedApart, AreInBookOrder, AreInLine, AllowsTop, CanBeTop, book_without, book_with_order, book_with_top, book_cleared}
+use Rattle.plain_book.specs.Book.{Book, live_orders, IsRight, IsResting, IsWaiting, AllDiffer, EachPair, AreNamedApart, AreInBookOrder, AreInLine, MayPrecedeTop, CanBeTop, book_without, book_with_order, book_with_top}
 use Rattle.plain_book.proofs.Levels.{AllDiffer-filter, AllDiffer-front, slots-apart, order_of-left, without-none, with_order-none, renewed}
 use Rattle.plain_book.proofs.Walks.{AllDiffer-with_order}
 use Rattle.plain_book.proofs.Pairs.{all-with, all-filter, all-map, all-from, all-front, all-back, pairs-filter, pairs-map}
@@ -60,7 +60,7 @@ right-without b s r h =
       named = subst (EachPair AreNamedApart) (sym live) (pairs-filter AreNamedApart p (live_orders b) r.named);
       ordered = pairs-filter AreInBookOrder p b.resting r.ordered;
       lined = pairs-filter AreInLine p b.waiting r.lined;
-      tops = pairs-filter AllowsTop p b.resting r.tops;
+      tops = pairs-filter MayPrecedeTop p b.resting r.tops;
       few = omega (arith, ap (λ (q : List Entry). length q) live, length-without s (live_orders b) r.differ h, r.few);
       small = r.small;
     }
@@ -138,10 +138,10 @@ mark-reordered : (s : ℕ) (o : Order) (e : Entry) → (reordered s o e).is_top 
 mark-reordered s o e = elim (e.slot == s) as (λ c. (cond c (renewed e o) e).is_top ≡ e.is_top) [ true ↦ refl | false ↦ refl ]
 
 -- the level of an entry stays
-abbrev KeepsLevel : ℕ → Order → Entry → Type 0
+abbrev pub KeepsLevel : ℕ → Order → Entry → Type 0
 KeepsLevel s o e = level_of (reordered s o e).order ≡ level_of e.order
 
-levels-kept : (s : ℕ) (o : Order) (es : List Entry) → AllDiffer es → (HasSlot s es → level_of o ≡ level_of (order_of s es)) → AllByRecursion (KeepsLevel s o) es
+pub levels-kept : (s : ℕ) (o : Order) (es : List Entry) → AllDiffer es → (HasSlot s es → level_of o ≡ level_of (order_of s es)) → AllByRecursion (KeepsLevel s o) es
 levels-kept s o [] d l = tt
 levels-kept s o (e ∷ es) d l = elim (eqb_tells e.slot s) [
   | inl t ↦ (
@@ -154,7 +154,7 @@ levels-kept s o (e ∷ es) d l = elim (eqb_tells e.slot s) [
   )
 ]
 
-ordered-changed : (s : ℕ) (o : Order) (es : List Entry) → AllByRecursion (KeepsLevel s o) es → EachPair AreInBookOrder es → EachPair AreInBookOrder (with_order s o es)
+pub ordered-changed : (s : ℕ) (o : Order) (es : List Entry) → AllByRecursion (KeepsLevel s o) es → EachPair AreInBookOrder es → EachPair AreInBookOrder (with_order s o es)
 ordered-changed s o es l h =
     pairs-map AreInBookOrder AreInBookOrder (KeepsLevel s o) (reordered s o) (λ a b la lb r.
     ap (λ (k : Level). is_before k (level_of (reordered s o a).order)) lb ∙ ap (is_before (level_of b.order)) la ∙ r) es l h
@@ -247,6 +247,3 @@ right-marked b i d top r can = record {
 }
 
 -- ---- all orders go
-
-pub right-cleared : (b : Book) → IsRight b → IsRight (book_cleared b)
-right-cleared b r = record { rest = tt; wait = tt; differ = tt; named = tt; ordered = tt; lined = tt; tops = tt; few = omega arith; small = r.small }

@@ -1,5 +1,5 @@
 -- TOP stands at the best price of its side: what keeps it so.
-use Rattle.std.proofs.Common.{◌≡◌, ◌≢◌, ℕ, Bool, true, false, cond, ◌&&◌, ◌||◌, List, [], ◌∷◌, ◌++◌, map, Option, Some, None, refl, sym, ap, subst, ◌∙◌, arith, inl, inr}
+use Rattle.std.proofs.Common.{◌≡◌, ◌≢◌, ℕ, Bool, true, false, cond, ◌&&◌, ◌||◌, List, [], ◌∷◌, map, Option, Some, None, refl, sym, ap, subst, ◌∙◌, arith, inl, inr}
 use Rattle.std.proofs.lemmas.Bool.Decides.{eqb_tells, Decides-eqb}
 use Rattle.std.specs.Prelude.{ℤ, ◌==◌}
 use Rattle.std.specs.List.{AllByRecursion}
@@ -10,9 +10,9 @@ use Rattle.gx_base.specs.declared.order.Side.TheVariants.{Buy, Sell}
 use Rattle.gx_base.proofs.Tests.{int-same, not-both}
 use Rattle.plain_book.specs.declared.entry.Entry.{Entry}
 use Rattle.plain_book.specs.Orders.{Level, level_of, is_on, is_side, side_of, is_before, is_at_earlier_level, is_better, is_best_price, is_new_best, best_of, price_of, HasSlot, order_of, placed, with_top, topped, is_slot_in}
-use Rattle.plain_book.specs.Book.{EachPair, AllDiffer, AreInBookOrder, AllowsTop, CanBeTop}
+use Rattle.plain_book.specs.Book.{EachPair, AllDiffer, AreInBookOrder, MayPrecedeTop, CanBeTop}
 use Rattle.plain_book.proofs.Levels.{same, is_side-same, is_side-refl, and-left, and-right, nat_lt-irrefl, side_before-irrefl, is_better-irrefl, is_before-irrefl, level_at}
-use Rattle.plain_book.proofs.Pairs.{all-with, all-both, all-from, pairs-map, pairs-both, differ-pairs}
+use Rattle.plain_book.proofs.Pairs.{all-with, all-both, all-front, all-back, all-from, pairs-map, pairs-both, differ-pairs}
 use Rattle.plain_book.proofs.Sorted.{book-order, put-in, IsInserted, inserted-pairs}
 use Rattle.plain_book.proofs.Live.{orders-at}
 
@@ -83,7 +83,7 @@ new-best-all n (e ∷ es) o h =
 abbrev pub NoTopBehind : Entry → Entry → Type 0
 NoTopBehind n x = is_at_earlier_level n x ≡ true → x.is_top ≡ true → is_on x.order.instrument x.order.side n ≡ true → ⊥
 
-pub not-best-none : (n : Entry) (es : List Entry) → EachPair AllowsTop es → is_new_best n.order es ≡ false → AllByRecursion (NoTopBehind n) es
+pub not-best-none : (n : Entry) (es : List Entry) → EachPair MayPrecedeTop es → is_new_best n.order es ≡ false → AllByRecursion (NoTopBehind n) es
 not-best-none n [] t h = tt
 not-best-none n (e ∷ es) t h =
     let i = n.order.instrument in
@@ -93,7 +93,7 @@ not-best-none n (e ∷ es) t h =
       | true ↦ λ on.
           let b : is_better s n.order.price.0 e.order.price.0 ≡ false = ap test (sym on) ∙ h in (
             (λ behind top on'. not-both (is_at_earlier_level n e) behind (behind-on n e on ∙ b)),
-            all-with (AllowsTop e) (NoTopBehind n) (λ x r behind top on'.
+            all-with (MayPrecedeTop e) (NoTopBehind n) (λ x r behind top on'.
                 let onx : is_on i s x ≡ true = on-sym x n on' in
                 let price = (r top (on-both i s x e onx on)).1 in
                 not-both (is_at_earlier_level n x) behind (behind-on n x onx ∙ ap (λ (p : Price). is_better s n.order.price.0 p.0) (sym price) ∙ b)) es t.0,
@@ -135,34 +135,26 @@ best-is-best i s p (e ∷ es) o h =
 
 -- ---- an order is put in
 
-pub tops-put : (n : Entry) (es : List Entry) → EachPair AreInBookOrder es → EachPair AllowsTop es
+pub tops-put : (n : Entry) (es : List Entry) → EachPair AreInBookOrder es → EachPair MayPrecedeTop es
     → AllByRecursion (λ (x : Entry). n.is_top ≡ true → is_on n.order.instrument n.order.side x ≡ true → is_at_earlier_level n x ≡ true) es
     → AllByRecursion (NoTopBehind n) es
-    → EachPair AllowsTop (placed n es)
+    → EachPair MayPrecedeTop (placed n es)
 tops-put n es o t first none =
     let r = put-in is_at_earlier_level book-order n es o in
     let F = λ (x : Entry). n.is_top ≡ true → is_on n.order.instrument n.order.side x ≡ true → is_at_earlier_level n x ≡ true in
     let A = λ (x : Entry). is_at_earlier_level n x ≡ false in
     let B = λ (x : Entry). is_at_earlier_level n x ≡ true in
     let ins : IsInserted n es (placed n es) = record { front = r.front; back = r.back; whole = r.whole; is = r.place } in
-    inserted-pairs ins AllowsTop t
-    (all-with (λ x. F x × A x) (λ x. AllowsTop x n) (λ x h top on. not-both (is_at_earlier_level n x) (h.0 top on) h.1) r.front (all-both F A r.front (front-of F r.front r.back (subst (AllByRecursion F) r.whole first)) r.ahead))
-    (all-with (λ x. NoTopBehind n x × B x) (λ x. AllowsTop n x) (λ x h top on. absurd (h.0 h.1 top on)) r.back (all-both (NoTopBehind n) B r.back (back-of (NoTopBehind n) r.front r.back (subst (AllByRecursion (NoTopBehind n)) r.whole none)) r.behind))
-  where
-    front-of : (P : Entry → Type 0) (xs ys : List Entry) → AllByRecursion P (xs ++ ys) → AllByRecursion P xs
-    front-of P [] ys h = tt
-    front-of P (x ∷ xs) ys h = (h.0, front-of P xs ys h.1)
-
-    back-of : (P : Entry → Type 0) (xs ys : List Entry) → AllByRecursion P (xs ++ ys) → AllByRecursion P ys
-    back-of P [] ys h = h
-    back-of P (x ∷ xs) ys h = back-of P xs ys h.1
+    inserted-pairs ins MayPrecedeTop t
+    (all-with (λ x. F x × A x) (λ x. MayPrecedeTop x n) (λ x h top on. not-both (is_at_earlier_level n x) (h.0 top on) h.1) r.front (all-both F A r.front (all-front F r.front r.back (subst (AllByRecursion F) r.whole first)) r.ahead))
+    (all-with (λ x. NoTopBehind n x × B x) (λ x. MayPrecedeTop n x) (λ x h top on. absurd (h.0 h.1 top on)) r.back (all-both (NoTopBehind n) B r.back (all-back (NoTopBehind n) r.front r.back (subst (AllByRecursion (NoTopBehind n)) r.whole none)) r.behind))
 
 -- ---- an order changes, and keeps its level
 
-pub tops-mapped : (f : Entry → Entry) → ((e : Entry) → (f e).is_top ≡ e.is_top) → (es : List Entry) → AllByRecursion (λ (e : Entry). level_of (f e).order ≡ level_of e.order) es → EachPair AllowsTop es → EachPair AllowsTop (map f es)
+pub tops-mapped : (f : Entry → Entry) → ((e : Entry) → (f e).is_top ≡ e.is_top) → (es : List Entry) → AllByRecursion (λ (e : Entry). level_of (f e).order ≡ level_of e.order) es → EachPair MayPrecedeTop es → EachPair MayPrecedeTop (map f es)
 tops-mapped f mark es levels t =
     let on = λ (k l : Level). (l.instrument == k.instrument) && is_side l.side k.side in
-    pairs-map AllowsTop AllowsTop (λ (e : Entry). level_of (f e).order ≡ level_of e.order) f (λ a b la lb r top h.
+    pairs-map MayPrecedeTop MayPrecedeTop (λ (e : Entry). level_of (f e).order ≡ level_of e.order) f (λ a b la lb r top h.
     let q = r (sym (mark b) ∙ top) (ap (λ (k : Level). on k (level_of a.order)) (sym lb) ∙ ap (on (level_of (f b).order)) (sym la) ∙ h) in (
       mark a ∙ q.0,
       price-same _ _ (ap (λ (k : Level). k.price) la ∙ ap (λ (p : Price). p.0) q.1 ∙ sym (ap (λ (k : Level). k.price) lb)),
@@ -178,9 +170,9 @@ module _ (i : ℕ) (s : Side) (top : Option ℕ) where
   marks : (b : Bool) (e : Entry) → is_on i s e ≡ b → (topped i s top e).is_top ≡ cond b (is_slot_in top e.slot) e.is_top
   marks b e h = ap (λ (c : Bool). cond c (is_slot_in top e.slot) e.is_top) h
 
-  tops-topped : (es : List Entry) → EachPair CanBeBehind es → EachPair AllowsTop es → EachPair AllowsTop (with_top i s top es)
+  tops-topped : (es : List Entry) → EachPair CanBeBehind es → EachPair MayPrecedeTop es → EachPair MayPrecedeTop (with_top i s top es)
   tops-topped es c t =
-      pairs-map (λ a b. CanBeBehind a b × AllowsTop a b) AllowsTop (λ (e : Entry). Unit {0}) (topped i s top) (λ a b _ _ r mark on.
+      pairs-map (λ a b. CanBeBehind a b × MayPrecedeTop a b) MayPrecedeTop (λ (e : Entry). Unit {0}) (topped i s top) (λ a b _ _ r mark on.
       let go : (c : Bool) → is_on i s b ≡ c → ((topped i s top a).is_top ≡ false) × (a.order.price ≡ b.order.price) = elim [
         | true ↦ λ h.
             let l = on-level i s b h in
@@ -198,10 +190,10 @@ module _ (i : ℕ) (s : Side) (top : Option ℕ) where
             ] in
             let q = r.1 (sym (marks false b h) ∙ mark) on in
             (marks false a (off (is_on i s a) refl) ∙ q.0, q.1)
-      ] in go (is_on i s b) refl) es (all-from (λ (e : Entry). Unit {0}) (λ x. tt) es) (pairs-both CanBeBehind AllowsTop es c t)
+      ] in go (is_on i s b) refl) es (all-from (λ (e : Entry). Unit {0}) (λ x. tt) es) (pairs-both CanBeBehind MayPrecedeTop es c t)
 
 -- none of a side is TOP
-pub tops-none : (i : ℕ) (s : Side) (es : List Entry) → EachPair AllowsTop es → EachPair AllowsTop (with_top i s None es)
+pub tops-none : (i : ℕ) (s : Side) (es : List Entry) → EachPair MayPrecedeTop es → EachPair MayPrecedeTop (with_top i s None es)
 tops-none i s es t = tops-topped i s None es (no-behind es) t
   where
     no-behind : (es : List Entry) → EachPair (CanBeBehind i s None) es
@@ -226,7 +218,7 @@ at-slot P s (e ∷ es) d h = elim (eqb_tells e.slot s) [
 slot-off : (t a b : ℕ) → b ≡ t → b ≢ a → (a == t) ≡ false
 slot-off t a b e n = elim (eqb_tells a t) [ inl h ↦ absurd (n (e ∙ sym h.1)) | inr h ↦ h.0 ]
 
-pub tops-set : (i : ℕ) (s : Side) (top : Option ℕ) (es : List Entry) → AllDiffer es → EachPair AreInBookOrder es → EachPair AllowsTop es → CanBeTop i s top es → EachPair AllowsTop (with_top i s top es)
+pub tops-set : (i : ℕ) (s : Side) (top : Option ℕ) (es : List Entry) → AllDiffer es → EachPair AreInBookOrder es → EachPair MayPrecedeTop es → CanBeTop i s top es → EachPair MayPrecedeTop (with_top i s top es)
 tops-set i s None es d o t can = tops-none i s es t
 tops-set i s (Some top) es d o t can =
     let p = (order_of top es).price in

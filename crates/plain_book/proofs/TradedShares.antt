@@ -11,7 +11,7 @@ use Rattle.gx_base.specs.declared.event.StepName.{StepName}
 use Rattle.plain_book.specs.Orders.{order_of, filled_by}
 use Rattle.plain_book.specs.Book.{Book}
 use Rattle.plain_book.specs.Shares.{AreNone}
-use Rattle.plain_book.specs.Match.{MatchState, match_start, Share, trade, trade_if_any, trade_share, trade_shares, fill, next_head, report_counted, taken_by, is_prorata, book_marked}
+use Rattle.plain_book.specs.Match.{MatchState, match_start, Share, trade, trade_if_any, trade_share, trade_shares, fill, next_head, report_counted, taken_by, is_prorata, book_share_noted}
 
 abbrev pub with_events : List Event → MatchState → MatchState
 with_events es m = record m { events = es ++ m.events }
@@ -40,7 +40,7 @@ any-events step s n b d t es =
 
 -- the book with the mark of a step
 abbrev pub marked_in : StepName → ℕ → ℕ → Book → Book
-marked_in step slot lots b = cond (is_prorata step) (book_marked slot lots b) b
+marked_in step slot lots b = cond (is_prorata step) (book_share_noted slot lots b) b
 
 pub any-ignores : (step : StepName) (s n : ℕ) → IgnoresEvents (trade_if_any step s n)
 any-ignores step s n es m =
@@ -60,7 +60,7 @@ shares-ignore step (x ∷ xs) es m = ap (trade_shares step xs) (share-ignores st
 share-none : (step : StepName) (s n : ℕ) (m : MatchState) → is_prorata step ≡ false → n ≡ 0 → trade_share step s n m ≡ m
 share-none step s n m unmarked none =
     ap (λ (x : ℕ). trade_share step s x m) none
-    ∙ ap (λ (c : Bool). trade_if_any step s 0 (record m { book = cond c (book_marked s 0 m.book) m.book })) unmarked
+    ∙ ap (λ (c : Bool). trade_if_any step s 0 (record m { book = cond c (book_share_noted s 0 m.book) m.book })) unmarked
 
 pub shares-none : (step : StepName) (shares : List Share) → is_prorata step ≡ false → AreNone shares → (m : MatchState) → trade_shares step shares m ≡ m
 shares-none step [] unmarked none m = refl

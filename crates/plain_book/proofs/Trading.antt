@@ -12,7 +12,7 @@ use Rattle.gx_base.specs.Emits.{EmitMeanings, Puts, Emits}
 use Rattle.gx_base.specs.EmitLaws.{emits_joined, emits_one}
 use Rattle.plain_book.specs.Orders.{HasSlot, order_of, filled_by}
 use Rattle.plain_book.specs.Book.{Book, book_traded}
-use Rattle.plain_book.specs.Match.{next_head, report_counted, fill, taken_by, book_marked}
+use Rattle.plain_book.specs.Match.{next_head, report_counted, fill, taken_by, book_share_noted}
 use Rattle.plain_book.specs.Matches.{CanTrade, KeepsRoom}
 use Rattle.plain_book.proofs.LineCounts.{line-counted}
 use Rattle.plain_book.proofs.Live.{unnamed-traded, unnamed-with_order}
@@ -75,7 +75,7 @@ can-traded s n a b d t range has some le can =
     }
 
 -- nor does the mark of a share matter
-pub can-marked : (s n : ℕ) (b : Book) (d : Desk) (t : Taker) → HasSlot s b.resting → CanTrade b d t → CanTrade (book_marked s n b) d t
+pub can-marked : (s n : ℕ) (b : Book) (d : Desk) (t : Taker) → HasSlot s b.resting → CanTrade b d t → CanTrade (book_share_noted s n b) d t
 can-marked s n b d t has can = record {
   listed = can.listed;
   firm = can.firm;

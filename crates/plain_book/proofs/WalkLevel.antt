@@ -1,6 +1,7 @@
 -- How far a walk along a level has come.
-use Rattle.std.proofs.Common.{◌≡◌, ℕ, ◌-◌, ◌≤◌, List, [], ◌∷◌, ◌++◌, length, Option, Some, None, refl, sym, ap, subst, ◌∙◌, append_assoc}
+use Rattle.std.proofs.Common.{◌≡◌, ℕ, ◌-◌, ◌<◌, ◌≤◌, List, [], ◌∷◌, ◌++◌, length, Option, Some, None, refl, sym, ap, subst, ◌∙◌, append_assoc, arith}
 use Rattle.std.proofs.lemmas.List.{append-nil}
+use Rattle.gx_base.specs.declared.order.Order.{Order}
 use Rattle.gx_base.specs.declared.order.Taker.{Taker}
 use Rattle.gx_base.specs.declared.event.StepName.{StepName}
 use Rattle.gx_base.specs.Emits.{EmitMeanings}
@@ -17,10 +18,6 @@ use Rattle.plain_book.proofs.Walks.{Stands, Remains, stands-has, stands-order, s
 use Rattle.plain_book.proofs.TradedShares.{share-ignores, shares-append, share-leaves}
 use Rattle.plain_book.proofs.Matching.{matches-none, matches-then, matches-as}
 use Rattle.plain_book.proofs.WalkSteps.{IsShowing, share-remains, head_of, next-is, still_to_come, comes-rest}
-
-no-slot : (es : List Entry) → slot_of es ≡ None → es ≡ []
-no-slot [] h = refl
-no-slot (e ∷ es) h = let f : Some e.slot ≡ None = h in cc
 
 -- some shares were traded, and those of the orders that are still to come are the others
 pub record IsWalk {E R : Type 0} (m : EmitMeanings E) (r : ShareMeanings R) (k : Level) (step : StepName) (all : List Share) (start : MatchAt E) (at end : Option ℕ) (rule : R) (now : MatchAt E) : Type 0 where
@@ -48,7 +45,7 @@ pub record IsTurn {R : Type 0} (r : ShareMeanings R) (k : Level) (slot : ℕ) (e
   pub wanted_of : r.share rule entry.order ≤ wanted
   pub within : AreWithin r (wanted - r.share rule entry.order) (r.behind rule entry.order) more
 
-module _ {E R : Type 0} (m : EmitMeanings E) (r : ShareMeanings R) (k : Level) (step : StepName) (all : List Share) (start : MatchAt E) where
+module _ {E R : Type 0} {m : EmitMeanings E} {r : ShareMeanings R} {k : Level} {step : StepName} {all : List Share} {start : MatchAt E} where
   pub walk-start : (at : Option ℕ) (rule : R) → at ≡ slot_of (orders_at k start.book.resting) → all ≡ shares_by r rule (orders_at k start.book.resting)
       → AreWithin r start.taker.order.leaves rule (orders_at k start.book.resting) → CanTrade start.book start.desk start.taker → IsRight start.book
       → IsWalk m r k step all start at None rule start
@@ -63,14 +60,7 @@ module _ {E R : Type 0} (m : EmitMeanings E) (r : ShareMeanings R) (k : Level) (
     right = right;
   }
 
-  -- nothing is there to do of the step
-  pub none-due : (rule : R) → ((orders : List Entry) → (s : MatchState) → trade_shares step (shares_by r rule orders) s ≡ s) → CanTrade start.book start.desk start.taker
-      → Matches m (trade_shares step (shares_by r rule (orders_at k start.book.resting))) start start
-  none-due rule none can =
-      let shares = shares_by r rule (orders_at k start.book.resting) in
-      matches-as m (λ s. s) (trade_shares step shares) start start (sym (none (orders_at k start.book.resting) (start_at start))) (matches-none m start can)
-
-  module _ (at end : Option ℕ) (rule : R) (now : MatchAt E) (w : IsWalk m r k step all start at end rule now) where
+  module _ {at end : Option ℕ} {rule : R} {now : MatchAt E} (w : IsWalk m r k step all start at end rule now) where
     pub walk-turn : (slot : ℕ) → at ≡ Some slot → IsTurn r k slot end rule now.book now.taker.order.leaves w.rest
     walk-turn slot is =
         let b = now.book in
@@ -102,7 +92,7 @@ module _ {E R : Type 0} (m : EmitMeanings E) (r : ShareMeanings R) (k : Level) (
         }
 
     -- the order whose turn it is has traded its share
-    pub walk-more : (slot : ℕ) (turn : IsTurn r k slot end rule now.book now.taker.order.leaves w.rest) (next : MatchAt E) → IsRight next.book
+    walk-more : (slot : ℕ) (turn : IsTurn r k slot end rule now.book now.taker.order.leaves w.rest) (next : MatchAt E) → IsRight next.book
         → Matches m (trade_share step slot (r.share rule turn.entry.order)) now next
         → IsWalk m r k step all start (slot_of turn.more) (end_after end slot (r.share rule turn.entry.order) turn.entry.order) (r.behind rule turn.entry.order) next
     walk-more slot turn next right traded =
@@ -136,18 +126,11 @@ module _ {E R : Type 0} (m : EmitMeanings E) (r : ShareMeanings R) (k : Level) (
           right = right;
         }
 
-    pub walk-more-rest : (slot : ℕ) (turn : IsTurn r k slot end rule now.book now.taker.order.leaves w.rest) (next : MatchAt E) (right : IsRight next.book)
+    walk-more-rest : (slot : ℕ) (turn : IsTurn r k slot end rule now.book now.taker.order.leaves w.rest) (next : MatchAt E) (right : IsRight next.book)
         (traded : Matches m (trade_share step slot (r.share rule turn.entry.order)) now next)
         → (walk-more slot turn next right traded).rest ≡ turn.more
     unfolding walk-more
     walk-more-rest slot turn next right traded = refl
-
-    -- all shares were traded
-    pub walk-end : at ≡ None → Matches m (trade_shares step all) start now
-    walk-end is =
-        let none : w.rest ≡ [] = no-slot w.rest (sym w.next ∙ is) in
-        let whole : w.done ≡ all = sym (append-nil w.done) ∙ ap (λ (q : List Entry). w.done ++ shares_by r rule q) (sym none) ∙ w.leads in
-        matches-as m (trade_shares step w.done) (trade_shares step all) start now (ap (λ (q : List Share). trade_shares step q (start_at start)) whole) w.matches
 
     -- nothing is left to do of the step
     pub walk-over : ((orders : List Entry) → (s : MatchState) → trade_shares step (shares_by r rule orders) s ≡ s) → Matches m (trade_shares step all) start now
@@ -158,10 +141,55 @@ module _ {E R : Type 0} (m : EmitMeanings E) (r : ShareMeanings R) (k : Level) (
         matches-as m f (trade_shares step all) start now whole w.matches
 
     -- how many orders are still to come
-    pub walk-length : length (still_to_come at end (orders_at k now.book.resting)) ≡ length w.rest
+    walk-length : length (still_to_come at end (orders_at k now.book.resting)) ≡ length w.rest
     walk-length =
         let b = now.book in
         let level = w.remains.before ++ (w.rest ++ w.remains.behind) in
         let differ : AllDiffer level = subst AllDiffer w.remains.is (AllDiffer-filter _ b.resting (AllDiffer-front b.resting b.waiting w.right.differ)) in
         ap length
         (ap (still_to_come at end) w.remains.is ∙ ap (λ (x : Option ℕ). still_to_come x end level) w.next ∙ ap (λ (x : Option ℕ). still_to_come (slot_of w.rest) x level) w.remains.ends ∙ comes-rest w.remains.before w.rest w.remains.behind differ)
+
+  -- what the calls of a turn gave: the order, its share, the rule behind it, the slot that comes next and where the walk ends
+  module _ {at end : Option ℕ} {rule : R} {now : MatchAt E} (w : IsWalk m r k step all start at end rule now) {slot : ℕ} (turn : IsTurn r k slot end rule now.book now.taker.order.leaves w.rest)
+      {o : Order} {lots : ℕ} {at' end' : Option ℕ} {rule' : R} {next : MatchAt E} (is : o ≡ turn.entry.order) (share : lots ≡ r.share rule o) (behind : rule' ≡ r.behind rule o)
+      (comes : at' ≡ before_end end (slot_after slot (orders_at (level_of (order_of slot now.book.resting)) now.book.resting))) (ends : end' ≡ end_after end slot lots o)
+      (right : IsRight next.book) (traded : Matches m (trade_share step slot lots) now next) where
+    abbrev given : ℕ
+    given = r.share rule turn.entry.order
+
+    abbrev end_given : Option ℕ
+    end_given = end_after end slot given turn.entry.order
+
+    lots-are : lots ≡ given
+    lots-are = share ∙ ap (r.share rule) is
+
+    gave : Matches m (trade_share step slot given) now next
+    gave = subst (λ (n : ℕ). Matches m (trade_share step slot n) now next) lots-are traded
+
+    came : IsWalk m r k step all start (slot_of turn.more) end_given (r.behind rule turn.entry.order) next
+    came = walk-more w slot turn next right gave
+
+    at-is : slot_of turn.more ≡ at'
+    at-is = sym turn.next ∙ sym comes
+
+    end-is : end_given ≡ end'
+    end-is = ap (λ (n : ℕ). end_after end slot n turn.entry.order) (sym lots-are) ∙ ap (end_after end slot lots) (sym is) ∙ sym ends
+
+    -- the walk goes on behind the order
+    pub walk-on : IsWalk m r k step all start at' end' rule' next
+    walk-on =
+        subst (λ (x : R). IsWalk m r k step all start at' end' x next) (ap (r.behind rule) (sym is) ∙ sym behind)
+        (subst (λ (x : Option ℕ). IsWalk m r k step all start at' x (r.behind rule turn.entry.order) next) end-is
+        (subst (λ (x : Option ℕ). IsWalk m r k step all start x end_given (r.behind rule turn.entry.order) next) at-is came))
+
+    -- one order fewer is still to come
+    pub walk-shorter : length (still_to_come at' end' (orders_at k next.book.resting)) < length (still_to_come at end (orders_at k now.book.resting))
+    unfolding came
+    walk-shorter =
+        let level = orders_at k next.book.resting in
+        let left : length (still_to_come at' end' level) ≡ length turn.more =
+        ap (λ (x : Option ℕ). length (still_to_come x end' level)) (sym at-is)
+        ∙ ap (λ (x : Option ℕ). length (still_to_come (slot_of turn.more) x level)) (sym end-is)
+        ∙ walk-length came
+        ∙ ap length (walk-more-rest w slot turn next right gave) in
+        omega (arith, left, walk-length w, ap length turn.is)

@@ -9,7 +9,7 @@ use Rattle.gx_base.specs.declared.event.StepName.{StepName}
 use Rattle.plain_book.specs.declared.entry.Entry.{Entry}
 use Rattle.plain_book.specs.Orders.{Level, level_of, order_of, slot_of, without, with_order, placed, settled, refreshed, filled_by}
 use Rattle.plain_book.specs.Book.{AllDiffer}
-use Rattle.plain_book.specs.Match.{MatchState, trade, trade_if_any, trade_share, is_prorata, book_marked}
+use Rattle.plain_book.specs.Match.{MatchState, trade, trade_if_any, trade_share, is_prorata, book_share_noted}
 use Rattle.plain_book.specs.Inner.Walk.{is_refreshed_by, end_after, before_end}
 use Rattle.plain_book.proofs.Levels.{renewed, same, other, AllDiffer-back}
 use Rattle.plain_book.proofs.Walks.{Stands, Remains, stands-order, stands-without, stands-last, stands-with_order, AllDiffer-with_order}
@@ -135,14 +135,14 @@ share-remains step k m xs e rest behind n s showing =
     let o : Order = record (order_of e.slot m.book.resting) { prorated = n } in
     let same_shown : o.shown ≡ e.order.shown = ap (λ (x : Order). x.shown) (stands-order s) in
     let same_leaves : o.leaves ≡ e.order.leaves = ap (λ (x : Order). x.leaves) (stands-order s) in
-    let stands : Stands k (book_marked e.slot n m.book).resting xs (renewed e o) (rest ++ behind) =
+    let stands : Stands k (book_share_noted e.slot n m.book).resting xs (renewed e o) (rest ++ behind) =
     record { differ = AllDiffer-with_order e.slot o m.book.resting s.differ; is = stands-with_order s o (ap level_of (stands-order s)) } in
     let shows : IsShowing n o = record { some = omega (arith, showing.some, same_shown); within = omega (arith, showing.within, same_shown, same_leaves); fits = omega (arith, showing.fits, same_shown) } in
     let same_end : end_after (slot_of behind) e.slot n o ≡ end = ap (λ (x : Order). end_after (slot_of behind) e.slot n (record x { prorated = n })) (stands-order s) in
-    let go : (c : Bool) → Remains k (trade_if_any step e.slot n (record m { book = cond c (book_marked e.slot n m.book) m.book })).book.resting rest end = elim [
+    let go : (c : Bool) → Remains k (trade_if_any step e.slot n (record m { book = cond c (book_share_noted e.slot n m.book) m.book })).book.resting rest end = elim [
       | true ↦
-          subst (λ (x : Option ℕ). Remains k (trade_if_any step e.slot n (record m { book = book_marked e.slot n m.book })).book.resting rest x) same_end
-          (any-remains step k (record m { book = book_marked e.slot n m.book }) xs (renewed e o) rest behind n stands shows)
+          subst (λ (x : Option ℕ). Remains k (trade_if_any step e.slot n (record m { book = book_share_noted e.slot n m.book })).book.resting rest x) same_end
+          (any-remains step k (record m { book = book_share_noted e.slot n m.book }) xs (renewed e o) rest behind n stands shows)
       | false ↦ any-remains step k m xs e rest behind n s showing
     ] in go (is_prorata step)
 

@@ -37,16 +37,16 @@ abbrev pub first_shown : Order → ℕ
 first_shown o = if o.show == 0 then o.leaves else min o.show o.leaves
 
 -- TOP takes so many open lots; where none is named, no order becomes TOP
-abbrev pub is_enough : Option ℕ → ℕ → Bool
-is_enough None leaves = false
-is_enough (Some least) leaves = nat_le least leaves
+abbrev pub makes_top : Option ℕ → ℕ → Bool
+makes_top None leaves = false
+makes_top (Some least) leaves = nat_le least leaves
 
 -- The order comes to rest. Where it is better than every order of its side, it ends the old TOP, and is TOP itself if
 -- enough of it is open.
 abbrev pub resting_placed : ℕ → Order → Option ℕ → List Entry → List Entry
 resting_placed slot o top_min es =
     let best = is_new_best o es in
-    placed (record { slot = slot; order = record o { shown = first_shown o }; is_top = best && is_enough top_min o.leaves })
+    placed (record { slot = slot; order = record o { shown = first_shown o }; is_top = best && makes_top top_min o.leaves })
     (if best then with_top o.instrument o.side None es else es)
 
 abbrev pub book_placed : ℕ → Order → Option ℕ → Book → Book
@@ -163,8 +163,8 @@ AreInLine a b = is_of_earlier_instrument b a ≡ false
 
 -- b, which stands behind a on the same side, is TOP only where a has the same price and is not TOP. So TOP is at the best
 -- price of its side, and the only one there.
-abbrev pub AllowsTop : Entry → Entry → Type 0
-AllowsTop a b = b.is_top ≡ true → is_on b.order.instrument b.order.side a ≡ true → (a.is_top ≡ false) × (a.order.price ≡ b.order.price)
+abbrev pub MayPrecedeTop : Entry → Entry → Type 0
+MayPrecedeTop a b = b.is_top ≡ true → is_on b.order.instrument b.order.side a ≡ true → (a.is_top ≡ false) × (a.order.price ≡ b.order.price)
 
 pub record IsRight (b : Book) : Type 0 where
   pub rest : AllRest b.instruments b.resting
@@ -173,6 +173,6 @@ pub record IsRight (b : Book) : Type 0 where
   pub named : EachPair AreNamedApart (live_orders b)
   pub ordered : EachPair AreInBookOrder b.resting
   pub lined : EachPair AreInLine b.waiting
-  pub tops : EachPair AllowsTop b.resting
+  pub tops : EachPair MayPrecedeTop b.resting
   pub few : length (live_orders b) ≤ b.capacity
   pub small : b.capacity < 2 ^ 32

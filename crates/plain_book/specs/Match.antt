@@ -89,17 +89,17 @@ is_prorata Split = false
 is_prorata Leveling = false
 is_prorata Fifo = false
 
--- the order of a slot is marked with a share
-abbrev pub book_marked : ℕ → ℕ → Book → Book
-book_marked slot lots b = book_with_order slot (record (order_of slot b.resting) { prorated = lots }) b
+-- the order of a slot is share_noted with a share
+abbrev pub book_share_noted : ℕ → ℕ → Book → Book
+book_share_noted slot lots b = book_with_order slot (record (order_of slot b.resting) { prorated = lots }) b
 
--- the pro rata step marks an order with its share
-abbrev pub marked : StepName → ℕ → ℕ → MatchState → MatchState
-marked step slot lots m = record m { book = if is_prorata step then book_marked slot lots m.book else m.book }
+-- the pro rata step notes its share on an order
+abbrev pub share_noted : StepName → ℕ → ℕ → MatchState → MatchState
+share_noted step slot lots m = record m { book = if is_prorata step then book_share_noted slot lots m.book else m.book }
 
 -- the order of a slot trades its share in a step
 abbrev pub trade_share : StepName → ℕ → ℕ → MatchState → MatchState
-trade_share step slot lots m = trade_if_any step slot lots (marked step slot lots m)
+trade_share step slot lots m = trade_if_any step slot lots (share_noted step slot lots m)
 
 -- a slot, and the lots that its order trades
 abbrev pub Share : Type 0

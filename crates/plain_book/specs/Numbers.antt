@@ -4,11 +4,11 @@ use Rattle.plain_book.specs.declared.entry.Entry.{Entry}
 use Rattle.plain_book.specs.Book.{Book}
 use Rattle.plain_book.specs.Match.{MatchState}
 
-abbrev pub by_number : Entry → Entry
-by_number e = record e { slot = e.order.number }
+abbrev pub entry_numbered : Entry → Entry
+entry_numbered e = record e { slot = e.order.number }
 
 abbrev pub numbered : List Entry → List Entry
-numbered es = map by_number es
+numbered es = map entry_numbered es
 
 abbrev pub book_numbered : Book → Book
 book_numbered b = record b { resting = numbered b.resting; waiting = numbered b.waiting }

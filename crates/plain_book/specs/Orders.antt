@@ -2,14 +2,12 @@
 --
 -- A definition names an order by a number, its slot. In the contract of a call that is the order's slot in its
 -- container. Where a state has no slots, it is the order's own number: the definitions are the same.
-use Rattle.std.specs.Prelude.{◌≡◌, ℕ, ◌+◌, ◌-◌, min, Bool, true, false, not, ◌&&◌, ℤ, pos, nat_lt, ◌==◌, if◌then◌else◌, List, [], ◌∷◌, ◌++◌, filter, map, sum_by, bytes_eq, Option, Some, None, ◌⊎◌, slice_index_or}
+use Rattle.std.specs.Prelude.{◌≡◌, ℕ, ◌+◌, ◌-◌, min, Bool, true, false, not, ◌&&◌, ℤ, nat_lt, ◌==◌, if◌then◌else◌, List, [], ◌∷◌, ◌++◌, filter, map, sum_by, bytes_eq, Option, Some, None, ◌⊎◌, slice_index_or}
 use Rattle.std.specs.List.{list_any}
 use Rattle.gx_base.specs.declared.price.Price.{Price}
 use Rattle.gx_base.specs.declared.order.Side.{Side}
-use Rattle.gx_base.specs.declared.order.Side.TheVariants.{Buy}
-use Rattle.gx_base.specs.declared.order.Kind.TheVariants.{Limit}
-use Rattle.gx_base.specs.declared.order.Life.TheVariants.{Day}
 use Rattle.gx_base.specs.declared.order.Order.{Order}
+use Rattle.gx_base.specs.Orders.{blank_order}
 pub use Rattle.book_order.specs.Levels.{is_side, side_before, opposite, is_better, is_within, Level, level, is_level, is_before}
 use Rattle.plain_book.specs.declared.entry.Entry.{Entry}
 
@@ -66,24 +64,7 @@ HasSlot slot [] = ⊥
 HasSlot slot (e ∷ es) = (e.slot ≡ slot) ⊎ HasSlot slot es
 
 abbrev pub no_order : Order
-no_order = record {
-  number = 0;
-  firm = 0;
-  instrument = 0;
-  side = Buy;
-  id = [];
-  kind = Limit;
-  price = record { 0 = pos 0 };
-  trigger = record { 0 = pos 0 };
-  quantity = 0;
-  filled = 0;
-  leaves = 0;
-  show = 0;
-  shown = 0;
-  min = 0;
-  life = Day;
-  prorated = 0;
-}
+no_order = blank_order []
 
 -- the order of a slot, or `no_order` where there is none
 abbrev pub order_of : ℕ → List Entry → Order

@@ -76,7 +76,7 @@ lmm shares price m = trade_shares Lmm (lmm_shares shares m.taker.order.leaves (l
 abbrev pub leveling : Price → MatchState → MatchState
 leveling price m = trade_shares Leveling (leveling_shares m.taker.order.leaves (level_now price m)) m
 
--- where nothing is wanted, no order is marked
+-- if nothing is wanted, no share is noted
 abbrev pub prorata : ℕ → Price → MatchState → MatchState
 prorata least price m =
     if m.taker.order.leaves == 0 then m

@@ -1,7 +1,7 @@
 //! What lists of live orders become.
 ghost use Rattle.std.specs.Prelude.{◌≡◌, ◌<◌, ◌≤◌, vec_len, vec_capacity, None, option_map};
 ghost use Rattle.plain_book.specs.Orders.{without, with_order, reordered, placed, lined_up, with_top, topped, is_slot_in, is_new_best};
-ghost use Rattle.plain_book.specs.Book.{EachPair, AreInBookOrder, AreInLine, slot_number, first_shown, is_enough, changed_to};
+ghost use Rattle.plain_book.specs.Book.{EachPair, AreInBookOrder, AreInLine, slot_number, first_shown, makes_top, changed_to};
 
 use crate::entry::Entry;
 use crate::scan::{best_price, is_on_side, place_of, stop_place_of};
@@ -103,8 +103,8 @@ pub(crate) fn is_new_best(entries: &[Entry], order: &Order) -> bool
 
 /// Whether an order of which so many lots are open may be TOP, where TOP takes at least `top_min` lots. With no `top_min`
 /// no order may.
-pub fn is_enough(top_min: Option<u32>, leaves: u32) -> bool
-    ensures { result ≡ is_enough top_min leaves }
+pub fn makes_top(top_min: Option<u32>, leaves: u32) -> bool
+    ensures { result ≡ makes_top top_min leaves }
 {
     match top_min {
         None => false,

@@ -12,9 +12,9 @@ mod trade;
 mod walk;
 
 pub use book::Book;
-pub use edits::{changed, first_shown, is_enough};
+pub use edits::{changed, first_shown, makes_top};
 pub use entry::Entry;
 pub use percent::percent_of;
 pub use plain::PlainBook;
-pub use trade::{count_report, opposite_side, trade_lots, trade_share};
-pub use walk::{ShareRule, trade_level};
+pub use trade::{OrderShare, count_report, opposite_side, trade_lots, trade_share};
+pub use walk::{ShareRule, StepLevel, trade_level};

@@ -6,7 +6,7 @@ ghost use Rattle.plain_book.specs.Inner.FreeSlots.{freed, IsFreeList};
 
 use crate::book::Book;
 use crate::edits::{
-    changed, first_shown, is_enough, is_new_best, line_up, mark_top, put_back, put_in, take_out,
+    changed, first_shown, is_new_best, line_up, makes_top, mark_top, put_back, put_in, take_out,
 };
 use crate::entry::Entry;
 use crate::scan::{
@@ -37,7 +37,8 @@ impl Model for PlainBook {
 
     ghost view = { λ p. book_of p.capacity p.instruments p.resting.items p.waiting.items };
 
-    ghost invariant = { λ p. IsKept (book_of p.capacity p.instruments p.resting.items p.waiting.items) (vec_capacity p.resting) (vec_capacity p.waiting) p.free.items (vec_capacity p.free) };
+    ghost invariant = { λ p. IsKept (book_of p.capacity p.instruments p.resting.items p.waiting.items) (vec_capacity p.resting) (vec_capacity p.waiting)
+        p.free.items (vec_capacity p.free) };
 }
 
 impl PlainBook {
@@ -238,7 +239,7 @@ fn place_order(entries: &mut Vec<Entry>, slot: u32, order: Order, top_min: Optio
     if best {
         mark_top(entries, order.instrument, order.side, None);
     }
-    let is_top = best && is_enough(top_min, order.leaves);
+    let is_top = best && makes_top(top_min, order.leaves);
     let mut order = order;
     order.shown = first_shown(&order);
     put_in(

@@ -2,7 +2,7 @@
 ghost use Rattle.std.specs.Prelude.{◌≡◌, ◌≤◌, ◌<◌, ◌+◌, ◌^◌, [], ◌∷◌, slice_index, if◌then◌else◌};
 ghost use Rattle.gx_base.specs.Emits.{Emits};
 ghost use Rattle.plain_book.specs.Orders.{HasSlot, order_of, opposite};
-ghost use Rattle.plain_book.specs.Match.{trade, trade_if_any, trade_share, lower, higher, lengthened, next_head, report_counted, is_prorata, book_marked};
+ghost use Rattle.plain_book.specs.Match.{trade, trade_if_any, trade_share, lower, higher, lengthened, next_head, report_counted, is_prorata, book_share_noted};
 ghost use Rattle.plain_book.specs.Matches.{match_at, Matches, CanTrade};
 
 use crate::book::Book;
@@ -84,36 +84,42 @@ fn put_both<E: Emit>(out: &mut E, first: &Event, second: &Event)
     out.put(second);
 }
 
+/// How many lots the order of a slot trades in a step.
+#[derive(Clone, Copy, Debug, PartialEq, Eq)]
+pub struct OrderShare {
+    pub slot: Slot,
+    pub lots: u32,
+}
+
 /// A resting order trades lots with the incoming one, at its own price. Its report comes first.
 pub fn trade_lots<B: Book, E: Emit>(
     book: &mut B,
     desk: &mut Desk,
     taker: &mut Taker,
-    slot: Slot,
-    lots: u32,
+    share: OrderShare,
     step: StepName,
     out: &mut E,
 )
-    requires rests { HasSlot slot.0 (B.book book.old).resting }
-    requires some { 1 ≤ lots }
-    requires shown { lots ≤ (order_of slot.0 (B.book book.old).resting).shown }
-    requires wanted { lots ≤ taker.old.order.leaves }
+    requires rests { HasSlot share.slot.0 (B.book book.old).resting }
+    requires some { 1 ≤ share.lots }
+    requires shown { share.lots ≤ (order_of share.slot.0 (B.book book.old).resting).shown }
+    requires wanted { share.lots ≤ taker.old.order.leaves }
     requires can { CanTrade (B.book book.old) desk.old taker.old }
     ensures { let before = match_at (B.book book.old) desk.old taker.old out.old in
         let after = match_at (B.book book.new) desk.new taker.new out.new in
-        Matches E.meanings (trade step slot.0 lots) before after }
+        Matches E.meanings (trade step share.slot.0 share.lots) before after }
 {
     book.rules();
-    let given = book.trade(slot, lots);
+    let given = book.trade(share.slot, share.lots);
     let price = given.price;
-    taker.order.filled += lots;
-    taker.order.leaves -= lots;
+    taker.order.filled += share.lots;
+    taker.order.leaves -= share.lots;
     taker.range = lengthen(price, taker.range);
     desk.trades += 1;
     let head = count_report(desk, given.firm, taker.time);
-    let first = fill(head, &given, lots, price, step, desk.trades);
+    let first = fill(head, &given, share.lots, price, step, desk.trades);
     let head = count_report(desk, taker.order.firm, taker.time);
-    let second = fill(head, &taker.order, lots, price, step, desk.trades);
+    let second = fill(head, &taker.order, share.lots, price, step, desk.trades);
     put_both(out, &first, &second);
 }
 
@@ -121,59 +127,57 @@ fn trade_if_any<B: Book, E: Emit>(
     book: &mut B,
     desk: &mut Desk,
     taker: &mut Taker,
-    slot: Slot,
-    lots: u32,
+    share: OrderShare,
     step: StepName,
     out: &mut E,
 )
-    requires rests { HasSlot slot.0 (B.book book.old).resting }
-    requires shown { lots ≤ (order_of slot.0 (B.book book.old).resting).shown }
-    requires wanted { lots ≤ taker.old.order.leaves }
+    requires rests { HasSlot share.slot.0 (B.book book.old).resting }
+    requires shown { share.lots ≤ (order_of share.slot.0 (B.book book.old).resting).shown }
+    requires wanted { share.lots ≤ taker.old.order.leaves }
     requires can { CanTrade (B.book book.old) desk.old taker.old }
     ensures { let before = match_at (B.book book.old) desk.old taker.old out.old in
         let after = match_at (B.book book.new) desk.new taker.new out.new in
-        Matches E.meanings (trade_if_any step slot.0 lots) before after }
+        Matches E.meanings (trade_if_any step share.slot.0 share.lots) before after }
 {
-    if lots > 0 {
-        trade_lots(book, desk, taker, slot, lots, step, out);
+    if share.lots > 0 {
+        trade_lots(book, desk, taker, share, step, out);
     }
 }
 
-/// Whether a step marks each order with its share.
+/// Whether a step notes its share on each order.
 pub(crate) fn is_prorata(step: StepName) -> bool
     ensures { result ≡ is_prorata step }
 {
     matches!(step, StepName::ProRata)
 }
 
-/// The pro rata step marks an order with its share.
-fn mark<B: Book>(book: &mut B, slot: Slot, lots: u32, step: StepName)
-    requires { HasSlot slot.0 (B.book book.old).resting }
-    ensures { B.book book.new ≡ (if is_prorata step then book_marked slot.0 lots (B.book book.old) else B.book book.old) }
+/// The pro rata step notes its share on an order.
+fn mark<B: Book>(book: &mut B, share: OrderShare, step: StepName)
+    requires { HasSlot share.slot.0 (B.book book.old).resting }
+    ensures { B.book book.new ≡ (if is_prorata step then book_share_noted share.slot.0 share.lots (B.book book.old) else B.book book.old) }
 {
     if is_prorata(step) {
-        book.set_prorated(slot, lots);
+        book.set_prorated(share.slot, share.lots);
     }
 }
 
-/// A resting order trades its share in a step, which may be none. The pro rata step marks it with the share first.
+/// A resting order trades its share in a step, which may be none. The pro rata step notes the share on it first.
 pub fn trade_share<B: Book, E: Emit>(
     book: &mut B,
     desk: &mut Desk,
     taker: &mut Taker,
-    slot: Slot,
-    lots: u32,
+    share: OrderShare,
     step: StepName,
     out: &mut E,
 )
-    requires rests { HasSlot slot.0 (B.book book.old).resting }
-    requires shown { lots ≤ (order_of slot.0 (B.book book.old).resting).shown }
-    requires wanted { lots ≤ taker.old.order.leaves }
+    requires rests { HasSlot share.slot.0 (B.book book.old).resting }
+    requires shown { share.lots ≤ (order_of share.slot.0 (B.book book.old).resting).shown }
+    requires wanted { share.lots ≤ taker.old.order.leaves }
     requires can { CanTrade (B.book book.old) desk.old taker.old }
     ensures { let before = match_at (B.book book.old) desk.old taker.old out.old in
         let after = match_at (B.book book.new) desk.new taker.new out.new in
-        Matches E.meanings (trade_share step slot.0 lots) before after }
+        Matches E.meanings (trade_share step share.slot.0 share.lots) before after }
 {
-    mark(book, slot, lots, step);
-    trade_if_any(book, desk, taker, slot, lots, step, out);
+    mark(book, share, step);
+    trade_if_any(book, desk, taker, share, step, out);
 }

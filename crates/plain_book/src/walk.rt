@@ -10,7 +10,7 @@ ghost use Rattle.plain_book.specs.Steps.{facing};
 ghost use Rattle.plain_book.specs.Inner.Walk.{is_refreshed_by, end_after, before_end};
 
 use crate::book::Book;
-use crate::trade::{is_prorata, opposite_side, trade_share};
+use crate::trade::{OrderShare, is_prorata, opposite_side, trade_share};
 use gx_base::{Desk, Emit, Order, Price, Slot, StepName, Taker};
 
 /// How many lots each order of a level trades in a step, by priority.
@@ -31,7 +31,7 @@ pub trait ShareRule {
         ensures { IsTrue result → (orders : List Entry) → AreNone (shares_by meanings self.now orders) };
 }
 
-/// Whether nothing of a step is left to do: no order has a share any more, nor is any to be marked with one.
+/// Whether nothing of a step is left to do: no order has a share any more, nor is any to be noted.
 fn is_over<R: ShareRule>(step: StepName, rule: &R) -> bool
     ensures { IsTrue result → (orders : List Entry) → (m : MatchState) → trade_shares step (shares_by R.meanings rule.now orders) m ≡ m }
 {
@@ -62,7 +62,8 @@ fn is_slot_in(end: Option<Slot>, slot: Slot) -> bool
 /// The order behind that of a slot, unless the walk ends there.
 fn next_before<B: Book>(book: &B, slot: Slot, end: Option<Slot>) -> Option<Slot>
     requires { HasSlot slot.0 (B.book book.now).resting }
-    ensures { let es = (B.book book.now).resting in option_map slot_number result ≡ before_end (option_map slot_number end) (slot_after slot.0 (orders_at (level_of (order_of slot.0 es)) es)) }
+    ensures { let es = (B.book book.now).resting in option_map slot_number result ≡ before_end (option_map slot_number end)
+        (slot_after slot.0 (orders_at (level_of (order_of slot.0 es)) es)) }
 {
     let next = book.next(slot)?;
     if is_slot_in(end, next) {
@@ -88,38 +89,51 @@ fn end_after(end: Option<Slot>, slot: Slot, order: &Order, lots: u32) -> Option<
     end
 }
 
+/// A step, and the price at which it trades.
+#[derive(Clone, Copy, Debug, PartialEq, Eq)]
+pub struct StepLevel {
+    pub step: StepName,
+    pub price: Price,
+}
+
 /// Each order that stands at a price as the call begins trades its share, by priority: one that is refreshed trades once. The
 /// walk ends as soon as nothing of the step is left to do.
 pub fn trade_level<B: Book, E: Emit, R: ShareRule>(
     book: &mut B,
     desk: &mut Desk,
     taker: &mut Taker,
-    price: Price,
-    step: StepName,
+    level: StepLevel,
     rule: &mut R,
     out: &mut E,
 )
-    requires within { AreWithin R.meanings taker.old.order.leaves rule.old (orders_at (facing price taker.old) (B.book book.old).resting) }
+    requires within { AreWithin R.meanings taker.old.order.leaves rule.old (orders_at (facing level.price taker.old) (B.book book.old).resting) }
     requires can { CanTrade (B.book book.old) desk.old taker.old }
     ensures { let before = match_at (B.book book.old) desk.old taker.old out.old in
         let after = match_at (B.book book.new) desk.new taker.new out.new in
-        let level = orders_at (facing price taker.old) (B.book book.old).resting in
-        Matches E.meanings (trade_shares step (shares_by R.meanings rule.old level)) before after }
+        let orders = orders_at (facing level.price taker.old) (B.book book.old).resting in
+        Matches E.meanings (trade_shares level.step (shares_by R.meanings rule.old orders)) before after }
 {
     book.rules();
-    if is_over(step, rule) {
+    if is_over(level.step, rule) {
         return;
     }
-    let mut at = first_facing(book, taker, price);
+    let mut at = first_facing(book, taker, level.price);
     let mut end = None;
     while let Some(slot) = at {
         at = next_before(book, slot, end);
         let order = book.order(slot);
         let lots = rule.share(order);
         end = end_after(end, slot, order, lots);
-        trade_share(book, desk, taker, slot, lots, step, out);
+        trade_share(
+            book,
+            desk,
+            taker,
+            OrderShare { slot, lots },
+            level.step,
+            out,
+        );
         book.rules();
-        if is_over(step, rule) {
+        if is_over(level.step, rule) {
             return;
         }
     }

@@ -13,10 +13,8 @@ lacks q (r ∷ rs) h = ((λ e. h (inl e)), lacks q rs (λ k. h (inr k)))
 
 pub queue-filter : (p : LevelRow → Bool) (q : ℕ) (rs : List LevelRow) → HasQueue q (filter p rs) → HasQueue q rs
 queue-filter p q [] h = h
-queue-filter p q (r ∷ rs) h = let go : (b : Bool) → HasQueue q (cond b (r ∷ filter p rs) (filter p rs)) → HasQueue q (r ∷ rs) = elim [
-  | true ↦ λ k. elim k [ inl a ↦ inl a | inr a ↦ inr (queue-filter p q rs a) ]
-  | false ↦ λ k. inr (queue-filter p q rs k)
-] in go (p r) h
+queue-filter p q (r ∷ rs) h =
+    elim (p r) as (λ b. HasQueue q (cond b (r ∷ filter p rs) (filter p rs)) → HasQueue q (r ∷ rs)) [ true ↦ λ k. elim k [ inl a ↦ inl a | inr a ↦ inr (queue-filter p q rs a) ] | false ↦ λ k. inr (queue-filter p q rs k) ] h
 
 pub queue-middle : (xs ys : List LevelRow) (n : LevelRow) → HasQueue n.queue (xs ++ n ∷ ys)
 queue-middle [] ys n = inl refl

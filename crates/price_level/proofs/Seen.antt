@@ -1,5 +1,6 @@
 -- What calls that only read are answered from the fields.
-use Rattle.std.proofs.Common.{◌≡◌, ℕ, ◌*◌, ◌<◌, ◌^◌, List, length, filter, sym, ap, subst, ◌∙◌, arith}
+use Rattle.std.proofs.Common.{◌≡◌, ℕ, ◌*◌, ◌<◌, ◌^◌, List, get_or, length, filter, Vec, Global, sym, ap, subst, ◌∙◌, arith}
+use Rattle.std.proofs.lemmas.List.{get_or_read}
 use Rattle.std.specs.List.{sum_by}
 use Rattle.gx_base.specs.declared.price.Price.{Price}
 use Rattle.gx_base.specs.declared.order.Side.{Side}
@@ -7,14 +8,18 @@ use Rattle.gx_base.specs.declared.order.Side.TheVariants.{Buy, Sell}
 use Rattle.book_order.specs.Levels.{level}
 use Rattle.price_level.specs.declared.row.LevelRow.{LevelRow}
 use Rattle.price_level.specs.declared.side.Step.{Step}
-use Rattle.price_level.specs.Rows.{Rows, best_row, worse_row, queue_at, open_rows, HasQueue, row_of}
+use Rattle.price_level.specs.Rows.{Rows, no_row, best_row, worse_row, queue_at, open_rows, HasQueue, row_of}
 use Rattle.price_level.specs.Inner.Steps.{row_in, leaves_of_step, is_worse_step, is_step_at, is_open_step, price_of_last, queue_of_last, AreIn, AreWorstFirst}
-use Rattle.price_level.specs.Inner.Sides.{side_number, rows_of, list_at, IsStep}
+use Rattle.price_level.specs.Inner.Sides.{side_number, rows_of, lists, list_at, IsStep}
 use Rattle.price_level.specs.Inner.Kept.{rows_seen, IsKept}
 use Rattle.price_level.proofs.Lists.{all-both, all-with}
 use Rattle.price_level.proofs.RowLists.{each-row}
 use Rattle.price_level.proofs.Tables.{named}
 use Rattle.price_level.proofs.Asked.{best_is, worse_is, queue_is, open_is, side-ordered, side-few, side-sum, side-all, side-steps}
+
+-- the steps of a side, once the lists are those of the sides
+pub steps_read : {steps : List Step} {v w : List (Vec Step Global)} (n : ℕ) → steps ≡ list_at (lists v) n → v ≡ w → steps ≡ list_at (lists w) n
+steps_read n is same = is ∙ ap (λ (v : List (Vec Step Global)). list_at (lists v) n) same
 
 number-below : (i n : ℕ) (side : Side) → i < n → side_number i side < 2 * n
 number-below i n Buy lt = omega arith
@@ -36,6 +41,10 @@ module _ {capacity instruments : ℕ} {table : List LevelRow} {all : List (List 
         let e : (row_of q (rows_of table all)).queue ≡ q = r.1 in
         let lt : (row_of q (rows_of table all)).queue < capacity = r.0.0 in
         omega (arith, kept.long)
+
+    -- the row of a queue, once it is read
+    pub row_read : (q : ℕ) → HasQueue q t.rows → (r : LevelRow) → r ≡ get_or table q r → r ≡ row_in table q
+    row_read q h r is = get_or_read table q r (queue_in q h) is no_row
 
     pub row_is : (q : ℕ) → HasQueue q t.rows → row_in table q ≡ row_of q t.rows
     row_is q h =

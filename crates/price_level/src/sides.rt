@@ -47,7 +47,8 @@ pub(crate) fn add_step(sides: &mut [Vec<Step>], instrument: u8, side: Side, step
     requires listed { side_number instrument side < length sides.old }
     requires ordered { AreWorstFirst side (list_at (lists sides.old) (side_number instrument side)) }
     requires room { length (list_at (lists sides.old) (side_number instrument side)) < slice_index (rooms sides.old) (side_number instrument side) }
-    ensures lists { lists sides.new ≡ set (lists sides.old) (side_number instrument side) (with_step side step (list_at (lists sides.old) (side_number instrument side))) }
+    ensures lists { lists sides.new ≡ set (lists sides.old) (side_number instrument side)
+        (with_step side step (list_at (lists sides.old) (side_number instrument side))) }
     ensures rooms { rooms sides.new ≡ rooms sides.old }
 {
     put_in(&mut sides[side_number(instrument, side)], side, step);
@@ -57,7 +58,8 @@ pub(crate) fn add_step(sides: &mut [Vec<Step>], instrument: u8, side: Side, step
 pub(crate) fn remove_step(sides: &mut [Vec<Step>], instrument: u8, side: Side, price: Price)
     requires listed { side_number instrument side < length sides.old }
     requires ordered { AreWorstFirst side (list_at (lists sides.old) (side_number instrument side)) }
-    ensures lists { lists sides.new ≡ set (lists sides.old) (side_number instrument side) (without_step price (list_at (lists sides.old) (side_number instrument side))) }
+    ensures lists { lists sides.new ≡ set (lists sides.old) (side_number instrument side)
+        (without_step price (list_at (lists sides.old) (side_number instrument side))) }
     ensures rooms { rooms sides.new ≡ rooms sides.old }
 {
     take_out(&mut sides[side_number(instrument, side)], side, price);

@@ -1,7 +1,7 @@
 -- One element further in a list that is made from another one.
-use Rattle.std.proofs.Common.{◌≡◌, ℕ, zero, suc, ◌+◌, ◌<◌, Bool, ◌||◌, List, [], ◌∷◌, ◌++◌, length, map, get_or, take, drop, sym, ap, ◌∙◌, refl}
+use Rattle.std.proofs.Common.{◌≡◌, ℕ, zero, suc, ◌+◌, ◌<◌, Bool, ◌&&◌, ◌||◌, List, [], ◌∷◌, ◌++◌, length, map, get_or, take, drop, sym, ap, ◌∙◌, refl}
 use Rattle.std.proofs.lemmas.List.{length-map, get_or-map, take_more, drop_more}
-use Rattle.std.specs.List.{list_any}
+use Rattle.std.specs.List.{list_all, list_any}
 use Rattle.toml.specs.View.{items_of}
 use Rattle.toml.specs.Data.{Data}
 use Rattle.product_file.specs.Values.{entries_of}
@@ -39,6 +39,10 @@ module _ {A B C : Type 0} (g : B → C) (f : A → B) (xs : List A) (i : ℕ) (x
 
   pub take-mapped_twice : take (i + 1) (map g (map f xs)) ≡ take i (map g (map f xs)) ++ g (f x) ∷ []
   take-mapped_twice = take-mapped g (map f xs) i (f x) (within f xs i x h is) (sym (same f xs i x h is))
+
+  -- a test of all from an element on is that of the element and of all behind it
+  pub all-mapped_twice : (p : C → Bool) → list_all p (drop i (map g (map f xs))) ≡ (p (g (f x)) && list_all p (drop (i + 1) (map g (map f xs))))
+  all-mapped_twice p = ap (list_all p) drop-mapped_twice
 
 pub map-take : {A B : Type 0} (f : A → B) (n : ℕ) (xs : List A) → map f (take n xs) ≡ take n (map f xs)
 map-take f zero xs = refl

@@ -14,7 +14,7 @@ use Rattle.product_file.specs.declared.faults.Key.{Key}
 use Rattle.product_file.specs.declared.faults.Key.TheVariants.{Lmm, LmmFirm, LmmPercent}
 use Rattle.product_file.specs.Keys.{word_of}
 use Rattle.product_file.specs.Rows.{is_table}
-use Rattle.product_file.specs.Ranges.{is_within}
+use Rattle.product_file.specs.Ranges.{is_in_range}
 use Rattle.product_file.specs.Inner.Keys.{◌>>=◌, where_passes, number_of, needed, needed_number, text_of, array_if}
 use Rattle.product_file.specs.Inner.Shares.{share_firm, share_of, shares_after, shares_of}
 use Rattle.product_file.proofs.Given.{both_gave, test_passed, was_there}
@@ -22,7 +22,7 @@ use Rattle.product_file.proofs.Lists.{all_push, place_within}
 
 -- ---- numbers
 
-pub bounds : (low high : ℕ) (z : ℤ) → is_within low high z ≡ true → (low ≤ unsigned_abs z) × (unsigned_abs z ≤ high)
+pub bounds : (low high : ℕ) (z : ℤ) → is_in_range low high z ≡ true → (low ≤ unsigned_abs z) × (unsigned_abs z ≤ high)
 bounds low high (pos n) e =
     let (above, below) = and_parts (int_le (pos low) (pos n)) (int_le (pos n) (pos high)) e in
     (grind (arith, nat_tests), grind (arith, nat_tests))
@@ -31,9 +31,9 @@ bounds low high (negsuc n) e = cc
 pub number_within : (key : Key) (low high : ℕ) (value : Data) (n : ℕ) → number_of key low high value ≡ Ok n → (low ≤ n) × (n ≤ high)
 unfolding number_of
 number_within key low high value n e =
-    let (z, _, rest) = both_gave (ok_or (as_integer value) (Kind key)) (λ z. where_passes (is_within low high) (Range key) z >>= λ within. Ok (unsigned_abs within)) n e in
-    let (within, tested, made) = both_gave (where_passes (is_within low high) (Range key) z) (λ within. Ok (unsigned_abs within)) n rest in
-    let (test, same) = test_passed (is_within low high z) z (Range key) within tested in
+    let (z, _, rest) = both_gave (ok_or (as_integer value) (Kind key)) (λ z. where_passes (is_in_range low high) (Range key) z >>= λ within. Ok (unsigned_abs within)) n e in
+    let (within, tested, made) = both_gave (where_passes (is_in_range low high) (Range key) z) (λ within. Ok (unsigned_abs within)) n rest in
+    let (test, same) = test_passed (is_in_range low high z) z (Range key) within tested in
     let is : unsigned_abs z ≡ n = cc in
     subst (λ (m : ℕ). (low ≤ m) × (m ≤ high)) is (bounds low high z test)
 

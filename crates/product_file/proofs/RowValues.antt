@@ -10,7 +10,7 @@ use Rattle.product_file.specs.Keys.{word_of}
 use Rattle.product_file.specs.Values.{text_in, number_in, entries_of, entries_in, text_at, number_at}
 use Rattle.gx_base.specs.FirstFault.{fault_if, first_fault, unless_fault}
 use Rattle.product_file.specs.Rows.{Need, always, optional, only_where, a_text, an_integer, texts, tables, row, is_text, is_table, is_array_of, is_of, value_fault, row_fault}
-use Rattle.product_file.specs.Ranges.{is_within, from, a_name}
+use Rattle.product_file.specs.Ranges.{is_in_range, from, a_name}
 use Rattle.product_file.specs.ProductRows.{nothing}
 use Rattle.product_file.specs.Inner.Keys.{◌>>=◌, where_passes, text_of, number_of, array_of, needed_name, needed_number, number_if}
 use Rattle.product_file.proofs.Judged.{passes, at_needed, at_optional, at_needed_checked}
@@ -50,7 +50,7 @@ within key z false = refl
 
 number_of_row : (need : Need) (key : Key) (low high : ℕ) (v : Data) → number_of key low high v ≡ unless_fault (value_fault (row key need an_integer (from low high) nothing) v) (number_in v)
 unfolding number_of
-number_of_row need key low high (integer z) = within key z (is_within low high z)
+number_of_row need key low high (integer z) = within key z (is_in_range low high z)
 number_of_row need key low high (string s) = refl
 number_of_row need key low high (float x) = refl
 number_of_row need key low high (boolean b) = refl

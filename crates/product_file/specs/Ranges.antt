@@ -11,12 +11,12 @@ abbrev pub any : Data → Bool
 any value = true
 
 -- from the one number to the other, both included
-abbrev pub is_within : ℕ → ℕ → ℤ → Bool
-is_within low high z = int_le (pos low) z && int_le z (pos high)
+abbrev pub is_in_range : ℕ → ℕ → ℤ → Bool
+is_in_range low high z = int_le (pos low) z && int_le z (pos high)
 
 -- an integer from the one number to the other
 abbrev pub from : ℕ → ℕ → Data → Bool
-from low high value = is_within low high (integer_in value)
+from low high value = is_in_range low high (integer_in value)
 
 -- a text that is a name: 1 to 24 bytes, each from 32 to 126
 abbrev pub a_name : Data → Bool

@@ -7,7 +7,7 @@ ghost use Rattle.product_file.specs.declared.faults.ProductFault.TheVariants.{Mi
 ghost use Rattle.product_file.specs.Keys.{word_of};
 ghost use Rattle.product_file.specs.Values.{text_in, entries_of};
 ghost use Rattle.product_file.specs.Rows.{is_text, is_table};
-ghost use Rattle.product_file.specs.Inner.Keys.{map_ok, needed, needed_number, number_if, number_of, needed_name, text_of, array_of, array_if};
+ghost use Rattle.product_file.specs.Inner.Keys.{map_ok, needed, needed_number, number_if, number_of, needed_name, text_of, array_of, array_if, where_passes};
 
 use crate::faults::{Key, ProductFault};
 use gx_base::ShortId;
@@ -131,11 +131,7 @@ fn texts_of(value: &Value, key: Key) -> Result<&[Value], ProductFault>
     ensures { map_ok (λ vs. map view vs.now) result ≡ array_of is_text key (view value.now) }
 {
     let entries = entries_of(value, key)?;
-    if are_texts(entries) {
-        Ok(entries)
-    } else {
-        Err(ProductFault::Kind(key))
-    }
+    of_kind(entries, are_texts(entries), key)
 }
 
 /// The entries of an array, each of them a table.
@@ -144,7 +140,14 @@ fn tables_of(value: &Value, key: Key) -> Result<&[Value], ProductFault>
     ensures { map_ok (λ vs. map view vs.now) result ≡ array_of is_table key (view value.now) }
 {
     let entries = entries_of(value, key)?;
-    if are_tables(entries) {
+    of_kind(entries, are_tables(entries), key)
+}
+
+/// The entries, where they are of their kind.
+fn of_kind(entries: &[Value], are: bool, key: Key) -> Result<&[Value], ProductFault>
+    ensures { map_ok (λ vs. map view vs.now) result ≡ where_passes (λ vs. are) (Kind key) (map view entries.now) }
+{
+    if are {
         Ok(entries)
     } else {
         Err(ProductFault::Kind(key))

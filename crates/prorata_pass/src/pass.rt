@@ -6,7 +6,7 @@ ghost use Rattle.plain_book.specs.Steps.{facing, prorata};
 
 use crate::ratio::Ratio;
 use gx_base::{Desk, Emit, Price, StepName, Taker};
-use plain_book::{Book, opposite_side, trade_level};
+use plain_book::{Book, StepLevel, opposite_side, trade_level};
 
 /// How much all orders show at a price that the incoming one meets.
 fn shown_facing<B: Book>(book: &B, taker: &Taker, price: Price) -> u64
@@ -18,7 +18,7 @@ fn shown_facing<B: Book>(book: &B, taker: &Taker, price: Price) -> u64
 }
 
 /// The pro rata step at a price: each order of the opposite side there trades its part of what is wanted, in proportion to
-/// what it shows of all that is shown, rounded down, and nothing where that is below `least`. Each is marked with its
+/// what it shows of all that is shown, rounded down, and nothing where that is below `least`. Each keeps its
 /// share. All shares are taken of the level as it stands at the start, by priority. Each trade puts two Fill events, the
 /// resting order's first, and lengthens the taker's range. Where nothing is wanted, nothing is done. Our own rule, after
 /// the exchange's published outline.
@@ -42,5 +42,9 @@ pub fn prorata_pass<B: Book, E: Emit>(
         return;
     }
     let mut ratio = Ratio::new(least, taker.order.leaves, total);
-    trade_level(book, desk, taker, price, StepName::ProRata, &mut ratio, out);
+    let level = StepLevel {
+        step: StepName::ProRata,
+        price,
+    };
+    trade_level(book, desk, taker, level, &mut ratio, out);
 }

@@ -27,7 +27,7 @@ use Rattle.gx_base.specs.declared.event.Head.{Head}
 use Rattle.gx_base.specs.declared.event.Event.{Event}
 use Rattle.gx_base.specs.declared.event.Event.TheVariants.{Accepted, Triggered, Fill, Cancelled, Replaced, RefusedNew, RefusedChange, RefusedSession}
 use Rattle.fix_request.specs.Fields.{Field}
-use Rattle.maker_laws.specs.Names.{AreNames}
+use Rattle.generator_laws.specs.Names.{AreNames}
 use Rattle.report_laws.specs.Texts.{HasTexts}
 use Rattle.report_laws.proofs.Values.{IsValue, value-text, value-decimal, value-price, text-name, text-addressee, text-instrument_name, few-decimals, short}
 use Rattle.report_laws.proofs.Fields.{at, IsTag, AreFields, no-fields, more-fields, one-field, then-field, EndsAField, ends-field, ends-behind}

@@ -30,20 +30,20 @@ use Rattle.fix_request.specs.declared.request.Request.{Request}
 use Rattle.fix_request.specs.declared.request.Request.TheVariants.{New, Cancel, Replace, Passed, Refused}
 use Rattle.plain_book.specs.declared.entry.Entry.{Entry}
 use Rattle.plain_book.specs.Orders.{order_of, without, with_order, placed, lined_up, with_top, settled, refreshed, filled_by, stops_of, is_of, is_at_earlier_level, is_of_earlier_instrument, is_new_best, slot_named, opposite, top_of}
-use Rattle.plain_book.specs.Book.{Book, live_orders, first_shown, is_enough, resting_placed, book_without, changed_to}
-use Rattle.plain_book.specs.Match.{MatchState, Share, trade, is_prorata, book_marked, marked, trade_share, trade_shares}
+use Rattle.plain_book.specs.Book.{Book, live_orders, first_shown, makes_top, resting_placed, book_without, changed_to}
+use Rattle.plain_book.specs.Match.{MatchState, Share, trade, is_prorata, book_share_noted, share_noted, trade_share, trade_shares}
 use Rattle.plain_book.specs.Steps.{level_now, trade_head, fifo_rounds, prorata_shares, top_shares, lmm_shares, split_shares, leveling_shares}
 use Rattle.book_order.proofs.Each.{all-filter, all-append}
-use Rattle.level_sweep.specs.Sweep.{step_of, wanted_step, level_match, next_price, match_next, sweep_rounds, sweep}
+use Rattle.level_sweep.specs.Sweep.{after_step, wanted_step, level_match, next_price, match_next, sweep_rounds, sweep}
 use Rattle.order_kinds.specs.State.{State, empty_state}
 use Rattle.order_kinds.specs.Instruments.{ListedInstrument}
 use Rattle.order_kinds.specs.NewOrders.{Terms, terms_of, may_rest}
 use Rattle.order_kinds.specs.Entering.{taker_cancelled, top_min_of, as_limit, taker_rested, finished, open_for, entered}
-use Rattle.order_kinds.specs.Stops.{Naming, by_number, is_marked, first_entry, first_marked, fill_range, next_stop, stop_triggered, stop_entered, stop_rounds, entered_with_stops, come_in_as, come_in}
-use Rattle.order_kinds.specs.Accepting.{refusal, new_start, new_of, after_match, accepted, new_by}
+use Rattle.order_kinds.specs.Stops.{Naming, by_number, is_reached_by, first_entry, first_reached, fill_range, next_stop, stop_triggered, stop_entered, stop_rounds, entered_with_stops, come_in_as, come_in}
+use Rattle.order_kinds.specs.Accepting.{refusal, new_start, new_of, after_match, accepted, accepted_or_refused}
 use Rattle.order_kinds.specs.Cancels.{cancel_by}
 use Rattle.order_kinds.specs.Reports.{unchanged}
-use Rattle.order_kinds.specs.Replaces.{least_after, keeps_place, replaced_in_place, replaced_start, replaced_anew, replaced, replace_refused, replace_terms, replaced_by, replace_by}
+use Rattle.order_kinds.specs.Replaces.{least_after, keeps_place, replaced_in_place, replaced_start, replaced_anew, replaced, replace_refused, replace_terms, replaced_or_refused, replace_at}
 use Rattle.order_kinds.specs.Step.{with_message, request_step, step_of as message_step, events_from, events_of}
 use Rattle.order_kinds.specs.Balance.{quantities_of, order_in}
 use Rattle.report_laws.specs.Texts.{IsText, HasTexts}
@@ -111,7 +111,7 @@ module _ (most : ℕ) where
   resting-text : (slot : ℕ) (o : Order) (top_min : Option ℕ) (es : List Entry) → IsTextOrder o → AllText es → AllText (resting_placed slot o top_min es)
   resting-text slot o top_min es is h =
       let best = is_new_best o es in
-      let n : Entry = record { slot = slot; order = record o { shown = first_shown o }; is_top = best && is_enough top_min o.leaves } in
+      let n : Entry = record { slot = slot; order = record o { shown = first_shown o }; is_top = best && makes_top top_min o.leaves } in
       let n_is : IsTextOrder n.order = record { id = is.id; small = is.small; given = is.given } in
       let go : (b : Bool) → AllText (placed n (cond b (with_top o.instrument o.side None es) es)) = elim [
         | true ↦ placed-text n (with_top o.instrument o.side None es) n_is (topped-text o.instrument o.side None es h)
@@ -164,11 +164,11 @@ module _ (most : ℕ) where
           orders = h.orders;
         }
 
-    marked-text : (step : StepName) (s n : ℕ) (m : MatchState) → IsTextMatch m → IsTextMatch (marked step s n m)
+    marked-text : (step : StepName) (s n : ℕ) (m : MatchState) → IsTextMatch m → IsTextMatch (share_noted step s n m)
     marked-text step s n m h =
         let is = order-text s m.book.resting h.book.resting in
         let now : Order = record (order_of s m.book.resting) { prorated = n } in
-        let go : (c : Bool) → IsTextMatch (record m { book = cond c (book_marked s n m.book) m.book }) = elim [
+        let go : (c : Bool) → IsTextMatch (record m { book = cond c (book_share_noted s n m.book) m.book }) = elim [
           | true ↦ record {
             book = record { resting = with_order-text s now m.book.resting (record { id = is.id; small = is.small; given = is.given }) h.book.resting; waiting = h.book.waiting };
             taker = h.taker;
@@ -181,7 +181,7 @@ module _ (most : ℕ) where
 
     share-text : (step : StepName) (s n : ℕ) (m : MatchState) → IsTextMatch m → IsTextMatch (trade_share step s n m)
     share-text step s n m h =
-        let k = marked step s n m in
+        let k = share_noted step s n m in
         let here = marked-text step s n m h in
         let go : (c : Bool) → IsTextMatch (cond c k (trade step s n k)) = elim [ true ↦ here | false ↦ trade-text step s n k here ] in
         go (n == 0)
@@ -198,7 +198,7 @@ module _ (most : ℕ) where
     fifo-text zero price m h = h
     fifo-text (suc n) price m h = fifo-text n price (trade_head (level_now price m) m) (first-text (level_now price m) m h)
 
-    step-text : (step : Step) (price : Price) (m : MatchState) → IsTextMatch m → IsTextMatch (step_of step price m)
+    step-text : (step : Step) (price : Price) (m : MatchState) → IsTextMatch m → IsTextMatch (after_step step price m)
     step-text (Top rule) price m h =
         shares-text name.Top (top_shares rule.max (top_of m.taker.order.instrument (opposite m.taker.order.side) m.book.resting) m.taker.order.leaves (level_now price m)) m h
     step-text (Lmm shares) price m h = shares-text name.Lmm (lmm_shares shares.items m.taker.order.leaves (level_now price m)) m h
@@ -212,7 +212,7 @@ module _ (most : ℕ) where
 
     wanted-text : (step : Step) (price : Price) (m : MatchState) → IsTextMatch m → IsTextMatch (wanted_step step price m)
     wanted-text step price m h =
-        let go : (c : Bool) → IsTextMatch (cond c m (step_of step price m)) = elim [ true ↦ h | false ↦ step-text step price m h ] in
+        let go : (c : Bool) → IsTextMatch (cond c m (after_step step price m)) = elim [ true ↦ h | false ↦ step-text step price m h ] in
         go (m.taker.order.leaves == 0)
 
     level-text : (steps : List Step) (price : Price) (m : MatchState) → IsTextMatch m → IsTextMatch (level_match steps price m)
@@ -276,11 +276,11 @@ module _ (most : ℕ) where
     front-text [] h = tt
     front-text (e ∷ es) h = h.0
 
-    stop-text : (instrument : ℕ) (range : Option (Price × Price)) (es : List Entry) → AllText es → IsTextStop (first_marked instrument range es)
+    stop-text : (instrument : ℕ) (range : Option (Price × Price)) (es : List Entry) → AllText es → IsTextStop (first_reached instrument range es)
     stop-text instrument None es h = tt
     stop-text instrument (Some range) es h =
         let P = λ (e : Entry). IsTextOrder e.order in
-        front-text (filter (is_marked range) (stops_of instrument es)) (all-filter P (is_marked range) (stops_of instrument es) (all-filter P (is_of instrument) es h))
+        front-text (filter (is_reached_by range) (stops_of instrument es)) (all-filter P (is_reached_by range) (stops_of instrument es) (all-filter P (is_of instrument) es h))
 
     stop_entered-text : (stop : Option Entry) (named : ℕ → ℕ) (steps : List Step) (m : MatchState) → IsTextStop stop → IsTextMatch m → IsTextMatch (stop_entered stop named steps m)
     stop_entered-text None named steps m is h = h
@@ -348,7 +348,7 @@ module _ (most : ℕ) where
       } in
       matched-text top terms.instrument.number state (new_of naming terms new state) (omega arith) (come-text top start.taker.order.kind naming terms.instrument.rule.steps start at_start)
 
-  new-text : (naming : Naming) (terms : Result Terms NewFault) (new : NewOrder) (state : State) → HasRoom state → IsTextRequest (New new) → IsTextBook state.book → IsTextStep state.desk.orders (new_by naming terms new state)
+  new-text : (naming : Naming) (terms : Result Terms NewFault) (new : NewOrder) (state : State) → HasRoom state → IsTextRequest (New new) → IsTextBook state.book → IsTextStep state.desk.orders (accepted_or_refused naming terms new state)
   new-text naming (Ok terms) new state room is h = accepted-text naming terms new state room is h
   new-text naming (Err f) new state room is h = record { book = h; events = (record { texts = (is.0, (is.1.0, (is.1.1.0, tt))); small = is.1.1.1; given = tt }, tt); orders = omega arith }
 
@@ -390,12 +390,12 @@ module _ (most : ℕ) where
   refused-text : (f : ChangeFault) (request : ReplaceOrder) (number filled : ℕ) (state : State) → IsTextRequest (Replace request) → IsTextBook state.book → IsTextStep state.desk.orders (replace_refused f request number filled state)
   refused-text f request number filled state is h = unchanged-text request.sender request.id request.old number filled true f state is.0 is.1.0 is.1.1.0 h
 
-  by_terms-text : (terms : Result ListedInstrument ChangeFault) (naming : Naming) (request : ReplaceOrder) (slot : ℕ) (state : State) → IsTextRequest (Replace request) → IsTextBook state.book → IsTextStep state.desk.orders (replaced_by terms naming request slot state)
+  by_terms-text : (terms : Result ListedInstrument ChangeFault) (naming : Naming) (request : ReplaceOrder) (slot : ℕ) (state : State) → IsTextRequest (Replace request) → IsTextBook state.book → IsTextStep state.desk.orders (replaced_or_refused terms naming request slot state)
   by_terms-text (Ok instrument) naming request slot state is h = replaced-text naming instrument request slot state is h
   by_terms-text (Err f) naming request slot state is h =
       let o = order_of slot (live_orders state.book) in refused-text f request o.number o.filled state is h
 
-  replace-text : (slot : Option ℕ) (naming : Naming) (product : ProductLists) (request : ReplaceOrder) (state : State) → IsTextRequest (Replace request) → IsTextBook state.book → IsTextStep state.desk.orders (replace_by slot naming product request state)
+  replace-text : (slot : Option ℕ) (naming : Naming) (product : ProductLists) (request : ReplaceOrder) (state : State) → IsTextRequest (Replace request) → IsTextBook state.book → IsTextStep state.desk.orders (replace_at slot naming product request state)
   replace-text None naming product request state is h = refused-text change.Unknown request 0 0 state is h
   replace-text (Some slot) naming product request state is h =
       by_terms-text (replace_terms product request (order_of slot (live_orders state.book)) state) naming request slot state is h

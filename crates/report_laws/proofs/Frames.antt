@@ -14,7 +14,7 @@ use Rattle.fix_frame.specs.FrameLaws.{IsMade, made_frame, made_head, frame_made,
 use Rattle.fix_frame.specs.Grammar.{IsFrame, length_text, body_length, body_in}
 use Rattle.fix_frame.specs.HeadLaws.{one_head}
 use Rattle.fix_request.specs.Fields.{fields_of}
-use Rattle.maker_laws.specs.Names.{AreNames}
+use Rattle.generator_laws.specs.Names.{AreNames}
 use Rattle.report_laws.specs.Texts.{HasTexts}
 use Rattle.report_laws.proofs.Fields.{EndsAField}
 use Rattle.report_laws.proofs.Bodies.{told_of, body-fields, body-ends}

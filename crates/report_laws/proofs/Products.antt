@@ -21,7 +21,7 @@ use Rattle.product_file.specs.ProductRows.{nothing, a_new_name, each_once, instr
 use Rattle.product_file.specs.ProductValues.{listed_in, product_in}
 use Rattle.product_file.specs.ProductTexts.{document_of, product_of_data, product_of}
 use Rattle.product_file.specs.Products.{ProductLists}
-use Rattle.maker_laws.specs.Names.{AreNames, IsListed}
+use Rattle.generator_laws.specs.Names.{AreNames, IsListed}
 
 -- ---- no fault
 

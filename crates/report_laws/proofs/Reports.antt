@@ -10,6 +10,7 @@ use Rattle.gx_base.specs.Line.{line_of}
 use Rattle.gx_base.specs.declared.digits.TheConstants.{MOST_DIGITS}
 use Rattle.gx_base.specs.declared.order.Order.{Order}
 use Rattle.gx_base.specs.declared.event.Head.{Head}
+use Rattle.gx_base.specs.declared.event.Cause.{Cause}
 use Rattle.gx_base.specs.declared.event.NewFault.{NewFault}
 use Rattle.gx_base.specs.declared.event.NewRefused.{NewRefused}
 use Rattle.gx_base.specs.declared.event.Event.{Event}
@@ -19,7 +20,7 @@ use Rattle.fix_request.specs.Fields.{Field, fields_of}
 use Rattle.order_kinds.specs.Balance.{Quantities, quantities_of, AddsUp, filled_in, cancelled_in, order_in, open_by, lots_in}
 use Rattle.book_print.specs.LedgerText.{report_line, ledger_line}
 use Rattle.line_parts.specs.Words.{line_feed}
-use Rattle.maker_laws.specs.Names.{AreNames}
+use Rattle.generator_laws.specs.Names.{AreNames}
 use Rattle.report_laws.specs.Reading.{open_by_report, lots_by_report, value_in, text_in, number_in, is_execution, is_cancel, is_refusal, ReadsAsWhole, cancelled_in_report}
 use Rattle.report_laws.specs.Texts.{HasTexts}
 use Rattle.report_laws.specs.Told.{WritesQuantities, WritesWhatIsTold, lots_text, EndsWhole, line_read, ledger_line_read}
@@ -43,15 +44,19 @@ no-lots (RefusedNew head new fault) h = refl
 no-lots (RefusedChange head id old number filled replace fault) h = refl
 no-lots (RefusedSession head seq tag reason rule) h = refl
 
+-- what no cancelled order has, an event has that cancels nothing
+cancels-not : (P : Event → Type 0) → ((head : Head) (o : Order) (gone : ℕ) (by : Option (List ℕ)) (cause : Cause) → P (Cancelled head o gone by cause) → ⊥) → (event : Event) → P event → cancelled_in event ≡ 0
+cancels-not P none (Cancelled head o gone by cause) h = absurd (none head o gone by cause h)
+cancels-not P none (Accepted head o) h = refl
+cancels-not P none (Triggered head o) h = refl
+cancels-not P none (Fill head o lots price step trade) h = refl
+cancels-not P none (Replaced head o old before) h = refl
+cancels-not P none (RefusedNew head new fault) h = refl
+cancels-not P none (RefusedChange head id old number filled replace fault) h = refl
+cancels-not P none (RefusedSession head seq tag reason rule) h = refl
+
 no-cancel : (event : Event) → quantities_of event ≡ None → cancelled_in event ≡ 0
-no-cancel (Cancelled head o gone by cause) h = absurd (let e : Some _ ≡ None = h in cc)
-no-cancel (Accepted head o) h = refl
-no-cancel (Triggered head o) h = refl
-no-cancel (Fill head o lots price step trade) h = refl
-no-cancel (Replaced head o old before) h = refl
-no-cancel (RefusedNew head new fault) h = refl
-no-cancel (RefusedChange head id old number filled replace fault) h = refl
-no-cancel (RefusedSession head seq tag reason rule) h = refl
+no-cancel event h = cancels-not (λ (e : Event). quantities_of e ≡ None) (λ head o gone by cause k. let e : Some _ ≡ None = k in cc) event h
 
 no-line : (event : Event) → quantities_of event ≡ None → ledger_line event ≡ []
 no-line (Accepted head o) h = absurd (let e : Some _ ≡ None = h in cc)
@@ -112,14 +117,7 @@ status-cancel (RefusedSession head seq tag reason rule) h gone is = tt
 
 -- any other kind cancels nothing
 status-other : (event : Event) → bytes_eq (status_of event) (codes "4") ≡ false → cancelled_in event ≡ 0
-status-other (Cancelled head o lots by cause) h = absurd (let e : true ≡ false = h in cc)
-status-other (Accepted head o) h = refl
-status-other (Triggered head o) h = refl
-status-other (Fill head o lots price step trade) h = refl
-status-other (Replaced head o old before) h = refl
-status-other (RefusedNew head new fault) h = refl
-status-other (RefusedChange head id old number filled replace fault) h = refl
-status-other (RefusedSession head seq tag reason rule) h = refl
+status-other event h = cancels-not (λ (e : Event). bytes_eq (status_of e) (codes "4") ≡ false) (λ head o gone by cause k. let e : true ≡ false = k in cc) event h
 
 -- the kind 8 is of an order of which nothing is filled or open, and all of it ended
 record EndsAll (q : Quantities) : Type 0 where

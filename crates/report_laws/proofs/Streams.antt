@@ -1,5 +1,5 @@
 -- What the bytes of the reports of a stream say adds up, and the ledger writes the same.
-use Rattle.std.proofs.Common.{◌≡◌, ℕ, ◌+◌, ◌^◌, ◌<◌, Bool, cond, List, [], ◌∷◌, ◌++◌, map, Ok, refl, sym, ap, ap₂, subst, ◌∙◌, inl, inr, arith, append_assoc, length, fold, Option, Some, None, ◌≤◌, true}
+use Rattle.std.proofs.Common.{◌≡◌, ℕ, ◌+◌, ◌^◌, ◌<◌, Bool, cond, List, [], ◌∷◌, ◌++◌, map, refl, sym, ap, ap₂, subst, ◌∙◌, inl, inr, arith, append_assoc, length, fold, Option, Some, None, ◌≤◌, true}
 use Rattle.std.proofs.lemmas.Bool.Decides.{eqb_tells}
 use Rattle.std.proofs.lemmas.List.Sums.{sum_by-cons, sum_by_push}
 use Rattle.std.specs.Prelude.{◌==◌, IfSome, flat_map}
@@ -13,17 +13,15 @@ use Rattle.gx_base.specs.declared.event.Event.TheVariants.{Accepted, Triggered, 
 use Rattle.book_order.proofs.Each.{all-front, all-back}
 use Rattle.fix_frame.specs.Stream.{messages_of, rest_of}
 use Rattle.fix_frame.specs.StreamLaws.{messages_of-frame-append, rest_of-frame-append}
-use Rattle.product_file.specs.ProductTexts.{product_of}
 use Rattle.product_file.specs.Products.{ProductLists}
 use Rattle.order_kinds.specs.Step.{events_of, reports_of}
 use Rattle.order_kinds.specs.Balance.{quantities_of, order_in, open_by, last_open, last_open_from, AddsUp, FillsAddUp, lots_in, lots_of, filled_in, cancelled_in, total_filled, total_cancelled, IsBalanced}
 use Rattle.book_print.specs.LedgerText.{ledger_line, total_line}
-use Rattle.maker_laws.specs.Names.{AreNames}
+use Rattle.generator_laws.specs.Names.{AreNames}
 use Rattle.report_laws.specs.Reading.{is_execution, lots_by_report, lots_read_of, FillsReadUp, open_by_report, last_open_read, number_in, cancelled_in_report, lots_read, cancelled_read}
 use Rattle.report_laws.specs.Told.{ledger_line_read}
 use Rattle.report_laws.specs.Sums.{open_after, entered_by, IsReadRight, AreReadBalanced, IsReadBalanced}
 use Rattle.report_laws.proofs.Engine.{IsTextEvent, AllTextEvents, events-text}
-use Rattle.report_laws.proofs.Products.{product-names}
 use Rattle.report_laws.proofs.Requests.{request-is-text}
 use Rattle.report_laws.proofs.Frames.{line-frame}
 use Rattle.report_laws.proofs.Reports.{read-lots-of, read-filled, read-open, read-right, read-lots, read-cancelled, writes-line}
@@ -198,7 +196,3 @@ module _ (product : ProductLists) (are : AreNames product.names) (messages : Lis
         total = omega (arith, balanced.total, filled, cancelled);
         ledger = ap₂ (λ (x y : List ℕ). x ++ y) (lines-ledger product.names are (length messages) events texts) (ap₂ (λ (f c : ℕ). total_line entered f open_ c) (sym filled) (sym cancelled));
       } in subst (AreReadBalanced product messages) (sym reports-each) all
-
--- the reports of a stream of a product that a text gives, where the stream balances
-pub read-balanced : (text : List ℕ) (product : ProductLists) (messages : List (List ℕ)) → product_of text ≡ Ok product → IsBalanced product messages → IsReadBalanced product messages
-read-balanced text product messages gives balanced = reports-balance product (product-names text product gives) messages balanced

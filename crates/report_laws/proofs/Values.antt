@@ -4,7 +4,6 @@ use Rattle.std.specs.Prelude.{◌==◌}
 use Rattle.std.specs.Int.{is_negative}
 use Rattle.std.proofs.lemmas.Bool.{and_parts}
 use Rattle.std.proofs.lemmas.Bool.Decides.{eqb_tells}
-use Rattle.std.proofs.lemmas.List.{length_push}
 use Rattle.std.proofs.lemmas.List.Elements.{recursion_from_All}
 use Rattle.std.specs.Fmt.{digits, digits_onto, digit_glyph}
 use Rattle.std.specs.List.{list_any, list_all, AllByRecursion}
@@ -15,7 +14,8 @@ use Rattle.gx_base.specs.Texts.{is_name, is_name_byte}
 use Rattle.gx_base.specs.declared.names.Listed.{Listed}
 use Rattle.gx_base.specs.declared.price.Price.{Price}
 use Rattle.fix_request.specs.Fields.{is_soh}
-use Rattle.maker_laws.specs.Names.{AreNames, IsListed}
+use Rattle.generator_laws.specs.Names.{AreNames, IsListed}
+use Rattle.generator_laws.proofs.Values.{length-fraction}
 use Rattle.report_laws.specs.Texts.{IsText}
 
 -- a value of a field in a report
@@ -124,14 +124,6 @@ value-decimal n = let is = number-text n in record { few = omega (arith, is.few)
 plain-fixed : (width n : ℕ) → list_any is_soh (fixed_digits width n) ≡ false
 plain-fixed zero n = refl
 plain-fixed (suc width) n = any-append (fixed_digits width (n / 10)) ((48 + n % 10) ∷ []) (plain-fixed width (n / 10)) (any-cons (48 + n % 10) [] (omega arith) refl)
-
-length-fixed : (width n : ℕ) → length (fixed_digits width n) ≡ width
-length-fixed zero n = refl
-length-fixed (suc width) n = length_push (fixed_digits width (n / 10)) _ ∙ omega (arith, length-fixed width (n / 10))
-
-length-fraction : (decimals n : ℕ) → length (fraction_text decimals n) ≤ decimals + 1
-length-fraction zero n = omega arith
-length-fraction (suc k) n = omega (arith, length-fixed (suc k) n)
 
 plain-fraction : (decimals n : ℕ) → list_any is_soh (fraction_text decimals n) ≡ false
 plain-fraction zero n = refl

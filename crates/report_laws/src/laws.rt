@@ -14,7 +14,7 @@ ghost use Rattle.product_file.specs.ProductTexts.{product_of};
 ghost use Rattle.order_kinds.specs.Step.{events_of, reports_of};
 ghost use Rattle.order_kinds.specs.Balance.{quantities_of};
 ghost use Rattle.book_print.specs.LedgerText.{ledger_line};
-ghost use Rattle.maker_laws.specs.Names.{AreNames};
+ghost use Rattle.generator_laws.specs.Names.{AreNames};
 ghost use Rattle.report_laws.specs.Reading.{value_in, is_execution};
 ghost use Rattle.report_laws.specs.Texts.{HasTexts};
 ghost use Rattle.report_laws.specs.Told.{WritesWhatIsTold, lots_text, EndsWhole, ledger_line_read};
@@ -31,7 +31,8 @@ pub fn reports_write_what_is_told()
 
 /// The report of a new order that is refused writes that nothing is filled or open, and that all of it ended.
 pub fn orders_refused_end_whole()
-    ensures { (names : NameLists) (head : Head) (order : NewRefused) (fault : NewFault) → AreNames names → HasTexts (RefusedNew head order fault) → EndsWhole (line_of names (RefusedNew head order fault)) }
+    ensures { (names : NameLists) (head : Head) (order : NewRefused) (fault : NewFault) → AreNames names → HasTexts (RefusedNew head order fault)
+        → EndsWhole (line_of names (RefusedNew head order fault)) }
 {}
 
 /// The ledger's line of an event has the texts that its report has in 37, 38, 14, 151 and 9003, and there is none where it is no
@@ -47,7 +48,8 @@ pub fn products_have_names()
 
 /// The reports of a stream are whole messages themselves: one for each event, with no byte behind them.
 pub fn reports_are_messages()
-    ensures each { (product : ProductLists) (messages : List (List ℕ)) → AreNames product.names → messages_of (reports_of product messages) ≡ map (line_of product.names) (events_of product messages) }
+    ensures each { (product : ProductLists) (messages : List (List ℕ)) → AreNames product.names
+        → messages_of (reports_of product messages) ≡ map (line_of product.names) (events_of product messages) }
     ensures whole { (product : ProductLists) (messages : List (List ℕ)) → AreNames product.names → rest_of (reports_of product messages) ≡ [] }
 {}
 

@@ -8,33 +8,14 @@ mod replaces;
 mod shares;
 mod stops;
 
-use run_fixtures::{ended, frames_of, run};
+use run_fixtures::{ended, frames_of, product_text, run};
 use std::process::Abort;
 
 /// The product of most runs with room for two live orders.
-const SMALL_PRODUCT: &str = r#"exchange = "GX"
-firms = ["AAA", "BBB", "CCC", "DDD"]
-max_orders = 2
-
-[[instrument]]
-name = "ESZ4"
-decimals = 2
-tick = 1
-protection = 2
-algorithm = "F"
-"#;
+const SMALL_PRODUCT: &str = product_text!("max_orders = 2", letter: "F");
 
 /// That product with prices in steps of 0.25.
-const WIDE_TICK_PRODUCT: &str = r#"exchange = "GX"
-firms = ["AAA", "BBB", "CCC", "DDD"]
-
-[[instrument]]
-name = "ESZ4"
-decimals = 2
-tick = 25
-protection = 2
-algorithm = "F"
-"#;
+const WIDE_TICK_PRODUCT: &str = product_text!(name: "ESZ4", tick: 25, protection: 2, letter: "F");
 
 /// Runs over these messages, which are all applied, and looks for these reports; both are bodies.
 fn expect_reports(

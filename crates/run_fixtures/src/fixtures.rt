@@ -1,22 +1,10 @@
-//! What tests of whole runs share: a product, frames from texts, and a run over sources and a station in memory.
+//! What tests of whole runs share: frames from texts, and a run over sources and a station in memory.
 ghost use Rattle.std.specs.Prelude.{◌≤◌, length};
 ghost use Rattle.std.specs.List.{AllByRecursion};
 
 use globex_run::{Outcome, globex};
 use gx_station::{MemSource, MemStation};
 use std::alloc::{AllocError, Global};
-
-/// One instrument, whose orders match by FIFO.
-pub const PRODUCT: &str = r#"exchange = "GX"
-firms = ["AAA", "BBB", "CCC", "DDD"]
-
-[[instrument]]
-name = "ESZ4"
-decimals = 2
-tick = 1
-protection = 2
-algorithm = "F"
-"#;
 
 /// The bytes of a text in which `|` stands for SOH.
 pub fn bytes_of(alloc: Global, text: &str) -> Result<Vec<u8>, AllocError> {

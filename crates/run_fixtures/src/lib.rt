@@ -3,11 +3,12 @@
 
 mod example;
 mod fixtures;
+mod product;
 
 pub use example::{
     ACCEPTED, DUPLICATE, FILLED, ORDER, SECOND_ACCEPTED, SECOND_FILLED, SECOND_ORDER,
 };
 pub use fixtures::{
-    PRODUCT, ROOM, bytes_of, ended, frames_of, join, push_frame, run, run_over, station_over,
-    words_of,
+    ROOM, bytes_of, ended, frames_of, join, push_frame, run, run_over, station_over, words_of,
 };
+pub use product::PRODUCT;

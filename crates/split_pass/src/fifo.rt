@@ -6,10 +6,10 @@ ghost use Rattle.plain_book.specs.Matches.{match_at, Matches, CanTrade};
 ghost use Rattle.plain_book.specs.Steps.{fifo, IsLevelDone};
 
 use gx_base::{Desk, Emit, Price, Slot, StepName, Taker};
-use plain_book::{Book, opposite_side, trade_lots};
+use plain_book::{Book, OrderShare, opposite_side, trade_lots};
 
 /// What a live order shows, as far as it is wanted.
-fn lots_of<B: Book>(book: &B, slot: Slot, wanted: u32) -> u32
+fn lots_at_head<B: Book>(book: &B, slot: Slot, wanted: u32) -> u32
     requires { HasSlot slot.0 (live_orders (B.book book.now)) }
     ensures { result ≡ min wanted (order_of slot.0 (live_orders (B.book book.now))).shown }
 {
@@ -40,8 +40,9 @@ pub fn fifo_pass<B: Book, E: Emit>(
         match book.first(instrument, side, price) {
             None => return,
             Some(slot) => {
-                let lots = lots_of(book, slot, taker.order.leaves);
-                trade_lots(book, desk, taker, slot, lots, StepName::Fifo, out);
+                let lots = lots_at_head(book, slot, taker.order.leaves);
+                let share = OrderShare { slot, lots };
+                trade_lots(book, desk, taker, share, StepName::Fifo, out);
             }
         }
     }

@@ -4,7 +4,7 @@ ghost use Rattle.plain_book.specs.Matches.{match_at, Matches, CanTrade};
 ghost use Rattle.plain_book.specs.Steps.{split};
 
 use gx_base::{Desk, Emit, Order, Price, StepName, Taker};
-use plain_book::{Book, ShareRule, percent_of, trade_level};
+use plain_book::{Book, ShareRule, StepLevel, percent_of, trade_level};
 
 /// Lots that are spent over orders by priority: each trades what it shows, as far as any are left.
 #[derive(Drop)]
@@ -50,5 +50,9 @@ pub fn split_pass<B: Book, E: Emit>(
     let mut spent = Spent {
         left: percent_of(taker.order.leaves, percent),
     };
-    trade_level(book, desk, taker, price, StepName::Split, &mut spent, out);
+    let level = StepLevel {
+        step: StepName::Split,
+        price,
+    };
+    trade_level(book, desk, taker, level, &mut spent, out);
 }

@@ -9,7 +9,7 @@ use Rattle.step_config.specs.declared.step.Step.{Step}
 use Rattle.step_config.specs.declared.step.Step.TheVariants.{Top, Lmm, Split, ProRata, Leveling, Fifo}
 use Rattle.step_config.specs.declared.step.StepFault.TheVariants.{Percent, Least, MinMax}
 use Rattle.gx_base.specs.FirstFault.{first_fault}
-use Rattle.step_config.specs.Rules.{name_of, is_same_name, is_empty, is_within, is_percent, is_top_rule, fault_of_shares, fault_of_step, fault_of}
+use Rattle.step_config.specs.Rules.{name_of, is_same_name, is_empty, is_from_to, is_percent, is_top_rule, fault_of_shares, fault_of_step, fault_of}
 use Rattle.step_config.specs.RightSteps.{IsBetween, IsRightRule, AreRightShares, IsRightStep, AreRightSteps}
 use Rattle.step_config.proofs.NoFault.{no_fault, few_steps, no_share_fault, no_first_step, passes}
 use Rattle.step_config.specs.RepeatLaws.{none_from_cond, distinct}
@@ -24,7 +24,7 @@ both : (a b : Bool) → (a && b) ≡ true → (a ≡ true) × (b ≡ true)
 both true b e = (refl, e)
 both false b e = cc
 
-between : (low high n : ℕ) → is_within low high n ≡ true → IsBetween low high n
+between : (low high n : ℕ) → is_from_to low high n ≡ true → IsBetween low high n
 between low high n e =
     let parts = both (nat_le low n) (nat_le n high) e in
     record { at_least = grind (arith, nat_tests, parts.0); at_most = grind (arith, nat_tests, parts.1) }
@@ -59,7 +59,7 @@ right_step : (step : Step) → fault_of_step step ≡ None → IsRightStep step
 right_step (Top rule) e = right_rule rule (passes (is_top_rule rule) (MinMax rule.min rule.max) e)
 right_step (Lmm shares) e = right_shares shares.items e
 right_step (Split percent) e = between 1 100 percent (passes (is_percent percent) (Percent percent) e)
-right_step (ProRata least) e = between 1 MOST_LOTS least (passes (is_within 1 MOST_LOTS least) (Least least) e)
+right_step (ProRata least) e = between 1 MOST_LOTS least (passes (is_from_to 1 MOST_LOTS least) (Least least) e)
 right_step Leveling e = tt
 right_step Fifo e = tt
 

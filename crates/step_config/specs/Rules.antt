@@ -73,11 +73,11 @@ leveling_first steps = list_any is_leveling steps && not (list_any is_pro_rata (
 
 -- ---- faults of one step
 
-abbrev pub is_within : ℕ → ℕ → ℕ → Bool
-is_within low high n = nat_le low n && nat_le n high
+abbrev pub is_from_to : ℕ → ℕ → ℕ → Bool
+is_from_to low high n = nat_le low n && nat_le n high
 
 abbrev pub is_percent : ℕ → Bool
-is_percent n = is_within 1 100 n
+is_percent n = is_from_to 1 100 n
 
 -- whether one of these shares is of this firm
 abbrev pub has_firm : ℕ → List LmmShare → Bool
@@ -109,7 +109,7 @@ abbrev pub fault_of_step : Step → Option StepFault
 fault_of_step (Top rule) = fault_if (not (is_top_rule rule)) (MinMax rule.min rule.max)
 fault_of_step (Lmm shares) = fault_of_shares shares.items
 fault_of_step (Split percent) = fault_if (not (is_percent percent)) (Percent percent)
-fault_of_step (ProRata least) = fault_if (not (is_within 1 MOST_LOTS least)) (Least least)
+fault_of_step (ProRata least) = fault_if (not (is_from_to 1 MOST_LOTS least)) (Least least)
 fault_of_step Leveling = None
 fault_of_step Fifo = None
 

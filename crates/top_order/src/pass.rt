@@ -5,7 +5,7 @@ ghost use Rattle.plain_book.specs.Matches.{match_at, Matches, CanTrade};
 ghost use Rattle.plain_book.specs.Steps.{top};
 
 use gx_base::{Desk, Emit, Price, StepName, Taker, TopRule};
-use plain_book::{Book, opposite_side, trade_share};
+use plain_book::{Book, OrderShare, opposite_side, trade_share};
 
 fn is_same_price(a: Price, b: Price) -> bool
     ensures { result ≡ int_eq a.0 b.0 }
@@ -38,7 +38,8 @@ pub fn top_pass<B: Book, E: Emit>(
         let order = book.order(slot);
         if is_same_price(order.price, price) {
             let lots = taker.order.leaves.min(order.shown).min(rule.max);
-            trade_share(book, desk, taker, slot, lots, StepName::Top, out);
+            let share = OrderShare { slot, lots };
+            trade_share(book, desk, taker, share, StepName::Top, out);
         }
     }
 }

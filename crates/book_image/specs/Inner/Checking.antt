@@ -1,5 +1,5 @@
 -- What is kept of the rows that were looked at, while an image is checked.
-use Rattle.std.specs.Prelude.{◌≡◌, ℕ, pos, ◌+◌, ◌*◌, ◌^◌, ◌<◌, ◌==◌, bytes_eq, Bool, true, false, not, ◌&&◌, ◌||◌, if◌then◌else◌, nat_lt, nat_le, List, [], ◌∷◌, length, Option, Some, None}
+use Rattle.std.specs.Prelude.{◌≡◌, ℕ, ◌+◌, ◌*◌, ◌^◌, ◌<◌, ◌==◌, bytes_eq, Bool, true, false, not, ◌&&◌, ◌||◌, if◌then◌else◌, nat_lt, nat_le, List, [], ◌∷◌, length, Option, Some, None}
 use Rattle.std.specs.List.{list_any}
 use Rattle.gx_base.specs.FirstFault.{fault_if, first_fault}
 use Rattle.gx_base.specs.declared.limits.TheConstants.{ADDRESSEES, MOST_LOTS}
@@ -7,8 +7,8 @@ use Rattle.gx_base.specs.declared.price.Price.{Price}
 use Rattle.gx_base.specs.declared.order.Side.{Side}
 use Rattle.gx_base.specs.declared.order.Side.TheVariants.{Buy}
 use Rattle.gx_base.specs.declared.order.Kind.TheVariants.{StopLimit}
-use Rattle.gx_base.specs.declared.order.Life.TheVariants.{Day}
 use Rattle.gx_base.specs.declared.order.Order.{Order}
+use Rattle.gx_base.specs.Orders.{blank_order}
 use Rattle.product_file.specs.Products.{ProductLists}
 use Rattle.order_kinds.specs.OrderRules.{is_quantity}
 use Rattle.plain_book.specs.Orders.{is_before, is_side, level_of, is_live}
@@ -111,24 +111,7 @@ HasNames book orders = (o : Order) → is_live o.firm o.id (live_orders book) �
 
 -- a stop that is fit to wait, for its name alone
 abbrev pub stop_named : ℕ → List ℕ → Order
-stop_named firm id = record {
-  number = 1;
-  firm = firm;
-  instrument = 0;
-  side = Buy;
-  id = id;
-  kind = StopLimit;
-  price = record { 0 = pos 0 };
-  trigger = record { 0 = pos 0 };
-  quantity = 1;
-  filled = 0;
-  leaves = 1;
-  show = 0;
-  shown = 0;
-  min = 0;
-  life = Day;
-  prorated = 0;
-}
+stop_named firm id = record (blank_order id) { number = 1; firm = firm; kind = StopLimit; quantity = 1; leaves = 1 }
 
 -- a book with this name and no other besides those of the one before
 pub record TakesName (firm : ℕ) (id : List ℕ) (old new : Book) : Type 0 where

@@ -3,7 +3,7 @@ use Rattle.std.specs.Prelude.{◌≡◌, ℕ, ◌+◌, ◌*◌, List, [], ◌∷
 use Rattle.gx_base.specs.declared.order.Order.{Order}
 use Rattle.plain_book.specs.declared.entry.Entry.{Entry}
 use Rattle.book_image.specs.declared.format.TheConstants.{ROW_BYTES}
-use Rattle.book_image.specs.Rows.{padded, side_byte, kind_byte, life_byte}
+use Rattle.book_image.specs.Rows.{padded, side_byte, order_kind_byte, life_byte}
 use Rattle.book_image.specs.Image.{entry_row}
 
 -- Behind the first bytes, up to a place, these were written: so many, up to their end. The room is as large as before.
@@ -22,4 +22,4 @@ abbrev pub name_bytes : List ℕ → List ℕ
 name_bytes id = length id ∷ padded id
 
 abbrev pub mark_bytes : Order → List ℕ
-mark_bytes o = o.firm ∷ o.instrument ∷ side_byte o.side ∷ kind_byte o.kind ∷ life_byte o.life ∷ []
+mark_bytes o = o.firm ∷ o.instrument ∷ side_byte o.side ∷ order_kind_byte o.kind ∷ life_byte o.life ∷ []

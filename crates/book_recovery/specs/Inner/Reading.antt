@@ -1,20 +1,11 @@
 -- Reading one record more.
 use Rattle.std.specs.Prelude.{◌≡◌, ℕ, List, [], ◌∷◌, ◌++◌, length, Option, Some, None, Result, Ok, Err}
 use Rattle.product_file.specs.Products.{ProductLists}
-use Rattle.book_image.specs.Rows.{number_at}
-use Rattle.book_image.specs.Faults.{image_fault}
 use Rattle.match_journal.specs.Journal.{IsJournal, Record, journal_front}
 use Rattle.book_recovery.specs.Records.{record_messages, count_behind_all}
 use Rattle.book_recovery.specs.BadPlaces.{AreFirstRecords, HasBadRecordAt}
 use Rattle.book_recovery.specs.declared.recovery.RecoverFault.{RecoverFault}
 use Rattle.book_recovery.specs.declared.recovery.RecoverFault.TheVariants as fault
-
--- what is answered at an image with this payload and gate: the count of messages of its state, where it is right
-abbrev pub PassesImage : ProductLists → List ℕ → ℕ → Result (Option ℕ) RecoverFault → Type 0
-PassesImage product payload gate (Ok (Some count)) = (image_fault product payload ≡ None) × (count ≡ number_at payload 0)
-PassesImage product payload gate (Ok None) = ⊥
-PassesImage product payload gate (Err fault.Store) = Unit {0}
-PassesImage product payload gate (Err (fault.Bad at)) = (image_fault product payload ≡ None → ⊥) × (at ≡ gate)
 
 module _ (product : ProductLists) (text : List ℕ) (limit : ℕ) (image : List ℕ) (before : List Record) where
   -- one record more is not bad; these are its messages, the next gate is the one behind it, and so many messages are counted there

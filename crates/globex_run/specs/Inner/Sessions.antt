@@ -13,7 +13,7 @@ use Rattle.match_journal.specs.Steps.{HoldsOne}
 use Rattle.match_journal.specs.declared.limits.TheConstants.{MOST_UNFINISHED}
 use Rattle.match_journal.specs.declared.standing.Standing.{Standing}
 use Rattle.book_recovery.specs.Records.{AreWhole, messages_in, state_kept, from_last_image, count_behind_all}
-use Rattle.book_recovery.specs.Kept.{KeepsMessages, CanBeRecovered}
+use Rattle.book_recovery.specs.Kept.{IsStartable, CanBeRecovered}
 use Rattle.book_recovery.specs.Recovering.{IsStateAfter}
 use Rattle.product_file.specs.Products.{ProductLists, IsRightProduct}
 use Rattle.gx_base.specs.declared.event.Event.{Event}
@@ -47,18 +47,18 @@ AnswersOpening product text image (Ok journal) = CanBeRecovered product text pro
 AnswersOpening product text image (Err reason) = AnswersImage product text image (ending_without reason)
 
 -- the image was refused
-abbrev pub IsRefused : {J : Type 0} → Result J Unopened → Type 0
-IsRefused (Ok journal) = ⊥
-IsRefused (Err unopened.Store) = ⊥
-IsRefused (Err (unopened.NotAJournal at)) = Unit {0}
-IsRefused (Err (unopened.Bad at)) = Unit {0}
-IsRefused (Err (unopened.ProductDiffers at)) = Unit {0}
+abbrev pub IsRefusedOpening : {J : Type 0} → Result J Unopened → Type 0
+IsRefusedOpening (Ok journal) = ⊥
+IsRefusedOpening (Err unopened.Store) = ⊥
+IsRefusedOpening (Err (unopened.NotAJournal at)) = Unit {0}
+IsRefusedOpening (Err (unopened.Bad at)) = Unit {0}
+IsRefusedOpening (Err (unopened.ProductDiffers at)) = Unit {0}
 
 module _ {S : Type 0} (m : StationMeanings S) (product : ProductLists) (text : List ℕ) where
   -- The journal of an honest station, whose image keeps these records, was opened, and the core is in the state after their
   -- messages; or a call on the store has failed. In either case the image keeps the same records.
   pub record Opens (old new : S) (image : List ℕ) (records : List Record) (state : State) (result : Result Standing Unopened) : Type 0 where
-    pub accepted : IsRefused result → ⊥
+    pub accepted : IsRefusedOpening result → ⊥
     pub moments : AddsOnly m old new (λ left out. IsOpening text product.journal_limit records image left × (m.sent old ≡ Some out))
     pub keeps : HoldsOne m (IsOpening text product.journal_limit records image) new
     pub at_end : IfOk result (λ journal. RestsAtEnd m text product.journal_limit records journal.gate (max (length image) MOST_UNFINISHED) new)
@@ -100,7 +100,7 @@ module _ {I S : Type 0} (m : StationMeanings S) (line : LineText) (product : Pro
     pub messages : count ≡ length (messages_in added)
 
   -- the journal ends at this gate, and the next message has no room
-  pub record IsFull (records added : List Record) (behind : List ℕ) : Type 0 where
+  pub record EndsAtFull (records added : List Record) (behind : List ℕ) : Type 0 where
     pub end : ℕ
     pub end_is : end ≡ length (journal_front text records) + length_of_records added
     pub journal : HoldsOne m (IsJournalTo text product.journal_limit (records ++ added) end) after.station.object
@@ -112,7 +112,7 @@ module _ {I S : Type 0} (m : StationMeanings S) (line : LineText) (product : Pro
   EndsSession (ending.NotAJournal at) count records kept added behind = ⊥
   EndsSession (ending.JournalBad at) count records kept added behind = ⊥
   EndsSession (ending.ProductDiffers at) count records kept added behind = ⊥
-  EndsSession (ending.Full at) count records kept added behind = IsAllServed records kept added count × IsFull records added behind
+  EndsSession (ending.Full at) count records kept added behind = IsAllServed records kept added count × EndsAtFull records added behind
   EndsSession _ count records kept added behind = IsAllServed records kept added count
 
   -- nothing is pending, and the image that a read gives is no longer than this
@@ -164,7 +164,7 @@ module _ {I S : Type 0} (m : StationMeanings S) (line : LineText) (product : Pro
     pub cause : CausedBy ending before after
     pub image : IfSome before.station.image (λ image. AnswersImage product text image ending)
     pub serving : ServingResult before after ending outcome.messages
-    pub from : (image : List ℕ) (kept : List (List ℕ)) → m.is_honest before.station.object → before.station.image ≡ Some image → (startable : KeepsMessages product text kept image)
+    pub from : (image : List ℕ) (kept : List (List ℕ)) → m.is_honest before.station.object → before.station.image ≡ Some image → (startable : IsStartable product text kept image)
         → SessionFrom Published then image startable.records kept serving.taken ending outcome.messages
     pub full : (image : List ℕ) (records : List Record) → m.is_honest before.station.object → before.station.image ≡ Some image → Keeps text product.journal_limit records image → (place : ℕ) → IsFullAt place ending
         → IsFullBehind records serving.taken place outcome.messages

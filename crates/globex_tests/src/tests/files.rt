@@ -61,7 +61,8 @@ struct Lent<'a> {
 impl ImageFile for Lent<'_> {
     ghost use Rattle.gx_station.specs.ImageFiles.{FileMeanings};
 
-    ghost meanings = { record { measured = λ _ _ _. Unit {0}; read = λ _ _ _ _ _. Unit {0}; wrote = λ _ _ _ _ _. Unit {0}; synced = λ _ _ _. Unit {0}; locked = λ _ _ _. Unit {0} } };
+    ghost meanings = { record
+        { measured = λ _ _ _. Unit {0}; read = λ _ _ _ _ _. Unit {0}; wrote = λ _ _ _ _ _. Unit {0}; synced = λ _ _ _. Unit {0}; locked = λ _ _ _. Unit {0} } };
 
     fn length(&mut self) -> io::Result<u64> {
         self.file.turn()?;

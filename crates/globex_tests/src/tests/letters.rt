@@ -8,7 +8,7 @@ use gx_base::Emit;
 use order_kinds::{Core, MOST_MESSAGES};
 use plain_book::{Book, PlainBook};
 use product_file::{Product, read_product};
-use run_fixtures::{PRODUCT, frames_of};
+use run_fixtures::{PRODUCT, frames_of, product_text};
 use std::process::Abort;
 
 /// Four sells at one price, of 10, 50, 30 and 1 lots, and a buy of 41.
@@ -81,17 +81,8 @@ const FIFO_FILLS: [&str; 4] = [
 ];
 
 /// The letter T.
-const LMM_FIFO: &str = r#"exchange = "GX"
-firms = ["AAA", "BBB", "CCC", "DDD"]
-
-[[instrument]]
-name = "ESZ4"
-decimals = 2
-tick = 1
-protection = 2
-algorithm = "T"
-lmm = [{ firm = "BBB", percent = 40 }, { firm = "CCC", percent = 10 }]
-"#;
+const LMM_FIFO: &str =
+    product_text!(letter: "T", r#"lmm = [{ firm = "BBB", percent = 40 }, { firm = "CCC", percent = 10 }]"#);
 
 /// Of 41 lots, 40 percent are 16 of BBB and 10 percent are 4 of CCC; the other 21 go by priority.
 const LMM_FIFO_FILLS: [&str; 8] = [
@@ -106,17 +97,7 @@ const LMM_FIFO_FILLS: [&str; 8] = [
 ];
 
 /// The letter C.
-const PRO_RATA: &str = r#"exchange = "GX"
-firms = ["AAA", "BBB", "CCC", "DDD"]
-
-[[instrument]]
-name = "ESZ4"
-decimals = 2
-tick = 1
-protection = 2
-algorithm = "C"
-least = 1
-"#;
+const PRO_RATA: &str = product_text!(letter: "C", "least = 1");
 
 /// Of the 91 lots shown, the shares of 41 are 4, 22, 13 and 0; the two that are left go by priority.
 const PRO_RATA_FILLS: [&str; 8] = [
@@ -131,17 +112,7 @@ const PRO_RATA_FILLS: [&str; 8] = [
 ];
 
 /// The letter A.
-const ALLOCATION: &str = r#"exchange = "GX"
-firms = ["AAA", "BBB", "CCC", "DDD"]
-
-[[instrument]]
-name = "ESZ4"
-decimals = 2
-tick = 1
-protection = 2
-algorithm = "A"
-least = 2
-"#;
+const ALLOCATION: &str = product_text!(letter: "A", "least = 2");
 
 /// TOP is the first order. Of the 81 lots then shown, the shares of 31 are 19, 11 and 0; one is left.
 const ALLOCATION_FILLS: [&str; 8] = [
@@ -156,19 +127,7 @@ const ALLOCATION_FILLS: [&str; 8] = [
 ];
 
 /// The letter O.
-const THRESHOLD: &str = r#"exchange = "GX"
-firms = ["AAA", "BBB", "CCC", "DDD"]
-
-[[instrument]]
-name = "ESZ4"
-decimals = 2
-tick = 1
-protection = 2
-algorithm = "O"
-top_min = 5
-top_max = 8
-least = 2
-"#;
+const THRESHOLD: &str = product_text!(letter: "O", "top_min = 5", "top_max = 8", "least = 2");
 
 /// TOP gives 8, its greatest. Of the 83 lots then shown, the shares of 33 are 0, 19, 11 and 0; three are left.
 const THRESHOLD_FILLS: [&str; 10] = [
@@ -185,20 +144,13 @@ const THRESHOLD_FILLS: [&str; 10] = [
 ];
 
 /// The letter Q.
-const THRESHOLD_LMM: &str = r#"exchange = "GX"
-firms = ["AAA", "BBB", "CCC", "DDD"]
-
-[[instrument]]
-name = "ESZ4"
-decimals = 2
-tick = 1
-protection = 2
-algorithm = "Q"
-top_min = 5
-top_max = 8
-least = 2
-lmm = [{ firm = "BBB", percent = 40 }, { firm = "CCC", percent = 10 }]
-"#;
+const THRESHOLD_LMM: &str = product_text!(
+    letter: "Q",
+    "top_min = 5",
+    "top_max = 8",
+    "least = 2",
+    r#"lmm = [{ firm = "BBB", percent = 40 }, { firm = "CCC", percent = 10 }]"#,
+);
 
 /// TOP gives 8; of 33 lots the makers give 13 and 3; of the 67 then shown, the shares of 17 are 0, 9, 6 and 0.
 const THRESHOLD_LMM_FILLS: [&str; 12] = [
@@ -217,22 +169,15 @@ const THRESHOLD_LMM_FILLS: [&str; 12] = [
 ];
 
 /// The letter K.
-const CONFIGURABLE: &str = r#"exchange = "GX"
-firms = ["AAA", "BBB", "CCC", "DDD"]
-
-[[instrument]]
-name = "ESZ4"
-decimals = 2
-tick = 1
-protection = 2
-algorithm = "K"
-steps = ["TOP", "LMM", "SPLIT", "PRORATA", "LEVELING", "FIFO"]
-top_min = 5
-top_max = 8
-least = 2
-split = 40
-lmm = [{ firm = "BBB", percent = 40 }, { firm = "CCC", percent = 10 }]
-"#;
+const CONFIGURABLE: &str = product_text!(
+    letter: "K",
+    r#"steps = ["TOP", "LMM", "SPLIT", "PRORATA", "LEVELING", "FIFO"]"#,
+    "top_min = 5",
+    "top_max = 8",
+    "least = 2",
+    "split = 40",
+    r#"lmm = [{ firm = "BBB", percent = 40 }, { firm = "CCC", percent = 10 }]"#,
+);
 
 /// TOP gives 8; of 33 lots the makers give 13 and 3; of 17 the split is 6, which are 2 and 4; of the 61 then shown, the shares
 /// of 11 are 5, 4 and 0; the order that got none gives one lot; one is left.
@@ -258,31 +203,11 @@ const CONFIGURABLE_FILLS: [&str; 18] = [
 ];
 
 /// The letter T without a lead market maker, which leaves FIFO.
-const NO_MAKER: &str = r#"exchange = "GX"
-firms = ["AAA", "BBB", "CCC", "DDD"]
-
-[[instrument]]
-name = "ESZ4"
-decimals = 2
-tick = 1
-protection = 2
-algorithm = "T"
-"#;
+const NO_MAKER: &str = product_text!(letter: "T");
 
 /// The letter Q without a lead market maker, which leaves the steps of O.
-const THRESHOLD_WITHOUT_MAKER: &str = r#"exchange = "GX"
-firms = ["AAA", "BBB", "CCC", "DDD"]
-
-[[instrument]]
-name = "ESZ4"
-decimals = 2
-tick = 1
-protection = 2
-algorithm = "Q"
-top_min = 5
-top_max = 8
-least = 2
-"#;
+const THRESHOLD_WITHOUT_MAKER: &str =
+    product_text!(letter: "Q", "top_min = 5", "top_max = 8", "least = 2");
 
 /// A name, a product, and the fills of the orders under it.
 const LETTERS: [(&str, &str, &[&str]); 9] = [

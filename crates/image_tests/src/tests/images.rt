@@ -11,7 +11,7 @@ use gx_base::NullEmit;
 use order_kinds::{Core, MOST_MESSAGES};
 use plain_book::Book;
 use product_file::{Product, read_product};
-use run_fixtures::{PRODUCT, frames_of};
+use run_fixtures::{PRODUCT, frames_of, product_text};
 use std::process::Abort;
 
 /// An order of ten lots, four of which were traded.
@@ -56,23 +56,19 @@ const ONE_ORDER_IMAGE: [(usize, u8); 24] = [
 ];
 
 /// Two instruments, of which the first has a TOP step, behind the number of orders that may be live.
-const TWO_INSTRUMENTS: &str = r#"exchange = "GX"
-firms = ["AAA", "BBB", "CCC", "DDD"]
-
-[[instrument]]
-name = "ESZ4"
-decimals = 2
-tick = 25
-protection = 2
-algorithm = "O"
-
-[[instrument]]
-name = "NQZ4"
-decimals = 2
-tick = 1
-protection = 2
-algorithm = "F"
-"#;
+const TWO_INSTRUMENTS: &str = product_text!(
+    name: "ESZ4",
+    tick: 25,
+    protection: 2,
+    letter: "O",
+    "",
+    "[[instrument]]",
+    r#"name = "NQZ4""#,
+    "decimals = 2",
+    "tick = 1",
+    "protection = 2",
+    r#"algorithm = "F""#,
+);
 
 /// Two buys at one price, a sell that shows three lots at a time, and a waiting stop.
 pub(super) const FOUR_ORDERS: [&str; 4] = [

@@ -7,7 +7,7 @@ use globex_run::{Outcome, globex};
 use gx_station::{FileStation, MemStation};
 use run_fixtures::{
     ACCEPTED, DUPLICATE, FILLED, ORDER, PRODUCT, SECOND_ACCEPTED, SECOND_FILLED, SECOND_ORDER,
-    ended, frames_of, push_frame, run, words_of,
+    ended, frames_of, product_text, push_frame, run, words_of,
 };
 use std::fs;
 use std::fs::{File, OpenOptions};
@@ -129,17 +129,7 @@ fn continued_runs(rt: HostRuntime) {
     assert_eq!(rt; whole.image().len() + 12, image.len());
 }
 
-const LIMITED_PRODUCT: &str = r#"exchange = "GX"
-firms = ["AAA", "BBB", "CCC", "DDD"]
-journal_limit = 131072
-
-[[instrument]]
-name = "ESZ4"
-decimals = 2
-tick = 1
-protection = 2
-algorithm = "F"
-"#;
+const LIMITED_PRODUCT: &str = product_text!("journal_limit = 131072", letter: "F");
 
 /// Adds a heartbeat of which the text has so many bytes.
 fn push_heartbeat(rt: &(impl Abort + AllocGlobal), bytes: &mut Vec<u8>, count: usize) {

@@ -14,7 +14,7 @@ use Rattle.plain_book.specs.Matches.{MatchAt, start_at, IsNow}
 use Rattle.order_kinds.specs.declared.core_state.TheConstants.{MOST_MESSAGES}
 use Rattle.order_kinds.specs.Cores.{AreCountsWithin}
 use Rattle.order_kinds.specs.Entering.{entered, last_fill}
-use Rattle.order_kinds.specs.Stops.{Naming, is_marked, first_marked, stop_triggered}
+use Rattle.order_kinds.specs.Stops.{Naming, is_reached_by, first_reached, stop_triggered}
 
 -- ---- trades
 
@@ -41,34 +41,34 @@ pub record ComesIn {E : Type 0} (m : EmitMeanings E) (Apart : Naming → MatchSt
 
 -- ---- the waiting stops
 
--- the range does not mark a stop
-abbrev pub IsUnmarked : Option (Price × Price) → Entry → Type 0
-IsUnmarked None e = Unit {0}
-IsUnmarked (Some range) e = is_marked range e ≡ false
+-- the range does not reach a stop
+abbrev pub IsUnreached : Option (Price × Price) → Entry → Type 0
+IsUnreached None e = Unit {0}
+IsUnreached (Some range) e = is_reached_by range e ≡ false
 
--- The waiting stops of an instrument were looked through up to one of them, or all: the range marks none of those before it.
+-- The waiting stops of an instrument were looked through up to one of them, or all: the range reaches none of those before it.
 pub record IsPassed (instrument : ℕ) (range : Option (Price × Price)) (waiting : List Entry) (from : Option ℕ) : Type 0 where
   pub front : List Entry
   pub back : List Entry
   pub whole : stops_of instrument waiting ≡ front ++ back
   pub next : from ≡ slot_of back
-  pub unmarked : AllByRecursion (IsUnmarked range) front
+  pub unreached : AllByRecursion (IsUnreached range) front
 
--- a waiting stop of this slot is the first that the range marks, and behind it this one stands
-pub record IsFirstMarked (instrument : ℕ) (range : Option (Price × Price)) (waiting : List Entry) (slot : ℕ) (behind : Option ℕ) : Type 0 where
+-- a waiting stop of this slot is the first that the range reaches, and behind it this one stands
+pub record IsFirstReached (instrument : ℕ) (range : Option (Price × Price)) (waiting : List Entry) (slot : ℕ) (behind : Option ℕ) : Type 0 where
   pub front : List Entry
   pub stop : Entry
   pub back : List Entry
   pub whole : stops_of instrument waiting ≡ front ++ stop ∷ back
   pub has : stop.slot ≡ slot
   pub next : behind ≡ slot_of back
-  pub unmarked : AllByRecursion (IsUnmarked range) front
-  pub first : first_marked instrument range waiting ≡ Some stop
+  pub unreached : AllByRecursion (IsUnreached range) front
+  pub first : first_reached instrument range waiting ≡ Some stop
 
--- the first stop that the range marks was found, and the one behind it, or there is none
-abbrev pub FindsMarked : ℕ → Option (Price × Price) → List Entry → Option ℕ → Option ℕ → Type 0
-FindsMarked instrument range waiting None next = first_marked instrument range waiting ≡ None
-FindsMarked instrument range waiting (Some slot) next = IsFirstMarked instrument range waiting slot next
+-- the first stop that the range reaches was found, and the one behind it, or there is none
+abbrev pub FindsReached : ℕ → Option (Price × Price) → List Entry → Option ℕ → Option ℕ → Type 0
+FindsReached instrument range waiting None next = first_reached instrument range waiting ≡ None
+FindsReached instrument range waiting (Some slot) next = IsFirstReached instrument range waiting slot next
 
 -- the waiting stop of a slot is triggered, and entered
 abbrev pub slot_entered : ℕ → ℕ → List Step → MatchState → MatchState

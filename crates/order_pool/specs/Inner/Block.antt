@@ -49,8 +49,8 @@ abbrev pub AllLinked : Ptr → List Node → Type 0
 AllLinked base ns = (k : ℕ) → k < length ns → IsLinked base (length ns) k (node_at ns k)
 
 -- a Vec has room for its elements, and for no more
-abbrev pub IsFull : {X Z : Type 0} → Vec X Z → Type 0
-IsFull v = vec_capacity v ≡ vec_len v
+abbrev pub HasNoRoomLeft : {X Z : Type 0} → Vec X Z → Type 0
+HasNoRoomLeft v = vec_capacity v ≡ vec_len v
 
 -- ---- what the calls do
 

@@ -8,7 +8,7 @@ use Rattle.product_file.specs.declared.faults.ProductFault.{ProductFault}
 use Rattle.product_file.specs.declared.faults.ProductFault.TheVariants.{Missing, Kind, Range}
 use Rattle.product_file.specs.Keys.{word_of}
 use Rattle.product_file.specs.Values.{entries_of}
-use Rattle.product_file.specs.Ranges.{is_within}
+use Rattle.product_file.specs.Ranges.{is_in_range}
 
 -- ---- steps that may fail
 
@@ -36,7 +36,7 @@ text_of key value = ok_or (as_str value) (Kind key)
 unfoldable pub number_of : Key → ℕ → ℕ → Data → Result ℕ ProductFault
 number_of key low high value = do
   z ← ok_or (as_integer value) (Kind key)
-  within ← where_passes (is_within low high) (Range key) z
+  within ← where_passes (is_in_range low high) (Range key) z
   Ok (unsigned_abs within)
 
 -- the entries of an array, each of which passes the test

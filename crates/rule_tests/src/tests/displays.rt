@@ -1,26 +1,23 @@
 //! Orders that show a part of their lots, under all six steps.
 use super::expect_reports;
+use run_fixtures::product_text;
 
 /// Each step once.
-const SIX_STEPS: &str = r#"exchange = "GX"
-firms = ["AAA", "BBB", "CCC", "DDD"]
-
-[[instrument]]
-name = "ALL1"
-decimals = 2
-tick = 1
-protection = 2
-algorithm = "K"
-top_min = 3
-top_max = 5
-least = 2
-split = 30
-lmm = [
-    { firm = "CCC", percent = 20 },
-    { firm = "AAA", percent = 15 },
-]
-steps = ["TOP", "LMM", "SPLIT", "PRORATA", "LEVELING", "FIFO"]
-"#;
+const SIX_STEPS: &str = product_text!(
+    name: "ALL1",
+    tick: 1,
+    protection: 2,
+    letter: "K",
+    "top_min = 3",
+    "top_max = 5",
+    "least = 2",
+    "split = 30",
+    "lmm = [",
+    r#"    { firm = "CCC", percent = 20 },"#,
+    r#"    { firm = "AAA", percent = 15 },"#,
+    "]",
+    r#"steps = ["TOP", "LMM", "SPLIT", "PRORATA", "LEVELING", "FIFO"]"#,
+);
 
 /// Four of five sells show a part; three buys take all 62 lots.
 const SHOWN_PARTS: [&str; 8] = [

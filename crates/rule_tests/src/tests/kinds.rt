@@ -1,6 +1,6 @@
 //! Orders of each kind and life: what they may trade, and where their rest goes.
 use super::expect_reports;
-use run_fixtures::PRODUCT;
+use run_fixtures::{PRODUCT, product_text};
 
 /// A sell of 100 that shows 10, one of 20 behind it, and a buy of 45.
 const DISPLAY: [&str; 3] = [
@@ -115,16 +115,7 @@ const NO_MARKET_REPORTS: [&str; 1] = [
 ];
 
 /// Prices in steps of 0.25, and a protection that passes the price range.
-const RANGE_PRODUCT: &str = r#"exchange = "GX"
-firms = ["AAA", "BBB", "CCC", "DDD"]
-
-[[instrument]]
-name = "TK25"
-decimals = 2
-tick = 25
-protection = 10000
-algorithm = "F"
-"#;
+const RANGE_PRODUCT: &str = product_text!(name: "TK25", tick: 25, protection: 10000, letter: "F");
 
 /// Market orders whose protection passes the last price of the range, above and below.
 const ENDS_OF_RANGE: [&str; 11] = [

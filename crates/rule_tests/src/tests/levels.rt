@@ -1,19 +1,9 @@
 //! Levels and books worked by hand: who gives how much, and in which step.
 use super::expect_reports;
-use run_fixtures::PRODUCT;
+use run_fixtures::{PRODUCT, product_text};
 
 /// Pro rata, where a share of one lot is given, and then FIFO.
-const PRO_RATA: &str = r#"exchange = "GX"
-firms = ["AAA", "BBB", "CCC", "DDD"]
-
-[[instrument]]
-name = "ESZ4"
-decimals = 2
-tick = 1
-protection = 2
-algorithm = "C"
-least = 1
-"#;
+const PRO_RATA: &str = product_text!(letter: "C", "least = 1");
 
 /// Four sells of the most lots and one of one lot, and a buy of the most.
 const LARGEST: [&str; 6] = [
@@ -70,17 +60,8 @@ const MORE_THAN_SHOWN_REPORTS: [&str; 12] = [
 ];
 
 /// Two lead market makers with one quarter each, and then FIFO.
-const TWO_MAKERS: &str = r#"exchange = "GX"
-firms = ["AAA", "BBB", "CCC", "DDD"]
-
-[[instrument]]
-name = "ESZ4"
-decimals = 2
-tick = 1
-protection = 2
-algorithm = "T"
-lmm = [{ firm = "BBB", percent = 25 }, { firm = "CCC", percent = 25 }]
-"#;
+const TWO_MAKERS: &str =
+    product_text!(letter: "T", r#"lmm = [{ firm = "BBB", percent = 25 }, { firm = "CCC", percent = 25 }]"#);
 
 /// Two sells of one market maker, one of the other, and a buy of 40.
 const UNSPENT: [&str; 4] = [

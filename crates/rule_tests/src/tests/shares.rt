@@ -1,18 +1,9 @@
 //! Products whose steps are more than FIFO.
 use super::expect_reports;
+use run_fixtures::product_text;
 
 /// Pro rata, where a share of fewer than five lots is not given, and then FIFO.
-const PRO_RATA: &str = r#"exchange = "GX"
-firms = ["AAA", "BBB", "CCC", "DDD"]
-
-[[instrument]]
-name = "ESZ4"
-decimals = 2
-tick = 1
-protection = 2
-algorithm = "C"
-least = 5
-"#;
+const PRO_RATA: &str = product_text!(letter: "C", "least = 5");
 
 /// Three sells at one price, and a buy of ten.
 const LEAST_SHARE: [&str; 4] = [
@@ -35,18 +26,8 @@ const LEAST_SHARE_REPORTS: [&str; 8] = [
 ];
 
 /// 40 percent by priority, the rest pro rata, and then FIFO.
-const SPLIT_STEPS: &str = r#"exchange = "GX"
-firms = ["AAA", "BBB", "CCC", "DDD"]
-
-[[instrument]]
-name = "ESZ4"
-decimals = 2
-tick = 1
-protection = 2
-algorithm = "K"
-steps = ["SPLIT", "PRORATA", "FIFO"]
-split = 40
-"#;
+const SPLIT_STEPS: &str =
+    product_text!(letter: "K", r#"steps = ["SPLIT", "PRORATA", "FIFO"]"#, "split = 40");
 
 /// Two sells at one price, and a buy of more than both.
 const SPLIT: [&str; 3] = [
@@ -69,17 +50,8 @@ const SPLIT_REPORTS: [&str; 9] = [
 ];
 
 /// Pro rata, then one lot each to those that got none, then FIFO.
-const LEVELING_STEPS: &str = r#"exchange = "GX"
-firms = ["AAA", "BBB", "CCC", "DDD"]
-
-[[instrument]]
-name = "ESZ4"
-decimals = 2
-tick = 1
-protection = 2
-algorithm = "K"
-steps = ["PRORATA", "LEVELING", "FIFO"]
-"#;
+const LEVELING_STEPS: &str =
+    product_text!(letter: "K", r#"steps = ["PRORATA", "LEVELING", "FIFO"]"#);
 
 const LEVELING: [&str; 5] = [
     "35=D|49=AAA|56=GX|34=1|52=20240102-09:30:00|11=a1|55=ESZ4|54=2|38=100|40=2|44=100.00|59=0|",
@@ -105,17 +77,7 @@ const LEVELING_REPORTS: [&str; 11] = [
 ];
 
 /// A lead market maker, and then FIFO.
-const MAKER_STEPS: &str = r#"exchange = "GX"
-firms = ["AAA", "BBB", "CCC", "DDD"]
-
-[[instrument]]
-name = "ESZ4"
-decimals = 2
-tick = 1
-protection = 2
-algorithm = "T"
-lmm = [{ firm = "BBB", percent = 40 }]
-"#;
+const MAKER_STEPS: &str = product_text!(letter: "T", r#"lmm = [{ firm = "BBB", percent = 40 }]"#);
 
 const MAKER: [&str; 3] = [
     "35=D|49=AAA|56=GX|34=1|52=20240102-09:30:00|11=a1|55=ESZ4|54=2|38=30|40=2|44=100.00|59=0|",
@@ -135,17 +97,8 @@ const MAKER_REPORTS: [&str; 7] = [
 ];
 
 /// Two lead market makers with one half each.
-const TWO_MAKERS_STEPS: &str = r#"exchange = "GX"
-firms = ["AAA", "BBB", "CCC", "DDD"]
-
-[[instrument]]
-name = "ESZ4"
-decimals = 2
-tick = 1
-protection = 2
-algorithm = "T"
-lmm = [{ firm = "BBB", percent = 50 }, { firm = "CCC", percent = 50 }]
-"#;
+const TWO_MAKERS_STEPS: &str =
+    product_text!(letter: "T", r#"lmm = [{ firm = "BBB", percent = 50 }, { firm = "CCC", percent = 50 }]"#);
 
 const TWO_MAKERS: [&str; 4] = [
     "35=D|49=AAA|56=GX|34=1|52=20240102-09:30:00|11=a1|55=ESZ4|54=2|38=30|40=2|44=100.00|59=0|",
@@ -167,18 +120,7 @@ const TWO_MAKERS_REPORTS: [&str; 8] = [
 ];
 
 /// TOP asks for 5 open lots and gives at most 8, then pro rata, then FIFO.
-const BETTERED_STEPS: &str = r#"exchange = "GX"
-firms = ["AAA", "BBB", "CCC", "DDD"]
-
-[[instrument]]
-name = "ESZ4"
-decimals = 2
-tick = 1
-protection = 2
-algorithm = "O"
-top_min = 5
-top_max = 8
-"#;
+const BETTERED_STEPS: &str = product_text!(letter: "O", "top_min = 5", "top_max = 8");
 
 const BETTERED: [&str; 4] = [
     "35=D|49=AAA|56=GX|34=1|52=20240102-09:30:00|11=a1|55=ESZ4|54=2|38=10|40=2|44=100.02|59=0|",
@@ -200,16 +142,7 @@ const BETTERED_REPORTS: [&str; 8] = [
 ];
 
 /// TOP, then pro rata with a least share of 2, then FIFO.
-const NO_HEIR_STEPS: &str = r#"exchange = "GX"
-firms = ["AAA", "BBB", "CCC", "DDD"]
-
-[[instrument]]
-name = "ESZ4"
-decimals = 2
-tick = 1
-protection = 2
-algorithm = "A"
-"#;
+const NO_HEIR_STEPS: &str = product_text!(letter: "A");
 
 const NO_HEIR: [&str; 5] = [
     "35=D|49=AAA|56=GX|34=1|52=20240102-09:30:00|11=a1|55=ESZ4|54=2|38=10|40=2|44=100.01|59=0|",

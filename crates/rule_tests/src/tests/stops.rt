@@ -13,7 +13,7 @@ const BOTH_SIDES: [&str; 7] = [
     "35=D|49=BBB|56=GX|34=2|52=20240102-09:30:07|11=b2|55=ESZ4|54=1|38=2|40=2|44=100.05|59=0|",
 ];
 
-/// Both are marked. The buy stop waited first: it rests, and the sell stop trades with it.
+/// Both are reached. The buy stop waited first: it rests, and the sell stop trades with it.
 const BOTH_SIDES_REPORTS: [&str; 17] = [
     "35=8|34=1|49=GX|52=20240102-09:30:01|56=AAA|37=1|11=a1|17=1|20=0|150=0|39=0|55=ESZ4|54=2|38=1|40=2|44=100.00|59=0|151=1|14=0|6=0|60=20240102-09:30:01|9003=0|",
     "35=8|34=1|49=GX|52=20240102-09:30:02|56=BBB|37=2|11=b1|17=2|20=0|150=0|39=0|55=ESZ4|54=1|38=1|40=2|44=100.00|59=0|151=1|14=0|6=0|60=20240102-09:30:02|9003=0|",
@@ -34,7 +34,7 @@ const BOTH_SIDES_REPORTS: [&str; 17] = [
     "35=8|34=3|49=GX|52=20240102-09:30:07|56=DDD|37=4|11=d1|17=17|20=0|150=1|39=1|55=ESZ4|54=2|38=3|40=2|44=99.90|59=0|32=2|31=100.10|151=1|14=2|6=0|60=20240102-09:30:07|9001=FIFO|9002=4|9003=0|",
 ];
 
-/// The same with a third stop, which is marked by the trade of the other two alone.
+/// The same with a third stop, which is reached by the trade of the other two alone.
 const THREE: [&str; 8] = [
     "35=D|49=AAA|56=GX|34=1|52=20240102-09:30:01|11=a1|55=ESZ4|54=2|38=1|40=2|44=100.00|59=0|",
     "35=D|49=BBB|56=GX|34=1|52=20240102-09:30:02|11=b1|55=ESZ4|54=1|38=1|40=2|44=100.00|59=0|",

@@ -58,10 +58,9 @@ mark_side-requires-in-loop-k-clause-right g c =
 
 pub mark_side-requires-in-loop-k-clause-none_top : goal.mark_side-requires-in-loop-k-clause-none_top
 mark_side-requires-in-loop-k-clause-none_top g c =
-    let a = g.B.Book.book c.args.book.now in
-    let b = g.B.Book.book c.loop-k.book in
-    let d = g.B.Book.book c.mark_side.new.book in
-    let k = c.loop-k.k in
     let p = c.args.payload.now in
-    let marked = buys-marked p k c.number_at.result a b d c.loop-k.invariant c.mark_side.ensures in
+    let k = c.loop-k.k in
+    let a = g.B.Book.book c.args.book.now in
+    let d = g.B.Book.book c.mark_side.new.book in
+    let marked = buys-marked p k c.number_at.result a (g.B.Book.book c.loop-k.book) d c.loop-k.invariant c.mark_side.ensures in
     none-numbered k Sell d.resting (subst (NoneTopOn k Sell) (sym (numbered-as a d _ marked)) (sells-unmarked p k c.number_at.result (numbered a.resting) (none-top-numbered a.resting c.requires.none_top)))

@@ -27,11 +27,9 @@ pub place_order-requires-clause-unnamed : goal.place_order-requires-clause-unnam
 place_order-requires-clause-unnamed g c =
     let b = g.B.Book.book c.args.book.now in
     let f = order_in c.args.payload.now c.args.first in
-    let n = c.args.count in
-    let os = placed_so_far f n c.args.start c.args.end c.loop-k.k in
     subst (λ (o : Order). is_live o.firm o.id (live_orders (g.B.Book.book c.loop-k.book)) ≡ false) (sym c.order_at.ensures)
-    (live-unnamed b (g.B.Book.book c.loop-k.book) os c.loop-k.invariant c.requires.none_waits (f c.loop-k.k)
-    (placed-unnamed b.instruments f n c.requires.right c.args.start c.args.end c.loop-k.k c.loop-k.auto.k c.loop-k-test.true c.requires.within))
+    (live-unnamed b (g.B.Book.book c.loop-k.book) (placed_so_far f c.args.count c.args.start c.args.end c.loop-k.k) c.loop-k.invariant c.requires.none_waits (f c.loop-k.k)
+    (placed-unnamed b.instruments f c.args.count c.requires.right c.args.start c.args.end c.loop-k.k c.loop-k.auto.k c.loop-k-test.true c.requires.within))
 
 pub place_order-requires-clause-fit : goal.place_order-requires-clause-fit
 place_order-requires-clause-fit g c =

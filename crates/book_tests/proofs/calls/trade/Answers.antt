@@ -10,8 +10,8 @@ order_at-requires g c =
     let b = g.B.Book.book c.args.book.now in
     HasSlot-left c.in-Some.slot.0 b.resting b.waiting c.in-Some.ensures
 
-pub lots_of-lots-requires : goal.lots_of-lots-requires
-lots_of-lots-requires g c =
+pub drawn_lots-lots-requires : goal.drawn_lots-lots-requires
+drawn_lots-lots-requires g c =
     let b = g.B.Book.book c.args.book.now in
     let s = c.in-Some.slot.0 in
     let is : c.order_at.result ≡ order_of s b.resting = c.order_at.ensures ∙ order_of-left s b.resting b.waiting c.in-Some.ensures in
@@ -22,4 +22,4 @@ trade-order-requires-clause-shown g c =
     let b = g.B.Book.book c.args.book.now in
     let s = c.in-Some.slot.0 in
     let is : c.order_at.result ≡ order_of s b.resting = c.order_at.ensures ∙ order_of-left s b.resting b.waiting c.in-Some.ensures in
-    subst (λ (o : Order). c.lots_of-lots.result ≤ o.shown) is c.lots_of-lots.ensures.shown
+    subst (λ (o : Order). c.drawn_lots-lots.result ≤ o.shown) is c.drawn_lots-lots.ensures.shown

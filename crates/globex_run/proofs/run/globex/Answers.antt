@@ -14,8 +14,8 @@ returns-in-Err-take_product-clause-all_done g c asked asks can quiet =
     inl (memory-without (source_at g.P.Source.meanings c.args.product.now) (source_at g.P.Source.meanings c.take_product.new.source)
     c.in-Err-take_product.reason _ c.in-Err-take_product.ensures c.outcome_without.ensures told.0 told.1 told.2 told.3 quiet.product)
 
-pub execute-requires : goal.execute-requires
-execute-requires g c = record {
+pub invariant_of-lent : goal.invariant_of-lent
+invariant_of-lent g c = record {
   short = subst (λ (l : List ℕ). length l ≤ 65536) (sym c.deref.ensures.value) (short-text c.in-Ok-take_product.taken.text.items c.in-Ok-take_product.taken.product c.in-Ok-take_product.ensures.1);
 }
 

@@ -3,7 +3,7 @@ use Rattle.gx_base.specs.declared.event.ChangeFault.TheVariants.{Unknown}
 use Rattle.plain_book.specs.Orders.{slot_named}
 use Rattle.plain_book.specs.Book.{live_orders, slot_number}
 use Rattle.order_kinds.specs.State.{State}
-use Rattle.order_kinds.specs.Replaces.{replace_by, replace_step}
+use Rattle.order_kinds.specs.Replaces.{replace_at, replace_step}
 use Rattle.order_kinds.specs.Stops.{Naming, by_number}
 use Rattle.order_kinds.specs.Inner.Apart.{ReplaceApart}
 use Rattle.order_kinds.specs.Inner.Taking.{Takes}
@@ -22,4 +22,4 @@ returns-in-None-clause-takes g c =
     (takes-refused m Apart (λ naming. replace_step naming product request) old _ _ c.refused.result request.sender request.id request.old 0 0 true Unknown c.report.new.desk
     c.refused.ensures.change c.refused.ensures.sender c.report.ensures.desk c.report.ensures.emits
     (subst (λ (s : Option ℕ). ReplaceApart s product request old by_number) (sym named) tt)
-    (ap (λ (s : Option ℕ). replace_by s by_number product request old) named))
+    (ap (λ (s : Option ℕ). replace_at s by_number product request old) named))

@@ -6,10 +6,10 @@ use Rattle.plain_book.specs.Orders.{slot_of, stops_of}
 use Rattle.plain_book.specs.Book.{slot_number}
 use Rattle.plain_book.specs.Matches.{match_at}
 use Rattle.order_kinds.specs.declared.trades.Trades.{Trades}
-use Rattle.order_kinds.specs.Stops.{first_marked, entered_with_stops}
+use Rattle.order_kinds.specs.Stops.{first_reached, entered_with_stops}
 use Rattle.order_kinds.specs.Inner.Apart.{EnterApart}
 use Rattle.order_kinds.specs.Inner.Taking.{last_in_range}
-use Rattle.order_kinds.specs.Inner.Triggering.{ComesIn, IsPassed, IsFirstMarked}
+use Rattle.order_kinds.specs.Inner.Triggering.{ComesIn, IsPassed, IsFirstReached}
 use Rattle.order_kinds.proofs.PriceRanges.{end-none}
 use Rattle.order_kinds.proofs.Waiting.{passed-none}
 use Rattle.order_kinds.proofs.Triggering.{HasTriggered, triggered-none, triggered-more, triggered-all, triggered-rose, triggered-room, found-waits, fewer-wait, passed-on}
@@ -33,8 +33,8 @@ first g c =
     (triggered-none m c.args.steps.now before now c.rules.ensures c.rules-2.ensures c.list.ensures.right c.requires.no_range c.enter.ensures.takes c.enter.ensures.rose)
 
 -- the stop that was found is one of the order's instrument
-found : (i j : ℕ) (range : Option (Price × Price)) (waiting : List Entry) (slot : ℕ) (behind : Option ℕ) → IsFirstMarked i range waiting slot behind → i ≡ j → IsFirstMarked j range waiting slot behind
-found i j range waiting slot behind is same = subst (λ (n : ℕ). IsFirstMarked n range waiting slot behind) same is
+found : (i j : ℕ) (range : Option (Price × Price)) (waiting : List Entry) (slot : ℕ) (behind : Option ℕ) → IsFirstReached i range waiting slot behind → i ≡ j → IsFirstReached j range waiting slot behind
+found i j range waiting slot behind is same = subst (λ (n : ℕ). IsFirstReached n range waiting slot behind) same is
 
 -- it was triggered, and its trades were added
 more : (g : Over) (c : After-add g) → let before = match_at (g.B.Book.book c.args.book.now) c.args.desk.now c.args.taker.now c.args.out.now in
@@ -45,7 +45,7 @@ more g c =
     let l = c.loop-slot in
     let now = match_at (g.B.Book.book l.book) l.desk l.taker l.out in
     let after = match_at (g.B.Book.book c.trigger.new.book) c.trigger.new.desk c.trigger.new.taker c.trigger.new.out in
-    triggered-more g.E.Emit.meanings c.args.steps.now before l.trades.range l.trades.last now l.invariant.has l.invariant.right c.in-Some.slot.0 (option_map slot_number c.next_marked.new.self.at)
+    triggered-more g.E.Emit.meanings c.args.steps.now before l.trades.range l.trades.last now l.invariant.has l.invariant.right c.in-Some.slot.0 (option_map slot_number c.next_reached.new.self.at)
     (found _ _ _ _ _ _ c.in-Some.ensures.found l.invariant.searched) after c.trigger.ensures.takes c.rules-in-Some.ensures c.list.ensures.right c.trigger.ensures.rose
     c.add.new.self.range c.add.new.self.last c.add.ensures.range c.add.ensures.last
 
@@ -63,7 +63,7 @@ returns-then-is_none-clause-comes g c =
     ∙ end-none now.taker.order.side in
     subst (λ (p : Option Price). ComesIn m (λ naming. EnterApart naming steps) (λ naming. entered_with_stops naming steps) before now p) no-last
     (triggered-all m steps before c.of-trades.result.range c.of-trades.result.last now (first g (goal.at.returns-then-is_none-clause-comes g c).After-of-trades)
-    (ap (λ (r : Option (Price × Price)). first_marked i r now.book.waiting) none))
+    (ap (λ (r : Option (Price × Price)). first_reached i r now.book.waiting) none))
 
 pub start-stops-requires : goal.start-stops-requires
 start-stops-requires g c =
@@ -88,7 +88,7 @@ trigger-requires-clause-waits g c =
     let before = match_at (g.B.Book.book c.args.book.now) c.args.desk.now c.args.taker.now c.args.out.now in
     let l = c.loop-slot in
     let now = match_at (g.B.Book.book l.book) l.desk l.taker l.out in
-    found-waits g.E.Emit.meanings c.args.steps.now before l.trades.range l.trades.last now l.invariant.has l.invariant.right c.in-Some.slot.0 (option_map slot_number c.next_marked.new.self.at)
+    found-waits g.E.Emit.meanings c.args.steps.now before l.trades.range l.trades.last now l.invariant.has l.invariant.right c.in-Some.slot.0 (option_map slot_number c.next_reached.new.self.at)
     (found _ _ _ _ _ _ c.in-Some.ensures.found l.invariant.searched)
 
 pub trigger-requires-clause-room : goal.trigger-requires-clause-room
@@ -113,7 +113,7 @@ fewer g c =
     let after = match_at (g.B.Book.book c.trigger.new.book) c.trigger.new.desk c.trigger.new.taker c.trigger.new.out in
     omega (
       arith,
-      fewer-wait g.E.Emit.meanings c.args.steps.now before l.trades.range l.trades.last now l.invariant.has l.invariant.right c.in-Some.slot.0 (option_map slot_number c.next_marked.new.self.at)
+      fewer-wait g.E.Emit.meanings c.args.steps.now before l.trades.range l.trades.last now l.invariant.has l.invariant.right c.in-Some.slot.0 (option_map slot_number c.next_reached.new.self.at)
           (found _ _ _ _ _ _ c.in-Some.ensures.found l.invariant.searched) after c.trigger.ensures.takes,
     )
 
@@ -142,8 +142,8 @@ loop-slot-preserved g c =
     let l = c.loop-slot in
     let now = match_at (g.B.Book.book l.book) l.desk l.taker l.out in
     let after = match_at (g.B.Book.book c.trigger.new.book) c.trigger.new.desk c.trigger.new.taker c.trigger.new.out in
-    let at = option_map slot_number c.next_marked.new.self.at in
-    let searched : c.next_marked.new.self.instrument ≡ before.taker.order.instrument = c.next_marked.ensures.instrument ∙ l.invariant.searched in
+    let at = option_map slot_number c.next_reached.new.self.at in
+    let searched : c.next_reached.new.self.instrument ≡ before.taker.order.instrument = c.next_reached.ensures.instrument ∙ l.invariant.searched in
     record {
       has = more g (goal.at.loop-slot-preserved g c).After-add;
       right = c.rules-in-Some.ensures;
@@ -158,9 +158,9 @@ returns-clause-comes g c =
     let before = match_at (g.B.Book.book c.args.book.now) c.args.desk.now c.args.taker.now c.args.out.now in
     let l = c.loop-slot in
     let now = match_at (g.B.Book.book l.book) l.desk l.taker l.out in
-    let none : first_marked l.stops.instrument l.trades.range now.book.waiting ≡ None = c.in_default.ensures.found in
+    let none : first_reached l.stops.instrument l.trades.range now.book.waiting ≡ None = c.in_default.ensures.found in
     triggered-all g.E.Emit.meanings c.args.steps.now before l.trades.range l.trades.last now l.invariant.has
-    (ap (λ (n : ℕ). first_marked n l.trades.range now.book.waiting) (sym l.invariant.searched) ∙ none)
+    (ap (λ (n : ℕ). first_reached n l.trades.range now.book.waiting) (sym l.invariant.searched) ∙ none)
 
 pub returns-clause-rose : goal.returns-clause-rose
 returns-clause-rose g c =

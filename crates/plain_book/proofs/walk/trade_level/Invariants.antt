@@ -12,10 +12,10 @@ use Rattle.plain_book.proofs.walk.trade_level.Given as goal
 abbrev pub invariant-loop-at : goal.invariant-loop-at
 invariant-loop-at g l =
     let b = g.B.Book.book l.fn.book in
-    let k = facing l.fn.price l.fn.taker in
-    IsWalk g.E.Emit.meanings g.R.ShareRule.meanings k l.fn.step (shares_by g.R.ShareRule.meanings l.fn.rule (orders_at k b.resting)) (match_at b l.fn.desk l.fn.taker l.fn.out)
+    let k = facing l.fn.level.price l.fn.taker in
+    IsWalk g.E.Emit.meanings g.R.ShareRule.meanings k l.fn.level.step (shares_by g.R.ShareRule.meanings l.fn.rule (orders_at k b.resting)) (match_at b l.fn.desk l.fn.taker l.fn.out)
     (option_map slot_number l.at) (option_map slot_number l.end) l.rule (match_at (g.B.Book.book l.book) l.desk l.taker l.out)
 
 abbrev pub decreases-loop-at : goal.decreases-loop-at
 decreases-loop-at g l =
-    length (still_to_come (option_map slot_number l.at) (option_map slot_number l.end) (orders_at (facing l.fn.price l.fn.taker) (g.B.Book.book l.book).resting))
+    length (still_to_come (option_map slot_number l.at) (option_map slot_number l.end) (orders_at (facing l.fn.level.price l.fn.taker) (g.B.Book.book l.book).resting))

@@ -4,7 +4,7 @@ use Rattle.toml.specs.View.{view}
 use Rattle.gx_base.specs.declared.limits.TheConstants.{MOST_FIRMS}
 use Rattle.product_file.specs.Values.{text_in}
 use Rattle.product_file.specs.Ranges.{is_firm_name}
-use Rattle.product_file.proofs.Mapped.{drop-mapped_twice, take-mapped_twice}
+use Rattle.product_file.proofs.Mapped.{all-mapped_twice, take-mapped_twice}
 use Rattle.product_file.proofs.firms.firm_names.Goals as goal
 
 fails : (b : Bool) → (b ≡ true → ⊥) → b ≡ false
@@ -22,19 +22,16 @@ returns-in-None c =
     let value = c.entry-item.result in
     let i = c.loop-entry.entry-index in
     let texts = map text_in (map view c.args.entries.now) in
-    let here = drop-mapped_twice text_in view c.args.entries.now i value c.loop-entry-test.true c.entry-item.is in
+    let here = all-mapped_twice text_in view c.args.entries.now i value c.loop-entry-test.true c.entry-item.is is_firm_name in
     let fault = fails (is_firm_name (text_in (view value))) c.in-None.ensures in
-    let all : list_all is_firm_name texts ≡ false = c.loop-entry.invariant.rest ∙ ap (list_all is_firm_name) here ∙ ap (λ (b : Bool). b && list_all is_firm_name (drop (i + 1) texts)) fault in
-    sym (last_fails (nat_le 1 (length texts)) (nat_le (length texts) MOST_FIRMS) (list_all is_firm_name texts) _ _ all)
+    sym (last_fails (nat_le 1 (length texts)) (nat_le (length texts) MOST_FIRMS) (list_all is_firm_name texts) _ _
+    (c.loop-entry.invariant.rest ∙ here ∙ ap (λ (b : Bool). b && list_all is_firm_name (drop (i + 1) texts)) fault))
 
 pub loop-entry-preserved : goal.loop-entry-preserved
 loop-entry-preserved c =
-    let value = c.entry-item.result in
-    let i = c.loop-entry.entry-index in
-    let texts = map text_in (map view c.args.entries.now) in
-    let here = drop-mapped_twice text_in view c.args.entries.now i value c.loop-entry-test.true c.entry-item.is in
-    let passed = take-mapped_twice text_in view c.args.entries.now i value c.loop-entry-test.true c.entry-item.is in
+    let passed = take-mapped_twice text_in view c.args.entries.now c.loop-entry.entry-index c.entry-item.result c.loop-entry-test.true c.entry-item.is in
     record {
       kept = cc (passed, c.in-Some.ensures.1);
-      rest = c.loop-entry.invariant.rest ∙ ap (list_all is_firm_name) here ∙ ap (λ (b : Bool). b && list_all is_firm_name (drop (i + 1) texts)) (c.in-Some.ensures.0);
+      rest = c.loop-entry.invariant.rest ∙ all-mapped_twice text_in view c.args.entries.now c.loop-entry.entry-index c.entry-item.result c.loop-entry-test.true c.entry-item.is is_firm_name
+          ∙ ap (λ (b : Bool). b && list_all is_firm_name (drop (c.loop-entry.entry-index + 1) (map text_in (map view c.args.entries.now)))) (c.in-Some.ensures.0);
     }

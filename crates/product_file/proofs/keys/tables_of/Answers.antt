@@ -5,10 +5,6 @@ use Rattle.product_file.specs.Rows.{is_table}
 use Rattle.product_file.specs.Inner.Keys.{array_of}
 use Rattle.product_file.proofs.keys.tables_of.Goals as goal
 
-pub returns-then-are_tables : goal.returns-then-are_tables
+pub returns : goal.returns
 unfolding array_of
-returns-then-are_tables c = rw (← c.in_ok-entries.ensures, list_all-map is_table view c.in_ok-entries.entries.now, ← c.are_tables.ensures, c.if-are_tables.true) refl
-
-pub returns-else-are_tables : goal.returns-else-are_tables
-unfolding array_of
-returns-else-are_tables c = rw (← c.in_ok-entries.ensures, list_all-map is_table view c.in_ok-entries.entries.now, ← c.are_tables.ensures, c.if-are_tables.false) refl
+returns c = rw (← c.in_ok-entries.ensures, list_all-map is_table view c.in_ok-entries.entries.now, ← c.are_tables.ensures) c.of_kind.ensures

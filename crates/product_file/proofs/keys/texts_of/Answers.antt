@@ -5,10 +5,6 @@ use Rattle.product_file.specs.Rows.{is_text}
 use Rattle.product_file.specs.Inner.Keys.{array_of}
 use Rattle.product_file.proofs.keys.texts_of.Goals as goal
 
-pub returns-then-are_texts : goal.returns-then-are_texts
+pub returns : goal.returns
 unfolding array_of
-returns-then-are_texts c = rw (← c.in_ok-entries.ensures, list_all-map is_text view c.in_ok-entries.entries.now, ← c.are_texts.ensures, c.if-are_texts.true) refl
-
-pub returns-else-are_texts : goal.returns-else-are_texts
-unfolding array_of
-returns-else-are_texts c = rw (← c.in_ok-entries.ensures, list_all-map is_text view c.in_ok-entries.entries.now, ← c.are_texts.ensures, c.if-are_texts.false) refl
+returns c = rw (← c.in_ok-entries.ensures, list_all-map is_text view c.in_ok-entries.entries.now, ← c.are_texts.ensures) c.of_kind.ensures

@@ -12,8 +12,8 @@ returns-in-None-clause-matches g c =
     let empty = found_none c.args.price c.args.taker.now l.taker c.opposite_side-side.result b c.first.result l.invariant.faces c.opposite_side-side.ensures c.first.ensures c.in-None.is in
     rounding-end g.E.Emit.meanings c.args.price (match_at (g.B.Book.book c.args.book.now) c.args.desk.now c.args.taker.now c.args.out.now) (match_at b l.desk l.taker l.out) l.invariant (inr empty)
 
-pub lots_of-lots-requires : goal.lots_of-lots-requires
-lots_of-lots-requires g c =
+pub lots_at_head-lots-requires : goal.lots_at_head-lots-requires
+lots_at_head-lots-requires g c =
     let l = c.loop-taker in
     let h = found c.args.price c.args.taker.now l.taker c.opposite_side-side.result (g.B.Book.book l.book) c.first.result c.in-Some.slot l.invariant.faces c.opposite_side-side.ensures c.first.ensures c.in-Some.is c.rules.ensures in
     h.live
@@ -28,23 +28,23 @@ pub trade_lots-requires-clause-some : goal.trade_lots-requires-clause-some
 trade_lots-requires-clause-some g c =
     let l = c.loop-taker in
     let h = found c.args.price c.args.taker.now l.taker c.opposite_side-side.result (g.B.Book.book l.book) c.first.result c.in-Some.slot l.invariant.faces c.opposite_side-side.ensures c.first.ensures c.in-Some.is c.rules.ensures in
-    omega (arith, c.lots_of-lots.ensures, ap (λ (o : Order). o.shown) h.live_order, h.fit.showing, c.loop-taker-test.true)
+    omega (arith, c.lots_at_head-lots.ensures, ap (λ (o : Order). o.shown) h.live_order, h.fit.showing, c.loop-taker-test.true)
 
 pub trade_lots-requires-clause-shown : goal.trade_lots-requires-clause-shown
 trade_lots-requires-clause-shown g c =
     let l = c.loop-taker in
     let h = found c.args.price c.args.taker.now l.taker c.opposite_side-side.result (g.B.Book.book l.book) c.first.result c.in-Some.slot l.invariant.faces c.opposite_side-side.ensures c.first.ensures c.in-Some.is c.rules.ensures in
-    omega (arith, c.lots_of-lots.ensures, ap (λ (o : Order). o.shown) (h.live_order ∙ sym h.order))
+    omega (arith, c.lots_at_head-lots.ensures, ap (λ (o : Order). o.shown) (h.live_order ∙ sym h.order))
 
 pub loop-taker-preserved : goal.loop-taker-preserved
 loop-taker-preserved g c =
     let l = c.loop-taker in
     let r = c.trade_lots in
     let h = found c.args.price c.args.taker.now l.taker c.opposite_side-side.result (g.B.Book.book l.book) c.first.result c.in-Some.slot l.invariant.faces c.opposite_side-side.ensures c.first.ensures c.in-Some.is c.rules.ensures in
-    let lots : c.lots_of-lots.result ≡ min l.taker.order.leaves h.entry.order.shown = c.lots_of-lots.ensures ∙ ap (λ (o : Order). min l.taker.order.leaves o.shown) h.live_order in
-    let some : 1 ≤ c.lots_of-lots.result = omega (arith, lots, h.fit.showing, c.loop-taker-test.true) in
+    let lots : c.lots_at_head-lots.result ≡ min l.taker.order.leaves h.entry.order.shown = c.lots_at_head-lots.ensures ∙ ap (λ (o : Order). min l.taker.order.leaves o.shown) h.live_order in
+    let some : 1 ≤ c.lots_at_head-lots.result = omega (arith, lots, h.fit.showing, c.loop-taker-test.true) in
     rounding-more g.E.Emit.meanings c.args.price (match_at (g.B.Book.book c.args.book.now) c.args.desk.now c.args.taker.now c.args.out.now) (match_at (g.B.Book.book l.book) l.desk l.taker l.out) (match_at (g.B.Book.book r.new.book) r.new.desk r.new.taker r.new.out)
-    c.in-Some.slot.0 c.lots_of-lots.result h lots some l.invariant r.ensures
+    c.in-Some.slot.0 c.lots_at_head-lots.result h lots some l.invariant r.ensures
 
 pub returns-clause-matches : goal.returns-clause-matches
 returns-clause-matches g c =

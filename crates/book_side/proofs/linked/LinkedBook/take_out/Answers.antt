@@ -28,10 +28,7 @@ pub drop_top-requires : goal.drop_top-requires
 drop_top-requires c = (row (goal.at.drop_top-requires c).After-order-order).listed
 
 pub remove-requires : goal.remove-requires
-remove-requires c =
-    let b = c.args.self.now in
-    let s = c.args.slot.0 in
-    id-there c.self.invariant.0 c.self.view_is s c.order-order.result.now (HasSlot-left s b.resting b.waiting c.requires) c.order-order.ensures
+remove-requires c = id-there c.self.invariant.0 c.self.view_is c.args.slot.0 c.order-order.result.now (HasSlot-left c.args.slot.0 c.args.self.now.resting c.args.self.now.waiting c.requires) c.order-order.ensures
 
 pub invariant_of-self : goal.invariant_of-self
 invariant_of-self c =

@@ -10,10 +10,7 @@ pub unlink-requires : goal.unlink-requires
 unlink-requires c = waits-live c.self.invariant.0 c.self.view_is c.args.slot.0 c.requires
 
 pub remove-requires : goal.remove-requires
-remove-requires c =
-    let b = c.args.self.now in
-    let s = c.args.slot.0 in
-    id-there c.self.invariant.0 c.self.view_is s c.order-order.result.now (HasSlot-right s b.resting b.waiting c.requires) c.order-order.ensures
+remove-requires c = id-there c.self.invariant.0 c.self.view_is c.args.slot.0 c.order-order.result.now (HasSlot-right c.args.slot.0 c.args.self.now.resting c.args.self.now.waiting c.requires) c.order-order.ensures
 
 pub invariant_of-self : goal.invariant_of-self
 invariant_of-self c =

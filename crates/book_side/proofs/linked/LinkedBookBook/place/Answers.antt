@@ -34,7 +34,7 @@ placed : (c : After-place_top) → (HasSlot c.push_back-slot.result.0 (live_orde
 placed c =
     let pushed = c.push_back-slot.ensures in
     let new = came c.self.invariant.0 c.self.view_is c.enter_level-queue.result c.args.order c.enter_level-queue.new.levels c.enter_level-queue.ensures c.rules.ensures c.requires.room c.requires.fit
-    c.push_back-slot.new.self c.insert.new.self c.set_sums.new.self c.place_top.new.tops.items c.push_back-slot.result c.args.top_min c.first_shown-shown.result c.from.result c.from-2.result c.row-row.result c.is_new_best-best.result c.is_enough.result
+    c.push_back-slot.new.self c.insert.new.self c.set_sums.new.self c.place_top.new.tops.items c.push_back-slot.result c.args.top_min c.first_shown-shown.result c.from.result c.from-2.result c.row-row.result c.is_new_best-best.result c.makes_top.result
     (record {
       first = c.first_shown-shown.ensures;
       queues = pushed.queues;
@@ -46,7 +46,7 @@ placed c =
       rows = c.set_sums.ensures;
       given = c.insert.ensures;
       best_is = c.is_new_best-best.ensures;
-      enough_is = c.is_enough.ensures;
+      enough_is = c.makes_top.ensures;
       long = c.place_top.ensures.length;
       top = c.place_top.ensures.tops;
     }) c.requires.unnamed in

@@ -1,30 +1,13 @@
-use Rattle.std.proofs.Common.{◌≡◌, List, refl, sym, ap, subst, ◌∙◌, arith}
-use Rattle.std.specs.Prelude.{vec_capacity}
-use Rattle.gx_base.specs.declared.order.Order.{Order}
-use Rattle.plain_book.specs.declared.entry.Entry.{Entry}
-use Rattle.plain_book.specs.Orders.{HasSlot, order_of, with_order}
-use Rattle.plain_book.specs.Book.{Book, IsResting}
-use Rattle.plain_book.specs.Inner.FreeSlots.{book_of, IsKept}
-use Rattle.plain_book.proofs.Live.{fit_of}
+use Rattle.std.proofs.Common.{refl, ap, ◌∙◌}
+use Rattle.plain_book.specs.Orders.{order_of}
 use Rattle.plain_book.proofs.Fits.{fit-prorated}
-use Rattle.plain_book.proofs.Kept.{kept-with_order}
+use Rattle.plain_book.proofs.KeptCalls.{seen-fits, seen-renewed}
 use Rattle.plain_book.proofs.plain.PlainBookBook.set_prorated.Goals as goal
 
 pub invariant_of-self : goal.invariant_of-self
 invariant_of-self c =
-    let p = c.self.inside in
-    let xs = p.resting.items in
-    let s = c.args.slot.0 in
-    let b = book_of p.capacity p.instruments xs p.waiting.items in
-    let back = sym c.self.view_is in
-    let has : HasSlot s xs = subst (λ (x : Book). HasSlot s x.resting) back c.requires in
-    let e = c.put_back.ensures in
-    let er = vec_capacity c.put_back.new.entries in
-    let wr = vec_capacity p.waiting in
-    let fr = vec_capacity p.free in
-    let change : Order → Order = λ x. record x { prorated = c.args.share } in
-    let o : Order = change (order_of s xs) in
-    let fits : IsResting p.instruments (order_of s xs) = fit_of p.instruments s xs c.self.invariant.right.rest has in
-    let o_is : change c.order_at.result.now ≡ o = ap change (c.order_at.ensures ∙ ap (order_of s) c.deref.ensures.value) in
-    subst (λ (l : List Entry). IsKept (book_of p.capacity p.instruments l p.waiting.items) er wr p.free.items fr) (sym (e.entries ∙ ap (λ (x : Order). with_order s x xs) o_is))
-    (kept-with_order b (vec_capacity p.resting) wr p.free.items fr er wr fr c.self.invariant (omega (arith, e.capacity)) (omega arith) (omega arith) s o has refl refl refl (fit-prorated p.instruments c.args.share (order_of s xs) fits))
+    let k = c.self.invariant in
+    let seen = c.self.view_is in
+    let old = c.order_at.ensures ∙ ap (order_of c.args.slot.0) c.deref.ensures.value in
+    seen-renewed k seen (λ o. record o { prorated = c.args.share }) (λ o. (refl, refl, refl)) c.args.slot.0 c.requires old c.put_back.ensures.entries c.put_back.ensures.capacity
+    (fit-prorated c.self.inside.instruments c.args.share _ (seen-fits k seen c.args.slot.0 c.requires))

@@ -1,13 +1,12 @@
-use Rattle.std.proofs.Common.{◌≡◌, ◌+◌, ◌<◌, ℕ, List, Vec, Global, length, set, vec_capacity, refl, sym, ap, subst, ◌∙◌, arith}
-use Rattle.std.proofs.lemmas.List.{get_or_read, length-map}
+use Rattle.std.proofs.Common.{◌+◌, ◌<◌, ℕ, List, Vec, Global, length, set, vec_capacity, refl, sym, ap, subst, ◌∙◌, arith}
+use Rattle.std.proofs.lemmas.List.{length-map}
 use Rattle.price_level.specs.declared.row.LevelRow.{LevelRow}
 use Rattle.price_level.specs.declared.side.Step.{Step}
-use Rattle.price_level.specs.Rows.{no_row}
 use Rattle.price_level.specs.Inner.Steps.{row_in, AreWorstFirst, without_step}
 use Rattle.price_level.specs.Inner.Sides.{side_number, lists, rooms, list_at, rows_of}
 use Rattle.price_level.specs.Inner.Kept.{rows_seen, IsKept}
 use Rattle.price_level.proofs.Fields.{written}
-use Rattle.price_level.proofs.Seen.{queue_in, ordered}
+use Rattle.price_level.proofs.Seen.{queue_in, row_read, ordered}
 use Rattle.price_level.proofs.Gone.{going_in, going_listed, free_below, kept_closed, seen_closed, count_closed}
 use Rattle.price_level.proofs.levels.Levels.close_level.Goals as goal
 
@@ -17,8 +16,7 @@ index-row-requires c = omega (arith, queue_in c.self.invariant.0 c.args.self.now
 pub remove_step-requires-clause-listed : goal.remove_step-requires-clause-listed
 remove_step-requires-clause-listed c =
     let l = c.self.inside in
-    let lt = queue_in c.self.invariant.0 c.args.self.now c.self.view_is c.args.queue c.requires.has in
-    let is : c.index-row.result.now ≡ row_in l.rows.items c.args.queue = get_or_read l.rows.items c.args.queue c.index-row.result.now lt c.index-row.ensures no_row in
+    let is = row_read c.self.invariant.0 c.args.self.now c.self.view_is c.args.queue c.requires.has c.index-row.result.now c.index-row.ensures in
     let long = length-map l.sides.items (λ (v : Vec Step Global). v.items) in
     subst (λ (p : LevelRow × List (Vec Step Global)). side_number p.0.instrument p.0.side < length p.1) (λ i. (sym is i, sym c.deref_mut.ensures.value i))
     (omega (arith, going_in c.self.invariant.0 c.args.self.now c.self.view_is c.args.queue c.requires.has))
@@ -26,8 +24,7 @@ remove_step-requires-clause-listed c =
 pub remove_step-requires-clause-ordered : goal.remove_step-requires-clause-ordered
 remove_step-requires-clause-ordered c =
     let l = c.self.inside in
-    let lt = queue_in c.self.invariant.0 c.args.self.now c.self.view_is c.args.queue c.requires.has in
-    let is : c.index-row.result.now ≡ row_in l.rows.items c.args.queue = get_or_read l.rows.items c.args.queue c.index-row.result.now lt c.index-row.ensures no_row in
+    let is = row_read c.self.invariant.0 c.args.self.now c.self.view_is c.args.queue c.requires.has c.index-row.result.now c.index-row.ensures in
     let row = row_in l.rows.items c.args.queue in
     subst (λ (p : LevelRow × List (Vec Step Global)). AreWorstFirst p.0.side (list_at (lists p.1) (side_number p.0.instrument p.0.side))) (λ i. (sym is i, sym c.deref_mut.ensures.value i))
     (ordered c.self.invariant.0 (rows_seen l.capacity l.instruments l.rows.items (lists l.sides.items)) refl row.instrument row.side (going_listed c.self.invariant.0 c.args.self.now c.self.view_is c.args.queue c.requires.has) (list_at (lists l.sides.items) (side_number row.instrument row.side)) refl)
@@ -38,8 +35,7 @@ give_back-requires c = omega (arith, free_below c.self.invariant.0 c.args.self.n
 pub invariant_of-self : goal.invariant_of-self
 invariant_of-self c =
     let l = c.self.inside in
-    let lt = queue_in c.self.invariant.0 c.args.self.now c.self.view_is c.args.queue c.requires.has in
-    let is : c.index-row.result.now ≡ row_in l.rows.items c.args.queue = get_or_read l.rows.items c.args.queue c.index-row.result.now lt c.index-row.ensures no_row in
+    let is = row_read c.self.invariant.0 c.args.self.now c.self.view_is c.args.queue c.requires.has c.index-row.result.now c.index-row.ensures in
     let row = row_in l.rows.items c.args.queue in
     let n = side_number row.instrument row.side in
     let put = c.remove_step.ensures.lists ∙ ap (λ (p : LevelRow × List (Vec Step Global)). set (lists p.1) (side_number p.0.instrument p.0.side) (without_step p.0.price (list_at (lists p.1) (side_number p.0.instrument p.0.side)))) (λ i. (is i, c.deref_mut.ensures.value i)) in
@@ -55,8 +51,7 @@ invariant_of-self c =
 pub returns : goal.returns
 returns c =
     let l = c.self.inside in
-    let lt = queue_in c.self.invariant.0 c.args.self.now c.self.view_is c.args.queue c.requires.has in
-    let is : c.index-row.result.now ≡ row_in l.rows.items c.args.queue = get_or_read l.rows.items c.args.queue c.index-row.result.now lt c.index-row.ensures no_row in
+    let is = row_read c.self.invariant.0 c.args.self.now c.self.view_is c.args.queue c.requires.has c.index-row.result.now c.index-row.ensures in
     let row = row_in l.rows.items c.args.queue in
     let n = side_number row.instrument row.side in
     let put = c.remove_step.ensures.lists ∙ ap (λ (p : LevelRow × List (Vec Step Global)). set (lists p.1) (side_number p.0.instrument p.0.side) (without_step p.0.price (list_at (lists p.1) (side_number p.0.instrument p.0.side)))) (λ i. (is i, c.deref_mut.ensures.value i)) in

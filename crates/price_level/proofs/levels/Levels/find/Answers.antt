@@ -1,15 +1,11 @@
-use Rattle.std.proofs.Common.{List, Vec, Global, ap, ◌∙◌}
-use Rattle.price_level.specs.declared.side.Step.{Step}
-use Rattle.price_level.specs.Inner.Sides.{lists, list_at, side_number}
-use Rattle.price_level.proofs.Seen.{ordered, queue}
+use Rattle.std.proofs.Common.{◌∙◌}
+use Rattle.price_level.specs.Inner.Sides.{side_number}
+use Rattle.price_level.proofs.Seen.{steps_read, ordered, queue}
 use Rattle.price_level.proofs.levels.Levels.find.Goals as goal
 
 pub queue_at-requires : goal.queue_at-requires
-queue_at-requires c =
-    let is = c.steps_of.ensures ∙ ap (λ (v : List (Vec Step Global)). list_at (lists v) (side_number c.args.instrument c.args.side)) c.deref.ensures.value in
-    ordered c.self.invariant.0 c.args.self.now c.self.view_is c.args.instrument c.args.side c.requires c.steps_of.result.now is
+queue_at-requires c = ordered c.self.invariant.0 c.args.self.now c.self.view_is c.args.instrument c.args.side c.requires c.steps_of.result.now (steps_read (side_number c.args.instrument c.args.side) c.steps_of.ensures c.deref.ensures.value)
 
 pub returns : goal.returns
 returns c =
-    let is = c.steps_of.ensures ∙ ap (λ (v : List (Vec Step Global)). list_at (lists v) (side_number c.args.instrument c.args.side)) c.deref.ensures.value in
-    c.queue_at.ensures ∙ queue c.self.invariant.0 c.args.self.now c.self.view_is c.args.instrument c.args.side c.requires c.steps_of.result.now is c.args.price
+    c.queue_at.ensures ∙ queue c.self.invariant.0 c.args.self.now c.self.view_is c.args.instrument c.args.side c.requires c.steps_of.result.now (steps_read (side_number c.args.instrument c.args.side) c.steps_of.ensures c.deref.ensures.value) c.args.price

@@ -1,0 +1,69 @@
+-- What a record holds, by its kind.
+use Rattle.std.proofs.Common.{◌≡◌, ℕ, ◌+◌, ◌<◌, List, [], length, Result, Ok, Err, sym, ◌∙◌, ap, arith}
+use Rattle.std.specs.Prelude.{IfOk}
+use Rattle.fix_frame.specs.Stream.{messages_of, rest_of}
+use Rattle.product_file.specs.Products.{ProductLists}
+use Rattle.order_kinds.specs.State.{State}
+use Rattle.order_kinds.specs.declared.core_state.TheConstants.{MOST_MESSAGES}
+use Rattle.match_journal.specs.declared.entry.EntryKind.{EntryKind}
+use Rattle.match_journal.specs.declared.entry.EntryKind.TheVariants.{Frames, Image}
+use Rattle.book_recovery.specs.Records.{AreGoodFrames}
+use Rattle.book_recovery.specs.Inner.Replays.{IsImageRead, ReadsImage}
+use Rattle.book_recovery.specs.Inner.Contents.{CountsBehind, ReadsFrames, IsContent, ReadsContent}
+use Rattle.book_recovery.specs.declared.recovery.RecoverFault.{RecoverFault}
+use Rattle.book_recovery.specs.declared.recovery.RecoverFault.TheVariants as fault
+
+-- ---- frames that were held
+
+module _ (count : ℕ) (held payload : List ℕ) (same : held ≡ payload) where
+  pub frames_good : (given : List (List ℕ)) → rest_of held ≡ [] → given ≡ messages_of held → count + length given < MOST_MESSAGES → AreGoodFrames count payload × (given ≡ messages_of payload)
+  frames_good given whole are few =
+      let given_are : given ≡ messages_of payload = are ∙ ap messages_of same in
+      (record { no_rest = sym (ap rest_of same) ∙ whole; few = omega (arith, few, ap length given_are) }, given_are)
+
+  pub frames_broken : (rest_of held ≡ [] → count + length (messages_of held) < MOST_MESSAGES → ⊥) → AreGoodFrames count payload → ⊥
+  frames_broken not_good good = not_good (ap rest_of same ∙ good.no_rest) (omega (arith, good.few, ap length (ap messages_of same)))
+
+-- ---- by the kind
+
+module _ (product : ProductLists) (count : ℕ) (payload : List ℕ) (gate : ℕ) (given : List (List ℕ)) (core : State) where
+  pub counts_frames : (kind : EntryKind) → kind ≡ Frames → (r : Result ℕ RecoverFault) → IfOk r (λ behind. behind ≡ count + length given) → IfOk r (CountsBehind count kind given core)
+  counts_frames Frames is r counts = counts
+  counts_frames Image is r counts = absurd (cc is)
+
+  content_frames : (r : Result ℕ RecoverFault) → IfOk r (λ behind. behind ≡ count + length given) → ReadsFrames count payload gate given r → ReadsContent product count Frames payload gate given core r
+  content_frames (Ok behind) counts read = record {
+    good = read.0;
+    given_are = read.1;
+    behind_is = counts ∙ ap (λ (l : List (List ℕ)). count + length l) read.1;
+    state = λ image. absurd (cc image);
+  }
+  content_frames (Err fault.Store) counts read = tt
+  content_frames (Err (fault.Bad at)) counts read = read
+
+  pub reads_frames : (kind : EntryKind) → kind ≡ Frames → (r : Result ℕ RecoverFault) → IfOk r (λ behind. behind ≡ count + length given) → ReadsFrames count payload gate given r → ReadsContent product count kind payload gate given core r
+  reads_frames Frames is r counts read = content_frames r counts read
+  reads_frames Image is r counts read = absurd (cc is)
+
+  pub counts_image : (kind : EntryKind) → kind ≡ Image → (behind : ℕ) → given ≡ [] → behind ≡ core.desk.messages → CountsBehind count kind given core behind
+  counts_image Frames is behind none counted = absurd (cc is)
+  counts_image Image is behind none counted = (none, counted)
+
+  pub reads_image : (kind : EntryKind) → kind ≡ Image → (behind : ℕ) → given ≡ [] → behind ≡ core.desk.messages → IsImageRead product payload core → IsContent product count kind payload given core behind
+  reads_image Frames is behind none counted read = absurd (cc is)
+  reads_image Image is behind none counted read = record {
+    good = read.right;
+    given_are = none;
+    behind_is = counted ∙ ap (λ (s : State). s.desk.messages) read.state;
+    state = λ image. read.state;
+  }
+
+  pub reads_no_image : (kind : EntryKind) → kind ≡ Image → (why : RecoverFault) → ReadsImage product payload core gate (Err why) → ReadsContent product count kind payload gate given core (Err why)
+  reads_no_image Frames is why read = absurd (cc is)
+  reads_no_image Image is fault.Store read = tt
+  reads_no_image Image is (fault.Bad at) read = read
+
+-- frames add theirs to the count
+pub frames_counted : (count : ℕ) (kind : EntryKind) (given : List (List ℕ)) (core : State) (behind : ℕ) → kind ≡ Frames → CountsBehind count kind given core behind → behind ≡ count + length given
+frames_counted count Frames given core behind is counts = counts
+frames_counted count Image given core behind is counts = absurd (cc is)

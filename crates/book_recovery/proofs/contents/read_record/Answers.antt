@@ -1,0 +1,25 @@
+use Rattle.std.proofs.Common.{[]}
+use Rattle.book_recovery.specs.Inner.Replays.{payload_at}
+use Rattle.book_recovery.proofs.RecordContents.{counts_frames, reads_frames, reads_image, reads_no_image}
+use Rattle.book_recovery.proofs.contents.read_record.Goals as goal
+
+pub returns-in-Frames-clause-counts : goal.returns-in-Frames-clause-counts
+returns-in-Frames-clause-counts g c =
+    let entry = c.args.met.entry in
+    counts_frames c.args.product.now c.args.met.count [] entry.at c.read_frame_record.new.scratch.framer.given c.args.core.now entry.kind c.in-Frames.is c.read_frame_record.result c.read_frame_record.ensures.counts
+
+pub returns-in-Frames-clause-reads : goal.returns-in-Frames-clause-reads
+returns-in-Frames-clause-reads g c = λ image read known.
+    let entry = c.args.met.entry in
+    reads_frames c.args.product.now c.args.met.count (payload_at image entry) entry.at c.read_frame_record.new.scratch.framer.given c.args.core.now entry.kind c.in-Frames.is c.read_frame_record.result c.read_frame_record.ensures.counts (c.read_frame_record.ensures.reads image read)
+
+pub returns-in-Ok-clause-reads : goal.returns-in-Ok-clause-reads
+returns-in-Ok-clause-reads g c = λ image read known.
+    let entry = c.args.met.entry in
+    reads_image c.args.product.now c.args.met.count (payload_at image entry) entry.at c.clear.new.self.given c.read_image_record.new.core entry.kind c.in-Image.is c.messages.result c.clear.ensures.0 c.messages.ensures.count
+    (c.in-Ok.ensures.reads image read known)
+
+pub returns-in-Err-clause-reads : goal.returns-in-Err-clause-reads
+returns-in-Err-clause-reads g c = λ image read known.
+    let entry = c.args.met.entry in
+    reads_no_image c.args.product.now c.args.met.count (payload_at image entry) entry.at c.clear.new.self.given c.read_image_record.new.core entry.kind c.in-Image.is c.in-Err.why (c.in-Err.ensures.reads image read known)

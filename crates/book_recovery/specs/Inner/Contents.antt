@@ -1,0 +1,35 @@
+-- Reading what a record holds, behind some messages that are counted.
+use Rattle.std.specs.Prelude.{◌≡◌, ℕ, ◌+◌, List, [], length, Result, Ok, Err}
+use Rattle.fix_frame.specs.Stream.{messages_of}
+use Rattle.product_file.specs.Products.{ProductLists}
+use Rattle.order_kinds.specs.State.{State, state_numbered}
+use Rattle.book_image.specs.Reading.{state_of_image}
+use Rattle.match_journal.specs.declared.entry.EntryKind.{EntryKind}
+use Rattle.match_journal.specs.declared.entry.EntryKind.TheVariants.{Frames, Image}
+use Rattle.book_recovery.specs.Records.{messages_as, count_as, AreGoodFrames, IsGoodAs}
+use Rattle.book_recovery.specs.declared.recovery.RecoverFault.{RecoverFault}
+use Rattle.book_recovery.specs.declared.recovery.RecoverFault.TheVariants as fault
+
+-- the count behind a record: frames add theirs, and the state of an image says it
+abbrev pub CountsBehind : ℕ → EntryKind → List (List ℕ) → State → ℕ → Type 0
+CountsBehind count Frames given core behind = behind ≡ count + length given
+CountsBehind count Image given core behind = (given ≡ []) × (behind ≡ core.desk.messages)
+
+-- what is answered at frames with this payload and gate
+abbrev pub ReadsFrames : ℕ → List ℕ → ℕ → List (List ℕ) → Result ℕ RecoverFault → Type 0
+ReadsFrames count payload gate given (Ok behind) = AreGoodFrames count payload × (given ≡ messages_of payload)
+ReadsFrames count payload gate given (Err fault.Store) = Unit {0}
+ReadsFrames count payload gate given (Err (fault.Bad at)) = (AreGoodFrames count payload → ⊥) × (at ≡ gate)
+
+-- The payload is good; these are its messages, and so many are counted behind it. An image is that of the core.
+pub record IsContent (product : ProductLists) (count : ℕ) (kind : EntryKind) (payload : List ℕ) (given : List (List ℕ)) (core : State) (behind : ℕ) : Type 0 where
+  pub good : IsGoodAs product count kind payload
+  pub given_are : given ≡ messages_as kind payload
+  pub behind_is : behind ≡ count_as count kind payload
+  pub state : kind ≡ Image → state_numbered core ≡ state_of_image product payload
+
+-- what is answered at a record of this kind, with its payload and gate
+abbrev pub ReadsContent : ProductLists → ℕ → EntryKind → List ℕ → ℕ → List (List ℕ) → State → Result ℕ RecoverFault → Type 0
+ReadsContent product count kind payload gate given core (Ok behind) = IsContent product count kind payload given core behind
+ReadsContent product count kind payload gate given core (Err fault.Store) = Unit {0}
+ReadsContent product count kind payload gate given core (Err (fault.Bad at)) = (IsGoodAs product count kind payload → ⊥) × (at ≡ gate)

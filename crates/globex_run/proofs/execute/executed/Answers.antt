@@ -1,0 +1,70 @@
+use Rattle.std.proofs.Common.{IfOk, ℕ, List, Result, sym, subst}
+use Rattle.command_words.specs.declared.command.Command.{Command}
+use Rattle.command_words.specs.declared.command.Command.TheVariants.{Replay, Fills, Ledger, Book, Steps, Drill, Checkpoint}
+use Rattle.book_print.specs.declared.ledger.Totals.{Totals}
+use Rattle.journal_print.specs.declared.work.Lines.{Lines}
+use Rattle.journal_print.proofs.WholeTexts.{reports_printed, fills_printed, ledger_printed}
+use Rattle.globex_run.specs.Outside.{source_at, station_at, streams_at}
+use Rattle.globex_run.specs.Inner.Executing.{IsExecuted}
+use Rattle.globex_run.specs.declared.outcome.Outcome.{Outcome}
+use Rattle.globex_run.proofs.Executed.{if-ok, if-ok-three, drill-executed, checkpoint-executed, steps-executed, print-executed}
+use Rattle.globex_run.proofs.execute.executed.Goals as goal
+
+pub returns-in-Drill-clause-did : goal.returns-in-Drill-clause-did
+returns-in-Drill-clause-did g c =
+    let m = g.S.Station.meanings in
+    let before = streams_at g.I.Source.meanings m c.args.input.now c.args.station.now in
+    let after = streams_at g.I.Source.meanings m c.args.input.now c.drill.new.station in
+    subst (λ (x : Command). IfOk c.drill.result (λ (outcome : Outcome). IsExecuted m c.args.taken.now.product.now c.args.taken.now.text.now before after outcome x)) (sym c.in-Drill.is)
+    (if-ok-three c.drill.result _ _ _ _ (λ outcome did stays refused. drill-executed m c.args.taken.now.product.now c.args.taken.now.text.now (source_at g.I.Source.meanings c.args.input.now) c.args.station.now c.drill.new.station outcome c.in-Drill.first c.in-Drill.count did stays refused) c.drill.ensures.drills c.drill.ensures.stays c.drill.ensures.refused)
+
+pub returns-in-Checkpoint-clause-did : goal.returns-in-Checkpoint-clause-did
+returns-in-Checkpoint-clause-did g c =
+    let m = g.S.Station.meanings in
+    let before = streams_at g.I.Source.meanings m c.args.input.now c.args.station.now in
+    let after = streams_at g.I.Source.meanings m c.args.input.now c.checkpoint.new.station in
+    subst (λ (x : Command). IfOk c.checkpoint.result (λ (outcome : Outcome). IsExecuted m c.args.taken.now.product.now c.args.taken.now.text.now before after outcome x)) (sym c.in-Checkpoint.is)
+    (if-ok-three c.checkpoint.result _ _ _ _ (λ outcome did stays again. checkpoint-executed m c.args.taken.now.product.now c.args.taken.now.text.now (source_at g.I.Source.meanings c.args.input.now) c.args.station.now c.checkpoint.new.station outcome did stays) c.checkpoint.ensures.did c.checkpoint.ensures.stays c.checkpoint.ensures.did)
+
+pub returns-in-Steps-clause-did : goal.returns-in-Steps-clause-did
+returns-in-Steps-clause-did g c =
+    let m = g.S.Station.meanings in
+    let before = streams_at g.I.Source.meanings m c.args.input.now c.args.station.now in
+    let after = streams_at g.I.Source.meanings m c.args.input.now c.list_steps.new.station in
+    subst (λ (x : Command). IfOk c.list_steps.result (λ (outcome : Outcome). IsExecuted m c.args.taken.now.product.now c.args.taken.now.text.now before after outcome x)) (sym c.in-Steps.is)
+    (if-ok c.list_steps.result _ _ (λ outcome printed. steps-executed m c.args.taken.now.product.now c.args.taken.now.text.now (source_at g.I.Source.meanings c.args.input.now) c.args.station.now c.list_steps.new.station outcome c.limits.ensures printed) c.list_steps.ensures.steps)
+
+pub returns-in-Book-clause-did : goal.returns-in-Book-clause-did
+returns-in-Book-clause-did g c =
+    let m = g.S.Station.meanings in
+    let before = streams_at g.I.Source.meanings m c.args.input.now c.args.station.now in
+    let after = streams_at g.I.Source.meanings m c.args.input.now c.print_last_book.new.station in
+    subst (λ (x : Command). IfOk c.print_last_book.result (λ (outcome : Outcome). IsExecuted m c.args.taken.now.product.now c.args.taken.now.text.now before after outcome x)) (sym c.in-Book.is)
+    (if-ok c.print_last_book.result _ _ (λ outcome printed. print-executed m c.args.taken.now.product.now c.args.taken.now.text.now (source_at g.I.Source.meanings c.args.input.now) c.args.station.now c.print_last_book.new.station outcome c.limits.ensures Book (λ never. never) _ printed (λ prints. prints) (λ form. form)) c.print_last_book.ensures.prints)
+
+pub returns-in-Replay-clause-did : goal.returns-in-Replay-clause-did
+returns-in-Replay-clause-did g c =
+    let m = g.S.Station.meanings in
+    let before = streams_at g.I.Source.meanings m c.args.input.now c.args.station.now in
+    let after = streams_at g.I.Source.meanings m c.args.input.now c.print_each_record.new.station in
+    subst (λ (x : Command). IfOk c.print_each_record.result (λ (outcome : Outcome). IsExecuted m c.args.taken.now.product.now c.args.taken.now.text.now before after outcome x)) (sym c.in-Replay.is)
+    (if-ok c.print_each_record.result _ _ (λ outcome printed. print-executed m c.args.taken.now.product.now c.args.taken.now.text.now (source_at g.I.Source.meanings c.args.input.now) c.args.station.now c.print_each_record.new.station outcome c.limits.ensures Replay (λ never. never) _ printed (λ prints. prints)
+    (λ form. record { answer = form.answer; outcome_is = form.outcome_is; prints = λ image read. reports_printed m c.args.taken.now.product.now c.args.taken.now.text.now image c.args.station.now c.print_each_record.new.station _ form.answer (form.prints image read) })) c.print_each_record.ensures.prints)
+
+pub returns-in-Fills-clause-did : goal.returns-in-Fills-clause-did
+returns-in-Fills-clause-did g c =
+    let m = g.S.Station.meanings in
+    let before = streams_at g.I.Source.meanings m c.args.input.now c.args.station.now in
+    let after = streams_at g.I.Source.meanings m c.args.input.now c.print_each_record-in-Fills.new.station in
+    subst (λ (x : Command). IfOk c.print_each_record-in-Fills.result (λ (outcome : Outcome). IsExecuted m c.args.taken.now.product.now c.args.taken.now.text.now before after outcome x)) (sym c.in-Fills.is)
+    (if-ok c.print_each_record-in-Fills.result _ _ (λ outcome printed. print-executed m c.args.taken.now.product.now c.args.taken.now.text.now (source_at g.I.Source.meanings c.args.input.now) c.args.station.now c.print_each_record-in-Fills.new.station outcome c.limits.ensures Fills (λ never. never) _ printed (λ prints. prints)
+    (λ form. record { answer = form.answer; outcome_is = form.outcome_is; prints = λ image read. fills_printed m c.args.taken.now.product.now c.args.taken.now.text.now image c.args.station.now c.print_each_record-in-Fills.new.station _ form.answer (form.prints image read) })) c.print_each_record-in-Fills.ensures.prints)
+
+pub returns-in-Ledger-clause-did : goal.returns-in-Ledger-clause-did
+returns-in-Ledger-clause-did g c =
+    let m = g.S.Station.meanings in
+    let before = streams_at g.I.Source.meanings m c.args.input.now c.args.station.now in
+    let after = streams_at g.I.Source.meanings m c.args.input.now c.print_each_record-in-Ledger.new.station in
+    subst (λ (x : Command). IfOk c.print_each_record-in-Ledger.result (λ (outcome : Outcome). IsExecuted m c.args.taken.now.product.now c.args.taken.now.text.now before after outcome x)) (sym c.in-Ledger.is)
+    (if-ok c.print_each_record-in-Ledger.result _ _ (λ outcome printed. print-executed m c.args.taken.now.product.now c.args.taken.now.text.now (source_at g.I.Source.meanings c.args.input.now) c.args.station.now c.print_each_record-in-Ledger.new.station outcome c.limits.ensures Ledger (λ never. never) _ printed (λ prints. prints)
+    (λ form. record { answer = form.answer; outcome_is = form.outcome_is; prints = λ image read. let lines : Lines Totals = record { form = c.new.result } in ledger_printed m c.args.taken.now.product.now c.args.taken.now.text.now image c.args.station.now c.print_each_record-in-Ledger.new.station c.limits.ensures lines c.new.ensures form.answer (form.prints image read) })) c.print_each_record-in-Ledger.ensures.prints)
