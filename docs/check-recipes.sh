@@ -111,6 +111,17 @@ wait_for() {
     fail "nothing came to $1"
 }
 
+# A run, `run`, that reads from descriptor 3 and has served the first of the orders.
+serve_first_order() {
+    take_example F
+    mkfifo in
+    "$globex" run <in >sent 2>errors &
+    run=$!
+    exec 3>in
+    head -c "$("$tools/frames" offset 2 orders)" orders >&3
+    wait_for sent 100
+}
+
 # The journal keeps just what was handed in, once, and `sent` has just its reports.
 nothing_lost_or_doubled() {
     "$tools/journal" messages journal.gxj >kept
@@ -466,13 +477,7 @@ look_socket() {
 
 two-runs() {
     local run word status
-    take_example F
-    mkfifo in
-    "$globex" run <in >sent 2>errors &
-    run=$!
-    exec 3>in
-    head -c "$("$tools/frames" offset 2 orders)" orders >&3
-    wait_for sent 100
+    serve_first_order
     cp journal.gxj was
     for word in run 'drill --first 1 --count 1' checkpoint; do
         "$globex" $word <orders >out 2>>errors
@@ -666,13 +671,7 @@ strange-journals() {
 # The name is taken away, or the file is cut, while a run goes on.
 removed-journal() {
     local run
-    take_example F
-    mkfifo in
-    "$globex" run <in >sent 2>errors &
-    run=$!
-    exec 3>in
-    head -c "$("$tools/frames" offset 2 orders)" orders >&3
-    wait_for sent 100
+    serve_first_order
     rm journal.gxj
     "$tools/frames" skip 2 orders >&3
     exec 3>&-
