@@ -1,6 +1,6 @@
 //! The bodies of report lines, field by field. As in `fields`, each call writes behind the first `at` bytes, and answers
 //! where what it wrote ends. A field takes at most `LONGEST_FIELD` bytes.
-ghost use Rattle.std.specs.Prelude.{◌≡◌, ◌+◌, ◌*◌, ◌≤◌, ◌++◌, ◌==◌, if◌then◌else◌, Some, None, codes, decimal, length, take};
+ghost use Rattle.std.specs.Prelude.{◌≡◌, ◌+◌, ◌*◌, ◌≤◌, [], ◌∷◌, ◌++◌, ◌==◌, if◌then◌else◌, Some, None, codes, decimal, length, take};
 ghost use Rattle.std.specs.Option.{option_copied};
 ghost use Rattle.gx_base.specs.Frames.{field};
 ghost use Rattle.gx_base.specs.Line.{field_if, addressee, instrument_name, step_text, cause_text, number_text, cancel_id, cancelled_id, line_head, id_fields, report_fields, price_fields, order_fields, order_front, state_fields, trade_fields, refused_fields, wanted_fields, nothing_fields, fault_fields, request_fields, change_fields, session_fields, body_of};
@@ -16,21 +16,15 @@ use gx_base::{
 use line_parts::fields::{LONGEST_FIELD, field, name, number, price, time, word};
 use line_parts::side_text;
 
-/// The ids in the report of an order.
-#[derive(Clone, Copy)]
-struct Ids<'a> {
-    /// Tag 11.
-    id: &'a ShortId,
-    /// Tag 41, where it is there.
-    old: Option<&'a ShortId>,
-}
-
 /// What a report tells of the change of an order.
 #[derive(Clone, Copy)]
 struct OrderUpdate<'a> {
-    ids: Ids<'a>,
-    /// Tags 150 and 39.
-    status: &'a [u8],
+    /// Tag 11.
+    id: &'a ShortId,
+    /// Tag 41, if it is there.
+    old: Option<&'a ShortId>,
+    /// The digit of tags 150 and 39.
+    status: u8,
 }
 
 /// Writes the body of an event: at most 28 fields.
@@ -41,12 +35,12 @@ pub(crate) fn write_body(into: &mut [u8], at: usize, event: &Event, names: &Name
 {
     match event {
         Event::Accepted { head, order } => {
-            let at = own_front(into, at, names, head, order, b"0");
+            let at = order_front(into, at, names, head, order, &own_update(order, b'0'));
             let at = state_fields(into, at, head, order);
             word(into, at, b"9003=", b"0")
         }
         Event::Triggered { head, order } => {
-            let at = own_front(into, at, names, head, order, b"0");
+            let at = order_front(into, at, names, head, order, &own_update(order, b'0'));
             let at = state_fields(into, at, head, order);
             let at = word(into, at, b"58=", b"TRIGGERED");
             word(into, at, b"9003=", b"0")
@@ -59,7 +53,8 @@ pub(crate) fn write_body(into: &mut [u8], at: usize, event: &Event, names: &Name
             step,
             trade,
         } => {
-            let at = own_front(into, at, names, head, order, fill_status(order.leaves));
+            let update = own_update(order, fill_status(order.leaves));
+            let at = order_front(into, at, names, head, order, &update);
             let decimals = decimals_of(names, order.instrument);
             let at = trade_fields(into, at, *lots, *price, decimals);
             let at = state_fields(into, at, head, order);
@@ -74,7 +69,8 @@ pub(crate) fn write_body(into: &mut [u8], at: usize, event: &Event, names: &Name
             by,
             cause,
         } => {
-            let at = cancelled_front(into, at, names, head, order, by);
+            let update = cancel_update(order, by.as_ref());
+            let at = order_front(into, at, names, head, order, &update);
             let at = state_fields(into, at, head, order);
             let at = cause_field(into, at, *cause);
             number(into, at, b"9003=", u64::from(*gone))
@@ -85,7 +81,12 @@ pub(crate) fn write_body(into: &mut [u8], at: usize, event: &Event, names: &Name
             old,
             ..
         } => {
-            let at = replaced_front(into, at, names, head, order, old);
+            let update = OrderUpdate {
+                id: &order.id,
+                old: Some(old),
+                status: b'5',
+            };
+            let at = order_front(into, at, names, head, order, &update);
             let at = state_fields(into, at, head, order);
             word(into, at, b"9003=", b"0")
         }
@@ -170,91 +171,63 @@ fn order_front(
     names: &Names,
     head: &Head,
     order: &Order,
-    update: OrderUpdate<'_>,
+    update: &OrderUpdate<'_>,
 ) -> usize
-    requires room { at + 19 * LONGEST_FIELD ≤ length into.old }
-    requires short_status { length update.status.now ≤ LONGEST_VALUE }
+    requires { at + 19 * LONGEST_FIELD ≤ length into.old }
     ensures fields { take result into.new ≡ take at into.old
-        ++ order_front names.now head.now order.now update.entry.ids.id.now (option_copied update.entry.ids.old) update.entry.status.now }
+        ++ order_front names.now head.now order.now update.now.id.now (option_copied update.now.old) (update.now.status ∷ []) }
     ensures short { result ≤ at + 19 * LONGEST_FIELD }
 {
     let at = line_head(into, at, names, b"8", head);
-    let at = id_fields(into, at, order.number, update.ids);
+    let at = id_fields(into, at, order.number, update.id, update.old);
     let at = report_fields(into, at, head, update.status);
     order_fields(into, at, names, order)
 }
 
-/// The front of a report of an order under its own id.
-fn own_front(
-    into: &mut [u8],
-    at: usize,
-    names: &Names,
-    head: &Head,
-    order: &Order,
-    status: &[u8],
-) -> usize
-    requires room { at + 19 * LONGEST_FIELD ≤ length into.old }
-    requires short_status { length status.now ≤ LONGEST_VALUE }
-    ensures fields { take result into.new ≡ take at into.old ++ order_front names.now head.now order.now order.now.id None status.now }
-    ensures short { result ≤ at + 19 * LONGEST_FIELD }
+/// The update of an order under its own id.
+fn own_update(order: &Order, status: u8) -> OrderUpdate<'_>
+    ensures id { result.id.now ≡ order.now.id }
+    ensures old { result.old ≡ None }
+    ensures status { result.status ≡ status }
 {
-    let update = OrderUpdate {
-        ids: own_id(order),
-        status,
-    };
-    order_front(into, at, names, head, order, update)
-}
-
-/// The front of a report that an order is cancelled, under the id of the cancel where one asked for it.
-fn cancelled_front(
-    into: &mut [u8],
-    at: usize,
-    names: &Names,
-    head: &Head,
-    order: &Order,
-    by: &Option<ShortId>,
-) -> usize
-    requires { at + 19 * LONGEST_FIELD ≤ length into.old }
-    ensures fields { take result into.new ≡ take at into.old ++ order_front names.now head.now order.now (cancel_id order.now by.now) (cancelled_id order.now by.now) (codes "4") }
-    ensures short { result ≤ at + 19 * LONGEST_FIELD }
-{
-    let update = OrderUpdate {
-        ids: cancel_ids(order, by.as_ref()),
-        status: b"4",
-    };
-    order_front(into, at, names, head, order, update)
-}
-
-/// The front of a report that an order is replaced, in the place of its old id.
-fn replaced_front(
-    into: &mut [u8],
-    at: usize,
-    names: &Names,
-    head: &Head,
-    order: &Order,
-    old: &ShortId,
-) -> usize
-    requires { at + 19 * LONGEST_FIELD ≤ length into.old }
-    ensures fields { take result into.new ≡ take at into.old ++ order_front names.now head.now order.now order.now.id (Some old.now) (codes "5") }
-    ensures short { result ≤ at + 19 * LONGEST_FIELD }
-{
-    let ids = Ids {
+    OrderUpdate {
         id: &order.id,
-        old: Some(old),
-    };
-    let update = OrderUpdate { ids, status: b"5" };
-    order_front(into, at, names, head, order, update)
+        old: None,
+        status,
+    }
+}
+
+/// The update of an order that is cancelled, under the id of the cancel if one asked for it.
+fn cancel_update<'a>(order: &'a Order, by: Option<&'a ShortId>) -> OrderUpdate<'a>
+    ensures id { result.id.now ≡ cancel_id order.now (option_copied by.entry) }
+    ensures old { option_copied result.old ≡ cancelled_id order.now (option_copied by.entry) }
+    ensures status { result.status ∷ [] ≡ codes "4" }
+{
+    match by {
+        Some(id) => OrderUpdate {
+            id,
+            old: Some(&order.id),
+            status: b'4',
+        },
+        None => own_update(order, b'4'),
+    }
 }
 
 /// Which order, under which id, and in the place of which id.
-fn id_fields(into: &mut [u8], at: usize, order_number: u64, ids: Ids<'_>) -> usize
+fn id_fields(
+    into: &mut [u8],
+    at: usize,
+    order_number: u64,
+    id: &ShortId,
+    old: Option<&ShortId>,
+) -> usize
     requires { at + 3 * LONGEST_FIELD ≤ length into.old }
-    ensures fields { take result into.new ≡ take at into.old ++ id_fields order_number ids.entry.id.now (option_copied ids.entry.old) }
+    ensures fields { take result into.new ≡ take at into.old ++ id_fields order_number id.now (option_copied old.entry) }
     ensures short { result ≤ at + 3 * LONGEST_FIELD }
 {
     let at = number(into, at, b"37=", order_number);
-    let at = name(into, at, b"11=", ids.id);
-    old_field(into, at, ids.old)
+    let at = name(into, at, b"11=", id);
+    old_field(into, at, old)
 }
 
 /// The id in whose place this one stands, if there is one.
@@ -269,42 +242,16 @@ fn old_field(into: &mut [u8], at: usize, old: Option<&ShortId>) -> usize
     }
 }
 
-/// The order's own id alone.
-fn own_id(order: &Order) -> Ids<'_>
-    ensures id { result.id.now ≡ order.now.id }
-    ensures old { result.old ≡ None }
-{
-    Ids {
-        id: &order.id,
-        old: None,
-    }
-}
-
-/// The id of the cancel that asked for it and then the order's own, or the order's own alone.
-fn cancel_ids<'a>(order: &'a Order, by: Option<&'a ShortId>) -> Ids<'a>
-    ensures id { result.id.now ≡ cancel_id order.now (option_copied by.entry) }
-    ensures old { option_copied result.old ≡ cancelled_id order.now (option_copied by.entry) }
-{
-    match by {
-        Some(id) => Ids {
-            id,
-            old: Some(&order.id),
-        },
-        None => own_id(order),
-    }
-}
-
 /// Which execution report, and what it tells.
-fn report_fields(into: &mut [u8], at: usize, head: &Head, status: &[u8]) -> usize
-    requires room { at + 4 * LONGEST_FIELD ≤ length into.old }
-    requires short_status { length status.now ≤ LONGEST_VALUE }
-    ensures fields { take result into.new ≡ take at into.old ++ report_fields head.now status.now }
+fn report_fields(into: &mut [u8], at: usize, head: &Head, status: u8) -> usize
+    requires { at + 4 * LONGEST_FIELD ≤ length into.old }
+    ensures fields { take result into.new ≡ take at into.old ++ report_fields head.now (status ∷ []) }
     ensures short { result ≤ at + 4 * LONGEST_FIELD }
 {
     let at = number(into, at, b"17=", head.report);
     let at = word(into, at, b"20=", b"0");
-    let at = field(into, at, b"150=", status);
-    field(into, at, b"39=", status)
+    let at = word(into, at, b"150=", &[status]);
+    word(into, at, b"39=", &[status])
 }
 
 /// What was ordered.
@@ -402,12 +349,8 @@ fn refused_fields(
     ensures fields { take result into.new ≡ take at into.old ++ refused_fields head.now order.now fault }
     ensures short { result ≤ at + 8 * LONGEST_FIELD }
 {
-    let ids = Ids {
-        id: &order.id,
-        old: None,
-    };
-    let at = id_fields(into, at, 0, ids);
-    let at = report_fields(into, at, head, b"8");
+    let at = id_fields(into, at, 0, &order.id, None);
+    let at = report_fields(into, at, head, b'8');
     field(into, at, b"103=", reject_reason(fault))
 }
 

@@ -1,5 +1,5 @@
 //! What the fields of reports say: the codes of FIX 4.2, and our own words.
-ghost use Rattle.std.specs.Prelude.{◌≡◌, ◌≤◌, ◌==◌, if◌then◌else◌, codes, length};
+ghost use Rattle.std.specs.Prelude.{◌≡◌, ◌≤◌, [], ◌∷◌, ◌==◌, if◌then◌else◌, codes, length};
 ghost use Rattle.gx_base.specs.Line.{decimals_of, kind_text, life_text, step_text, fill_status, fault_text, reject_reason, change_text, change_reason, change_status, response_text, rule_text};
 
 use gx_base::{ChangeFault, Kind, LONGEST_VALUE, Life, MOST_DECIMALS, Names, NewFault, StepName};
@@ -93,12 +93,11 @@ pub(crate) fn reject_reason(fault: NewFault) -> &'static [u8]
     }
 }
 
-/// The value of tags 39 and 150 in FIX 4.2 for a fill: partly filled, or filled where nothing is open.
-pub(crate) fn fill_status(leaves: u32) -> &'static [u8]
-    ensures text { result.now ≡ fill_status leaves }
-    ensures short { length result.now ≤ LONGEST_VALUE }
+/// The digit of tags 39 and 150 in FIX 4.2 for a fill: partly filled, or filled if nothing is open.
+pub(crate) fn fill_status(leaves: u32) -> u8
+    ensures { result ∷ [] ≡ fill_status leaves }
 {
-    if leaves == 0 { b"2" } else { b"1" }
+    if leaves == 0 { b'2' } else { b'1' }
 }
 
 /// The value of tag 58 for a refused cancel or replace, in our own words.
