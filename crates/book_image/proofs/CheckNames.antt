@@ -1,13 +1,12 @@
 -- The names of the rows that were looked at, and the stops that a book has for them.
-use Rattle.std.proofs.Common.{◌≡◌, ℕ, zero, suc, ◌+◌, Bool, true, false, ◌&&◌, ◌||◌, cond, List, [], ◌∷◌, ◌++◌, filter, length, Option, Some, None, option_map, is_some, refl, ap, sym, subst, ◌∙◌, arith, add-one}
+use Rattle.std.proofs.Common.{◌≡◌, ℕ, zero, suc, ◌+◌, Bool, true, false, ◌&&◌, ◌||◌, List, [], ◌∷◌, ◌++◌, length, refl, ap, sym, subst, ◌∙◌, arith, add-one}
 use Rattle.std.specs.Prelude.{◌==◌, bytes_eq}
 use Rattle.std.specs.List.{list_any}
 use Rattle.std.proofs.lemmas.List.Folds.{list_any-append}
 use Rattle.gx_base.specs.declared.order.Order.{Order}
-use Rattle.gx_base.specs.declared.order.Slot.{Slot}
 use Rattle.plain_book.specs.declared.entry.Entry.{Entry}
-use Rattle.plain_book.specs.Orders.{is_live, is_named, slot_named, slot_of}
-use Rattle.plain_book.specs.Book.{Book, IsRight, live_orders, book_waited, slot_number}
+use Rattle.plain_book.specs.Orders.{is_live, is_named}
+use Rattle.plain_book.specs.Book.{Book, IsRight, live_orders, book_waited}
 use Rattle.plain_book.proofs.Sorted.{IsInserted, inserted-length}
 use Rattle.plain_book.proofs.Right.{live-lined}
 use Rattle.book_image.specs.declared.format.TheConstants.{ROW_BYTES}
@@ -15,23 +14,6 @@ use Rattle.book_image.specs.Rows.{bytes_at, order_of_row, row_at}
 use Rattle.book_image.specs.Rules.{has_same_name}
 use Rattle.book_image.specs.Faults.{orders_at}
 use Rattle.book_image.specs.Inner.Checking.{HasNames, TakesName, stop_named}
-
--- ---- what is found
-
-live-named : (firm : ℕ) (id : List ℕ) (es : List Entry) → is_some (slot_named firm id es) ≡ is_live firm id es
-live-named firm id [] = refl
-live-named firm id (e ∷ es) =
-    let p = is_named firm id in
-    elim (p e) as (λ b. is_some (slot_of (cond b (e ∷ filter p es) (filter p es))) ≡ (b || is_live firm id es)) [ true ↦ refl | false ↦ live-named firm id es ]
-
-some-mapped : (found : Option Slot) → is_some (option_map slot_number found) ≡ is_some found
-some-mapped None = refl
-some-mapped (Some s) = refl
-
--- whether a name is found
-pub found-live : (firm : ℕ) (id : List ℕ) (es : List Entry) (found : Option Slot) → option_map slot_number found ≡ slot_named firm id es
-    → is_some found ≡ is_live firm id es
-found-live firm id es found is = sym (some-mapped found) ∙ ap is_some is ∙ live-named firm id es
 
 -- ---- one more order
 

@@ -45,10 +45,6 @@ module _ (product : ProductLists) (count : ℕ) (payload : List ℕ) (gate : ℕ
   reads_frames Frames is r counts read = content_frames r counts read
   reads_frames Image is r counts read = absurd (cc is)
 
-  pub counts_image : (kind : EntryKind) → kind ≡ Image → (behind : ℕ) → given ≡ [] → behind ≡ core.desk.messages → CountsBehind count kind given core behind
-  counts_image Frames is behind none counted = absurd (cc is)
-  counts_image Image is behind none counted = (none, counted)
-
   pub reads_image : (kind : EntryKind) → kind ≡ Image → (behind : ℕ) → given ≡ [] → behind ≡ core.desk.messages → IsImageRead product payload core → IsContent product count kind payload given core behind
   reads_image Frames is behind none counted read = absurd (cc is)
   reads_image Image is behind none counted read = record {

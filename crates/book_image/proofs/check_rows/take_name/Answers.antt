@@ -2,7 +2,8 @@ use Rattle.std.proofs.Common.{◌≡◌, false, not, ap, sym, subst, ◌∙◌}
 use Rattle.gx_base.specs.declared.order.Order.{Order}
 use Rattle.plain_book.specs.Book.{live_orders, book_waited}
 use Rattle.plain_book.specs.Orders.{is_live}
-use Rattle.book_image.proofs.CheckNames.{found-live, taken}
+use Rattle.order_kinds.proofs.Terms.{found-live}
+use Rattle.book_image.proofs.CheckNames.{taken}
 use Rattle.book_image.proofs.check_rows.take_name.Goals as goal
 use Rattle.book_image.proofs.check_rows.take_name.Goals.{After-is_some}
 use Rattle.book_image.proofs.check_rows.take_name.Given.{Over}
