@@ -3,15 +3,14 @@ ghost use Rattle.order_kinds.specs.Cores.{FitsProduct};
 
 use book_side::LinkedBook;
 use exec_report::ByteEmit;
-use fix_frame::{Framer, Next};
-use fix_request::read_request;
+use fix_frame::Framer;
 use gx_base::Emit;
 use gx_station::{LEAST_READ, MemSource, MemStation, Source};
-use order_kinds::{Core, MOST_MESSAGES};
+use order_kinds::Core;
 use order_maker::MakerSource;
 use plain_book::{Book, PlainBook};
 use product_file::{Product, read_product};
-use run_fixtures::{PRODUCT, ended, product_text, run_over};
+use run_fixtures::{PRODUCT, apply_held, ended, product_text, run_over};
 use std::process::Abort;
 use std::test::Fail;
 
@@ -23,27 +22,6 @@ const MESSAGES: u32 = 3_000;
 
 /// Room for all lines of the stream.
 const ROOM: usize = 4_194_304;
-
-/// Applies the whole messages that the framer holds.
-fn apply_held<B: Book>(
-    rt: &impl Abort,
-    product: &Product,
-    core: &mut Core<B>,
-    framer: &mut Framer,
-    log: &mut ByteEmit<'_>,
-)
-    requires fits { FitsProduct product.now core.old }
-    ensures fits { FitsProduct product.now core.new }
-{
-    for _message in 0..LEAST_READ {
-        let Next::Frame(start, end) = framer.next() else {
-            return;
-        };
-        let request = read_request(framer.frame(start, end), product);
-        assert!(rt; core.messages() < MOST_MESSAGES);
-        core.apply(product, &request, log);
-    }
-}
 
 /// The lines of a made stream, which a core over this book puts into the log.
 fn apply_made<B: Book>(
@@ -64,7 +42,7 @@ fn apply_made<B: Book>(
         }
         assert!(rt; count <= into.len() && framer.offset() < 1 << 40);
         assert_eq!(rt; framer.feed(&into[..count]), count);
-        apply_held(rt, product, core, &mut framer, log);
+        apply_held(product, core, &mut framer, LEAST_READ, log);
     }
     assert_eq!(rt; core.messages(), u64::from(MESSAGES));
     assert!(rt; !log.failed());

@@ -3,6 +3,9 @@
 use crate::draws::Draws;
 use std::alloc::{AllocError, Global};
 
+/// The bytes that a change makes of others. An `Err` is want of memory.
+pub type Changed = Result<Vec<u8>, AllocError>;
+
 /// How many bytes are cut out, repeated or swapped at most.
 const MOST_MOVED: usize = 120;
 
@@ -31,13 +34,7 @@ pub fn behind(bytes: &[u8], start: usize) -> &[u8] {
 }
 
 /// The bytes with those of a range exchanged for others.
-pub fn spliced(
-    alloc: Global,
-    bytes: &[u8],
-    start: usize,
-    end: usize,
-    with: &[u8],
-) -> Result<Vec<u8>, AllocError> {
+pub fn spliced(alloc: Global, bytes: &[u8], start: usize, end: usize, with: &[u8]) -> Changed {
     let mut changed = Vec::new(alloc);
     changed.extend_from_slice(front(bytes, start))?;
     changed.extend_from_slice(with)?;
@@ -57,12 +54,7 @@ fn changed_byte(draws: &mut Draws, byte: u8) -> u8 {
 }
 
 /// The bytes with the one at this place changed.
-fn with_changed_byte(
-    alloc: Global,
-    draws: &mut Draws,
-    bytes: &[u8],
-    at: usize,
-) -> Result<Vec<u8>, AllocError> {
+fn with_changed_byte(alloc: Global, draws: &mut Draws, bytes: &[u8], at: usize) -> Changed {
     let byte = match bytes.get(at) {
         Some(byte) => *byte,
         None => 0,
@@ -72,12 +64,7 @@ fn with_changed_byte(
 }
 
 /// The bytes with two parts swapped that stand one behind the other.
-fn with_swapped_parts(
-    alloc: Global,
-    draws: &mut Draws,
-    bytes: &[u8],
-    at: usize,
-) -> Result<Vec<u8>, AllocError> {
+fn with_swapped_parts(alloc: Global, draws: &mut Draws, bytes: &[u8], at: usize) -> Changed {
     let rest = behind(bytes, at);
     let first = front(rest, draws.below(MOST_MOVED));
     let others = behind(rest, first.len());
@@ -92,11 +79,7 @@ fn with_swapped_parts(
 
 /// The bytes with one change: a byte changed, removed or inserted, a range cut out or repeated elsewhere, parts swapped, or
 /// the end cut off.
-pub fn with_one_change(
-    alloc: Global,
-    draws: &mut Draws,
-    bytes: &[u8],
-) -> Result<Vec<u8>, AllocError> {
+pub fn with_one_change(alloc: Global, draws: &mut Draws, bytes: &[u8]) -> Changed {
     let at = draws.below(bytes.len());
     let end = at.wrapping_add(draws.below(MOST_MOVED));
     match draws.below(10) {

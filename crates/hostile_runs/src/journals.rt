@@ -2,7 +2,7 @@
 
 use crate::calls::{Called, call, end_alike};
 use crate::draws::Draws;
-use crate::edits::{behind, front, spliced, with_one_change};
+use crate::edits::{Changed, behind, front, spliced, with_one_change};
 use crate::messages::{PRODUCT, drawn_frames};
 use crate::table::{Stop, Table, expect_holds};
 use globex_run::Outcome;
@@ -103,11 +103,7 @@ fn has_image(alloc: Global, image: &[u8]) -> Result<bool, AllocError> {
 }
 
 /// The journal with a record removed, or repeated in front of another one.
-fn with_records_changed(
-    alloc: Global,
-    draws: &mut Draws,
-    image: &[u8],
-) -> Result<Vec<u8>, AllocError> {
+fn with_records_changed(alloc: Global, draws: &mut Draws, image: &[u8]) -> Changed {
     let gates = gates(alloc, image)?;
     let drawn = (
         gates.as_slice().get(draws.below(gates.len())),
@@ -124,11 +120,7 @@ fn with_records_changed(
 }
 
 /// One of the journals with one to three changes.
-fn changed_journal(
-    alloc: Global,
-    draws: &mut Draws,
-    journals: &[Vec<u8>],
-) -> Result<Vec<u8>, AllocError> {
+fn changed_journal(alloc: Global, draws: &mut Draws, journals: &[Vec<u8>]) -> Changed {
     let mut image = match journals.get(draws.below(journals.len())) {
         Some(journal) => Vec::from_slice(alloc, journal.as_slice())?,
         None => Vec::new(alloc),

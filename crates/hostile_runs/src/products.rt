@@ -2,10 +2,10 @@
 
 use crate::calls::{Called, call, end_alike};
 use crate::draws::Draws;
-use crate::edits::{behind, front, spliced, with_one_change};
+use crate::edits::{Changed, behind, front, spliced, with_one_change};
 use crate::messages::PRODUCT;
 use crate::table::{Stop, Table, expect_holds};
-use std::alloc::{AllocError, Global};
+use std::alloc::Global;
 
 pub const COMMANDS: [&str; 2] = ["steps", "run"];
 
@@ -109,12 +109,7 @@ fn count_before_digit(text: &[u8]) -> usize {
 }
 
 /// The text with the line of a place repeated in front of another one, or removed.
-fn with_lines_changed(
-    alloc: Global,
-    draws: &mut Draws,
-    text: &[u8],
-    at: usize,
-) -> Result<Vec<u8>, AllocError> {
+fn with_lines_changed(alloc: Global, draws: &mut Draws, text: &[u8], at: usize) -> Changed {
     let start = line_start(text, at);
     let len = count_before(behind(text, start), b'\n').wrapping_add(1);
     let line = front(behind(text, start), len);
@@ -126,12 +121,7 @@ fn with_lines_changed(
 }
 
 /// The text with another value for the word behind a digit, or behind an equals sign.
-fn with_value_changed(
-    alloc: Global,
-    draws: &mut Draws,
-    text: &[u8],
-    at: usize,
-) -> Result<Vec<u8>, AllocError> {
+fn with_value_changed(alloc: Global, draws: &mut Draws, text: &[u8], at: usize) -> Changed {
     let rest = behind(text, at);
     let (skipped, len) = if draws.is_one_in(2) {
         let skipped = count_before_digit(rest);
@@ -152,7 +142,7 @@ fn with_value_changed(
 }
 
 /// A product text with one to three changes.
-fn changed_text(alloc: Global, draws: &mut Draws) -> Result<Vec<u8>, AllocError> {
+fn changed_text(alloc: Global, draws: &mut Draws) -> Changed {
     let valid = draws.text_of(&[PRODUCT, OTHER_PRODUCT]);
     let mut text = Vec::from_slice(alloc, valid.as_bytes())?;
     for _ in 0..draws.below(3).wrapping_add(1) {

@@ -1,10 +1,12 @@
 //! What the crates of tests share of whole runs.
 #![tactic(auto)]
 
+mod applying;
 mod example;
 mod fixtures;
 mod product;
 
+pub use applying::apply_held;
 pub use example::{
     ACCEPTED, DUPLICATE, FILLED, ORDER, SECOND_ACCEPTED, SECOND_FILLED, SECOND_ORDER,
 };

@@ -1,14 +1,12 @@
 //! One stream of orders under each letter, through a log of lines. `examples/` has the same orders and reports as files.
-ghost use Rattle.order_kinds.specs.Cores.{FitsProduct};
 
 use exec_report::ByteEmit;
-use fix_frame::{Framer, Next};
-use fix_request::read_request;
+use fix_frame::Framer;
 use gx_base::Emit;
-use order_kinds::{Core, MOST_MESSAGES};
-use plain_book::{Book, PlainBook};
+use order_kinds::Core;
+use plain_book::PlainBook;
 use product_file::{Product, read_product};
-use run_fixtures::{PRODUCT, frames_of, product_text};
+use run_fixtures::{PRODUCT, apply_held, frames_of, product_text};
 use std::process::Abort;
 
 /// Four sells at one price, of 10, 50, 30 and 1 lots, and a buy of 41.
@@ -29,27 +27,6 @@ const ACCEPTED: [&str; 5] = [
     "35=8|34=1|49=GX|52=20240102-09:30:04|56=DDD|37=5|11=d1|17=5|20=0|150=0|39=0|55=ESZ4|54=1|38=41|40=2|44=100.00|59=0|151=41|14=0|6=0|60=20240102-09:30:04|9003=0|",
 ];
 
-/// Applies the messages that the framer holds, one for each of `ORDERS`, and logs their lines.
-fn apply_all<B: Book>(
-    rt: &impl Abort,
-    product: &Product,
-    core: &mut Core<B>,
-    framer: &mut Framer,
-    log: &mut ByteEmit<'_>,
-)
-    requires fits { FitsProduct product.now core.old }
-    ensures fits { FitsProduct product.now core.new }
-{
-    for _message in 0..ORDERS.len() {
-        let Next::Frame(start, end) = framer.next() else {
-            panic!(rt; "a frame is missing");
-        };
-        let request = read_request(framer.frame(start, end), product);
-        assert!(rt; core.messages() < MOST_MESSAGES);
-        core.apply(product, &request, log);
-    }
-}
-
 /// Applies the orders under this product, and looks for these fills behind the five acceptances.
 fn expect_fills(rt: &(impl Abort + AllocGlobal), name: &str, product: &str, fills: &[&str]) {
     let alloc = rt.alloc();
@@ -62,7 +39,8 @@ fn expect_fills(rt: &(impl Abort + AllocGlobal), name: &str, product: &str, fill
     let bytes = frames_of(alloc, &ORDERS).expect(rt, "memory");
     assert!(rt; bytes.len() <= 4096);
     assert_eq!(rt; framer.feed(bytes.as_slice()), bytes.len());
-    apply_all(rt, &product, &mut core, &mut framer, &mut log);
+    let applied = apply_held(&product, &mut core, &mut framer, ORDERS.len(), &mut log);
+    assert_eq!(rt; applied, ORDERS.len());
     assert!(rt; !log.failed(), "{name}");
     let mut expected = frames_of(alloc, &ACCEPTED).expect(rt, "memory");
     let fills = frames_of(alloc, fills).expect(rt, "memory");

@@ -55,68 +55,49 @@ fn expect_each_reading(
     }
 }
 
-/// A run: its name, its word, the frames that are read, how it ends, and what is sent.
+/// A run: its name, the frames that are read, how it ends, and what is sent.
 type Reading = (
-    &'static str,
     &'static str,
     &'static [&'static str],
     (u8, u64, u64),
     &'static [&'static str],
 );
 
-const READINGS: [Reading; 7] = [
-    ("empty input", "run", &[], (0, 0, 0), &[]),
-    (
-        "other words",
-        "serve",
-        &[ORDER, SECOND_ORDER],
-        (2, 0, 0),
-        &[],
-    ),
+const READINGS: [Reading; 6] = [
+    ("empty input", &[], (0, 0, 0), &[]),
     (
         "plainest run",
-        "run",
         &[ORDER, SECOND_ORDER],
         (0, 0, 2),
         &[ACCEPTED, SECOND_ACCEPTED, FILLED, SECOND_FILLED],
     ),
+    ("heartbeat", &[ORDER, HEARTBEAT], (0, 0, 2), &[ACCEPTED]),
     (
-        "heartbeat after an order",
-        "run",
-        &[ORDER, HEARTBEAT],
-        (0, 0, 2),
-        &[ACCEPTED],
-    ),
-    (
-        "same order twice",
-        "run",
+        "order twice",
         &[ORDER, ORDER],
         (0, 0, 2),
         &[ACCEPTED, DUPLICATE],
     ),
-    (
-        "bad frame after an order",
-        "run",
-        &[ORDER, WRONG_ORDER],
-        (7, 111, 1),
-        &[ACCEPTED],
-    ),
-    (
-        "cut frame after an order",
-        "run",
-        &[ORDER, CUT_ORDER],
-        (8, 111, 1),
-        &[ACCEPTED],
-    ),
+    ("bad frame", &[ORDER, WRONG_ORDER], (7, 111, 1), &[ACCEPTED]),
+    ("cut frame", &[ORDER, CUT_ORDER], (8, 111, 1), &[ACCEPTED]),
 ];
 
 #[test]
 fn readings(rt: HostRuntime) {
     let alloc = rt.alloc();
-    for (name, word, frames, (status, at, messages), reports) in READINGS {
+    for (name, frames, (status, at, messages), reports) in READINGS {
         let input = join(alloc, frames).expect(&rt, "memory");
         let sent = join(alloc, reports).expect(&rt, "memory");
         let outcome = ended(status, at, messages);
-        expect_each_reading(&rt, name, word, input.as_slice(), outcome, sent.as_slice());
+        expect_each_reading(&rt, name, "run", input.as_slice(), outcome, sent.as_slice());
     }
+    let input = join(alloc, &[ORDER, SECOND_ORDER]).expect(&rt, "memory");
+    expect_each_reading(
+        &rt,
+        "other words",
+        "serve",
+        input.as_slice(),
+        ended(2, 0, 0),
+        &[],
+    );
 }

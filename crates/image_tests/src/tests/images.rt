@@ -5,13 +5,12 @@ ghost use Rattle.order_kinds.specs.Cores.{FitsProduct};
 
 use book_image::{ImageBad, image_len, read_image, write_image};
 use book_side::LinkedBook;
-use fix_frame::{Framer, Next};
-use fix_request::read_request;
+use fix_frame::Framer;
 use gx_base::NullEmit;
-use order_kinds::{Core, MOST_MESSAGES};
+use order_kinds::Core;
 use plain_book::Book;
 use product_file::{Product, read_product};
-use run_fixtures::{PRODUCT, frames_of, product_text};
+use run_fixtures::{PRODUCT, apply_held, frames_of, product_text};
 use std::process::Abort;
 
 /// An order of ten lots, four of which were traded.
@@ -95,27 +94,6 @@ const WAITING: u64 = 852;
 
 const STOP: u64 = 856;
 
-/// Applies the next `count` messages that the framer holds, or all where it holds fewer, with no report.
-fn apply_held<B: Book>(
-    rt: &impl Abort,
-    product: &Product,
-    core: &mut Core<B>,
-    framer: &mut Framer,
-    count: usize,
-)
-    requires fits { FitsProduct product.now core.old }
-    ensures fits { FitsProduct product.now core.new }
-{
-    for _message in 0..count {
-        let Next::Frame(start, end) = framer.next() else {
-            return;
-        };
-        let request = read_request(framer.frame(start, end), product);
-        assert!(rt; core.messages() < MOST_MESSAGES);
-        core.apply(product, &request, &mut NullEmit);
-    }
-}
-
 /// Applies the messages of these bodies, with no report.
 fn apply_all<B: Book>(
     rt: &(impl Abort + AllocGlobal),
@@ -129,7 +107,8 @@ fn apply_all<B: Book>(
     let bytes = frames_of(rt.alloc(), bodies).expect(rt, "memory");
     let mut framer = Framer::new(rt.alloc()).expect(rt, "memory");
     assert_eq!(rt; framer.feed(bytes.as_slice()), bytes.len());
-    apply_held(rt, product, core, &mut framer, bodies.len());
+    let applied = apply_held(product, core, &mut framer, bodies.len(), &mut NullEmit);
+    assert_eq!(rt; applied, bodies.len());
     assert_eq!(rt; framer.rest(), 0);
 }
 
