@@ -1,4 +1,4 @@
-//! The tests of whole runs and of what they stand on, from single adapters on. It offers nothing.
+//! The tests of whole runs and of what they stand on. It offers nothing.
 #![tactic(auto)]
 
 #[cfg(test)]

@@ -1,10 +1,8 @@
 //! Most tests are runs over a source and a station in memory. Each file has tables of cases, and few tests that go through them.
-mod files;
 mod fronts;
 mod generator;
 mod letters;
 mod lines;
 mod products;
 mod runs;
-mod stations;
 mod words;

@@ -1,0 +1,3 @@
+//! Each adapter once, over what fails at will, and over real files.
+mod files;
+mod stations;
