@@ -32,9 +32,9 @@ def journal_of(*records):
 
 
 def documented_image():
-    """The 667 bytes of the image behind the two messages, from the table of docs/FORMATS.md."""
+    """The 667 bytes of the image after the two messages, from the table of docs/FORMATS.md."""
     text = FORMATS.read_text()
-    table = text[text.index("The image behind the two messages") :].split("\n\n")[1]
+    table = text[text.index("The image after the two messages") :].split("\n\n")[1]
     image = bytearray(667)
     for places, values in re.findall(r"^\| ([0-9, ]+) \| ([0-9a-f ,]+) \|", table, re.MULTILINE):
         values = [bytes.fromhex(value) for value in values.split(", ")]
