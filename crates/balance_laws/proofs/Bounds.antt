@@ -1,6 +1,6 @@
 -- How far the totals of a stream can grow, and how many events it has. No message asks for more than 999,999 lots, and what is
 -- filled, cancelled or open was asked for.
-use Rattle.std.proofs.Common.{◌≡◌, ℕ, ◌+◌, ◌*◌, ◌≤◌, Bool, true, false, cond, not, List, [], ◌∷◌, ◌++◌, length, Option, Some, None, Result, Ok, Err, refl, sym, ap, ◌∙◌, arith, sum_by, length-append}
+use Rattle.std.proofs.Common.{◌≡◌, ℕ, ◌+◌, ◌*◌, ◌≤◌, Bool, true, false, cond, not, List, [], ◌∷◌, ◌++◌, length, Option, Some, None, Result, Ok, Err, refl, sym, ap, subst, ◌∙◌, arith, sum_by, length-append}
 use Rattle.std.proofs.lemmas.List.{length-map, append-nil}
 use Rattle.std.proofs.lemmas.List.Sums.{sum_by-cons, sum_by-append}
 use Rattle.std.proofs.lemmas.Bool.Decides.{nat_tests}
@@ -26,9 +26,10 @@ use Rattle.order_kinds.specs.Accepting.{new_start, accepted_or_refused, new_step
 use Rattle.order_kinds.specs.Stops.{Naming, by_number}
 use Rattle.order_kinds.specs.Cancels.{cancel_by, cancel_step}
 use Rattle.order_kinds.specs.Replaces.{replace_terms, least_after, keeps_place, replaced_in_place, replaced_start, replaced_anew, replaced, replaced_or_refused, replace_at, replace_step}
-use Rattle.order_kinds.specs.Step.{with_message, request_step, step_of, state_after, events_from, events_of}
+use Rattle.order_kinds.specs.Step.{with_message, open_step_as, request_step, step_of, state_after, events_from, events_of}
 use Rattle.order_kinds.specs.Balance.{total_entered, filled_in, cancelled_in}
 use Rattle.order_kinds.specs.declared.core_state.TheConstants.{MOST_MESSAGES}
+use Rattle.order_kinds.proofs.SessionSteps.{step-session}
 use Rattle.order_kinds.proofs.Refusals.{new-passes, replace-passes}
 use Rattle.balance_laws.specs.Bounds.{asked_in, AreWithin, StaysWithin}
 use Rattle.balance_laws.proofs.Growth.{entered-within, without-within, Grows, grows-none, grows-within, grows-both, grows-append, come-in-grows}
@@ -112,12 +113,15 @@ module _ (naming : Naming) (product : ProductLists) (request : ReplaceOrder) (st
         | Some slot ↦ by slot (replace_terms product request (order_of slot es) state) refl
       ] in go (slot_named request.sender.firm request.old es)
 
+open-grows : (product : ProductLists) (request : Request) (state : State) → StepGrows state.book.waiting (open_step_as by_number product request state)
+open-grows product (New order) state = new-grows by_number product order state
+open-grows product (Cancel order) state = cancel-grows order state
+open-grows product (Replace order) state = replace-grows by_number product order state
+open-grows product (Passed sender) state = grows-within (omega arith) (omega arith) (grows-none [] state.book.waiting)
+open-grows product (Refused refusal) state = report-grows _ state.book.waiting state.book.waiting refl (omega arith)
+
 request-grows : (product : ProductLists) (request : Request) (state : State) → StepGrows state.book.waiting (request_step product request state)
-request-grows product (New order) state = new-grows by_number product order state
-request-grows product (Cancel order) state = cancel-grows order state
-request-grows product (Replace order) state = replace-grows by_number product order state
-request-grows product (Passed sender) state = grows-within (omega arith) (omega arith) (grows-none [] state.book.waiting)
-request-grows product (Refused refusal) state = report-grows _ state.book.waiting state.book.waiting refl (omega arith)
+request-grows product request state = subst (StepGrows state.book.waiting) (step-session by_number product request state) (open-grows product request state)
 
 -- ---- all messages
 

@@ -8,8 +8,10 @@ use Rattle.fix_request.specs.declared.request.Request.{Request}
 use Rattle.fix_request.specs.declared.request.Request.TheVariants.{New, Cancel, Replace, Passed, Refused}
 use Rattle.plain_book.specs.Book.{live_orders}
 use Rattle.order_kinds.specs.State.{State, empty_state}
-use Rattle.order_kinds.specs.Step.{with_message, request_step, step_of, state_after, events_from}
+use Rattle.order_kinds.specs.Stops.{by_number}
+use Rattle.order_kinds.specs.Step.{with_message, open_step_as, request_step, step_of, state_after, events_from}
 use Rattle.order_kinds.specs.Balance.{AreBalanced, IsBalanced}
+use Rattle.order_kinds.proofs.SessionSteps.{step-session}
 use Rattle.balance_laws.proofs.Events.{fills-add-up}
 use Rattle.balance_laws.proofs.Books.{numbered-leaves, total-leaves}
 use Rattle.balance_laws.proofs.Trades.{live-by-number}
@@ -18,12 +20,15 @@ use Rattle.balance_laws.proofs.Requests.{TellsState, TellsStep, new-kept, cancel
 use Rattle.balance_laws.proofs.Replaces.{replace-kept}
 
 module _ (product : ProductLists) (right : IsRightProduct product) where
+  open-kept : (events : List Event) (request : Request) (state : State) → TellsState events state → TellsStep events (open_step_as by_number product request state)
+  open-kept events (New order) state h = new-kept product events order state right h
+  open-kept events (Cancel order) state h = cancel-kept events order state h
+  open-kept events (Replace order) state h = replace-kept product events order state right h
+  open-kept events (Passed sender) state h = subst (λ (l : List Event). TellsState l state) (sym (append-nil events)) h
+  open-kept events (Refused refusal) state h = session-kept events refusal state h
+
   request-kept : (events : List Event) (request : Request) (state : State) → TellsState events state → TellsStep events (request_step product request state)
-  request-kept events (New order) state h = new-kept product events order state right h
-  request-kept events (Cancel order) state h = cancel-kept events order state h
-  request-kept events (Replace order) state h = replace-kept product events order state right h
-  request-kept events (Passed sender) state h = subst (λ (l : List Event). TellsState l state) (sym (append-nil events)) h
-  request-kept events (Refused refusal) state h = session-kept events refusal state h
+  request-kept events request state h = subst (TellsStep events) (step-session by_number product request state) (open-kept events request state h)
 
   step-kept : (events : List Event) (state : State) (frame : List ℕ) → TellsState events state → TellsStep events (step_of product state frame)
   step-kept events state frame h =

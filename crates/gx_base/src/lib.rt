@@ -13,6 +13,7 @@ mod price;
 mod quantity;
 mod stamp;
 mod text;
+mod trading;
 mod unlisted;
 
 pub use bytes::{append, append_few, split_at_byte};
@@ -29,4 +30,5 @@ pub use order::{Desk, Kind, Life, LmmShare, Order, Side, Slot, Taker, TopRule};
 pub use price::{Price, PriceFault, read_price};
 pub use quantity::read_quantity;
 pub use stamp::{LONGEST_STAMP, Stamp};
+pub use trading::Trading;
 pub use unlisted::{addressee, listed};

@@ -183,5 +183,5 @@ module _ {E : Type 0} (m : EmitMeanings E) (old : State) (terms : Terms) (new : 
       → Takes m (BroughtApart terms.instrument (taker_with new order)) (λ naming. brought_in naming terms.instrument (taker_with new order)) (record old { desk = desk }) after b c
       → Takes m (NewApart (Ok terms) new) (λ naming. accepted naming terms new) old after a c
   takes-accepted after a b c puts takes =
-      let all = takes-reported m (Accepted head order) (accepted-is-no-fill head order) terms.instrument old (record old { desk = desk }) after (taker_with new order) (new_start terms new old) a b c starts refl puts takes in
+      let all = takes-reported m (Accepted head order) (accepted-is-no-fill head order) terms.instrument old (record old { desk = desk }) after (taker_with new order) (new_start terms new old) a b c starts refl refl puts takes in
       record { naming = all.naming; apart = all.apart; state = all.state; emits = all.emits }

@@ -10,32 +10,44 @@ use Rattle.fix_request.specs.declared.request.Request.TheVariants.{Passed}
 use Rattle.fix_request.specs.ValidRequests.{IsValidRequest}
 use Rattle.plain_book.specs.Book.{AllDiffer, live_orders}
 use Rattle.order_kinds.specs.State.{State, state_numbered}
-use Rattle.order_kinds.specs.Step.{with_message, request_step_as, request_step}
+use Rattle.order_kinds.specs.Step.{with_message, open_step_as, request_step_as, request_step}
 use Rattle.order_kinds.specs.Cores.{FitsProduct, AreNumbered, TakesStep, PutsStep}
 use Rattle.order_kinds.specs.Stops.{by_number}
 use Rattle.order_kinds.specs.Inner.Apart.{StayApart}
 use Rattle.order_kinds.specs.Inner.Taking.{Takes}
 use Rattle.order_kinds.proofs.NumberingSteps.{step-same, step-numbered}
 use Rattle.order_kinds.proofs.Listed.{step-fits}
+use Rattle.order_kinds.proofs.SessionSteps.{step-session}
 
 module _ {E : Type 0} (m : EmitMeanings E) (product : ProductLists) (request : Request) where
   abbrev TakesIt : State → State → E → E → Type 0
-  TakesIt old new before after = Takes m (StayApart product request) (λ naming. request_step_as naming product request) old new before after
+  TakesIt old new before after = Takes m (StayApart product request) (λ naming. open_step_as naming product request) old new before after
 
   -- a session message does nothing
   pub takes-passed : (sender : Sender) (state : State) (out : E) → request ≡ Passed sender → TakesIt state state out out
   takes-passed sender state out is =
-      subst (λ (r : Request). Takes m (StayApart product r) (λ naming. request_step_as naming product r) state state out out) (sym is)
+      subst (λ (r : Request). Takes m (StayApart product r) (λ naming. open_step_as naming product r) state state out out) (sym is)
       (record { naming = by_number; apart = tt; state = refl; emits = emits_none m out })
 
   module _ (old now new : State) (before after : E) (takes : TakesIt (with_message now) new before after) (same : now ≡ old) where
-    taken : TakesIt (with_message old) new before after
-    taken = subst (λ (s : State). TakesIt (with_message s) new before after) same takes
+    abbrev counted : State
+    counted = with_message old
+
+    -- in whichever session
+    taken : Takes m (StayApart product request) (λ naming. request_step_as naming product request) counted new before after
+    taken =
+        let t = subst (λ (s : State). TakesIt (with_message s) new before after) same takes in
+        let is : open_step_as t.naming product request counted ≡ request_step_as t.naming product request counted = step-session t.naming product request counted in
+        record {
+          naming = t.naming;
+          apart = t.apart;
+          state = t.state ∙ ap (λ (r : State × List Event). r.0) is;
+          emits = emits_as m before after (open_step_as t.naming product request counted).1 (request_step_as t.naming product request counted).1 (ap (λ (r : State × List Event). r.1) is) t.emits;
+        }
 
     -- where order numbers differ, it is the step of the engine
     pub step-taken : AllDiffer (live_orders now.book) → AreNumbered old → TakesStep m product request old new before after
     step-taken differ are =
-        let counted = with_message old in
         let naming = taken.naming in
         let made = request_step_as naming product request counted in
         let slots : AllDiffer (live_orders old.book) = subst (λ (s : State). AllDiffer (live_orders s.book)) same differ in
@@ -49,10 +61,10 @@ module _ {E : Type 0} (m : EmitMeanings E) (product : ProductLists) (request : R
 
     -- the events of the step were put
     pub puts-taken : PutsStep m product request old new before after
-    puts-taken = record { naming = taken.naming; state = taken.state; events = (request_step_as taken.naming product request (with_message old)).1; of_step = refl; emits = taken.emits }
+    puts-taken = record { naming = taken.naming; state = taken.state; events = (request_step_as taken.naming product request counted).1; of_step = refl; emits = taken.emits }
 
     -- the core still fits the product
     pub fits-taken : FitsProduct product old → IsValidRequest product request → FitsProduct product new
     fits-taken fits valid =
-        let counted : FitsProduct product (with_message old) = record { capacity = fits.capacity; instruments = fits.instruments; prices = fits.prices; orders = fits.orders } in
-        subst (FitsProduct product) (sym taken.state) (step-fits taken.naming product (with_message old) counted request valid)
+        let fits_then : FitsProduct product counted = record { capacity = fits.capacity; instruments = fits.instruments; prices = fits.prices; orders = fits.orders } in
+        subst (FitsProduct product) (sym taken.state) (step-fits taken.naming product counted fits_then request valid)

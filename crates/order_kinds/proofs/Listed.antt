@@ -1,11 +1,12 @@
 -- A core still fits its product after a request.
-use Rattle.std.proofs.Common.{◌≡◌, ℕ, Bool, true, false, cond, List, length, Option, Some, None, Result, Ok, Err, refl, ◌∙◌, lit≤}
+use Rattle.std.proofs.Common.{◌≡◌, ℕ, Bool, true, false, cond, List, length, Option, Some, None, Result, Ok, Err, refl, subst, ◌∙◌, lit≤}
 use Rattle.std.proofs.lemmas.List.{length-set}
 use Rattle.gx_base.specs.declared.price.Price.{Price}
 use Rattle.gx_base.specs.declared.order.Desk.{Desk}
 use Rattle.gx_base.specs.declared.order.Order.{Order}
 use Rattle.gx_base.specs.declared.event.ChangeFault.{ChangeFault}
 use Rattle.gx_base.specs.declared.event.NewFault.{NewFault}
+use Rattle.gx_base.specs.declared.event.Event.{Event}
 use Rattle.step_config.specs.declared.step.Step.{Step}
 use Rattle.product_file.specs.Products.{ProductLists}
 use Rattle.fix_request.specs.declared.request.NewOrder.{NewOrder}
@@ -26,8 +27,9 @@ use Rattle.order_kinds.specs.Entering.{last_fill, last_after}
 use Rattle.order_kinds.specs.Accepting.{new_start, after_match, accepted, accepted_or_refused}
 use Rattle.order_kinds.specs.Cancels.{cancel_by}
 use Rattle.order_kinds.specs.Replaces.{replace_terms, keeps_place, least_after, replaced_in_place, replaced_start, replaced_anew, replaced, replaced_or_refused, replace_at}
-use Rattle.order_kinds.specs.Step.{request_step_as}
+use Rattle.order_kinds.specs.Step.{open_step_as, request_step_as}
 use Rattle.order_kinds.specs.Cores.{IsListedOrder, FitsProduct}
+use Rattle.order_kinds.proofs.SessionSteps.{step-session}
 use Rattle.order_kinds.proofs.Kept.{all-left, all-changed}
 use Rattle.order_kinds.proofs.ComingIn.{StaysTrue, held-come_in}
 use Rattle.order_kinds.proofs.Numbering.{named-has}
@@ -130,10 +132,13 @@ module _ (naming : Naming) (product : ProductLists) (state : State) (fits : Fits
 
   -- ---- any request
 
+  open-fits : (request : Request) → IsValidRequest product request → FitsProduct product (open_step_as naming product request state).0
+  open-fits (New order) valid = new-fits order valid (terms_of product order state) refl
+  open-fits (Cancel order) valid = cancel-fits order (slot_named order.sender.firm order.old (live_orders state.book))
+  open-fits (Replace order) valid = replace-fits order valid (slot_named order.sender.firm order.old (live_orders state.book)) refl
+  open-fits (Passed sender) valid = fits
+  open-fits (Refused refusal) valid = unchanged-fits _
+
   -- the core still fits the product
   pub step-fits : (request : Request) → IsValidRequest product request → FitsProduct product (request_step_as naming product request state).0
-  step-fits (New order) valid = new-fits order valid (terms_of product order state) refl
-  step-fits (Cancel order) valid = cancel-fits order (slot_named order.sender.firm order.old (live_orders state.book))
-  step-fits (Replace order) valid = replace-fits order valid (slot_named order.sender.firm order.old (live_orders state.book)) refl
-  step-fits (Passed sender) valid = fits
-  step-fits (Refused refusal) valid = unchanged-fits _
+  step-fits request valid = subst (λ (r : State × List Event). FitsProduct product r.0) (step-session naming product request state) (open-fits request valid)

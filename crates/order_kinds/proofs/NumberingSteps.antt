@@ -1,5 +1,5 @@
 -- What a request does is the same where each order is named by its number, and numbers still differ.
-use Rattle.std.proofs.Common.{◌≡◌, ℕ, ◌+◌, ◌≤◌, List, [], ◌∷◌, Option, Some, None, option_map, Result, Ok, Err, refl, subst, ap, ◌∙◌, arith, inl, inr}
+use Rattle.std.proofs.Common.{◌≡◌, ℕ, ◌+◌, ◌≤◌, List, [], ◌∷◌, Option, Some, None, option_map, Result, Ok, Err, refl, sym, subst, ap, ◌∙◌, arith, inl, inr}
 use Rattle.gx_base.specs.declared.order.Order.{Order}
 use Rattle.gx_base.specs.declared.event.Event.{Event}
 use Rattle.gx_base.specs.declared.event.NewFault.{NewFault}
@@ -20,7 +20,7 @@ use Rattle.order_kinds.specs.Stops.{Naming, by_number}
 use Rattle.order_kinds.specs.NewOrders.{Terms, terms_of}
 use Rattle.order_kinds.specs.Accepting.{new_start, accepted, accepted_or_refused, new_step}
 use Rattle.order_kinds.specs.Cancels.{cancel_by, cancel_step, order_cancelled}
-use Rattle.order_kinds.specs.Step.{request_step_as, request_step}
+use Rattle.order_kinds.specs.Step.{open_step_as, request_step_as, request_step}
 use Rattle.order_kinds.specs.Cores.{AreNumbered}
 use Rattle.order_kinds.specs.Inner.Apart.{ComeApart, NewApart, StayApart}
 use Rattle.order_kinds.proofs.Kept.{all-left}
@@ -29,6 +29,7 @@ use Rattle.order_kinds.proofs.NumberingChanges.{found-same, left-same, left-numb
 use Rattle.order_kinds.proofs.NumberingEntered.{IsIncoming}
 use Rattle.order_kinds.proofs.NumberingStops.{outcome_numbered, AreGiven, match-same, match-numbered}
 use Rattle.order_kinds.proofs.NumberingReplaces.{replace-same, replace-numbered}
+use Rattle.order_kinds.proofs.SessionSteps.{step-session}
 
 -- no live order has the next number
 next-lacks : (n : ℕ) (es : List Entry) → AreGiven n es → HasSlot (n + 1) (numbered es) → ⊥
@@ -105,17 +106,26 @@ module _ (state : State) (slots : AllDiffer (live_orders state.book)) (are : Are
 
   -- ---- any request
 
-  pub step-same : (naming : Naming) (product : ProductLists) (request : Request) → StayApart product request state naming
-      → request_step product request (state_numbered state) ≡ outcome_numbered (request_step_as naming product request state)
-  step-same naming product (New order) apart = new-same naming order product apart
-  step-same naming product (Cancel order) apart = cancel-same order
-  step-same naming product (Replace order) apart = replace-same naming product order state slots are apart
-  step-same naming product (Passed sender) apart = refl
-  step-same naming product (Refused refusal) apart = refl
+  module _ (naming : Naming) (product : ProductLists) where
+    open-same : (request : Request) → StayApart product request state naming → open_step_as by_number product request (state_numbered state) ≡ outcome_numbered (open_step_as naming product request state)
+    open-same (New order) apart = new-same naming order product apart
+    open-same (Cancel order) apart = cancel-same order
+    open-same (Replace order) apart = replace-same naming product order state slots are apart
+    open-same (Passed sender) apart = refl
+    open-same (Refused refusal) apart = refl
 
-  pub step-numbered : (naming : Naming) (product : ProductLists) (request : Request) → StayApart product request state naming → AreNumbered (request_step_as naming product request state).0
-  step-numbered naming product (New order) apart = by-numbered naming order (terms_of product order state) apart
-  step-numbered naming product (Cancel order) apart = cancelled-numbered order (slot_named order.sender.firm order.old (live_orders state.book)) refl
-  step-numbered naming product (Replace order) apart = replace-numbered naming product order state slots are apart
-  step-numbered naming product (Passed sender) apart = are
-  step-numbered naming product (Refused refusal) apart = record { differ = are.differ; given = are.given }
+    pub step-same : (request : Request) → StayApart product request state naming → request_step product request (state_numbered state) ≡ outcome_numbered (request_step_as naming product request state)
+    step-same request apart =
+        sym (step-session by_number product request (state_numbered state))
+        ∙ open-same request apart
+        ∙ ap outcome_numbered (step-session naming product request state)
+
+    open-numbered : (request : Request) → StayApart product request state naming → AreNumbered (open_step_as naming product request state).0
+    open-numbered (New order) apart = by-numbered naming order (terms_of product order state) apart
+    open-numbered (Cancel order) apart = cancelled-numbered order (slot_named order.sender.firm order.old (live_orders state.book)) refl
+    open-numbered (Replace order) apart = replace-numbered naming product order state slots are apart
+    open-numbered (Passed sender) apart = are
+    open-numbered (Refused refusal) apart = record { differ = are.differ; given = are.given }
+
+    pub step-numbered : (request : Request) → StayApart product request state naming → AreNumbered (request_step_as naming product request state).0
+    step-numbered request apart = subst (λ (r : State × List Event). AreNumbered r.0) (step-session naming product request state) (open-numbered request apart)

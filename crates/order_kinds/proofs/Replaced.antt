@@ -294,5 +294,5 @@ module _ {E : Type 0} (m : EmitMeanings E) (request : ReplaceOrder) (s : ℕ) (o
       → Takes m (BroughtApart on (taker_again request order)) (λ naming. brought_in naming on (taker_again request order)) (record old { book = book; desk = desk }) after b c
       → Takes m (ReplacedApart false on request s) (λ naming. replaced_anew naming on request s) old after a c
   takes-anew on after a b c puts takes =
-      let all = takes-reported m (Replaced head order prior.id prior.quantity) (replaced-is-no-fill head order prior.id prior.quantity) on old (record old { book = book; desk = desk }) after (taker_again request order) (replaced_start request s old) a b c starts refl puts takes in
+      let all = takes-reported m (Replaced head order prior.id prior.quantity) (replaced-is-no-fill head order prior.id prior.quantity) on old (record old { book = book; desk = desk }) after (taker_again request order) (replaced_start request s old) a b c starts refl refl puts takes in
       record { naming = all.naming; apart = all.apart; state = all.state; emits = all.emits }

@@ -1,6 +1,7 @@
 -- An order is reported and comes in: the report before its trades changes nothing of what they do.
 use Rattle.std.proofs.Common.{◌≡◌, ℕ, ◌+◌, List, [], ◌∷◌, length, Option, Some, None, refl, sym, ap, subst, ◌∙◌}
 use Prim.Native.Nat.{zero, suc}
+use Rattle.gx_base.specs.declared.trading.Trading.{Trading}
 use Rattle.gx_base.specs.declared.price.Price.{Price}
 use Rattle.gx_base.specs.declared.order.Kind.{Kind}
 use Rattle.gx_base.specs.declared.order.Kind.TheVariants.{Limit, Market, StopLimit}
@@ -84,7 +85,7 @@ module _ (event : Event) (none : IsNoFill event) (steps : List Step) where
 
 -- The report was put, and the order came in from the state after it.
 module _ {E : Type 0} (m : EmitMeanings E) (event : Event) (none : IsNoFill event) (instrument : ListedInstrument) (old reported new : State) (taker : Taker) (start : MatchState) (a b c : E)
-    (begins : with_events (event ∷ []) (match_start reported.book reported.desk taker) ≡ start) (same : reported.last ≡ old.last)
+    (begins : with_events (event ∷ []) (match_start reported.book reported.desk taker) ≡ start) (same : reported.last ≡ old.last) (session : reported.trading ≡ old.trading)
     (puts : Emits m a b (event ∷ [])) (takes : Takes m (BroughtApart instrument taker) (λ naming. brought_in naming instrument taker) reported new b c)
   where
     abbrev steps : List Step
@@ -102,8 +103,9 @@ module _ {E : Type 0} (m : EmitMeanings E) (event : Event) (none : IsNoFill even
           naming = naming;
           apart = subst (λ (x : MatchState). ComeApart naming steps x) begins (apart-after event none steps naming first takes.apart);
           state = takes.state
-              ∙ ap (λ (x : MatchState). record { book = x.book; last = last_after instrument.number (last_fill done.events) reported.last; desk = x.desk }) is
-              ∙ ap (λ (p : Option Price). record { book = end.book; last = last_after instrument.number p reported.last; desk = end.desk }) last
-              ∙ ap (λ (l : List (Option Price)). record { book = end.book; last = last_after instrument.number (last_fill end.events) l; desk = end.desk }) same;
+              ∙ ap (λ (x : MatchState). record reported { book = x.book; last = last_after instrument.number (last_fill done.events) reported.last; desk = x.desk }) is
+              ∙ ap (λ (p : Option Price). record reported { book = end.book; last = last_after instrument.number p reported.last; desk = end.desk }) last
+              ∙ ap (λ (l : List (Option Price)). record reported { book = end.book; last = last_after instrument.number (last_fill end.events) l; desk = end.desk }) same
+              ∙ ap (λ (t : Trading). record { book = end.book; last = last_after instrument.number (last_fill end.events) old.last; desk = end.desk; trading = t }) session;
           emits = emits_as m a c (event ∷ done.events) end.events (ap (λ (x : MatchState). x.events) is) (emits_joined m a b c (event ∷ []) done.events puts takes.emits);
         }

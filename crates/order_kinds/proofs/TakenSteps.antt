@@ -15,7 +15,7 @@ use Rattle.order_kinds.specs.State.{State}
 use Rattle.order_kinds.specs.Reports.{line_counted, change_refused, unchanged}
 use Rattle.order_kinds.specs.Stops.{Naming, by_number}
 use Rattle.order_kinds.specs.Cancels.{rejected, session_step}
-use Rattle.order_kinds.specs.Step.{request_step_as}
+use Rattle.order_kinds.specs.Step.{open_step_as}
 use Rattle.order_kinds.specs.Inner.Apart.{StayApart}
 use Rattle.order_kinds.specs.Inner.Taking.{Takes}
 
@@ -47,10 +47,10 @@ module _ {E : Type 0} (m : EmitMeanings E) (Apart : State → Naming → Type 0)
 -- a message that a session rule refuses is reported, and changes nothing
 pub takes-rejected : {E : Type 0} (m : EmitMeanings E) (product : ProductLists) (request : Request) (refusal : Refusal) {old seen : State} → old ≡ seen → (desk : Desk) (before after : E) → request ≡ Refused refusal
     → desk ≡ line_counted old.desk refusal.firm → Emits m before after (rejected refusal old.desk ∷ [])
-    → Takes m (StayApart product request) (λ naming. request_step_as naming product request) seen (record old { desk = desk }) before after
+    → Takes m (StayApart product request) (λ naming. open_step_as naming product request) seen (record old { desk = desk }) before after
 takes-rejected m product request refusal {old} at desk before after is counted emits =
     let new : State = record old { desk = desk } in
-    subst (λ (s : State). Takes m (StayApart product request) (λ naming. request_step_as naming product request) s new before after) at
-    (subst (λ (r : Request). Takes m (StayApart product r) (λ naming. request_step_as naming product r) old new before after) (sym is)
-    (takes-known m (StayApart product (Refused refusal)) (λ naming. request_step_as naming product (Refused refusal)) old before after by_number (session_step refusal old) new tt refl
+    subst (λ (s : State). Takes m (StayApart product request) (λ naming. open_step_as naming product request) s new before after) at
+    (subst (λ (r : Request). Takes m (StayApart product r) (λ naming. open_step_as naming product r) old new before after) (sym is)
+    (takes-known m (StayApart product (Refused refusal)) (λ naming. open_step_as naming product (Refused refusal)) old before after by_number (session_step refusal old) new tt refl
     (ap (λ (d : Desk). record old { desk = d }) counted) emits))

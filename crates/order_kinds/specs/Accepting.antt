@@ -46,7 +46,7 @@ new_of naming terms new state = come_in naming terms.instrument.rule.steps (new_
 -- What a match leaves: the last trade price of its instrument is that of its last fill.
 abbrev pub after_match : ℕ → State → MatchState → State × List Event
 after_match instrument state end =
-    (record { book = end.book; last = last_after instrument (last_fill end.events) state.last; desk = end.desk }, end.events)
+    (record state { book = end.book; last = last_after instrument (last_fill end.events) state.last; desk = end.desk }, end.events)
 
 abbrev pub accepted : Naming → Terms → NewOrder → State → State × List Event
 accepted naming terms new state = after_match terms.instrument.number state (new_of naming terms new state)

@@ -1,4 +1,5 @@
 pub mod State
+pub mod TradingSessions
 pub mod Instruments
 pub mod OrderRules
 pub mod NewOrders

@@ -2,6 +2,8 @@
 use Rattle.std.specs.Prelude.{ℕ, ◌+◌, Bool, true, false, List, [], ◌∷◌, ◌++◌, flat_map}
 use Rattle.gx_base.specs.Line.{line_of}
 use Rattle.gx_base.specs.declared.event.Event.{Event}
+use Rattle.gx_base.specs.declared.trading.Trading.{Trading}
+use Rattle.gx_base.specs.declared.trading.Trading.TheVariants.{Open, Closed}
 use Rattle.product_file.specs.Products.{ProductLists}
 use Rattle.fix_request.specs.Requests.{request_of}
 use Rattle.fix_request.specs.declared.request.Request.{Request}
@@ -24,13 +26,22 @@ is_passed (Cancel order) = false
 is_passed (Replace order) = false
 is_passed (Refused refusal) = false
 
--- What a request does: the state after it, and its events.
+-- What a request does while the market is open: the state after it, and its events.
+abbrev pub open_step_as : Naming → ProductLists → Request → State → State × List Event
+open_step_as naming product (New order) state = new_step naming product order state
+open_step_as naming product (Cancel order) state = cancel_step order state
+open_step_as naming product (Replace order) state = replace_step naming product order state
+open_step_as naming product (Passed sender) state = (state, [])
+open_step_as naming product (Refused refusal) state = session_step refusal state
+
+-- What it does in a trading session. No message closes the market yet, so both sessions take the same requests.
+abbrev pub step_in : Trading → Naming → ProductLists → Request → State → State × List Event
+step_in Open naming product request state = open_step_as naming product request state
+step_in Closed naming product request state = open_step_as naming product request state
+
+-- What a request does, by the session that the state is in.
 abbrev pub request_step_as : Naming → ProductLists → Request → State → State × List Event
-request_step_as naming product (New order) state = new_step naming product order state
-request_step_as naming product (Cancel order) state = cancel_step order state
-request_step_as naming product (Replace order) state = replace_step naming product order state
-request_step_as naming product (Passed sender) state = (state, [])
-request_step_as naming product (Refused refusal) state = session_step refusal state
+request_step_as naming product request state = step_in state.trading naming product request state
 
 -- in the state of the engine each order is named by its number
 abbrev pub request_step : ProductLists → Request → State → State × List Event

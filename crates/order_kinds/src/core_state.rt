@@ -2,10 +2,12 @@
 ghost use Rattle.std.specs.Prelude.{◌≡◌, ◌^◌, ◌≤◌, ◌<◌, ◌+◌, IsTrue, IfSome, length, replicate, slice_set, None};
 ghost use Rattle.std.specs.Borrow.{Lends, sem};
 ghost use Rattle.fix_request.specs.ValidRequests.{IsValidRequest};
-ghost use Rattle.plain_book.specs.Book.{empty_book, book_cleared};
+ghost use Rattle.gx_base.specs.declared.trading.Trading.TheVariants.{Open, Closed};
+ghost use Rattle.plain_book.specs.Book.{empty_book, book_cleared, live_orders};
 ghost use Rattle.order_kinds.specs.State.{empty_desk, empty_state};
 ghost use Rattle.order_kinds.specs.OrderRules.{last_of};
-ghost use Rattle.order_kinds.specs.Step.{is_passed, request_step_as};
+ghost use Rattle.order_kinds.specs.Step.{is_passed, open_step_as};
+ghost use Rattle.order_kinds.specs.TradingSessions.{AreUntilCancelled};
 ghost use Rattle.order_kinds.specs.Cores.{AreCounters, IsInRange, FitsProduct, AreNumbered, TakesStep, PutsStep};
 ghost use Rattle.order_kinds.specs.Inner.Apart.{StayApart};
 ghost use Rattle.order_kinds.specs.Inner.Taking.{Takes, CountsRose, IsCounted};
@@ -17,7 +19,7 @@ use crate::replaces::apply_replace;
 use crate::state::{EngineState, LastPrices, set_last_price};
 use arrayvec::ArrayVec;
 use fix_request::Request;
-use gx_base::{ADDRESSEES, Desk, Emit, MOST_INSTRUMENTS, Price};
+use gx_base::{ADDRESSEES, Desk, Emit, MOST_INSTRUMENTS, Price, Trading};
 use plain_book::Book;
 use product_file::Product;
 use std::marker::Model;
@@ -25,8 +27,8 @@ use std::marker::Model;
 /// How many messages a core takes at most: 2^24 (our own rule).
 pub const MOST_MESSAGES: u64 = 16_777_216;
 
-/// The live orders of a product in a book, the last trade price of each instrument, and the counters. Contracts see it as
-/// these. At every moment there are no more orders than messages, at most `MOST_MESSAGES` messages, and no other counter is
+/// The live orders of a product in a book, the last trade price of each instrument, the counters, and the trading session.
+/// Contracts see it as these. At every moment there are no more orders than messages, at most `MOST_MESSAGES` messages, and no other counter is
 /// above 2^38 for each message.
 #[derive(Drop)]
 pub struct Core<B: Book> {
@@ -73,8 +75,8 @@ fn no_prices(instruments: usize) -> LastPrices
 impl<B: Book> Core<B> {
     ghost use Rattle.order_kinds.specs.contracts.core_state.Core.{the_row};
 
-    /// A core over an empty book that has the instruments of a product and room for as many orders as it allows. Takes no
-    /// memory.
+    /// A core over an empty book that has the instruments of a product and room for as many orders as it allows. The market is
+    /// open. Takes no memory.
     pub fn new(book: B, product: &Product) -> Core<B>
         requires { B.book book ≡ empty_book product.now.max_orders (length product.now.names.instruments) }
         ensures { result ≡ empty_state product.now }
@@ -85,6 +87,7 @@ impl<B: Book> Core<B> {
                 book,
                 last: no_prices(product.names().instrument_count()),
                 desk: new_desk(),
+                trading: Trading::Open,
             },
         }
     }
@@ -152,6 +155,22 @@ impl<B: Book> Core<B> {
         last_of(instrument, &self.state.last)
     }
 
+    /// Whether the market is open.
+    pub fn trading(&self) -> Trading
+        ensures { result ≡ self.now.trading }
+    {
+        self.state.trading
+    }
+
+    /// Opens or closes the market, and nothing else: no order leaves. So a market can be closed only if each live order is good
+    /// till cancelled (our own rule).
+    pub fn set_trading(&mut self, to: Trading)
+        requires { to ≡ Closed → AreUntilCancelled (live_orders self.old.book) }
+        ensures { self.new ≡ record self.old { trading = to } }
+    {
+        self.state.trading = to;
+    }
+
     /// Sets the counters, and nothing else.
     pub fn restore(&mut self, desk: Desk)
         requires { AreCounters desk }
@@ -169,17 +188,18 @@ impl<B: Book> Core<B> {
         set_last_price(&mut self.state.last, instrument, price);
     }
 
-    /// Makes the core as `new` made it: no order, no trade, and all counters 0.
+    /// Makes the core as `new` made it: no order, no trade, all counters 0, and an open market.
     pub fn clear(&mut self)
-        ensures { self.new ≡ record { book = book_cleared self.old.book; last = replicate (length self.old.last) None; desk = empty_desk } }
+        ensures { self.new ≡ record { book = book_cleared self.old.book; last = replicate (length self.old.last) None; desk = empty_desk; trading = Open } }
     {
         self.state.book.clear();
         self.state.last = no_prices(self.state.last.len());
         self.state.desk = new_desk();
+        self.state.trading = Trading::Open;
     }
 }
 
-/// Applies a request that was counted as a message.
+/// Applies a request that was counted as a message, as in an open market.
 fn apply_counted<B: Book, E: Emit>(
     state: &mut EngineState<B>,
     product: &Product,
@@ -189,7 +209,7 @@ fn apply_counted<B: Book, E: Emit>(
     requires counted { IsCounted state.old.desk }
     requires valid { IsValidRequest product.now request.now }
     requires fits { FitsProduct product.now state.old }
-    ensures takes { Takes E.meanings (StayApart product.now request.now) (λ naming. request_step_as naming product.now request.now) state.old state.new
+    ensures takes { Takes E.meanings (StayApart product.now request.now) (λ naming. open_step_as naming product.now request.now) state.old state.new
         out.old out.new }
     ensures silent { IsTrue (is_passed request.now) → out.new ≡ out.old }
     ensures orders { state.new.desk.orders ≤ state.old.desk.orders + 1 }

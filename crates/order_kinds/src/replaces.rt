@@ -3,7 +3,7 @@ ghost use Rattle.std.specs.Prelude.{◌≡◌, ◌≤◌, ◌<◌, ◌^◌, leng
 ghost use Rattle.gx_base.specs.Emits.{Emits};
 ghost use Rattle.product_file.specs.declared.limits.TheConstants.{MOST_ORDERS};
 ghost use Rattle.fix_request.specs.ValidRequests.{IsValidReplace};
-ghost use Rattle.plain_book.specs.Orders.{HasSlot, order_of, slot_named, is_side};
+ghost use Rattle.plain_book.specs.Orders.{HasSlot, order_of, slot_named};
 ghost use Rattle.plain_book.specs.Book.{live_orders};
 ghost use Rattle.order_kinds.specs.Replaces.{is_kind, is_same_order, replace_terms, new_price, least_after, keeps_place, replaced_order, replaced_in_place, replaced_anew, replace_at, replace_step};
 ghost use Rattle.order_kinds.specs.Cores.{FitsProduct};
@@ -18,19 +18,11 @@ use crate::new_orders::has_id;
 use crate::order_rules::{has_bad_stop, has_off_tick, is_quantity, is_stop_reached, last_of};
 use crate::reports::RefusedChange;
 use crate::state::EngineState;
+use book_order::is_same_side;
 use fix_request::{Px, ReplaceOrder};
 use gx_base::{ChangeFault, Emit, Event, Kind, Life, Order, Price, Side, Slot, Taker};
 use plain_book::{Book, count_report};
 use product_file::Product;
-
-fn is_same_side(a: Side, b: Side) -> bool
-    ensures { result ≡ is_side a b }
-{
-    match (a, b) {
-        (Side::Buy, Side::Buy) | (Side::Sell, Side::Sell) => true,
-        (Side::Buy, Side::Sell) | (Side::Sell, Side::Buy) => false,
-    }
-}
 
 fn is_same_kind(a: Kind, b: Kind) -> bool
     ensures { result ≡ is_kind a b }

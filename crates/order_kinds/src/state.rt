@@ -3,19 +3,20 @@ ghost use Rattle.std.specs.Prelude.{◌≡◌, ◌<◌, length, slice_set};
 ghost use Rattle.order_kinds.specs.Entering.{last_after};
 
 use arrayvec::ArrayVec;
-use gx_base::{Desk, MOST_INSTRUMENTS, Price};
+use gx_base::{Desk, MOST_INSTRUMENTS, Price, Trading};
 use plain_book::Book;
 use std::marker::Model;
 
 /// By instrument: the price of its last trade, if there was one.
 pub(crate) type LastPrices = ArrayVec<Option<Price>, MOST_INSTRUMENTS>;
 
-/// The live orders, the last trade prices, and the counters.
+/// The live orders, the last trade prices, the counters, and the trading session.
 #[derive(Drop)]
 pub(crate) struct EngineState<B: Book> {
     pub(crate) book: B,
     pub(crate) last: LastPrices,
     pub(crate) desk: Desk,
+    pub(crate) trading: Trading,
 }
 
 impl<B: Book> Model for EngineState<B> {
@@ -23,7 +24,7 @@ impl<B: Book> Model for EngineState<B> {
 
     ghost Value = { State };
 
-    ghost view = { λ s. record { book = B.book s.book; last = s.last.items; desk = s.desk } };
+    ghost view = { λ s. record { book = B.book s.book; last = s.last.items; desk = s.desk; trading = s.trading } };
 }
 
 /// Sets the last trade price of an instrument, or that it has none.

@@ -1,6 +1,6 @@
 -- Each text that the engine puts into a report is short and ends no field, no order has a quantity of ten digits, and there are no
 -- more order numbers than messages, whatever the requests are.
-use Rattle.std.proofs.Common.{ℕ, ◌+◌, ◌^◌, ◌<◌, min, Bool, true, false, cond, not, ◌&&◌, nat_lt, List, [], ◌∷◌, filter, length, Option, Some, None, Result, Ok, Err, refl, arith, ◌≡◌, ◌≤◌}
+use Rattle.std.proofs.Common.{ℕ, ◌+◌, ◌^◌, ◌<◌, min, Bool, true, false, cond, not, ◌&&◌, nat_lt, List, [], ◌∷◌, filter, length, Option, Some, None, Result, Ok, Err, refl, subst, arith, ◌≡◌, ◌≤◌}
 use Prim.Native.Nat.{zero, suc}
 use Rattle.std.specs.Prelude.{◌==◌, IfSome}
 use Rattle.std.specs.List.{AllByRecursion}
@@ -44,7 +44,8 @@ use Rattle.order_kinds.specs.Accepting.{refusal, new_start, new_of, after_match,
 use Rattle.order_kinds.specs.Cancels.{cancel_by}
 use Rattle.order_kinds.specs.Reports.{unchanged}
 use Rattle.order_kinds.specs.Replaces.{least_after, keeps_place, replaced_in_place, replaced_start, replaced_anew, replaced, replace_refused, replace_terms, replaced_or_refused, replace_at}
-use Rattle.order_kinds.specs.Step.{with_message, request_step, step_of as message_step, events_from, events_of}
+use Rattle.order_kinds.specs.Step.{with_message, open_step_as, request_step, step_of as message_step, events_from, events_of}
+use Rattle.order_kinds.proofs.SessionSteps.{step-session}
 use Rattle.order_kinds.specs.Balance.{quantities_of, order_in}
 use Rattle.report_laws.specs.Texts.{IsText, HasTexts}
 
@@ -400,12 +401,15 @@ module _ (most : ℕ) where
   replace-text (Some slot) naming product request state is h =
       by_terms-text (replace_terms product request (order_of slot (live_orders state.book)) state) naming request slot state is h
 
+  open-text : (product : ProductLists) (request : Request) (state : State) → HasRoom state → IsTextRequest request → IsTextBook state.book → IsTextStep state.desk.orders (open_step_as by_number product request state)
+  open-text product (New order) state room is h = new-text by_number (terms_of product order state) order state room is h
+  open-text product (Cancel order) state room is h = cancel-text (slot_named order.sender.firm order.old (live_orders state.book)) order state is h
+  open-text product (Replace order) state room is h = replace-text (slot_named order.sender.firm order.old (live_orders state.book)) by_number product order state is h
+  open-text product (Passed sender) state room is h = record { book = h; events = tt; orders = omega arith }
+  open-text product (Refused refusal) state room is h = record { book = h; events = (record { texts = (is, tt); small = tt; given = tt }, tt); orders = omega arith }
+
   request-text : (product : ProductLists) (request : Request) (state : State) → HasRoom state → IsTextRequest request → IsTextBook state.book → IsTextStep state.desk.orders (request_step product request state)
-  request-text product (New order) state room is h = new-text by_number (terms_of product order state) order state room is h
-  request-text product (Cancel order) state room is h = cancel-text (slot_named order.sender.firm order.old (live_orders state.book)) order state is h
-  request-text product (Replace order) state room is h = replace-text (slot_named order.sender.firm order.old (live_orders state.book)) by_number product order state is h
-  request-text product (Passed sender) state room is h = record { book = h; events = tt; orders = omega arith }
-  request-text product (Refused refusal) state room is h = record { book = h; events = (record { texts = (is, tt); small = tt; given = tt }, tt); orders = omega arith }
+  request-text product request state room is h = subst (IsTextStep state.desk.orders) (step-session by_number product request state) (open-text product request state room is h)
 
   -- ---- a stream
 

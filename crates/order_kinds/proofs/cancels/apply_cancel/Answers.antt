@@ -19,8 +19,8 @@ pub returns-in-Some-clause-takes : goal.returns-in-Some-clause-takes
 returns-in-Some-clause-takes g c =
     let m = g.E.Emit.meanings in
     let request = c.args.request.now in
-    let old : State = record { book = g.B.Book.book c.state.inside.book; last = c.state.inside.last.items; desk = c.state.inside.desk } in
-    let new : State = record { book = g.B.Book.book c.cancel_order.new.book; last = c.state.inside.last.items; desk = c.cancel_order.new.desk } in
+    let old : State = record { book = g.B.Book.book c.state.inside.book; last = c.state.inside.last.items; desk = c.state.inside.desk; trading = c.state.inside.trading } in
+    let new : State = record { book = g.B.Book.book c.cancel_order.new.book; last = c.state.inside.last.items; desk = c.cancel_order.new.desk; trading = c.state.inside.trading } in
     let slot = c.in-Some.slot.0 in
     let named : slot_named request.sender.firm request.old (live_orders old.book) ≡ Some slot = sym c.find.ensures ∙ ap (option_map slot_number) c.in-Some.is in
     subst (λ (s : State). Takes m (λ state naming. Unit {0}) (λ naming. cancel_step request) s new c.args.out.now c.cancel_order.new.out) c.state.view_is
@@ -33,7 +33,7 @@ pub returns-in-None-clause-takes : goal.returns-in-None-clause-takes
 returns-in-None-clause-takes g c =
     let m = g.E.Emit.meanings in
     let request = c.args.request.now in
-    let old : State = record { book = g.B.Book.book c.state.inside.book; last = c.state.inside.last.items; desk = c.state.inside.desk } in
+    let old : State = record { book = g.B.Book.book c.state.inside.book; last = c.state.inside.last.items; desk = c.state.inside.desk; trading = c.state.inside.trading } in
     let new : State = record old { desk = c.report.new.desk } in
     let named : slot_named request.sender.firm request.old (live_orders old.book) ≡ None = sym c.find.ensures ∙ ap (option_map slot_number) c.in-None.is in
     subst (λ (s : State). Takes m (λ state naming. Unit {0}) (λ naming. cancel_step request) s new c.args.out.now c.report.new.out) c.state.view_is

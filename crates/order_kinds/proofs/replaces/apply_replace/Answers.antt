@@ -15,7 +15,7 @@ returns-in-None-clause-takes g c =
     let m = g.E.Emit.meanings in
     let product = c.args.product.now in
     let request = c.args.request.now in
-    let old : State = record { book = g.B.Book.book c.state.inside.book; last = c.state.inside.last.items; desk = c.state.inside.desk } in
+    let old : State = record { book = g.B.Book.book c.state.inside.book; last = c.state.inside.last.items; desk = c.state.inside.desk; trading = c.state.inside.trading } in
     let Apart : State → Naming → Type 0 = λ state. ReplaceApart (slot_named request.sender.firm request.old (live_orders state.book)) product request state in
     let named : slot_named request.sender.firm request.old (live_orders old.book) ≡ None = sym c.find.ensures ∙ ap (option_map slot_number) c.in-None.is in
     subst (λ (x : State). Takes m Apart (λ naming. replace_step naming product request) x (record old { desk = c.report.new.desk }) c.args.out.now c.report.new.out) c.state.view_is

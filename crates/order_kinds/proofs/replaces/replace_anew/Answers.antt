@@ -20,7 +20,7 @@ use Rattle.order_kinds.proofs.replaces.replace_anew.Goals.{After-put}
 
 -- the state as the function found it
 abbrev before : (g : Over) (c : After-put g) → State
-before g c = record { book = g.B.Book.book c.state.inside.book; last = c.state.inside.last.items; desk = c.state.inside.desk }
+before g c = record { book = g.B.Book.book c.state.inside.book; last = c.state.inside.last.items; desk = c.state.inside.desk; trading = c.state.inside.trading }
 
 -- what stands after the report
 changed : (g : Over) (c : After-put g)

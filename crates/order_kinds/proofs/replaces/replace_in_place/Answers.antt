@@ -39,7 +39,7 @@ returns-clause-emits g c =
     let m = g.E.Emit.meanings in
     let s = c.args.slot.0 in
     let request = c.args.request.now in
-    let old : State = record { book = g.B.Book.book c.state.inside.book; last = c.state.inside.last.items; desk = c.state.inside.desk } in
+    let old : State = record { book = g.B.Book.book c.state.inside.book; last = c.state.inside.last.items; desk = c.state.inside.desk; trading = c.state.inside.trading } in
     let has = subst (λ (x : State). HasSlot s (live_orders x.book)) (sym c.state.view_is) c.requires.live in
     let was = subst (λ (x : State). c.args.order.now ≡ order_of s (live_orders x.book)) (sym c.state.view_is) c.requires.order in
     subst (λ (x : State). Emits m c.args.out.now c.put.new.self (replaced_in_place request s x).1) c.state.view_is

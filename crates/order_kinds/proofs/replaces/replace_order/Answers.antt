@@ -46,7 +46,7 @@ returns-in-Err-clause-takes g c =
     let s = c.args.slot.0 in
     let o = c.order-order.result.now in
     let fault = c.in-Err.fault in
-    let old : State = record { book = g.B.Book.book c.state.inside.book; last = c.state.inside.last.items; desk = c.state.inside.desk } in
+    let old : State = record { book = g.B.Book.book c.state.inside.book; last = c.state.inside.last.items; desk = c.state.inside.desk; trading = c.state.inside.trading } in
     let terms : replace_terms product request o c.args.state.now ≡ Err fault = sym c.terms_of.ensures ∙ ap map_instrument c.in-Err.is in
     let step = step-refused product request s old o c.order-order.ensures fault (subst (λ (x : State). replace_terms product request o x ≡ Err fault) (sym c.state.view_is) terms) in
     subst (λ (x : State). Takes m (ReplaceApart (Some s) product request) (λ naming. replace_at (Some s) naming product request) x (record old { desk = c.report.new.desk }) c.args.out.now c.report.new.out) c.state.view_is

@@ -1,0 +1,10 @@
+//! Whether the market is open.
+
+/// The trading session (340 in FIX 4.2). That there are these two is our own rule.
+#[derive(Clone, Copy, Debug, PartialEq, Eq)]
+pub enum Trading {
+    /// Orders are taken and matched.
+    Open,
+    /// No order is taken, and all live orders are good till cancelled.
+    Closed,
+}
