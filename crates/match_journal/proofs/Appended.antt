@@ -4,6 +4,7 @@ use Rattle.gx_station.specs.Disk.{Torn, written}
 use Rattle.gx_station.specs.Stations.{StationMeanings}
 use Rattle.match_journal.specs.Steps.{Steps}
 use Rattle.match_journal.specs.Journal.{IsJournal, IsRecord, Record, journal_front, open_record}
+use Rattle.match_journal.specs.declared.standing.Standing.{Standing}
 use Rattle.match_journal.specs.Appending.{IsJournalTo, IsBeforeOrAfter, IsAdded}
 use Rattle.match_journal.specs.Inner.Stores.{Stored, staged}
 use Rattle.match_journal.proofs.Stepping.{steps_then, steps_err, steps_weaker}
@@ -81,6 +82,11 @@ module _ (text image : List ℕ) (r : Record) (limit : ℕ) (records : List Reco
       }
 
 -- ---- over a station
+
+-- how an image goes on where a record is added to a journal that stands there
+abbrev pub AppendsAt : {S T F : Type 0} → StationMeanings S → S → S → Record → Result T F → Standing → Type 0
+AppendsAt m old new r answer s = (text image : List ℕ) (records : List Record) → IsJournalTo text s.limit records s.gate image
+    → Steps m old new image (IsBeforeOrAfter text s.limit records r image (s.gate + 6 + length r.payload)) (IsAdded text s.limit records r image (s.gate + 6 + length r.payload)) answer
 
 module _ {S : Type 0} (m : StationMeanings S) (text image : List ℕ) (r : Record) (limit : ℕ) (records : List Record) (end : ℕ) (right : IsRecord r) (fits : end + 7 + length r.payload ≤ limit) (first : IsJournalTo text limit records end image) where
   abbrev During : List ℕ → Type 0

@@ -5,6 +5,7 @@ pub mod Unique
 -- What the proofs of this crate alone cite.
 mod Torn
 mod Storing
+mod Looking
 mod Stepping
 mod Appended
 mod Staging

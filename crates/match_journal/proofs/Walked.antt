@@ -55,14 +55,20 @@ none_left text image limit before (r ∷ more) journal gate place shut = absurd 
 -- no payload has 2^32 bytes
 pub below : (k : EntryKind) (n : ℕ) → n ≤ most_payload k → n < 2 ^ 32
 below kind.Frames n few = omega (arith, few)
+below kind.OldImage n few = omega (arith, few)
 below kind.Image n few = omega (arith, few)
 
 -- two kinds with the same byte
 pub one_kind : (a b : EntryKind) → kind_byte a ≡ kind_byte b → a ≡ b
 one_kind kind.Frames kind.Frames same = refl
+one_kind kind.OldImage kind.OldImage same = refl
 one_kind kind.Image kind.Image same = refl
+one_kind kind.Frames kind.OldImage same = absurd (omega (arith, same))
 one_kind kind.Frames kind.Image same = absurd (omega (arith, same))
+one_kind kind.OldImage kind.Frames same = absurd (omega (arith, same))
+one_kind kind.OldImage kind.Image same = absurd (omega (arith, same))
 one_kind kind.Image kind.Frames same = absurd (omega (arith, same))
+one_kind kind.Image kind.OldImage same = absurd (omega (arith, same))
 
 module _ (text image : List ℕ) (limit : ℕ) (before : List Record) (r : Record) (more : List Record) (journal : IsJournal text limit (before ++ r ∷ more) image) (gate : ℕ) (place : gate ≡ length (journal_front text before)) where
   right : IsRecord r

@@ -1,15 +1,15 @@
 -- What a journal's image is, and which records it keeps.
 --
 -- Byte 0 is the first gate. Then the eight bytes GXJOURN1, the length of the product text in four bytes, the highest first,
--- the text, and a gate. A record is a gate, its kind (M for frames, C for a book image), the length of its payload in four bytes,
--- the payload; and then comes the next gate. A gate is open where its byte is 1, and closed otherwise. The records are those
+-- the text, and a gate. A record is a gate, its kind (M for frames, C for a book image without the session, D for a book image),
+-- the length of its payload in four bytes, the payload; and then comes the next gate. A gate is open where its byte is 1, and closed otherwise. The records are those
 -- behind open gates, up to the first closed one. Bytes behind that gate mean nothing.
 use Rattle.std.specs.Prelude.{◌≡◌, ◌≢◌, ℕ, ◌<◌, ◌≤◌, List, [], ◌∷◌, ◌++◌, length}
 use Rattle.std.specs.Int.{w32, to_be_bytes}
 use Rattle.std.specs.List.{flat_map, AllByRecursion}
 use Rattle.match_journal.specs.declared.limits.TheConstants.{MOST_PAYLOAD, MOST_IMAGE}
 use Rattle.match_journal.specs.declared.entry.EntryKind.{EntryKind}
-use Rattle.match_journal.specs.declared.entry.EntryKind.TheVariants.{Frames, Image}
+use Rattle.match_journal.specs.declared.entry.EntryKind.TheVariants.{Frames, OldImage, Image}
 
 -- GXJOURN1
 abbrev pub magic : List ℕ
@@ -29,10 +29,11 @@ pub record Record : Type 0 where
 abbrev pub frames_record : List ℕ → Record
 frames_record payload = record { kind = Frames; payload = payload }
 
--- the byte of a kind: M or C
+-- the byte of a kind: M, C or D
 abbrev pub kind_byte : EntryKind → ℕ
 kind_byte Frames = 77
-kind_byte Image = 67
+kind_byte OldImage = 67
+kind_byte Image = 68
 
 -- a record behind its open gate
 abbrev pub open_record : Record → List ℕ
@@ -41,10 +42,12 @@ open_record r = 1 ∷ kind_byte r.kind ∷ (to_be_bytes w32 (length r.payload) +
 -- how many bytes a payload of a kind has
 abbrev pub least_payload : EntryKind → ℕ
 least_payload Frames = 1
+least_payload OldImage = 0
 least_payload Image = 0
 
 abbrev pub most_payload : EntryKind → ℕ
 most_payload Frames = MOST_PAYLOAD
+most_payload OldImage = MOST_IMAGE
 most_payload Image = MOST_IMAGE
 
 pub record IsRecord (r : Record) : Type 0 where

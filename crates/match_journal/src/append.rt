@@ -11,7 +11,7 @@ ghost use Rattle.match_journal.specs.Journal.{Record, IsRecord, kind_byte, least
 ghost use Rattle.match_journal.specs.Inner.Stores.{staged, Puts, Stored};
 ghost use Rattle.gx_station.specs.Honest.{IsSettled};
 
-use crate::entry::{AROUND, EntryKind, FRAMES, HEAD, IMAGE};
+use crate::entry::{AROUND, EntryKind, FRAMES, HEAD, IMAGE, OLD_IMAGE};
 use crate::faults::AppendFault;
 use crate::journal::{Journal, RECORD};
 use crate::parts::{store, store_parts};
@@ -23,6 +23,7 @@ fn byte_of(kind: EntryKind) -> u8
 {
     match kind {
         EntryKind::Frames => FRAMES,
+        EntryKind::OldImage => OLD_IMAGE,
         EntryKind::Image => IMAGE,
     }
 }
@@ -66,7 +67,7 @@ fn store_record<S: Station>(
             stage(buffer, kind, payload);
             store(station, gate + 1, &buffer[..payload.len() + HEAD])
         }
-        EntryKind::Image => store_parts(
+        EntryKind::OldImage | EntryKind::Image => store_parts(
             station,
             gate + 1,
             &head_of(kind, payload.len() as u32),

@@ -5,6 +5,8 @@
 pub enum EntryKind {
     /// One or more messages.
     Frames,
+    /// A book image without the session: it stands for an open market. Read, and no longer written.
+    OldImage,
     /// A book image.
     Image,
 }
@@ -26,4 +28,6 @@ pub(crate) const AROUND: u64 = 7;
 /// The bytes of the kinds.
 pub(crate) const FRAMES: u8 = b'M';
 
-pub(crate) const IMAGE: u8 = b'C';
+pub(crate) const OLD_IMAGE: u8 = b'C';
+
+pub(crate) const IMAGE: u8 = b'D';

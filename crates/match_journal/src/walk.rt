@@ -9,7 +9,7 @@ ghost use Rattle.match_journal.specs.Walking.{Walks, InOrder, IsNext, stands_the
 ghost use Rattle.match_journal.specs.Inner.Heads.{HeadAnswers};
 ghost use Rattle.match_journal.specs.declared.entry.EntryKind.{EntryKind};
 
-use crate::entry::{AROUND, Entry, EntryKind, FRAMES, HEAD, IMAGE};
+use crate::entry::{AROUND, Entry, EntryKind, FRAMES, HEAD, IMAGE, OLD_IMAGE};
 use crate::faults::{StoreFault, WalkFault};
 use crate::journal::Journal;
 use crate::limits::MOST_PAYLOAD;
@@ -23,6 +23,7 @@ fn kind_of(byte: u8) -> Option<EntryKind>
 {
     match byte {
         FRAMES => Some(EntryKind::Frames),
+        OLD_IMAGE => Some(EntryKind::OldImage),
         IMAGE => Some(EntryKind::Image),
         _ => None,
     }
@@ -34,7 +35,7 @@ fn is_length_of(kind: EntryKind, length: u32) -> bool
 {
     match kind {
         EntryKind::Frames => (1..=MOST_PAYLOAD as u32).contains(&length),
-        EntryKind::Image => true,
+        EntryKind::OldImage | EntryKind::Image => true,
     }
 }
 

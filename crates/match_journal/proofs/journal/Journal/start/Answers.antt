@@ -1,10 +1,11 @@
-use Rattle.std.proofs.Common.{inl, inr, [], sym, ◌∙◌, arith}
+use Rattle.std.proofs.Common.{inl, inr, [], refl, sym, ◌∙◌, arith}
 use Rattle.gx_station.specs.AnswerLaws.{on_ok}
 use Rattle.match_journal.specs.Steps.{Rests}
 use Rattle.match_journal.specs.StepLaws.{rests_kept, steps_hold}
 use Rattle.match_journal.proofs.Created.{blank_keeps}
 use Rattle.match_journal.proofs.Found.{sealed_class}
 use Rattle.match_journal.proofs.Stepping.{steps_ok, from_synced}
+use Rattle.match_journal.proofs.Looking.{reads_same, reads_between}
 use Rattle.match_journal.proofs.journal.Journal.start.Goals as goal
 
 pub returns-clause-starts : goal.returns-clause-starts
@@ -34,3 +35,30 @@ returns-clause-makes g c = λ image read unfinished.
           let held = c.sync.ensures.syncs.keeps.holds ∙ read in
           on_ok _ (sym c.is_err-2.ensures.value ∙ c.if-is_err-2.false) (c.finish.ensures.makes image _ c.requires.least (sealed_class c.args.product.now image c.in-Ok.found.class (c.in-Ok.ensures.found image held).class sealed) sealed (c.look_at.ensures.looks.keeps.holds ∙ held))
     ]
+
+pub returns-then-is_err-clause-keeps : goal.returns-then-is_err-clause-keeps
+returns-then-is_err-clause-keeps g c = λ image records h read keeps.
+    record { image = image; read = c.sync.ensures.syncs.keeps.holds ∙ read; has = record { keeps = keeps; no_longer = omega arith } }
+
+pub returns-in-Err-clause-keeps : goal.returns-in-Err-clause-keeps
+returns-in-Err-clause-keeps g c = λ image records h read keeps.
+    record { image = image; read = c.look_at.ensures.looks.keeps.holds ∙ c.sync.ensures.syncs.keeps.holds ∙ read; has = record { keeps = keeps; no_longer = omega arith } }
+
+pub returns-clause-keeps : goal.returns-clause-keeps
+returns-clause-keeps g c = λ image records h read keeps.
+    let last = (returns-clause-starts g c image records keeps).ends read in
+    record { image = last.image; read = last.read; has = last.has.0 }
+
+-- ---- what was read
+
+pub returns-then-is_err-clause-bytes_read : goal.returns-then-is_err-clause-bytes_read
+returns-then-is_err-clause-bytes_read g c = reads_same _ _ _ c.sync.ensures.syncs.bytes_read
+
+pub returns-in-Err-clause-bytes_read : goal.returns-in-Err-clause-bytes_read
+returns-in-Err-clause-bytes_read g c = reads_between _ _ _ _ _ c.sync.ensures.syncs.bytes_read c.look_at.ensures.looks.bytes_read refl
+
+pub returns-then-is_err-2-clause-bytes_read : goal.returns-then-is_err-2-clause-bytes_read
+returns-then-is_err-2-clause-bytes_read g c = reads_between _ _ _ _ _ c.sync.ensures.syncs.bytes_read c.look_at.ensures.looks.bytes_read c.finish.ensures.puts.bytes_read
+
+pub returns-clause-bytes_read : goal.returns-clause-bytes_read
+returns-clause-bytes_read g c = reads_between _ _ _ _ _ c.sync.ensures.syncs.bytes_read c.look_at.ensures.looks.bytes_read c.finish.ensures.puts.bytes_read
