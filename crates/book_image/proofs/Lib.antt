@@ -8,6 +8,7 @@ mod CheckNames
 mod CheckFronts
 mod CheckRows
 mod CheckTops
+mod CheckParts
 mod CheckFaults
 mod LoadLists
 mod LoadPlacing
@@ -18,3 +19,4 @@ mod LoadWaiting
 mod LoadFaults
 mod LoadBook
 mod LoadImage
+mod ReadFaults

@@ -15,6 +15,7 @@ use Rattle.gx_base.specs.declared.order.Kind.TheVariants.{Limit, Market, StopLim
 use Rattle.gx_base.specs.declared.order.Life.{Life}
 use Rattle.gx_base.specs.declared.order.Life.TheVariants.{Day, Gtc, Fak, Fok}
 use Rattle.gx_base.specs.declared.order.Order.{Order}
+use Rattle.gx_base.specs.declared.trading.Trading.{Trading}
 use Rattle.product_file.specs.Products.{ProductLists, IsRightProduct}
 use Rattle.product_file.specs.declared.product.InstrumentRule.{InstrumentRule}
 use Rattle.plain_book.specs.declared.entry.Entry.{Entry}
@@ -28,8 +29,8 @@ use Rattle.order_kinds.specs.NewOrders.{may_rest}
 use Rattle.order_kinds.specs.Replaces.{is_kind}
 use Rattle.book_image.specs.declared.format.TheConstants.{DESK_BYTES, INSTRUMENT_BYTES, ROW_BYTES}
 use Rattle.book_image.specs.Rows.{row_at, has_forms, number_at, price_at, byte_at}
-use Rattle.book_image.specs.Rules.{is_price_by, is_price_of, is_right_order, is_right_resting, is_right_waiting, is_right_resting_row, is_right_waiting_row, is_new_name, is_in_book_order, is_in_line, is_right_shown, is_zero, has_same_name}
-use Rattle.book_image.specs.Faults.{part_place, resting_place, resting_rows, resting_count, waiting_place, waiting_rows, waiting_count, rows_end, orders_at, length_fault, wrong_place, desk_fault, is_right_last, has_right_tops, is_right_top, top_at, has_top_by, is_at_best, image_fault}
+use Rattle.book_image.specs.Rules.{is_price_by, is_price_of, is_right_order, is_right_resting, is_right_waiting, is_right_resting_row, is_right_waiting_row, is_new_name, is_in_book_order, is_in_line, is_right_shown, is_zero, has_same_name, may_live}
+use Rattle.book_image.specs.Faults.{part_place, resting_place, resting_rows, resting_count, waiting_place, waiting_rows, waiting_count, rows_end, orders_at, length_fault, wrong_place, desk_fault, is_right_last, has_right_tops, is_right_top, top_at, has_top_by, is_at_best, parts_fault, tops_fault}
 use Rattle.book_image.specs.Reading.{entry_of, numbers_at, last_at, desk_of_image}
 use Rattle.book_image.specs.Inner.Loading.{order_in, orders_from, AreRightResting, AreRightWaiting, AreRightTops, AreRightLasts, IsRightBook}
 use Rattle.book_image.proofs.LoadLists.{rows-as, all-from}
@@ -63,7 +64,7 @@ parts-right p at size k (suc n) h j a b =
 abbrev pub instruments_of : ProductLists → ℕ
 instruments_of product = length product.names.instruments
 
-pub record IsRightImage (product : ProductLists) (payload : List ℕ) : Type 0 where
+pub record IsRightImage (trading : Trading) (product : ProductLists) (payload : List ℕ) : Type 0 where
   pub head : resting_rows (instruments_of product) ≤ length payload
   pub middle : waiting_rows (instruments_of product) payload ≤ length payload
   pub end : rows_end (instruments_of product) payload ≤ length payload
@@ -71,19 +72,23 @@ pub record IsRightImage (product : ProductLists) (payload : List ℕ) : Type 0 w
   pub lasts : (i : ℕ) → i < instruments_of product → is_right_last product payload i ≡ true
   pub resting : (k : ℕ) → k < resting_count (instruments_of product) payload
       → is_right_resting_row product (number_at payload 8) (orders_at payload (resting_rows (instruments_of product)) k) (row_at payload (resting_rows (instruments_of product)) k) ≡ true
+  pub resting_lives : (k : ℕ) → k < resting_count (instruments_of product) payload
+      → may_live trading (order_in payload (resting_rows (instruments_of product)) k) ≡ true
   pub few : resting_count (instruments_of product) payload + waiting_count (instruments_of product) payload ≤ product.max_orders
   pub waiting : (k : ℕ) → k < waiting_count (instruments_of product) payload
       → is_right_waiting_row product (number_at payload 8)
       (orders_at payload (resting_rows (instruments_of product)) (resting_count (instruments_of product) payload))
       (orders_at payload (waiting_rows (instruments_of product) payload) k)
       (row_at payload (waiting_rows (instruments_of product) payload) k) ≡ true
+  pub waiting_lives : (k : ℕ) → k < waiting_count (instruments_of product) payload
+      → may_live trading (order_in payload (waiting_rows (instruments_of product) payload) k) ≡ true
   pub tops : (i : ℕ) → i < instruments_of product
       → has_right_tops product payload (orders_at payload (resting_rows (instruments_of product)) (resting_count (instruments_of product) payload)) i ≡ true
 
 not-less : (a b : ℕ) → nat_lt a b ≡ false → b ≤ a
 not-less a b h = grind (arith, nat_tests)
 
-module _ (product : ProductLists) (payload : List ℕ) where
+module _ (trading : Trading) (product : ProductLists) (payload : List ℕ) where
   abbrev many : ℕ
   many = instruments_of product
 
@@ -100,20 +105,21 @@ module _ (product : ProductLists) (payload : List ℕ) where
   wait_place = waiting_rows many payload
 
   abbrev is_right_rest : ℕ → Bool
-  is_right_rest k = is_right_resting_row product (number_at payload 8) (orders_at payload rest_place k) (row_at payload rest_place k)
+  is_right_rest k =
+      is_right_resting_row product (number_at payload 8) (orders_at payload rest_place k) (row_at payload rest_place k)
+      && may_live trading (order_in payload rest_place k)
 
   abbrev is_right_wait : ℕ → Bool
-  is_right_wait k = is_right_waiting_row product (number_at payload 8) (orders_at payload rest_place rest_count) (orders_at payload wait_place k) (row_at payload wait_place k)
+  is_right_wait k =
+      is_right_waiting_row product (number_at payload 8) (orders_at payload rest_place rest_count) (orders_at payload wait_place k) (row_at payload wait_place k)
+      && may_live trading (order_in payload wait_place k)
 
   abbrev is_right_tops : ℕ → Bool
   is_right_tops i = has_right_tops product payload (orders_at payload rest_place rest_count) i
 
   -- the faults, one behind the other
-  abbrev tops_fault : List (Option ℕ)
-  tops_fault = wrong_place is_right_tops DESK_BYTES INSTRUMENT_BYTES 0 many ∷ []
-
-  abbrev wait_fault : Option ℕ
-  wait_fault = wrong_place is_right_wait wait_place ROW_BYTES 0 wait_count
+  abbrev wait_fault : List (Option ℕ)
+  wait_fault = wrong_place is_right_wait wait_place ROW_BYTES 0 wait_count ∷ []
 
   abbrev room_fault : Option ℕ
   room_fault = fault_if (nat_lt product.max_orders (rest_count + wait_count)) (waiting_place many payload)
@@ -139,29 +145,32 @@ module _ (product : ProductLists) (payload : List ℕ) where
   abbrev behind_fault : List (Option ℕ)
   behind_fault = fault_if (nat_lt (rows_end many payload) (length payload)) (rows_end many payload) ∷ []
 
-  pub right-image : image_fault product payload ≡ None → IsRightImage product payload
-  right-image h =
-      let a = none-then (length_fault many payload) (desk_fault payload ∷ last_fault ∷ many_fault ∷ rest_fault ∷ room_fault ∷ wait_fault ∷ tops_fault) h in
-      let b = none-then (desk_fault payload) (last_fault ∷ many_fault ∷ rest_fault ∷ room_fault ∷ wait_fault ∷ tops_fault) a.1 in
-      let c = none-then last_fault (many_fault ∷ rest_fault ∷ room_fault ∷ wait_fault ∷ tops_fault) b.1 in
-      let d = none-then many_fault (rest_fault ∷ room_fault ∷ wait_fault ∷ tops_fault) c.1 in
-      let e = none-then rest_fault (room_fault ∷ wait_fault ∷ tops_fault) d.1 in
-      let f = none-then room_fault (wait_fault ∷ tops_fault) e.1 in
-      let g = none-then wait_fault tops_fault f.1 in
-      let t = none-then (wrong_place is_right_tops DESK_BYTES INSTRUMENT_BYTES 0 many) [] g.1 in
+  pub right-image : parts_fault trading product payload ≡ None → tops_fault product payload ≡ None → IsRightImage trading product payload
+  right-image h tops =
+      let a = none-then (length_fault many payload) (desk_fault payload ∷ last_fault ∷ many_fault ∷ rest_fault ∷ room_fault ∷ wait_fault) h in
+      let b = none-then (desk_fault payload) (last_fault ∷ many_fault ∷ rest_fault ∷ room_fault ∷ wait_fault) a.1 in
+      let c = none-then last_fault (many_fault ∷ rest_fault ∷ room_fault ∷ wait_fault) b.1 in
+      let d = none-then many_fault (rest_fault ∷ room_fault ∷ wait_fault) c.1 in
+      let e = none-then rest_fault (room_fault ∷ wait_fault) d.1 in
+      let f = none-then room_fault wait_fault e.1 in
+      let g = none-then (wrong_place is_right_wait wait_place ROW_BYTES 0 wait_count) [] f.1 in
       let l1 = none-then head_fault (middle_fault ∷ end_fault ∷ behind_fault) a.0 in
       let l2 = none-then middle_fault (end_fault ∷ behind_fault) l1.1 in
       let l3 = none-then end_fault behind_fault l2.1 in
+      let rests : (k : ℕ) → k < rest_count → is_right_rest k ≡ true = λ k lt. parts-right is_right_rest rest_place ROW_BYTES 0 rest_count e.0 k (omega arith) (omega (arith, lt)) in
+      let waits : (k : ℕ) → k < wait_count → is_right_wait k ≡ true = λ k lt. parts-right is_right_wait wait_place ROW_BYTES 0 wait_count g.0 k (omega arith) (omega (arith, lt)) in
       record {
         head = not-less (length payload) (resting_rows many) (holds-not _ (length payload) l1.0);
         middle = not-less (length payload) (waiting_rows many payload) (holds-not _ (length payload) l2.0);
         end = not-less (length payload) (rows_end many payload) (holds-not _ (length payload) l3.0);
         desk = b.0;
         lasts = λ i lt. parts-right (is_right_last product payload) DESK_BYTES INSTRUMENT_BYTES 0 many c.0 i (omega arith) (omega (arith, lt));
-        resting = λ k lt. parts-right is_right_rest rest_place ROW_BYTES 0 rest_count e.0 k (omega arith) (omega (arith, lt));
+        resting = λ k lt. and-left _ _ (rests k lt);
+        resting_lives = λ k lt. and-right _ _ (rests k lt);
         few = not-less product.max_orders (rest_count + wait_count) (holds-not _ (waiting_place many payload) f.0);
-        waiting = λ k lt. parts-right is_right_wait wait_place ROW_BYTES 0 wait_count g.0 k (omega arith) (omega (arith, lt));
-        tops = λ i lt. parts-right is_right_tops DESK_BYTES INSTRUMENT_BYTES 0 many t.0 i (omega arith) (omega (arith, lt));
+        waiting = λ k lt. and-left _ _ (waits k lt);
+        waiting_lives = λ k lt. and-right _ _ (waits k lt);
+        tops = λ i lt. parts-right is_right_tops DESK_BYTES INSTRUMENT_BYTES 0 many tops i (omega arith) (omega (arith, lt));
       }
 
 -- ---- one order
@@ -315,7 +324,7 @@ not-flipped : (b : Bool) → not b ≡ true → b ≡ false
 not-flipped true h = cc
 not-flipped false h = refl
 
-module _ (product : ProductLists) (limits : IsRightProduct product) (payload : List ℕ) (right : IsRightImage product payload) where
+module _ (trading : Trading) (product : ProductLists) (limits : IsRightProduct product) (payload : List ℕ) (right : IsRightImage trading product payload) where
   abbrev n : ℕ
   n = instruments_of product
 
@@ -458,6 +467,13 @@ module _ (product : ProductLists) (limits : IsRightProduct product) (payload : L
   pub waiting-listed : AllByRecursion (λ (o : Order). IsListedOrder product o) (orders_from waits 0 (waiting_count n payload))
   waiting-listed = all-from waits (λ (o : Order). IsListedOrder product o) 0 (waiting_count n payload)
       (λ k a b. wait-listed product limits (waits k) (wait-sound k (omega (arith, b))) (wait-right k (omega (arith, b))))
+
+  -- while the market is closed, each order is good till cancelled
+  pub resting-lives : AllByRecursion (λ (o : Order). may_live trading o ≡ true) (orders_from rests 0 (resting_count n payload))
+  resting-lives = all-from rests (λ (o : Order). may_live trading o ≡ true) 0 (resting_count n payload) (λ k a b. right.resting_lives k (omega (arith, b)))
+
+  pub waiting-lives : AllByRecursion (λ (o : Order). may_live trading o ≡ true) (orders_from waits 0 (waiting_count n payload))
+  waiting-lives = all-from waits (λ (o : Order). may_live trading o ≡ true) 0 (waiting_count n payload) (λ k a b. right.waiting_lives k (omega (arith, b)))
 
 -- ---- the counters
 

@@ -22,7 +22,7 @@ use Rattle.plain_book.proofs.Pairs.{all-with, all-from}
 use Rattle.order_kinds.specs.State.{State, state_numbered}
 use Rattle.book_image.specs.declared.format.TheConstants.{ROW_BYTES}
 use Rattle.book_image.specs.Rows.{count_bytes, number_bytes}
-use Rattle.book_image.specs.Image.{entry_row, first_number, top_number, instrument_bytes, instruments_bytes, rows_bytes, image_of, last_bytes, desk_bytes}
+use Rattle.book_image.specs.Image.{entry_row, first_number, top_number, instrument_bytes, instruments_bytes, rows_bytes, old_image_of, session_byte, image_of, last_bytes, desk_bytes}
 use Rattle.book_walks.proofs.SideLevels.{either, pass, stop, filter-all, filter-none}
 
 -- ---- the orders of the first instruments
@@ -230,7 +230,7 @@ rows-numbered es =
     ap (λ (n : ℕ). count_bytes n ++ flat_map entry_row (numbered es)) (length-map es entry_numbered)
     ∙ ap (λ (l : List ℕ). count_bytes (length es) ++ l) (each-numbered es)
 
-pub image-numbered : (state : State) → image_of (state_numbered state) ≡ image_of state
+image-numbered : (state : State) → old_image_of (state_numbered state) ≡ old_image_of state
 image-numbered state =
     let b = state.book in
     let desk = desk_bytes state.desk in
@@ -256,11 +256,17 @@ same-part state i last buy sell b e l buy_is sell_is =
     ∙ ap (λ (n : ℕ). (last_bytes (last_of i state.last) ++ number_bytes n) ++ number_bytes sell) (buy_is ∙ ap (λ (q : Book). top_number i Buy q.resting) e)
     ∙ ap (λ (n : ℕ). (last_bytes (last_of i state.last) ++ number_bytes (top_number i Buy state.book.resting)) ++ number_bytes n) (sell_is ∙ ap (λ (q : Book). top_number i Sell q.resting) e)
 
-pub whole-image : (state : State) (desk : Desk) (a b : Book) → desk ≡ state.desk → a ≡ state.book → b ≡ state.book
-    → ((desk_bytes desk ++ instruments_bytes state 0 state.book.instruments) ++ rows_bytes a.resting) ++ rows_bytes b.waiting ≡ image_of (state_numbered state)
-whole-image state desk a b d e f =
+old-image : (state : State) (desk : Desk) (a b : Book) → desk ≡ state.desk → a ≡ state.book → b ≡ state.book
+    → ((desk_bytes desk ++ instruments_bytes state 0 state.book.instruments) ++ rows_bytes a.resting) ++ rows_bytes b.waiting ≡ old_image_of (state_numbered state)
+old-image state desk a b d e f =
     let parts = instruments_bytes state 0 state.book.instruments in
     ap (λ (k : Desk). ((desk_bytes k ++ parts) ++ rows_bytes a.resting) ++ rows_bytes b.waiting) d
     ∙ ap (λ (q : Book). ((desk_bytes state.desk ++ parts) ++ rows_bytes q.resting) ++ rows_bytes b.waiting) e
     ∙ ap (λ (q : Book). ((desk_bytes state.desk ++ parts) ++ rows_bytes state.book.resting) ++ rows_bytes q.waiting) f
     ∙ sym (image-numbered state)
+
+pub whole-image : (state : State) (desk : Desk) (a b : Book) (byte : ℕ) → desk ≡ state.desk → a ≡ state.book → b ≡ state.book → byte ≡ session_byte state.trading
+    → (((desk_bytes desk ++ instruments_bytes state 0 state.book.instruments) ++ rows_bytes a.resting) ++ rows_bytes b.waiting) ++ byte ∷ [] ≡ image_of (state_numbered state)
+whole-image state desk a b byte d e f s =
+    ap (λ (l : List ℕ). l ++ byte ∷ []) (old-image state desk a b d e f)
+    ∙ ap (λ (n : ℕ). old_image_of (state_numbered state) ++ n ∷ []) s

@@ -1,5 +1,6 @@
 -- The place of the first thing that is wrong with an image: our own rule. Its length is tried first, then each counter, part and
--- row in the order of their places, and the TOP orders last. Each fault has the place where that counter, part or row begins.
+-- row in the order of their places, then the byte of the session, and the TOP orders last. Each fault has the place where that
+-- counter, part, row or byte begins.
 use Rattle.std.specs.Prelude.{ℕ, zero, suc, ◌+◌, ◌*◌, ◌^◌, Bool, false, ◌&&◌, ◌||◌, ◌==◌, nat_lt, nat_le, if◌then◌else◌, List, [], ◌∷◌, length, Option, Some, None, is_some}
 use Rattle.std.specs.Ordering.{int_eq}
 use Rattle.std.specs.List.{list_any}
@@ -9,14 +10,17 @@ use Rattle.gx_base.specs.declared.price.Price.{Price}
 use Rattle.gx_base.specs.declared.order.Side.{Side}
 use Rattle.gx_base.specs.declared.order.Side.TheVariants.{Buy, Sell}
 use Rattle.gx_base.specs.declared.order.Order.{Order}
+use Rattle.gx_base.specs.declared.trading.Trading.{Trading}
 use Rattle.step_config.specs.Rules.{top_rule_of}
 use Rattle.product_file.specs.Products.{ProductLists}
 use Rattle.product_file.specs.declared.product.InstrumentRule.{InstrumentRule}
 use Rattle.plain_book.specs.Orders.{is_side}
 use Rattle.order_kinds.specs.declared.core_state.TheConstants.{MOST_MESSAGES}
+use Rattle.match_journal.specs.declared.entry.EntryKind.{EntryKind}
 use Rattle.book_image.specs.declared.format.TheConstants.{DESK_BYTES, INSTRUMENT_BYTES, COUNT_BYTES, ROW_BYTES}
 use Rattle.book_image.specs.Rows.{byte_at, number_at, count_at, price_at, bytes_at, row_at, order_of_row}
-use Rattle.book_image.specs.Rules.{is_price_of, is_right_resting_row, is_right_waiting_row}
+use Rattle.book_image.specs.Kinds.{part_of, session_of, trading_of}
+use Rattle.book_image.specs.Rules.{is_price_of, is_right_resting_row, is_right_waiting_row, may_live}
 use Rattle.std.specs.Prelude.{slice_get}
 
 -- ---- places
@@ -126,22 +130,42 @@ has_right_tops product payload resting i = is_right_top product payload resting 
 
 -- ---- all of it
 
--- The place of the first fault of a payload as the image of a state of this product, or none where it is right.
-abbrev pub image_fault : ProductLists → List ℕ → Option ℕ
-image_fault product payload =
+-- The place of the first fault in the bytes of the old form, without the TOP orders. The life of each order is tried with its row.
+abbrev pub parts_fault : Trading → ProductLists → List ℕ → Option ℕ
+parts_fault trading product part =
     let instruments = length product.names.instruments in
-    let given = number_at payload 8 in
-    let resting = orders_at payload (resting_rows instruments) in
-    let waiting = orders_at payload (waiting_rows instruments payload) in
-    let rest = resting_count instruments payload in
-    let wait = waiting_count instruments payload in
+    let given = number_at part 8 in
+    let resting = orders_at part (resting_rows instruments) in
+    let waiting = orders_at part (waiting_rows instruments part) in
+    let rest = resting_count instruments part in
+    let wait = waiting_count instruments part in
     first_fault (
-    length_fault instruments payload
-    ∷ desk_fault payload
-    ∷ wrong_place (is_right_last product payload) DESK_BYTES INSTRUMENT_BYTES 0 instruments
+    length_fault instruments part
+    ∷ desk_fault part
+    ∷ wrong_place (is_right_last product part) DESK_BYTES INSTRUMENT_BYTES 0 instruments
     ∷ fault_if (nat_lt product.max_orders rest) (resting_place instruments)
-    ∷ wrong_place (λ k. is_right_resting_row product given (resting k) (row_at payload (resting_rows instruments) k)) (resting_rows instruments) ROW_BYTES 0 rest
-    ∷ fault_if (nat_lt product.max_orders (rest + wait)) (waiting_place instruments payload)
-    ∷ wrong_place (λ k. is_right_waiting_row product given (resting rest) (waiting k) (row_at payload (waiting_rows instruments payload) k)) (waiting_rows instruments payload) ROW_BYTES 0 wait
-    ∷ wrong_place (has_right_tops product payload (resting rest)) DESK_BYTES INSTRUMENT_BYTES 0 instruments
+    ∷ wrong_place (λ k. let row = row_at part (resting_rows instruments) k in
+    is_right_resting_row product given (resting k) row && may_live trading (order_of_row row)) (resting_rows instruments) ROW_BYTES 0 rest
+    ∷ fault_if (nat_lt product.max_orders (rest + wait)) (waiting_place instruments part)
+    ∷ wrong_place (λ k. let row = row_at part (waiting_rows instruments part) k in
+    is_right_waiting_row product given (resting rest) (waiting k) row && may_live trading (order_of_row row)) (waiting_rows instruments part) ROW_BYTES 0 wait
+    ∷ [])
+
+-- the place of the first instrument whose TOP orders are wrong
+abbrev pub tops_fault : ProductLists → List ℕ → Option ℕ
+tops_fault product part =
+    let instruments = length product.names.instruments in
+    let resting = orders_at part (resting_rows instruments) (resting_count instruments part) in
+    wrong_place (has_right_tops product part resting) DESK_BYTES INSTRUMENT_BYTES 0 instruments
+
+-- The place of the first fault of a payload as an image of this kind of a state of this product, or none if it is right. The byte of
+-- the session is tried after the rows, and the TOP orders last. An image of the old form has no such byte.
+abbrev pub image_fault : EntryKind → ProductLists → List ℕ → Option ℕ
+image_fault kind product payload =
+    let part = part_of kind payload in
+    let session = session_of kind payload in
+    first_fault (
+    parts_fault (trading_of session) product part
+    ∷ fault_if (nat_lt 1 session) (length part)
+    ∷ tops_fault product part
     ∷ [])

@@ -3,12 +3,17 @@
 -- The counters of messages, orders, execution reports and trades come first, 8 bytes each, and then the counters of report lines,
 -- one for each addressee. Then comes each instrument of the product: 1 and its last trade price, or 0 and zeros; and the order
 -- numbers of its TOP orders, of the buys and then of the sells, 0 for none. Then the number of resting orders in 4 bytes, a row
--- for each of them in book order, the number of waiting stops, and a row for each of these.
+-- for each of them in book order, the number of waiting stops, and a row for each of these. The last byte is 1 if the market is
+-- open, and 0 if it is closed.
+--
+-- An image of the old form is the same without its last byte.
 use Rattle.std.specs.Prelude.{ℕ, zero, suc, ◌+◌, ◌*◌, List, [], ◌∷◌, ◌++◌, flat_map, filter, length, Option, Some, None}
 use Rattle.gx_base.specs.declared.price.Price.{Price}
 use Rattle.gx_base.specs.declared.order.Side.{Side}
 use Rattle.gx_base.specs.declared.order.Side.TheVariants.{Buy, Sell}
 use Rattle.gx_base.specs.declared.order.Desk.{Desk}
+use Rattle.gx_base.specs.declared.trading.Trading.{Trading}
+use Rattle.gx_base.specs.declared.trading.Trading.TheVariants.{Open, Closed}
 use Rattle.plain_book.specs.declared.entry.Entry.{Entry}
 use Rattle.plain_book.specs.Orders.{side_of}
 use Rattle.order_kinds.specs.State.{State}
@@ -54,13 +59,21 @@ entry_row e = order_row e.order
 abbrev pub rows_bytes : List Entry → List ℕ
 rows_bytes es = count_bytes (length es) ++ flat_map entry_row es
 
-abbrev pub image_of : State → List ℕ
-image_of state =
+-- all but the session: the whole of an image of the old form
+abbrev pub old_image_of : State → List ℕ
+old_image_of state =
     desk_bytes state.desk
     ++ instruments_bytes state 0 state.book.instruments
     ++ rows_bytes state.book.resting
     ++ rows_bytes state.book.waiting
 
+abbrev pub session_byte : Trading → ℕ
+session_byte Open = 1
+session_byte Closed = 0
+
+abbrev pub image_of : State → List ℕ
+image_of state = old_image_of state ++ session_byte state.trading ∷ []
+
 -- how many bytes the image of a book has
 abbrev pub image_len : ℕ → ℕ → ℕ
-image_len instruments orders = 560 + 25 * instruments + 82 * orders
+image_len instruments orders = 561 + 25 * instruments + 82 * orders

@@ -1,5 +1,6 @@
 pub mod Rows
 pub mod Image
+pub mod Kinds
 pub mod Rules
 pub mod Faults
 pub mod Reading

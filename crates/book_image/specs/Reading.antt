@@ -6,11 +6,14 @@ use Rattle.gx_base.specs.declared.order.Side.{Side}
 use Rattle.gx_base.specs.declared.order.Side.TheVariants.{Buy, Sell}
 use Rattle.gx_base.specs.declared.order.Order.{Order}
 use Rattle.gx_base.specs.declared.order.Desk.{Desk}
+use Rattle.gx_base.specs.declared.trading.Trading.{Trading}
 use Rattle.product_file.specs.Products.{ProductLists}
 use Rattle.plain_book.specs.declared.entry.Entry.{Entry}
 use Rattle.plain_book.specs.Orders.{is_on}
 use Rattle.order_kinds.specs.State.{State}
+use Rattle.match_journal.specs.declared.entry.EntryKind.{EntryKind}
 use Rattle.book_image.specs.Rows.{byte_at, number_at, price_at}
+use Rattle.book_image.specs.Kinds.{part_of, session_of, trading_of}
 use Rattle.book_image.specs.Faults.{part_place, resting_rows, resting_count, waiting_rows, waiting_count, orders_at, top_at}
 
 -- so many numbers of 8 bytes, from a place on
@@ -67,9 +70,9 @@ waiting_of_image product payload =
     let instruments = length product.names.instruments in
     map entry_of (orders_at payload (waiting_rows instruments payload) (waiting_count instruments payload))
 
--- The state of a right image. Each order is named by its number, as in the state of the engine.
-abbrev pub state_of_image : ProductLists → List ℕ → State
-state_of_image product payload =
+-- The state of bytes of the old form, in a session. Each order is named by its number, as in the state of the engine.
+abbrev pub state_of_part : Trading → ProductLists → List ℕ → State
+state_of_part trading product payload =
     let instruments = length product.names.instruments in
     record {
       book = record {
@@ -80,4 +83,9 @@ state_of_image product payload =
       };
       last = lasts_at payload 0 instruments;
       desk = desk_of_image payload;
+      trading = trading;
     }
+
+-- the state of a right image
+abbrev pub state_of_image : EntryKind → ProductLists → List ℕ → State
+state_of_image kind product payload = state_of_part (trading_of (session_of kind payload)) product (part_of kind payload)

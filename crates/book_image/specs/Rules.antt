@@ -1,6 +1,6 @@
 -- What is right of the rows and the parts of an image, as far as each is looked at by itself or beside the rows before it: our
 -- own rules.
-use Rattle.std.specs.Prelude.{ℕ, ◌+◌, ◌%◌, min, Bool, false, not, ◌&&◌, ◌==◌, nat_lt, nat_le, int_le, unsigned_abs, if◌then◌else◌, List, length, Option, Some, None, slice_get, bytes_eq, pos}
+use Rattle.std.specs.Prelude.{ℕ, ◌+◌, ◌%◌, min, Bool, true, false, not, ◌&&◌, ◌==◌, nat_lt, nat_le, int_le, unsigned_abs, if◌then◌else◌, List, length, Option, Some, None, slice_get, bytes_eq, pos}
 use Rattle.std.specs.Ordering.{int_eq}
 use Rattle.std.specs.List.{list_any, list_all}
 use Rattle.gx_base.specs.declared.limits.TheConstants.{MOST_LOTS, MOST_PRICE_UNITS}
@@ -10,6 +10,8 @@ use Rattle.gx_base.specs.declared.order.Kind.TheVariants.{Limit, StopLimit}
 use Rattle.gx_base.specs.declared.order.Life.{Life}
 use Rattle.gx_base.specs.declared.order.Life.TheVariants.{Day, Gtc, Fak, Fok}
 use Rattle.gx_base.specs.declared.order.Order.{Order}
+use Rattle.gx_base.specs.declared.trading.Trading.{Trading}
+use Rattle.gx_base.specs.declared.trading.Trading.TheVariants.{Open, Closed}
 use Rattle.product_file.specs.Products.{ProductLists}
 use Rattle.product_file.specs.declared.product.InstrumentRule.{InstrumentRule}
 use Rattle.plain_book.specs.Orders.{is_side, is_before, level_of}
@@ -17,6 +19,7 @@ use Rattle.order_kinds.specs.Instruments.{tick_of}
 use Rattle.order_kinds.specs.OrderRules.{is_quantity, is_beyond_stop}
 use Rattle.order_kinds.specs.NewOrders.{may_rest}
 use Rattle.order_kinds.specs.Replaces.{is_kind}
+use Rattle.order_kinds.specs.TradingSessions.{is_until_cancelled}
 use Rattle.book_image.specs.Rows.{order_of_row, has_forms}
 
 -- ---- prices
@@ -71,6 +74,11 @@ is_right_waiting product o =
     && not (is_beyond_stop o.side (Some o.price) (Some o.trigger))
     && (o.filled == 0) && (o.shown == 0) && (o.prorated == 0)
     && is_right_min o.life o
+
+-- while the market is closed, each live order is good till cancelled
+abbrev pub may_live : Trading → Order → Bool
+may_live Open o = true
+may_live Closed o = is_until_cancelled o.life
 
 -- ---- a row beside the rows before it
 

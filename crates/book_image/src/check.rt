@@ -3,16 +3,16 @@ ghost use Rattle.std.specs.Prelude.{◌≡◌, ◌+◌, ◌*◌, ◌≤◌, ◌<
 ghost use Rattle.plain_book.specs.Book.{empty_book};
 ghost use Rattle.order_kinds.specs.State.{empty_state};
 ghost use Rattle.book_image.specs.Rows.{order_of_row};
-ghost use Rattle.book_image.specs.Faults.{image_fault, length_fault, desk_fault, is_right_last, rows_end, orders_at, is_order_on, is_at_best, is_right_top, has_right_tops, part_place};
-ghost use Rattle.book_image.specs.Inner.Checking.{IsAsMade, best_with, is_named_at, counters_fault, lasts_fault, head_fault, rows_fault, tops_fault};
+ghost use Rattle.book_image.specs.Faults.{parts_fault, tops_fault, length_fault, desk_fault, is_right_last, rows_end, orders_at, is_order_on, is_at_best, is_right_top, has_right_tops, part_place};
+ghost use Rattle.book_image.specs.Inner.Checking.{IsAsMade, best_with, is_named_at, counters_fault, lasts_fault, head_fault, rows_fault, tops_fault_beside};
 
-use crate::check_rows::{resting_fault, row_at, waiting_fault};
+use crate::check_rows::{Asked, resting_fault, row_at, waiting_fault};
 use crate::format::{COUNT_BYTES, DESK_BYTES, INSTRUMENT_BYTES, ROW_BYTES};
 use crate::numbers::{count_at, number_at, price_at};
 use crate::read_row::side_of_byte;
 use crate::rules::is_price_of;
 use book_order::{is_same_price, is_same_side};
-use gx_base::{ADDRESSEES, MOST_INSTRUMENTS, Price, Side};
+use gx_base::{ADDRESSEES, MOST_INSTRUMENTS, Price, Side, Trading};
 use order_kinds::{Core, MOST_MESSAGES};
 use plain_book::Book;
 use product_file::Product;
@@ -203,11 +203,11 @@ fn has_right_tops(
         && is_right_top(payload, product, first, count, instrument, Side::Sell)
 }
 
-/// The place of the first part of an instrument whose TOP orders are wrong.
-fn tops_fault(payload: &[u8], product: &Product, first: usize, count: u32) -> Option<u64>
+/// The place of the first part of an instrument whose TOP orders are wrong, beside the orders of these rows.
+fn tops_fault_beside(payload: &[u8], product: &Product, first: usize, count: u32) -> Option<u64>
     requires length { part_place (length product.now.names.instruments) ≤ length payload.now }
     requires rows { first + ROW_BYTES * count ≤ length payload.now }
-    ensures { result ≡ tops_fault product.now payload.now (orders_at payload.now first count) }
+    ensures { result ≡ tops_fault_beside product.now payload.now (orders_at payload.now first count) }
 {
     for k in 0..product.names().instrument_count() {
         if !has_right_tops(payload, product, first, count, k as u8) {
@@ -215,6 +215,17 @@ fn tops_fault(payload: &[u8], product: &Product, first: usize, count: u32) -> Op
         }
     }
     None
+}
+
+/// The place of the first part of an instrument whose TOP orders are wrong.
+pub(crate) fn tops_fault(part: &[u8], product: &Product) -> Option<u64>
+    requires { rows_end (length product.now.names.instruments) part.now ≡ length part.now }
+    ensures { result ≡ tops_fault product.now part.now }
+{
+    product.limits();
+    let resting_place = DESK_BYTES + INSTRUMENT_BYTES * product.names().instrument_count();
+    let resting = count_at(part, resting_place);
+    tops_fault_beside(part, product, resting_place + COUNT_BYTES, resting)
 }
 
 /// The place of the first fault before the rows.
@@ -231,61 +242,73 @@ fn head_fault(payload: &[u8], product: &Product) -> Option<u64>
     lasts_fault(payload, product)
 }
 
-/// The place of the first fault in the rows, or in the TOP orders behind them. The book, which is new, takes in the names of the
-/// rows.
-fn rows_fault<B: Book>(payload: &[u8], product: &Product, book: &mut B) -> Option<u64>
-    requires whole { rows_end (length product.now.names.instruments) payload.now ≡ length payload.now }
+/// The place of the first fault in the rows. The book, which is new, takes in the names of the rows.
+fn rows_fault<B: Book>(
+    part: &[u8],
+    trading: Trading,
+    product: &Product,
+    book: &mut B,
+) -> Option<u64>
+    requires whole { rows_end (length product.now.names.instruments) part.now ≡ length part.now }
     requires new { B.book book.old ≡ empty_book product.now.max_orders (length product.now.names.instruments) }
-    ensures fault { result ≡ rows_fault product.now payload.now }
+    ensures fault { result ≡ rows_fault trading product.now part.now }
     ensures made { IsAsMade (B.book book.old) (B.book book.new) }
 {
     product.limits();
-    let given = number_at(payload, 8);
+    let asked = Asked {
+        given: number_at(part, 8),
+        trading,
+    };
     let resting_place = DESK_BYTES + INSTRUMENT_BYTES * product.names().instrument_count();
     let resting_rows = resting_place + COUNT_BYTES;
-    let resting = count_at(payload, resting_place);
+    let resting = count_at(part, resting_place);
     if resting > product.max_orders() {
         return Some(resting_place as u64);
     }
-    if let Some(at) = resting_fault(payload, product, given, resting_rows, resting, book) {
+    if let Some(at) = resting_fault(part, product, asked, resting_rows, resting, book) {
         return Some(at);
     }
     let waiting_place = resting_rows + ROW_BYTES * resting as usize;
     let waiting_rows = waiting_place + COUNT_BYTES;
-    let waiting = count_at(payload, waiting_place);
+    let waiting = count_at(part, waiting_place);
     if waiting > product.max_orders() - resting {
         return Some(waiting_place as u64);
     }
-    if let Some(at) = waiting_fault(payload, product, given, waiting_rows, waiting, book) {
-        return Some(at);
-    }
-    tops_fault(payload, product, resting_rows, resting)
+    waiting_fault(part, product, asked, waiting_rows, waiting, book)
 }
 
-/// The place of the first fault of an image, if there is one. The book, which is new, takes in the names of the rows.
-fn fault_with<B: Book>(payload: &[u8], product: &Product, book: &mut B) -> Option<u64>
+/// The place of the first fault but for the TOP orders. The book, which is new, takes in the names of the rows.
+fn fault_with<B: Book>(
+    part: &[u8],
+    trading: Trading,
+    product: &Product,
+    book: &mut B,
+) -> Option<u64>
     requires new { B.book book.old ≡ empty_book product.now.max_orders (length product.now.names.instruments) }
-    ensures fault { result ≡ image_fault product.now payload.now }
+    ensures fault { result ≡ parts_fault trading product.now part.now }
+    ensures whole { result ≡ None → rows_end (length product.now.names.instruments) part.now ≡ length part.now }
     ensures made { IsAsMade (B.book book.old) (B.book book.new) }
 {
-    if let Some(at) = head_fault(payload, product) {
+    if let Some(at) = head_fault(part, product) {
         return Some(at);
     }
-    rows_fault(payload, product, book)
+    rows_fault(part, trading, product, book)
 }
 
-/// The place of the first fault of an image, if there is one. A core that is new keeps the names of the rows meanwhile, and is new
-/// again at the end.
-pub(crate) fn image_fault<B: Book>(
-    payload: &[u8],
+/// The place of the first fault in the bytes of the old form but for the TOP orders, where the session is this one. A core that is
+/// new keeps the names of the rows meanwhile, and is new again at the end.
+pub(crate) fn parts_fault<B: Book>(
+    part: &[u8],
+    trading: Trading,
     product: &Product,
     core: &mut Core<B>,
 ) -> Option<u64>
     requires new { core.old ≡ empty_state product.now }
-    ensures fault { result ≡ image_fault product.now payload.now }
+    ensures fault { result ≡ parts_fault trading product.now part.now }
+    ensures whole { result ≡ None → rows_end (length product.now.names.instruments) part.now ≡ length part.now }
     ensures new { core.new ≡ core.old }
 {
-    let fault = fault_with(payload, product, core.book_mut());
+    let fault = fault_with(part, trading, product, core.book_mut());
     core.clear();
     fault
 }

@@ -9,11 +9,18 @@ ghost use Rattle.book_image.specs.Inner.Checking.{is_resting_alone, is_waiting_a
 
 use crate::format::ROW_BYTES;
 use crate::read_row::{has_forms, order_of_row};
-use crate::rules::{is_right_order, is_right_resting, is_right_waiting};
+use crate::rules::{is_right_order, is_right_resting, is_right_waiting, may_live};
 use book_order::{is_better_price, is_same_side, is_side_before};
-use gx_base::{Kind, Life, MOST_FIRMS, Order, Price, ShortId, Side};
+use gx_base::{Kind, Life, MOST_FIRMS, Order, Price, ShortId, Side, Trading};
 use plain_book::Book;
 use product_file::Product;
+
+/// What is asked of each order by what the image says beside its rows: how many orders have been given a number, and the session.
+#[derive(Clone, Copy)]
+pub(crate) struct Asked {
+    pub(crate) given: u64,
+    pub(crate) trading: Trading,
+}
 
 /// What is kept of the resting orders before a row: the last one, and the best buy order of its instrument.
 #[derive(Clone, Copy)]
@@ -151,38 +158,44 @@ fn take_name<B: Book>(book: &mut B, firm: u8, id: ShortId) -> bool
 }
 
 /// The order of a row that is right by itself, as one that rests.
-fn resting_order(product: &Product, given: u64, row: &[u8]) -> Option<Order>
+fn resting_order(product: &Product, asked: Asked, row: &[u8]) -> Option<Order>
     requires { length row.now ≡ ROW_BYTES }
-    ensures order { result ≡ (if is_resting_alone product.now given row.now then Some (order_of_row row.now) else None) }
+    ensures order { result ≡ (if is_resting_alone product.now asked row.now then Some (order_of_row row.now) else None) }
     ensures firm { IfSome result (λ order. order.firm < MOST_FIRMS) }
 {
     if !has_forms(row) {
         return None;
     }
     let order = order_of_row(row);
-    if !is_right_order(product, given, &order) {
+    if !is_right_order(product, asked.given, &order) {
         return None;
     }
     if !is_right_resting(&order) {
+        return None;
+    }
+    if !may_live(asked.trading, &order) {
         return None;
     }
     Some(order)
 }
 
 /// The order of a row that is right by itself, as one that waits.
-fn waiting_order(product: &Product, given: u64, row: &[u8]) -> Option<Order>
+fn waiting_order(product: &Product, asked: Asked, row: &[u8]) -> Option<Order>
     requires { length row.now ≡ ROW_BYTES }
-    ensures order { result ≡ (if is_waiting_alone product.now given row.now then Some (order_of_row row.now) else None) }
+    ensures order { result ≡ (if is_waiting_alone product.now asked row.now then Some (order_of_row row.now) else None) }
     ensures firm { IfSome result (λ order. order.firm < MOST_FIRMS) }
 {
     if !has_forms(row) {
         return None;
     }
     let order = order_of_row(row);
-    if !is_right_order(product, given, &order) {
+    if !is_right_order(product, asked.given, &order) {
         return None;
     }
     if !is_right_waiting(product, &order) {
+        return None;
+    }
+    if !may_live(asked.trading, &order) {
         return None;
     }
     Some(order)
@@ -192,7 +205,7 @@ fn waiting_order(product: &Product, given: u64, row: &[u8]) -> Option<Order>
 pub(crate) fn resting_fault<B: Book>(
     payload: &[u8],
     product: &Product,
-    given: u64,
+    asked: Asked,
     first: usize,
     count: u32,
     book: &mut B,
@@ -201,7 +214,7 @@ pub(crate) fn resting_fault<B: Book>(
     requires room { count ≤ (B.book book.old).capacity }
     requires instruments { 0 < (B.book book.old).instruments }
     requires new { live_orders (B.book book.old) ≡ [] }
-    ensures fault { result ≡ resting_fault product.now given payload.now first count }
+    ensures fault { result ≡ resting_fault product.now asked payload.now first count }
     ensures made { IsAsMade (B.book book.old) (B.book book.new) }
     ensures names { result ≡ None → HasNames (B.book book.new) (orders_at payload.now first count) }
     ensures count { result ≡ None → length (live_orders (B.book book.new)) ≡ count }
@@ -212,7 +225,7 @@ pub(crate) fn resting_fault<B: Book>(
     };
     for k in 0..count as usize {
         let at = (first + ROW_BYTES * k) as u64;
-        let Some(order) = resting_order(product, given, row_at(payload, first, k)) else {
+        let Some(order) = resting_order(product, asked, row_at(payload, first, k)) else {
             return Some(at);
         };
         if !fits_behind(&front, &order) {
@@ -231,7 +244,7 @@ pub(crate) fn resting_fault<B: Book>(
 pub(crate) fn waiting_fault<B: Book>(
     payload: &[u8],
     product: &Product,
-    given: u64,
+    asked: Asked,
     first: usize,
     count: u32,
     book: &mut B,
@@ -241,13 +254,13 @@ pub(crate) fn waiting_fault<B: Book>(
     requires room { length (live_orders (B.book book.old)) + count ≤ (B.book book.old).capacity }
     requires instruments { 0 < (B.book book.old).instruments }
     requires names { HasNames (B.book book.old) resting }
-    ensures fault { result ≡ waiting_fault product.now given resting payload.now first count }
+    ensures fault { result ≡ waiting_fault product.now asked resting payload.now first count }
     ensures made { IsAsMade (B.book book.old) (B.book book.new) }
 {
     let mut instrument = 0;
     for k in 0..count as usize {
         let at = (first + ROW_BYTES * k) as u64;
-        let Some(order) = waiting_order(product, given, row_at(payload, first, k)) else {
+        let Some(order) = waiting_order(product, asked, row_at(payload, first, k)) else {
             return Some(at);
         };
         if order.instrument < instrument {

@@ -4,6 +4,7 @@
 mod check;
 mod check_rows;
 mod format;
+mod kinds;
 mod load;
 mod mark_tops;
 mod numbers;
@@ -15,6 +16,6 @@ mod wait_rows;
 mod write;
 mod write_row;
 
-pub use format::{COUNT_BYTES, DESK_BYTES, INSTRUMENT_BYTES, ROW_BYTES, image_len};
+pub use format::{COUNT_BYTES, DESK_BYTES, INSTRUMENT_BYTES, ROW_BYTES, SESSION_BYTES, image_len};
 pub use read::{ImageBad, read_image};
 pub use write::write_image;

@@ -4,8 +4,8 @@ ghost use Rattle.gx_base.specs.declared.limits.TheConstants.{ADDRESSEES, MOST_IN
 ghost use Rattle.order_kinds.specs.State.{empty_state, state_numbered};
 ghost use Rattle.order_kinds.specs.Cores.{FitsProduct};
 ghost use Rattle.plain_book.specs.Book.{book_cleared};
-ghost use Rattle.book_image.specs.Faults.{image_fault, part_place, resting_rows, resting_count, waiting_rows, waiting_count, orders_at};
-ghost use Rattle.book_image.specs.Reading.{state_of_image, desk_of_image, numbers_at, last_at, lasts_at, with_all_tops, entry_of};
+ghost use Rattle.book_image.specs.Faults.{parts_fault, tops_fault, part_place, resting_rows, resting_count, waiting_rows, waiting_count, orders_at};
+ghost use Rattle.book_image.specs.Reading.{state_of_part, desk_of_image, numbers_at, last_at, lasts_at, with_all_tops, entry_of};
 ghost use Rattle.plain_book.specs.Numbers.{book_numbered};
 ghost use Rattle.book_image.specs.Inner.Loading.{AreRightLasts, IsRightBook};
 
@@ -14,7 +14,7 @@ use crate::mark_tops::mark_tops;
 use crate::numbers::{byte_at, count_at, number_at, price_at};
 use crate::place_rows::place_rows;
 use crate::wait_rows::wait_rows;
-use gx_base::{ADDRESSEES, Desk, Price};
+use gx_base::{ADDRESSEES, Desk, Price, Trading};
 use order_kinds::Core;
 use plain_book::Book;
 use product_file::Product;
@@ -96,16 +96,23 @@ fn load_book<B: Book>(payload: &[u8], instruments: usize, book: &mut B)
 }
 
 /// Brings a new core to the state of a right image. The resting orders are placed from the last price to the first, so that none
-/// asks for a search among the levels.
-pub(crate) fn load_image<B: Book>(payload: &[u8], product: &Product, core: &mut Core<B>)
+/// asks for a search among the levels. The session comes last, when all its orders are there.
+pub(crate) fn load_image<B: Book>(
+    part: &[u8],
+    trading: Trading,
+    product: &Product,
+    core: &mut Core<B>,
+)
     requires new { core.old ≡ empty_state product.now }
-    requires right { image_fault product.now payload.now ≡ None }
-    ensures state { state_numbered core.new ≡ state_of_image product.now payload.now }
+    requires right { parts_fault trading product.now part.now ≡ None }
+    requires tops { tops_fault product.now part.now ≡ None }
+    ensures state { state_numbered core.new ≡ state_of_part trading product.now part.now }
     ensures fits { FitsProduct product.now core.new }
 {
     product.limits();
     let instruments = product.names().instrument_count();
-    core.restore(desk_of(payload));
-    load_lasts(payload, instruments, core);
-    load_book(payload, instruments, core.book_mut());
+    core.restore(desk_of(part));
+    load_lasts(part, instruments, core);
+    load_book(part, instruments, core.book_mut());
+    core.set_trading(trading);
 }

@@ -1,10 +1,10 @@
 //! What is right of an order of an image, and of a price, each by itself.
 ghost use Rattle.std.specs.Prelude.{◌≡◌, ◌<◌, true, Some, length};
 ghost use Rattle.order_kinds.specs.OrderRules.{is_quantity, is_beyond_stop};
-ghost use Rattle.book_image.specs.Rules.{is_price_of, is_right_order, is_right_shown, is_right_resting, is_right_min, is_right_waiting};
+ghost use Rattle.book_image.specs.Rules.{is_price_of, is_right_order, is_right_shown, is_right_resting, is_right_min, is_right_waiting, may_live};
 ghost use Rattle.book_image.specs.Inner.Checking.{has_right_terms, has_right_lots};
 
-use gx_base::{Kind, Life, MOST_FIRMS, MOST_LOTS, MOST_PRICE_UNITS, Order, Price, Side};
+use gx_base::{Kind, Life, MOST_FIRMS, MOST_LOTS, MOST_PRICE_UNITS, Order, Price, Side, Trading};
 use product_file::Product;
 
 /// Whether a price is a multiple of the tick of an instrument, within the price range.
@@ -112,4 +112,14 @@ pub(crate) fn is_right_waiting(product: &Product, order: &Order) -> bool
         && order.shown == 0
         && order.prorated == 0
         && is_right_min(order)
+}
+
+/// Whether an order may be live in this session: while the market is closed, each one is good till cancelled.
+pub(crate) fn may_live(trading: Trading, order: &Order) -> bool
+    ensures { result ≡ may_live trading order.now }
+{
+    match trading {
+        Trading::Open => true,
+        Trading::Closed => matches!(order.life, Life::Gtc),
+    }
 }

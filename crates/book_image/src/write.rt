@@ -9,9 +9,9 @@ ghost use Rattle.book_image.specs.Rows.{number_bytes, count_bytes};
 ghost use Rattle.book_image.specs.Image.{image_of, image_len, desk_bytes, last_bytes, top_number, instrument_bytes, instruments_bytes, rows_bytes};
 ghost use Rattle.book_image.specs.Inner.Writing.{Appends, AppendsRows};
 
-use crate::format::{COUNT_BYTES, DESK_BYTES, INSTRUMENT_BYTES, ROW_BYTES};
+use crate::format::{CLOSED, COUNT_BYTES, DESK_BYTES, INSTRUMENT_BYTES, OPEN, ROW_BYTES};
 use crate::write_row::{write_bytes, write_count, write_number, write_price, write_row};
-use gx_base::{ADDRESSEES, Desk, Price, Side};
+use gx_base::{ADDRESSEES, Desk, Price, Side, Trading};
 use order_kinds::Core;
 use plain_book::Book;
 use product_file::Product;
@@ -211,7 +211,7 @@ fn write_waiting<B: Book>(book: &B, product: &Product, into: &mut [u8], at: usiz
 }
 
 /// Writes the image of a core's state into the front of `into`, and answers how many bytes that takes, which is the `image_len` of
-/// its instruments and live orders. What stands behind them is left open.
+/// its instruments and live orders. What comes after them is left open.
 pub fn write_image<B: Book>(core: &Core<B>, product: &Product, into: &mut [u8]) -> usize
     requires fits { FitsProduct product.now core.now }
     requires room { image_len core.now.book.instruments (length (live_orders core.now.book)) ≤ length into.old }
@@ -222,5 +222,10 @@ pub fn write_image<B: Book>(core: &Core<B>, product: &Product, into: &mut [u8]) 
     let at = write_desk(core.desk(), into);
     let at = write_instruments(core, product, into, at);
     let at = write_resting(core.book(), product, into, at);
-    write_waiting(core.book(), product, into, at)
+    let at = write_waiting(core.book(), product, into, at);
+    let session = match core.trading() {
+        Trading::Open => OPEN,
+        Trading::Closed => CLOSED,
+    };
+    write_bytes(&[session], into, at)
 }

@@ -23,3 +23,4 @@ mod TopMarks
 mod TopsRead
 mod ImagePlaces
 mod Numbers
+mod Parts

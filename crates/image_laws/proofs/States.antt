@@ -1,10 +1,11 @@
 -- Messages, whatever they are, lead to right states.
-use Rattle.std.proofs.Common.{◌≡◌, ℕ, ◌+◌, ◌*◌, ◌<◌, ◌≤◌, true, false, List, [], ◌∷◌, ◌++◌, length, replicate, Option, Some, None, refl, sym, ap, subst, arith, length-append}
+use Rattle.std.proofs.Common.{◌≡◌, ℕ, ◌+◌, ◌*◌, ◌<◌, ◌≤◌, true, false, List, [], ◌∷◌, ◌++◌, length, replicate, Option, Some, None, refl, sym, ap, subst, ◌∙◌, arith, length-append}
 use Prim.Native.Nat.{zero, suc}
 use Rattle.std.specs.Prelude.{◌^◌, IfSome, slice_index_or}
 use Rattle.std.proofs.lemmas.List.{length-replicate}
 use Rattle.gx_base.specs.declared.limits.TheConstants.{ADDRESSEES, MOST_LOTS}
 use Rattle.gx_base.specs.declared.price.Price.{Price}
+use Rattle.gx_base.specs.declared.trading.Trading.TheVariants.{Open, Closed}
 use Rattle.gx_base.specs.declared.event.ChangeFault.TheVariants as change
 use Rattle.product_file.specs.Products.{ProductLists, IsRightProduct}
 use Rattle.fix_request.specs.Requests.{request_of}
@@ -19,7 +20,9 @@ use Rattle.plain_book.proofs.Found.{all-zero}
 use Rattle.order_kinds.specs.declared.core_state.TheConstants.{MOST_MESSAGES}
 use Rattle.order_kinds.specs.State.{State, empty_state}
 use Rattle.order_kinds.specs.Cancels.{cancelled, cancel_by, cancel_step, session_step}
-use Rattle.order_kinds.specs.Step.{with_message, request_step, step_of, state_after, events_from, events_of}
+use Rattle.order_kinds.specs.Stops.{by_number}
+use Rattle.order_kinds.specs.Step.{with_message, open_step_as, request_step, step_of, state_after, events_from, events_of}
+use Rattle.order_kinds.proofs.SessionSteps.{step-session}
 use Rattle.balance_laws.proofs.Bounds.{whole-within}
 use Rattle.balance_laws.proofs.Requests.{named-has}
 use Rattle.book_image.specs.Rules.{is_price_of}
@@ -41,6 +44,7 @@ module _ (product : ProductLists) (right : IsRightProduct product) where
     uncrossed = uncrossed-without slot state.book.resting h.uncrossed;
     prices = h.prices;
     lasts = h.lasts;
+    is_open = h.is_open;
     counted = counted-report sent state.desk.orders bound state.desk h.counted request.sender.firm;
     few = h.few;
   }
@@ -59,25 +63,30 @@ module _ (product : ProductLists) (right : IsRightProduct product) where
     uncrossed = h.uncrossed;
     prices = h.prices;
     lasts = h.lasts;
+    is_open = h.is_open;
     counted = counted-line sent state.desk.orders bound state.desk h.counted refusal.firm;
     few = h.few;
   }
 
   -- ---- one message
 
-  request-reached : (sent bound : ℕ) (request : Request) (state : State) → IsValidRequest product request → HasName request → IsReached product sent bound state → state.desk.orders < sent → StepReaches product sent bound (request_step product request state)
-  request-reached sent bound (New order) state valid name h room = new-reached product right sent bound order state valid name h room
-  request-reached sent bound (Cancel order) state valid name h room = cancel-reached sent bound order state h
-  request-reached sent bound (Replace order) state valid name h room = replace-reached product right sent bound order state valid name h
-  request-reached sent bound (Passed sender) state valid name h room = record {
+  open-reached : (sent bound : ℕ) (request : Request) (state : State) → IsValidRequest product request → HasName request → IsReached product sent bound state → state.desk.orders < sent → StepReaches product sent bound (open_step_as by_number product request state)
+  open-reached sent bound (New order) state valid name h room = new-reached product right sent bound order state valid name h room
+  open-reached sent bound (Cancel order) state valid name h room = cancel-reached sent bound order state h
+  open-reached sent bound (Replace order) state valid name h room = replace-reached product right sent bound order state valid name h
+  open-reached sent bound (Passed sender) state valid name h room = record {
     held = h.held;
     uncrossed = h.uncrossed;
     prices = h.prices;
     lasts = h.lasts;
+    is_open = h.is_open;
     counted = counted-within sent state.desk.orders bound state.desk h.counted (bound + 0) (omega arith);
     few = h.few;
   }
-  request-reached sent bound (Refused refusal) state valid name h room = session-reached sent bound refusal state h
+  open-reached sent bound (Refused refusal) state valid name h room = session-reached sent bound refusal state h
+
+  request-reached : (sent bound : ℕ) (request : Request) (state : State) → IsValidRequest product request → HasName request → IsReached product sent bound state → state.desk.orders < sent → StepReaches product sent bound (request_step product request state)
+  request-reached sent bound request state valid name h room = subst (StepReaches product sent bound) (step-session by_number product request state) (open-reached sent bound request state valid name h room)
 
   step-reached : (sent bound : ℕ) (state : State) (frame : List ℕ) → IsReached product sent bound state → StepReaches product (sent + 1) bound (step_of product state frame)
   step-reached sent bound state frame h =
@@ -86,6 +95,7 @@ module _ (product : ProductLists) (right : IsRightProduct product) where
         uncrossed = h.uncrossed;
         prices = h.prices;
         lasts = h.lasts;
+        is_open = h.is_open;
         counted = record {
           messages = ap (λ (n : ℕ). n + 1) h.counted.messages;
           orders = refl;
@@ -129,6 +139,7 @@ module _ (product : ProductLists) (right : IsRightProduct product) where
     uncrossed = tt;
     prices = length-replicate (length product.names.instruments) None;
     lasts = λ j. subst (λ (x : Option Price). IfSome x (λ price. is_price_of product j price ≡ true)) (sym (none-traded (length product.names.instruments) j)) tt;
+    is_open = refl;
     counted = record { messages = refl; orders = refl; counts = record { trades = omega arith; reports = omega arith; lines = λ place. omega (arith, all-zero ADDRESSEES place) }; lines = refl };
     few = omega arith;
   }
@@ -154,6 +165,7 @@ module _ (product : ProductLists) (right : IsRightProduct product) where
         uncrossed = h.uncrossed;
         prices = h.prices;
         lasts = h.lasts;
+        lives = λ closed. absurd (let k : Open ≡ Closed = sym h.is_open ∙ closed in cc);
         counters = record { orders = omega (arith, h.few, sent); messages = omega (arith, few, sent); counts = (counted-within (length messages) state.desk.orders (length events) state.desk h.counted (state.desk.messages * 2 ^ 38) within).counts };
         few = omega (arith, few, sent);
         lines = h.counted.lines;

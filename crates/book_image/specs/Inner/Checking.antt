@@ -8,6 +8,7 @@ use Rattle.gx_base.specs.declared.order.Side.{Side}
 use Rattle.gx_base.specs.declared.order.Side.TheVariants.{Buy}
 use Rattle.gx_base.specs.declared.order.Kind.TheVariants.{StopLimit}
 use Rattle.gx_base.specs.declared.order.Order.{Order}
+use Rattle.gx_base.specs.declared.trading.Trading.{Trading}
 use Rattle.gx_base.specs.Orders.{blank_order}
 use Rattle.product_file.specs.Products.{ProductLists}
 use Rattle.order_kinds.specs.OrderRules.{is_quantity}
@@ -15,8 +16,9 @@ use Rattle.plain_book.specs.Orders.{is_before, is_side, level_of, is_live}
 use Rattle.plain_book.specs.Book.{Book, live_orders}
 use Rattle.book_image.specs.declared.format.TheConstants.{DESK_BYTES, INSTRUMENT_BYTES, ROW_BYTES}
 use Rattle.book_image.specs.declared.check_rows.Front.{Front}
+use Rattle.book_image.specs.declared.check_rows.Asked.{Asked}
 use Rattle.book_image.specs.Rows.{number_at, row_at, order_of_row, has_forms}
-use Rattle.book_image.specs.Rules.{is_price_of, is_right_order, is_right_resting, is_right_waiting, crosses, has_same_name, is_in_book_order, is_uncrossed, is_right_resting_row, is_right_waiting_row}
+use Rattle.book_image.specs.Rules.{is_price_of, is_right_order, is_right_resting, is_right_waiting, crosses, has_same_name, is_in_book_order, is_uncrossed, is_right_resting_row, is_right_waiting_row, may_live}
 use Rattle.book_image.specs.Faults.{wrong_place, resting_place, resting_rows, resting_count, waiting_place, waiting_rows, waiting_count, orders_at, length_fault, desk_fault, is_right_last, has_right_tops, is_order_on, has_price, is_at_best}
 
 -- ---- a row by itself
@@ -60,48 +62,63 @@ abbrev pub head_fault : ProductLists → List ℕ → Option ℕ
 head_fault product payload = first_fault (length_fault (length product.names.instruments) payload ∷ desk_fault payload ∷ lasts_fault product payload ∷ [])
 
 -- a resting row, and a waiting one, by itself
-abbrev pub is_resting_alone : ProductLists → ℕ → List ℕ → Bool
-is_resting_alone product given row = let o = order_of_row row in has_forms row && is_right_order product given o && is_right_resting o
+abbrev pub is_resting_alone : ProductLists → Asked → List ℕ → Bool
+is_resting_alone product asked row =
+    let o = order_of_row row in has_forms row && is_right_order product asked.given o && is_right_resting o && may_live asked.trading o
 
-abbrev pub is_waiting_alone : ProductLists → ℕ → List ℕ → Bool
-is_waiting_alone product given row = let o = order_of_row row in has_forms row && is_right_order product given o && is_right_waiting product o
+abbrev pub is_waiting_alone : ProductLists → Asked → List ℕ → Bool
+is_waiting_alone product asked row =
+    let o = order_of_row row in has_forms row && is_right_order product asked.given o && is_right_waiting product o && may_live asked.trading o
 
--- a resting row behind those before it, by its number, and a waiting one behind these resting orders
-abbrev pub is_right_resting_at : ProductLists → ℕ → List ℕ → ℕ → ℕ → Bool
-is_right_resting_at product given payload first k = is_right_resting_row product given (orders_at payload first k) (row_at payload first k)
+-- a resting row after these orders, and a waiting one after these resting and these waiting ones
+abbrev pub is_right_resting_after : ProductLists → Asked → List Order → List ℕ → Bool
+is_right_resting_after product asked before row = is_right_resting_row product asked.given before row && may_live asked.trading (order_of_row row)
 
-abbrev pub is_right_waiting_at : ProductLists → ℕ → List Order → List ℕ → ℕ → ℕ → Bool
-is_right_waiting_at product given resting payload first k =
-    is_right_waiting_row product given resting (orders_at payload first k) (row_at payload first k)
+abbrev pub is_right_waiting_after : ProductLists → Asked → List Order → List Order → List ℕ → Bool
+is_right_waiting_after product asked resting before row =
+    is_right_waiting_row product asked.given resting before row && may_live asked.trading (order_of_row row)
+
+-- a resting row after those before it, by its number, and a waiting one after these resting orders
+abbrev pub is_right_resting_at : ProductLists → Asked → List ℕ → ℕ → ℕ → Bool
+is_right_resting_at product asked payload first k = is_right_resting_after product asked (orders_at payload first k) (row_at payload first k)
+
+abbrev pub is_right_waiting_at : ProductLists → Asked → List Order → List ℕ → ℕ → ℕ → Bool
+is_right_waiting_at product asked resting payload first k =
+    is_right_waiting_after product asked resting (orders_at payload first k) (row_at payload first k)
 
 -- the first of so many resting rows that is wrong
-abbrev pub resting_fault : ProductLists → ℕ → List ℕ → ℕ → ℕ → Option ℕ
-resting_fault product given payload first count =
-    wrong_place (is_right_resting_at product given payload first) first ROW_BYTES 0 count
+abbrev pub resting_fault : ProductLists → Asked → List ℕ → ℕ → ℕ → Option ℕ
+resting_fault product asked payload first count =
+    wrong_place (is_right_resting_at product asked payload first) first ROW_BYTES 0 count
 
--- the first of so many waiting rows that is wrong, behind these resting orders
-abbrev pub waiting_fault : ProductLists → ℕ → List Order → List ℕ → ℕ → ℕ → Option ℕ
-waiting_fault product given resting payload first count =
-    wrong_place (is_right_waiting_at product given resting payload first) first ROW_BYTES 0 count
+-- the first of so many waiting rows that is wrong, after these resting orders
+abbrev pub waiting_fault : ProductLists → Asked → List Order → List ℕ → ℕ → ℕ → Option ℕ
+waiting_fault product asked resting payload first count =
+    wrong_place (is_right_waiting_at product asked resting payload first) first ROW_BYTES 0 count
 
-abbrev pub tops_fault : ProductLists → List ℕ → List Order → Option ℕ
-tops_fault product payload resting = wrong_place (has_right_tops product payload resting) DESK_BYTES INSTRUMENT_BYTES 0 (length product.names.instruments)
+-- what is asked of the orders of a payload
+abbrev pub asked_of : Trading → List ℕ → Asked
+asked_of trading payload = record { given = number_at payload 8; trading = trading }
 
--- the first fault in the rows, or in the TOP orders
-abbrev pub rows_fault : ProductLists → List ℕ → Option ℕ
-rows_fault product payload =
+-- the first fault in the rows
+abbrev pub rows_fault : Trading → ProductLists → List ℕ → Option ℕ
+rows_fault trading product payload =
     let instruments = length product.names.instruments in
-    let given = number_at payload 8 in
+    let asked = asked_of trading payload in
     let rest = resting_count instruments payload in
     let wait = waiting_count instruments payload in
     let resting = orders_at payload (resting_rows instruments) rest in
     first_fault (
     fault_if (nat_lt product.max_orders rest) (resting_place instruments)
-    ∷ resting_fault product given payload (resting_rows instruments) rest
+    ∷ resting_fault product asked payload (resting_rows instruments) rest
     ∷ fault_if (nat_lt product.max_orders (rest + wait)) (waiting_place instruments payload)
-    ∷ waiting_fault product given resting payload (waiting_rows instruments payload) wait
-    ∷ tops_fault product payload resting
+    ∷ waiting_fault product asked resting payload (waiting_rows instruments payload) wait
     ∷ [])
+
+-- the first of the instruments whose TOP orders are wrong, beside these resting orders
+abbrev pub tops_fault_beside : ProductLists → List ℕ → List Order → Option ℕ
+tops_fault_beside product payload resting =
+    wrong_place (has_right_tops product payload resting) DESK_BYTES INSTRUMENT_BYTES 0 (length product.names.instruments)
 
 -- ---- names
 

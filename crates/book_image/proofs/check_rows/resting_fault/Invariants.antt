@@ -8,7 +8,7 @@ abbrev pub invariant-loop-k : goal.invariant-loop-k
 invariant-loop-k g l =
     let book = g.B.Book.book l.book in
     record {
-      right : AreRightBelow (is_right_resting_at l.product l.given l.payload l.first) l.k;
+      right : AreRightBelow (is_right_resting_at l.product l.asked l.payload l.first) l.k;
       front : IsFrontOf (orders_at l.payload l.first l.k) l.front;
       names : HasNames book (orders_at l.payload l.first l.k);
       count : length (live_orders book) ≡ l.k;

@@ -19,22 +19,22 @@ is-behind last i h = grind (arith, nat_tests)
 pub returns-in_default-clause-fault : goal.returns-in_default-clause-fault
 returns-in_default-clause-fault g c =
     let w = c.loop-k.invariant in
-    sym (wrong-first (is_right_waiting_at c.args.product.now c.args.given g.resting c.args.payload.now c.args.first) c.args.first ROW_BYTES c.args.count c.loop-k.k w.right c.loop-k-test.true
-    (waiting-none-wrong c.args.product.now c.args.given g.resting (orders_at c.args.payload.now c.args.first c.loop-k.k) (row_at c.args.payload.now c.args.first c.loop-k.k)
+    sym (wrong-first (is_right_waiting_at c.args.product.now c.args.asked g.resting c.args.payload.now c.args.first) c.args.first ROW_BYTES c.args.count c.loop-k.k w.right c.loop-k-test.true
+    (waiting-none-wrong c.args.product.now c.args.asked g.resting (orders_at c.args.payload.now c.args.first c.loop-k.k) (row_at c.args.payload.now c.args.first c.loop-k.k)
     c.loop-k.instrument (g.B.Book.book c.loop-k.book) w.line w.names c.row_at.result.now c.waiting_order.result c.waiting_order.ensures.order c.row_at.ensures.row c.in_default.is))
 
 pub returns-then-order-instrument-clause-fault : goal.returns-then-order-instrument-clause-fault
 returns-then-order-instrument-clause-fault g c =
     let w = c.loop-k.invariant in
-    sym (wrong-first (is_right_waiting_at c.args.product.now c.args.given g.resting c.args.payload.now c.args.first) c.args.first ROW_BYTES c.args.count c.loop-k.k w.right c.loop-k-test.true
-    (waiting-line-wrong c.args.product.now c.args.given g.resting (orders_at c.args.payload.now c.args.first c.loop-k.k) (row_at c.args.payload.now c.args.first c.loop-k.k)
+    sym (wrong-first (is_right_waiting_at c.args.product.now c.args.asked g.resting c.args.payload.now c.args.first) c.args.first ROW_BYTES c.args.count c.loop-k.k w.right c.loop-k-test.true
+    (waiting-line-wrong c.args.product.now c.args.asked g.resting (orders_at c.args.payload.now c.args.first c.loop-k.k) (row_at c.args.payload.now c.args.first c.loop-k.k)
     c.loop-k.instrument (g.B.Book.book c.loop-k.book) w.line w.names c.row_at.result.now c.waiting_order.result c.waiting_order.ensures.order c.row_at.ensures.row c.in-Some.order c.in-Some.is (not-behind c.loop-k.instrument c.in-Some.order.instrument c.if-order-instrument.true)))
 
 pub returns-then-not-take_name-clause-fault : goal.returns-then-not-take_name-clause-fault
 returns-then-not-take_name-clause-fault g c =
     let w = c.loop-k.invariant in
-    sym (wrong-first (is_right_waiting_at c.args.product.now c.args.given g.resting c.args.payload.now c.args.first) c.args.first ROW_BYTES c.args.count c.loop-k.k w.right c.loop-k-test.true
-    (waiting-id-wrong c.args.product.now c.args.given g.resting (orders_at c.args.payload.now c.args.first c.loop-k.k) (row_at c.args.payload.now c.args.first c.loop-k.k)
+    sym (wrong-first (is_right_waiting_at c.args.product.now c.args.asked g.resting c.args.payload.now c.args.first) c.args.first ROW_BYTES c.args.count c.loop-k.k w.right c.loop-k-test.true
+    (waiting-id-wrong c.args.product.now c.args.asked g.resting (orders_at c.args.payload.now c.args.first c.loop-k.k) (row_at c.args.payload.now c.args.first c.loop-k.k)
     c.loop-k.instrument (g.B.Book.book c.loop-k.book) w.line w.names c.row_at.result.now c.waiting_order.result c.waiting_order.ensures.order c.row_at.ensures.row c.in-Some.order c.in-Some.is (sym c.take_name.ensures.new ∙ c.if-not-take_name.true)))
 
 pub loop-k-preserved : goal.loop-k-preserved
@@ -43,13 +43,13 @@ loop-k-preserved g c =
     let k = c.loop-k.k in
     let row = row_at payload c.args.first k in
     let fits : nat_le c.loop-k.instrument c.in-Some.order.instrument ≡ true = is-behind c.loop-k.instrument c.in-Some.order.instrument c.if-order-instrument.false in
-    let is : c.in-Some.order ≡ order_of_row row = some-is (is_waiting_alone c.args.product.now c.args.given) c.row_at.result.now row c.waiting_order.result c.waiting_order.ensures.order c.row_at.ensures.row c.in-Some.order c.in-Some.is in
+    let is : c.in-Some.order ≡ order_of_row row = some-is (is_waiting_alone c.args.product.now c.args.asked) c.row_at.result.now row c.waiting_order.result c.waiting_order.ensures.order c.row_at.ensures.row c.in-Some.order c.in-Some.is in
     let w = c.loop-k.invariant in
     let old = g.B.Book.book c.loop-k.book in
     let new = g.B.Book.book c.take_name.new.book in
     record {
-      right = right-next (is_right_waiting_at c.args.product.now c.args.given g.resting payload c.args.first) k w.right
-          (waiting-all-right c.args.product.now c.args.given g.resting (orders_at payload c.args.first k) row c.loop-k.instrument old w.line w.names
+      right = right-next (is_right_waiting_at c.args.product.now c.args.asked g.resting payload c.args.first) k w.right
+          (waiting-all-right c.args.product.now c.args.asked g.resting (orders_at payload c.args.first k) row c.loop-k.instrument old w.line w.names
           c.row_at.result.now c.waiting_order.result c.waiting_order.ensures.order c.row_at.ensures.row c.in-Some.order c.in-Some.is fits (sym c.take_name.ensures.new ∙ c.if-not-take_name.false));
       line = line-after payload c.args.first k c.in-Some.order is c.loop-k.instrument w.line fits;
       names = names-after-others payload c.args.first k c.in-Some.order is g.resting old new w.names (c.take_name.ensures.takes c.if-not-take_name.false);
@@ -59,6 +59,6 @@ loop-k-preserved g c =
 
 pub returns-clause-fault : goal.returns-clause-fault
 returns-clause-fault g c =
-    sym (wrong-none (is_right_waiting_at c.args.product.now c.args.given g.resting c.args.payload.now c.args.first) c.args.first ROW_BYTES c.args.count
+    sym (wrong-none (is_right_waiting_at c.args.product.now c.args.asked g.resting c.args.payload.now c.args.first) c.args.first ROW_BYTES c.args.count
     (let at_end : c.loop-k.k ≡ c.args.count = let a = c.loop-k-test in omega arith in
-    subst (AreRightBelow (is_right_waiting_at c.args.product.now c.args.given g.resting c.args.payload.now c.args.first)) at_end c.loop-k.invariant.right))
+    subst (AreRightBelow (is_right_waiting_at c.args.product.now c.args.asked g.resting c.args.payload.now c.args.first)) at_end c.loop-k.invariant.right))

@@ -11,7 +11,7 @@ abbrev pub invariant-loop-k : goal.invariant-loop-k
 invariant-loop-k g l =
     let book = g.B.Book.book l.book in
     record {
-      right : AreRightBelow (is_right_waiting_at l.product l.given g.resting l.payload l.first) l.k;
+      right : AreRightBelow (is_right_waiting_at l.product l.asked g.resting l.payload l.first) l.k;
       line : (o : Order) → is_in_line o (orders_at l.payload l.first l.k) ≡ nat_le l.instrument o.instrument;
       names : HasNames book (g.resting ++ orders_at l.payload l.first l.k);
       count : length (live_orders book) ≡ length (live_orders (g.B.Book.book l.initial.book)) + l.k;

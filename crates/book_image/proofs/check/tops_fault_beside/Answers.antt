@@ -2,7 +2,7 @@ use Rattle.std.proofs.Common.{length, ap, sym, ◌∙◌, arith}
 use Rattle.gx_base.specs.NameLists.{NameLists}
 use Rattle.book_image.specs.Faults.{has_right_tops, orders_at}
 use Rattle.book_image.proofs.CheckWrong.{wrong-none-of, wrong-first-of, right-next}
-use Rattle.book_image.proofs.check.tops_fault.Goals as goal
+use Rattle.book_image.proofs.check.tops_fault_beside.Goals as goal
 
 pub returns-then-not-has_right_tops : goal.returns-then-not-has_right_tops
 returns-then-not-has_right_tops c =
