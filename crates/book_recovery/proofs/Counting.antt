@@ -5,7 +5,7 @@ use Rattle.match_journal.specs.Journal.{Record, journal_front}
 use Rattle.match_journal.specs.Walking.{IsHead, IsBadHead, Walks}
 use Rattle.match_journal.specs.declared.entry.Entry.{Entry}
 use Rattle.match_journal.specs.declared.entry.EntryKind.{EntryKind}
-use Rattle.match_journal.specs.declared.entry.EntryKind.TheVariants.{Frames, Image}
+use Rattle.match_journal.specs.declared.entry.EntryKind.TheVariants.{Frames, OldImage, Image}
 use Rattle.match_journal.specs.declared.faults.WalkFault.{WalkFault}
 use Rattle.match_journal.specs.declared.faults.WalkFault.TheVariants as walk
 use Rattle.book_recovery.specs.Records.{is_image_kind, is_image, before_last_image, image_gate}
@@ -51,6 +51,7 @@ module _ (text : List ℕ) (limit : ℕ) (image : List ℕ) (gate : ℕ) (before
 -- one head more is counted
 kind_entries : (heads : Heads) (kind : EntryKind) (entry : Entry) → (with_head_of heads kind entry).entries ≡ heads.entries + 1
 kind_entries heads Frames entry = refl
+kind_entries heads OldImage entry = refl
 kind_entries heads Image entry = refl
 
 pub entries_more : (heads then : Heads) (entry : Entry) → then ≡ with_head heads entry → then.entries ≡ heads.entries + 1
@@ -66,6 +67,14 @@ module _ (text : List ℕ) (limit : ℕ) (image : List ℕ) (gate : ℕ) (heads 
   head_behind : (entry : Entry) → IsHead image limit gate entry → IsHead image limit (length (journal_front text at.before)) entry
   head_behind entry head = subst (λ k. IsHead image limit k entry) at.gate_is head
 
+  tells-image : (entry : Entry) (r : Record) → is_image r ≡ true → IsHead image limit gate entry
+      → TellsMore text limit image (at.before ++ r ∷ []) (record { entries = heads.entries + 1; image_at = Some entry.at; start = Some entry })
+  tells-image entry r is head = record {
+    count_is = omega (arith, at.count_is, length-append at.before (r ∷ []));
+    image_is = ap Some (head.at_is ∙ at.gate_is) ∙ sym (gate-image-more r is text at.before);
+    start = start-image text limit image gate at.before r is entry at.gate_is head;
+  }
+
   tells-more : (entry : Entry) (r : Record) (kind : EntryKind) → r.kind ≡ kind → IsHead image limit gate entry → TellsMore text limit image (at.before ++ r ∷ []) (with_head_of heads kind entry)
   tells-more entry r Frames is head =
       let frames : is_image r ≡ false = ap is_image_kind is in
@@ -74,13 +83,8 @@ module _ (text : List ℕ) (limit : ℕ) (image : List ℕ) (gate : ℕ) (heads 
         image_is = at.image_is ∙ sym (gate-frames-more r frames text at.before);
         start = start-frames text limit image gate at.before r frames heads.start entry at.gate_is head at.start;
       }
-  tells-more entry r Image is head =
-      let image_is : is_image r ≡ true = ap is_image_kind is in
-      record {
-        count_is = omega (arith, at.count_is, length-append at.before (r ∷ []));
-        image_is = ap Some (head.at_is ∙ at.gate_is) ∙ sym (gate-image-more r image_is text at.before);
-        start = start-image text limit image gate at.before r image_is entry at.gate_is head;
-      }
+  tells-more entry r OldImage is head = tells-image entry r (ap is_image_kind is) head
+  tells-more entry r Image is head = tells-image entry r (ap is_image_kind is) head
 
   pub counting_more : (entry : Entry) (next : ℕ) (then : Heads) → IsHead image limit gate entry → next ≡ gate + 6 + entry.length → then ≡ with_head heads entry → IsCounting text limit image next then
   counting_more entry next then head is then_is =

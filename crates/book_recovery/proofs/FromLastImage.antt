@@ -6,7 +6,7 @@ use Rattle.gx_base.proofs.Tests.{not-both}
 use Rattle.product_file.specs.Products.{ProductLists}
 use Rattle.match_journal.specs.Journal.{Record, journal_front, header, open_record}
 use Rattle.match_journal.specs.declared.entry.EntryKind.{EntryKind}
-use Rattle.match_journal.specs.declared.entry.EntryKind.TheVariants.{Frames, Image}
+use Rattle.match_journal.specs.declared.entry.EntryKind.TheVariants.{Frames, OldImage, Image}
 use Rattle.book_recovery.specs.Records.{is_image_kind, has_image, from_last_image, before_last_image, image_gate, count_as, count_behind, IsGoodAs, AreGoodRecords}
 use Rattle.book_recovery.specs.Recovering.{first_read}
 use Rattle.book_recovery.proofs.LastImages.{last-behind, last-here, last_split, none-before}
@@ -19,6 +19,7 @@ good-anew : (product : ProductLists) (count : ℕ) (kind : EntryKind) (payload :
     → IsGoodAs product 0 kind payload × AreGoodRecords product (count_as 0 kind payload) records
 good-anew product count Frames payload records none good more =
     (subst (λ (n : ℕ). IsGoodAs product n Frames payload) (none refl) good, subst (λ (n : ℕ). AreGoodRecords product (count_as n Frames payload) records) (none refl) more)
+good-anew product count OldImage payload records none good more = (good, more)
 good-anew product count Image payload records none good more = (good, more)
 
 good-behind : (product : ProductLists) (count : ℕ) (records : List Record) → (has_image records ≡ false → count ≡ 0) → AreGoodRecords product count records

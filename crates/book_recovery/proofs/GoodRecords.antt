@@ -9,7 +9,7 @@ use Rattle.product_file.specs.Products.{ProductLists}
 use Rattle.order_kinds.specs.declared.core_state.TheConstants.{MOST_MESSAGES}
 use Rattle.match_journal.specs.Journal.{IsJournal, Record, open_record, header}
 use Rattle.match_journal.specs.declared.entry.EntryKind.{EntryKind}
-use Rattle.match_journal.specs.declared.entry.EntryKind.TheVariants.{Frames, Image}
+use Rattle.match_journal.specs.declared.entry.EntryKind.TheVariants.{Frames, OldImage, Image}
 use Rattle.match_journal.specs.declared.limits.TheConstants.{MOST_LIMIT}
 use Rattle.match_journal.proofs.Records.{length-record}
 use Rattle.book_recovery.specs.Records.{messages_as, record_messages, messages_in, count_behind, count_behind_all, IsGoodRecord, AreGoodRecords, IsTrueRecord, AreTrueRecords}
@@ -47,6 +47,7 @@ payload-messages Frames payload =
       ap length (concat-messages_of payload),
       length-append (concat (messages_of payload)) (rest_of payload),
     )
+payload-messages OldImage payload = omega arith
 payload-messages Image payload = omega arith
 
 pub records-messages : (records : List Record) → length (messages_in records) * 22 ≤ length (flat_map open_record records)

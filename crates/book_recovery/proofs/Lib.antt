@@ -18,6 +18,7 @@ mod Passes
 mod FewBytes
 mod Counting
 mod RightImages
+mod ImageKinds
 mod ReplayedOne
 mod Payloads
 mod NewCores

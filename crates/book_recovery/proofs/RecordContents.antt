@@ -1,17 +1,18 @@
 -- What a record holds, by its kind.
-use Rattle.std.proofs.Common.{◌≡◌, ℕ, ◌+◌, ◌<◌, List, [], length, Result, Ok, Err, sym, ◌∙◌, ap, arith}
+use Rattle.std.proofs.Common.{◌≡◌, ℕ, ◌+◌, ◌<◌, true, List, [], length, Result, Ok, Err, sym, ◌∙◌, ap, arith}
 use Rattle.std.specs.Prelude.{IfOk}
 use Rattle.fix_frame.specs.Stream.{messages_of, rest_of}
 use Rattle.product_file.specs.Products.{ProductLists}
 use Rattle.order_kinds.specs.State.{State}
 use Rattle.order_kinds.specs.declared.core_state.TheConstants.{MOST_MESSAGES}
 use Rattle.match_journal.specs.declared.entry.EntryKind.{EntryKind}
-use Rattle.match_journal.specs.declared.entry.EntryKind.TheVariants.{Frames, Image}
-use Rattle.book_recovery.specs.Records.{AreGoodFrames}
+use Rattle.match_journal.specs.declared.entry.EntryKind.TheVariants.{Frames, OldImage, Image}
+use Rattle.book_recovery.specs.Records.{is_image_kind, AreGoodFrames}
 use Rattle.book_recovery.specs.Inner.Replays.{IsImageRead, ReadsImage}
 use Rattle.book_recovery.specs.Inner.Contents.{CountsBehind, ReadsFrames, IsContent, ReadsContent}
 use Rattle.book_recovery.specs.declared.recovery.RecoverFault.{RecoverFault}
 use Rattle.book_recovery.specs.declared.recovery.RecoverFault.TheVariants as fault
+use Rattle.book_recovery.proofs.ImageKinds.{image-messages, image-good, good-image, image-count}
 
 -- ---- frames that were held
 
@@ -29,6 +30,7 @@ module _ (count : ℕ) (held payload : List ℕ) (same : held ≡ payload) where
 module _ (product : ProductLists) (count : ℕ) (payload : List ℕ) (gate : ℕ) (given : List (List ℕ)) (core : State) where
   pub counts_frames : (kind : EntryKind) → kind ≡ Frames → (r : Result ℕ RecoverFault) → IfOk r (λ behind. behind ≡ count + length given) → IfOk r (CountsBehind count kind given core)
   counts_frames Frames is r counts = counts
+  counts_frames OldImage is r counts = absurd (cc is)
   counts_frames Image is r counts = absurd (cc is)
 
   content_frames : (r : Result ℕ RecoverFault) → IfOk r (λ behind. behind ≡ count + length given) → ReadsFrames count payload gate given r → ReadsContent product count Frames payload gate given core r
@@ -43,23 +45,23 @@ module _ (product : ProductLists) (count : ℕ) (payload : List ℕ) (gate : ℕ
 
   pub reads_frames : (kind : EntryKind) → kind ≡ Frames → (r : Result ℕ RecoverFault) → IfOk r (λ behind. behind ≡ count + length given) → ReadsFrames count payload gate given r → ReadsContent product count kind payload gate given core r
   reads_frames Frames is r counts read = content_frames r counts read
+  reads_frames OldImage is r counts read = absurd (cc is)
   reads_frames Image is r counts read = absurd (cc is)
 
-  pub reads_image : (kind : EntryKind) → kind ≡ Image → (behind : ℕ) → given ≡ [] → behind ≡ core.desk.messages → IsImageRead product payload core → IsContent product count kind payload given core behind
-  reads_image Frames is behind none counted read = absurd (cc is)
-  reads_image Image is behind none counted read = record {
-    good = read.right;
-    given_are = none;
-    behind_is = counted ∙ ap (λ (s : State). s.desk.messages) read.state;
-    state = λ image. read.state;
+  pub reads_image : (kind : EntryKind) → is_image_kind kind ≡ true → (behind : ℕ) → given ≡ [] → behind ≡ core.desk.messages → IsImageRead kind product payload core → IsContent product count kind payload given core behind
+  reads_image kind image behind none counted read = record {
+    good = image-good product count kind payload image read.right;
+    given_are = none ∙ sym (image-messages kind payload image);
+    behind_is = counted ∙ ap (λ (s : State). s.desk.messages) read.state ∙ sym (image-count product count kind payload image read.right);
+    state = λ of_image. read.state;
   }
 
-  pub reads_no_image : (kind : EntryKind) → kind ≡ Image → (why : RecoverFault) → ReadsImage product payload core gate (Err why) → ReadsContent product count kind payload gate given core (Err why)
-  reads_no_image Frames is why read = absurd (cc is)
-  reads_no_image Image is fault.Store read = tt
-  reads_no_image Image is (fault.Bad at) read = read
+  pub reads_no_image : (kind : EntryKind) → is_image_kind kind ≡ true → (why : RecoverFault) → ReadsImage kind product payload core gate (Err why) → ReadsContent product count kind payload gate given core (Err why)
+  reads_no_image kind image fault.Store read = tt
+  reads_no_image kind image (fault.Bad at) read = (λ good. read.0 (good-image product count kind payload image good), read.1)
 
 -- frames add theirs to the count
 pub frames_counted : (count : ℕ) (kind : EntryKind) (given : List (List ℕ)) (core : State) (behind : ℕ) → kind ≡ Frames → CountsBehind count kind given core behind → behind ≡ count + length given
 frames_counted count Frames given core behind is counts = counts
+frames_counted count OldImage given core behind is counts = absurd (cc is)
 frames_counted count Image given core behind is counts = absurd (cc is)

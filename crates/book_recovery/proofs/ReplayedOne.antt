@@ -1,35 +1,42 @@
 -- One record was replayed, by its kind.
-use Rattle.std.proofs.Common.{◌≡◌, ℕ, ◌+◌, List, length, Err, refl, sym, subst, ◌∙◌, ap}
+use Rattle.std.proofs.Common.{◌≡◌, ℕ, ◌+◌, true, List, length, Err, refl, sym, subst, ◌∙◌, ap}
+use Rattle.gx_base.proofs.Tests.{not-both}
 use Rattle.product_file.specs.Products.{ProductLists}
 use Rattle.order_kinds.specs.State.{State, state_numbered}
 use Rattle.order_kinds.specs.Step.{state_after}
 use Rattle.order_kinds.specs.Cores.{AreNumbered}
 use Rattle.match_journal.specs.declared.entry.EntryKind.{EntryKind}
-use Rattle.match_journal.specs.declared.entry.EntryKind.TheVariants.{Frames, Image}
-use Rattle.book_recovery.specs.Records.{AreGoodFrames}
+use Rattle.match_journal.specs.declared.entry.EntryKind.TheVariants.{Frames, OldImage, Image}
+use Rattle.book_recovery.specs.Records.{is_image_kind, AreGoodFrames}
 use Rattle.book_recovery.specs.Inner.Replays.{IsReplayed, ReplaysOne}
 use Rattle.book_recovery.specs.Inner.Contents.{CountsBehind, IsContent, ReadsContent}
 use Rattle.book_recovery.specs.declared.recovery.RecoverFault.{RecoverFault}
 use Rattle.book_recovery.specs.declared.recovery.RecoverFault.TheVariants as fault
+use Rattle.book_recovery.proofs.ImageKinds.{image-good, good-image, image-count, image-state, image-counts}
 
 module _ (product : ProductLists) (old : State) (count : ℕ) (payload : List ℕ) (given : List (List ℕ)) where
   -- ---- an image, which is read into a core that was cleared
 
-  pub image_replayed : (kind : EntryKind) → kind ≡ Image → (new : State) (behind : ℕ) → CountsBehind count kind given new behind → IsContent product count kind payload given new behind
+  pub image_replayed : (kind : EntryKind) → is_image_kind kind ≡ true → (new : State) (behind : ℕ) → CountsBehind count kind given new behind → IsContent product count kind payload given new behind
       → IsReplayed product old new (record { kind = kind; payload = payload })
-  image_replayed Frames is new behind counts content = absurd (cc is)
-  image_replayed Image is new behind counts content = record {
-    good = content.good;
-    messages = sym counts.1 ∙ content.behind_is;
-    state = λ numbered. content.state refl;
-    numbered = λ frames. absurd (cc frames);
-  }
+  image_replayed kind image new behind counts content =
+      let right = good-image product count kind payload image content.good in
+      record {
+        good = image-good product old.desk.messages kind payload image right;
+        messages =
+            sym (image-counts count kind given new behind image counts).1
+            ∙ content.behind_is
+            ∙ image-count product count kind payload image right
+            ∙ sym (image-count product old.desk.messages kind payload image right);
+        state = λ numbered. content.state image ∙ sym (image-state product (state_numbered old) kind payload image);
+        numbered = λ frames. absurd (not-both (is_image_kind kind) image frames);
+      }
 
-  pub image_not_replayed : (kind : EntryKind) → kind ≡ Image → (core new : State) (gate : ℕ) (why : RecoverFault) → ReadsContent product count kind payload gate given core (Err why)
+  pub image_not_replayed : (kind : EntryKind) → is_image_kind kind ≡ true → (core new : State) (gate : ℕ) (why : RecoverFault) → ReadsContent product count kind payload gate given core (Err why)
       → ReplaysOne product old new gate (record { kind = kind; payload = payload }) (Err why)
-  image_not_replayed Frames is core new gate why read = absurd (cc is)
-  image_not_replayed Image is core new gate fault.Store read = tt
-  image_not_replayed Image is core new gate (fault.Bad at) read = read
+  image_not_replayed kind image core new gate fault.Store read = tt
+  image_not_replayed kind image core new gate (fault.Bad at) read =
+      (λ good. read.0 (image-good product count kind payload image (good-image product old.desk.messages kind payload image good)), read.1)
 
   -- ---- frames, which leave the core as it was until they are applied
 
@@ -38,6 +45,7 @@ module _ (product : ProductLists) (old : State) (count : ℕ) (payload : List �
         → (AreNumbered core → state_numbered new ≡ state_after product (state_numbered core) given)
         → new.desk.messages ≡ core.desk.messages + length given → (AreNumbered core → AreNumbered new)
         → IsReplayed product old new (record { kind = kind; payload = payload })
+    frames_replayed OldImage is core new behind same content state messages numbered = absurd (cc is)
     frames_replayed Image is core new behind same content state messages numbered = absurd (cc is)
     frames_replayed Frames is core new behind same content state messages numbered = record {
       good = subst (λ (n : ℕ). AreGoodFrames n payload) counted content.good;
@@ -51,6 +59,7 @@ module _ (product : ProductLists) (old : State) (count : ℕ) (payload : List �
 
     pub frames_not_replayed : (kind : EntryKind) → kind ≡ Frames → (core new : State) (gate : ℕ) (why : RecoverFault) → ReadsContent product count kind payload gate given core (Err why)
         → ReplaysOne product old new gate (record { kind = kind; payload = payload }) (Err why)
+    frames_not_replayed OldImage is core new gate why read = absurd (cc is)
     frames_not_replayed Image is core new gate why read = absurd (cc is)
     frames_not_replayed Frames is core new gate fault.Store read = tt
     frames_not_replayed Frames is core new gate (fault.Bad at) read =

@@ -8,7 +8,7 @@ use Rattle.match_journal.specs.Standing.{Fits, moved}
 use Rattle.match_journal.specs.Walking.{IsHead, Walks, IsNext}
 use Rattle.match_journal.specs.declared.entry.Entry.{Entry}
 use Rattle.match_journal.specs.declared.entry.EntryKind.{EntryKind}
-use Rattle.match_journal.specs.declared.entry.EntryKind.TheVariants.{Frames, Image}
+use Rattle.match_journal.specs.declared.entry.EntryKind.TheVariants.{Frames, OldImage, Image}
 use Rattle.match_journal.specs.declared.standing.Standing.{Standing}
 use Rattle.match_journal.proofs.Walked.{record_left, none_left}
 use Rattle.book_recovery.specs.Records.{before_last_image, from_last_image}
@@ -34,6 +34,7 @@ kind_then : (s : Standing) (heads : Heads) (kind : EntryKind) (entry : Entry) (g
 kind_then s heads Frames entry gate ends begins met =
     let both = frames_then s heads.image_at heads.start entry gate ends begins.can begins.at_image met in
     record { can = both.0; at_image = both.1 }
+kind_then s heads OldImage entry gate ends begins met = record { can = met.1; at_image = refl }
 kind_then s heads Image entry gate ends begins met = record { can = met.1; at_image = refl }
 
 pub begins_then : (s t : Standing) (heads then : Heads) (entry : Entry) (gate : ℕ) (ends : Bool) → t ≡ moved s gate ends → BeginsAt s heads → (entry.at ≡ s.gate) × Fits s.known s.limit entry

@@ -13,10 +13,10 @@ use Rattle.order_kinds.specs.State.{State, empty_state, state_numbered}
 use Rattle.order_kinds.specs.Step.{state_after, step_of, events_from}
 use Rattle.order_kinds.specs.Cores.{AreNumbered}
 use Rattle.match_journal.specs.declared.entry.EntryKind.{EntryKind}
-use Rattle.match_journal.specs.declared.entry.EntryKind.TheVariants.{Frames, Image}
+use Rattle.match_journal.specs.declared.entry.EntryKind.TheVariants.{Frames, OldImage, Image}
 use Rattle.image_laws.specs.Right.{IsRightEntry, IsRightState}
 use Rattle.image_laws.proofs.States.{states-right, states-counted}
-use Rattle.image_laws.proofs.Images.{image-read}
+use Rattle.image_laws.proofs.Images.{image-read, old-image-read}
 use Rattle.book_recovery.specs.Records.{state_kept, is_image_kind, messages_as, IsTrueAs}
 use Rattle.book_recovery.specs.Recovering.{IsStateAfter}
 use Rattle.book_recovery.specs.Inner.Replays.{IsReplayed}
@@ -61,6 +61,16 @@ right-numbered product right s is_right same =
 -- ---- one record
 
 module _ (product : ProductLists) (right : IsRightProduct product) where
+  -- an image brings no messages
+  image-behind : (messages : List (List ℕ)) (new : State) → length messages < MOST_MESSAGES → state_numbered new ≡ state_kept product messages → IsStateAfter product (messages ++ []) new
+  image-behind messages new few is =
+      let same : messages ≡ messages ++ [] = sym (append-nil messages) in
+      record {
+        state_is = is ∙ ap (state_kept product) same;
+        numbered = right-numbered product (state_kept product messages) new (states-right product right messages few) is;
+        count_is = ap (λ (s : State). s.desk.messages) is ∙ states-counted product right messages ∙ ap length same;
+      }
+
   -- frames are applied to the state before, and a true image is that state
   pub state-behind : (kind : EntryKind) (payload : List ℕ) (messages : List (List ℕ)) (old new : State)
       → IsReplayed product old new (record { kind = kind; payload = payload }) → IsTrueAs product messages kind payload
@@ -76,12 +86,9 @@ module _ (product : ProductLists) (right : IsRightProduct product) where
         numbered = did.numbered refl before.numbered;
         count_is = omega (arith, did.messages, before.count_is, length-append messages (messages_of payload));
       }
+  state-behind OldImage payload messages old new did is_true few stands =
+      let before = states-right product right messages few in
+      image-behind messages new few (did.state (λ frames. absurd (cc frames)) ∙ old-image-read product (state_kept product messages) before payload is_true.0 is_true.1)
   state-behind Image payload messages old new did is_true few stands =
       let before = states-right product right messages few in
-      let same : messages ≡ messages ++ [] = sym (append-nil messages) in
-      let is = did.state (λ frames. absurd (cc frames)) ∙ image-read product (state_kept product messages) before payload is_true in
-      record {
-        state_is = is ∙ ap (state_kept product) same;
-        numbered = right-numbered product (state_kept product messages) new before is;
-        count_is = ap (λ (s : State). s.desk.messages) is ∙ states-counted product right messages ∙ ap length same;
-      }
+      image-behind messages new few (did.state (λ frames. absurd (cc frames)) ∙ image-read product (state_kept product messages) before payload is_true)

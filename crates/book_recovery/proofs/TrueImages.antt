@@ -1,5 +1,5 @@
 -- Records whose images are true: what stands behind them, and that they are good.
-use Rattle.std.proofs.Common.{◌≡◌, ℕ, ◌+◌, ◌<◌, Bool, true, false, ◌||◌, List, [], ◌∷◌, ◌++◌, length, refl, sym, subst, ◌∙◌, ap, arith, append_assoc, append-nil, length-append}
+use Rattle.std.proofs.Common.{◌≡◌, ℕ, ◌+◌, ◌<◌, Bool, true, false, ◌||◌, List, [], ◌∷◌, ◌++◌, length, None, refl, sym, subst, ◌∙◌, ap, arith, append_assoc, append-nil, length-append}
 use Rattle.gx_base.proofs.Tests.{not-both}
 use Rattle.fix_frame.specs.Stream.{messages_of, rest_of}
 use Rattle.product_file.specs.Products.{ProductLists, IsRightProduct}
@@ -7,12 +7,15 @@ use Rattle.order_kinds.specs.declared.core_state.TheConstants.{MOST_MESSAGES}
 use Rattle.order_kinds.specs.State.{State, empty_state}
 use Rattle.match_journal.specs.Journal.{Record}
 use Rattle.match_journal.specs.declared.entry.EntryKind.{EntryKind}
-use Rattle.match_journal.specs.declared.entry.EntryKind.TheVariants.{Frames, Image}
+use Rattle.match_journal.specs.declared.entry.EntryKind.TheVariants.{Frames, OldImage, Image}
+use Rattle.book_image.specs.Faults.{image_fault}
+use Rattle.book_image.specs.Reading.{state_of_image}
 use Rattle.image_laws.proofs.States.{states-right, states-counted}
-use Rattle.image_laws.proofs.Images.{image-right, image-read}
+use Rattle.image_laws.proofs.Images.{image-right, image-read, old-image-right, old-image-read}
 use Rattle.book_recovery.specs.Records.{state_kept, is_image_kind, has_image, from_last_image, messages_as, record_messages, messages_in, count_as, count_behind, count_behind_all, IsGoodAs, AreGoodRecords, IsTrueAs, AreTrueRecords, HaveWholeFrames, state_as, state_behind, state_behind_all}
 use Rattle.book_recovery.proofs.LastImages.{last-behind, last-here}
 use Rattle.book_recovery.proofs.StatesBehind.{state-append}
+use Rattle.book_recovery.proofs.ImageKinds.{image-messages, image-count, image-state}
 
 -- the state and the count are those of these messages
 record StandsBehind (product : ProductLists) (messages : List (List ℕ)) (state : State) (count : ℕ) : Type 0 where
@@ -34,16 +37,32 @@ few-behind before r records few =
 module _ (product : ProductLists) (right : IsRightProduct product) where
   -- ---- one record
 
-  -- an image is read as the state that it is of, whatever was before
-  image-stands : (before : List (List ℕ)) (payload : List ℕ) (state : State) (count : ℕ) → IsTrueAs product before Image payload
+  -- a true image has no fault, and is read as the state that it is of
+  true-right : (before : List (List ℕ)) (kind : EntryKind) (payload : List ℕ) → is_image_kind kind ≡ true → IsTrueAs product before kind payload → length before < MOST_MESSAGES → image_fault kind product payload ≡ None
+  true-right before Frames payload image is_true few = absurd (cc image)
+  true-right before OldImage payload image is_true few = old-image-right product (state_kept product before) (states-right product right before few) payload is_true.0 is_true.1
+  true-right before Image payload image is_true few = image-right product (state_kept product before) (states-right product right before few) payload is_true
+
+  true-read : (before : List (List ℕ)) (kind : EntryKind) (payload : List ℕ) → is_image_kind kind ≡ true → IsTrueAs product before kind payload → length before < MOST_MESSAGES → state_of_image kind product payload ≡ state_kept product before
+  true-read before Frames payload image is_true few = absurd (cc image)
+  true-read before OldImage payload image is_true few = old-image-read product (state_kept product before) (states-right product right before few) payload is_true.0 is_true.1
+  true-read before Image payload image is_true few = image-read product (state_kept product before) (states-right product right before few) payload is_true
+
+  -- so does it stand, whatever was before
+  image-stands : (before : List (List ℕ)) (kind : EntryKind) (payload : List ℕ) (state : State) (count : ℕ) → is_image_kind kind ≡ true → IsTrueAs product before kind payload
       → length before < MOST_MESSAGES
-      → StandsBehind product (before ++ []) (state_as product state Image payload) (count_as count Image payload)
-  image-stands before payload state count is_true few =
-      let read = image-read product (state_kept product before) (states-right product right before few) payload is_true in
-      let same : before ≡ before ++ [] = sym (append-nil before) in
+      → StandsBehind product (before ++ messages_as kind payload) (state_as product state kind payload) (count_as count kind payload)
+  image-stands before kind payload state count image is_true few =
+      let read = true-read before kind payload image is_true few in
+      let same : before ≡ before ++ messages_as kind payload =
+      sym (ap (λ (l : List (List ℕ)). before ++ l) (image-messages kind payload image) ∙ append-nil before) in
       record {
-        state_is = read ∙ ap (state_kept product) same;
-        count_is = ap (λ (s : State). s.desk.messages) read ∙ states-counted product right before ∙ ap length same;
+        state_is = image-state product state kind payload image ∙ read ∙ ap (state_kept product) same;
+        count_is =
+            image-count product count kind payload image (true-right before kind payload image is_true few)
+            ∙ ap (λ (s : State). s.desk.messages) read
+            ∙ states-counted product right before
+            ∙ ap length same;
       }
 
   frames-stand : (before : List (List ℕ)) (payload : List ℕ) (state : State) (count : ℕ) → StandsBehind product before state count
@@ -59,7 +78,8 @@ module _ (product : ProductLists) (right : IsRightProduct product) where
       → length before < MOST_MESSAGES
       → StandsBehind product (before ++ messages_as kind payload) (state_as product state kind payload) (count_as count kind payload)
   stands-as before Frames payload state count stands is_true few = frames-stand before payload state count (stands refl)
-  stands-as before Image payload state count stands is_true few = image-stands before payload state count is_true few
+  stands-as before OldImage payload state count stands is_true few = image-stands before OldImage payload state count refl is_true few
+  stands-as before Image payload state count stands is_true few = image-stands before Image payload state count refl is_true few
 
   -- ---- several records
 
@@ -122,8 +142,8 @@ module _ (product : ProductLists) (right : IsRightProduct product) where
       → IsTrueAs product before kind payload → (kind ≡ Frames → rest_of payload ≡ [])
       → length before + length (messages_as kind payload) < MOST_MESSAGES → IsGoodAs product count kind payload
   good-as before Frames payload count is is_true whole few = record { no_rest = whole refl; few = omega (arith, is, few) }
-  good-as before Image payload count is is_true whole few =
-      image-right product (state_kept product before) (states-right product right before (omega (arith, few))) payload is_true
+  good-as before OldImage payload count is is_true whole few = true-right before OldImage payload refl is_true (omega (arith, few))
+  good-as before Image payload count is is_true whole few = true-right before Image payload refl is_true (omega (arith, few))
 
   all-good : (before : List (List ℕ)) (records : List Record) (state : State) (count : ℕ) → StandsBehind product before state count
       → AreTrueRecords product before records → HaveWholeFrames records → AreFew before records → AreGoodRecords product count records

@@ -2,18 +2,19 @@
 -- images are true. Our own rule.
 use Rattle.std.specs.Prelude.{◌≡◌, ℕ, ◌+◌, ◌<◌, Bool, true, false, if◌then◌else◌, List, [], ◌∷◌, ◌++◌, flat_map, length, Option, Some, None}
 use Rattle.std.specs.List.{list_any, AllByRecursion}
+use Rattle.gx_base.specs.declared.trading.Trading.TheVariants.{Open}
 use Rattle.fix_frame.specs.Stream.{messages_of, rest_of}
 use Rattle.product_file.specs.Products.{ProductLists}
 use Rattle.order_kinds.specs.declared.core_state.TheConstants.{MOST_MESSAGES}
 use Rattle.order_kinds.specs.State.{State, empty_state}
 use Rattle.order_kinds.specs.Step.{state_after}
 use Rattle.book_image.specs.Rows.{number_at}
-use Rattle.book_image.specs.Image.{image_of}
+use Rattle.book_image.specs.Image.{old_image_of, image_of}
 use Rattle.book_image.specs.Faults.{image_fault}
 use Rattle.book_image.specs.Reading.{state_of_image}
 use Rattle.match_journal.specs.Journal.{Record, journal_front}
 use Rattle.match_journal.specs.declared.entry.EntryKind.{EntryKind}
-use Rattle.match_journal.specs.declared.entry.EntryKind.TheVariants.{Frames, Image}
+use Rattle.match_journal.specs.declared.entry.EntryKind.TheVariants.{Frames, OldImage, Image}
 
 -- the state of the engine after these messages
 abbrev pub state_kept : ProductLists → List (List ℕ) → State
@@ -23,6 +24,7 @@ state_kept product messages = state_after product (empty_state product) messages
 
 abbrev pub is_image_kind : EntryKind → Bool
 is_image_kind Frames = false
+is_image_kind OldImage = true
 is_image_kind Image = true
 
 -- the record is a book image, and no messages
@@ -51,6 +53,7 @@ image_gate text records = if has_image records then Some (length (journal_front 
 -- the messages in a payload of a kind: an image has none
 abbrev pub messages_as : EntryKind → List ℕ → List (List ℕ)
 messages_as Frames payload = messages_of payload
+messages_as OldImage payload = []
 messages_as Image payload = []
 
 abbrev pub record_messages : Record → List (List ℕ)
@@ -73,6 +76,7 @@ AreWhole records = AllByRecursion IsWhole records
 -- The count of messages behind a payload of a kind, by that before it: frames add theirs, and an image says its own.
 abbrev pub count_as : ℕ → EntryKind → List ℕ → ℕ
 count_as count Frames payload = count + length (messages_of payload)
+count_as count OldImage payload = number_at payload 0
 count_as count Image payload = number_at payload 0
 
 abbrev pub count_behind : ℕ → Record → ℕ
@@ -93,7 +97,8 @@ pub record AreGoodFrames (count : ℕ) (payload : List ℕ) : Type 0 where
 -- A payload of a kind is good behind so many messages. Nothing is wrong with an image, wherever it stands.
 abbrev pub IsGoodAs : ProductLists → ℕ → EntryKind → List ℕ → Type 0
 IsGoodAs product count Frames payload = AreGoodFrames count payload
-IsGoodAs product count Image payload = image_fault product payload ≡ None
+IsGoodAs product count OldImage payload = image_fault OldImage product payload ≡ None
+IsGoodAs product count Image payload = image_fault Image product payload ≡ None
 
 abbrev pub IsGoodRecord : ProductLists → ℕ → Record → Type 0
 IsGoodRecord product count r = IsGoodAs product count r.kind r.payload
@@ -105,9 +110,11 @@ AreGoodRecords product count (r ∷ records) = IsGoodRecord product count r × A
 
 -- ---- true records
 
--- A payload of a kind is true behind these messages: an image is that of the state after them, and frames may be any.
+-- A payload of a kind is true behind these messages: an image is that of the state after them, and frames may be any. An old
+-- image does not say the session: the market is open then.
 abbrev pub IsTrueAs : ProductLists → List (List ℕ) → EntryKind → List ℕ → Type 0
 IsTrueAs product before Frames payload = Unit {0}
+IsTrueAs product before OldImage payload = (payload ≡ old_image_of (state_kept product before)) × ((state_kept product before).trading ≡ Open)
 IsTrueAs product before Image payload = payload ≡ image_of (state_kept product before)
 
 abbrev pub IsTrueRecord : ProductLists → List (List ℕ) → Record → Type 0
@@ -130,7 +137,8 @@ HaveWholeFrames records = AllByRecursion HasWholeFrames records
 -- The state behind a payload of a kind, by that before it: frames are applied to it, and an image is read in its place.
 abbrev pub state_as : ProductLists → State → EntryKind → List ℕ → State
 state_as product state Frames payload = state_after product state (messages_of payload)
-state_as product state Image payload = state_of_image product payload
+state_as product state OldImage payload = state_of_image OldImage product payload
+state_as product state Image payload = state_of_image Image product payload
 
 abbrev pub state_behind : ProductLists → State → Record → State
 state_behind product state r = state_as product state r.kind r.payload

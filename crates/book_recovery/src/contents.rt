@@ -1,5 +1,5 @@
 //! Reading what a record holds, whose entry is known.
-ghost use Rattle.std.specs.Prelude.{◌≡◌, ℕ, ◌+◌, ◌<◌, ◌≤◌, ◌↔◌, List, [], ◌++◌, length, Some, IsTrue, OnOk, IfOk, IsErr, IsErrOf};
+ghost use Rattle.std.specs.Prelude.{◌≡◌, ℕ, ◌+◌, ◌<◌, ◌≤◌, ◌↔◌, List, [], ◌++◌, length, true, Some, IsTrue, OnOk, IfOk, IsErr, IsErrOf};
 ghost use Rattle.std.specs.List.{concat};
 ghost use Rattle.std.specs.Box.{boxed_slice_len};
 ghost use Rattle.gx_station.specs.Counts.{Rose};
@@ -8,11 +8,12 @@ ghost use Rattle.fix_frame.specs.Stream.{messages_of, rest_of};
 ghost use Rattle.book_image.specs.Image.{image_len};
 ghost use Rattle.match_journal.specs.Causes.{LooksOnly};
 ghost use Rattle.match_journal.specs.Standing.{Fits};
-ghost use Rattle.match_journal.specs.declared.entry.EntryKind.TheVariants.{Frames, Image};
+ghost use Rattle.match_journal.specs.declared.entry.EntryKind.TheVariants.{Frames};
 ghost use Rattle.match_journal.specs.declared.limits.TheConstants.{MOST_PAYLOAD};
 ghost use Rattle.order_kinds.specs.State.{empty_state};
 ghost use Rattle.order_kinds.specs.Cores.{FitsProduct};
 ghost use Rattle.order_kinds.specs.declared.core_state.TheConstants.{MOST_MESSAGES};
+ghost use Rattle.book_recovery.specs.Records.{is_image_kind};
 ghost use Rattle.book_recovery.specs.Recovering.{HasRoomFor};
 ghost use Rattle.book_recovery.specs.Inner.Replays.{payload_at, ReadsImage};
 ghost use Rattle.book_recovery.specs.Inner.Contents.{CountsBehind, ReadsFrames, ReadsContent};
@@ -73,6 +74,7 @@ fn read_image_record<S: Station, B: Book>(
     core: &mut Core<B>,
     entry: &Entry,
 ) -> Result<(), RecoverFault>
+    requires image { is_image_kind entry.now.kind ≡ true }
     requires new { core.old ≡ empty_state product.now }
     requires room { image_len (length product.now.names.instruments) product.now.max_orders ≤ length payload.old }
     requires reach { journal.old.known ≤ S.meanings.reach station.old }
@@ -86,7 +88,7 @@ fn read_image_record<S: Station, B: Book>(
     ensures fits { FitsProduct product.now core.new }
     ensures new { IsErr result → core.new ≡ core.old }
     ensures reads { (image : List ℕ) → S.meanings.holds station.old ≡ Some image → length image ≡ journal.old.known
-        → ReadsImage product.now (payload_at image entry.now) core.new entry.now.at result }
+        → ReadsImage entry.now.kind product.now (payload_at image entry.now) core.new entry.now.at result }
 {
     let length = entry.length as usize;
     // No right image is longer than the room for one.
@@ -97,7 +99,7 @@ fn read_image_record<S: Station, B: Book>(
     if read.is_err() {
         return Err(RecoverFault::Store);
     }
-    match read_image(&payload[..length], product, core) {
+    match read_image(entry.kind, &payload[..length], product, core) {
         Ok(()) => Ok(()),
         Err(_) => Err(RecoverFault::Bad(entry.at)),
     }
@@ -180,7 +182,7 @@ pub(crate) fn read_record<S: Station, B: Book>(
     requires entry { Fits journal.old.known journal.old.limit met.entry }
     requires few { met.count < MOST_MESSAGES }
     requires fits { FitsProduct product.now core.old }
-    requires new { met.entry.kind ≡ Image → core.old ≡ empty_state product.now }
+    requires new { is_image_kind met.entry.kind ≡ true → core.old ≡ empty_state product.now }
     ensures looks { LooksOnly S.meanings station.old station.new met.entry.length }
     ensures reach { S.meanings.reach station.new ≡ S.meanings.reach station.old }
     ensures store { IsErrOf result RecoverFault.Store → Rose (S.meanings.store_faults station.old) (S.meanings.store_faults station.new) }
@@ -201,7 +203,7 @@ pub(crate) fn read_record<S: Station, B: Book>(
         EntryKind::Frames => {
             read_frame_record(station, journal, scratch, &met.entry, met.count)
         },
-        EntryKind::Image => {
+        EntryKind::OldImage | EntryKind::Image => {
             scratch.framer.clear();
             match read_image_record(
                 station,

@@ -32,7 +32,7 @@ fn clear_spare<B: Book>(spare: &mut Core<B>, _product: &Product, kind: EntryKind
 {
     match kind {
         EntryKind::Frames => {}
-        EntryKind::Image => spare.clear(),
+        EntryKind::OldImage | EntryKind::Image => spare.clear(),
     }
 }
 

@@ -63,7 +63,7 @@ impl Heads {
         self.entries += 1;
         match entry.kind {
             EntryKind::Frames => self.start = self.start.or(Some(entry)),
-            EntryKind::Image => {
+            EntryKind::OldImage | EntryKind::Image => {
                 self.image_at = Some(entry.at);
                 self.start = Some(entry);
             }

@@ -51,7 +51,7 @@ fn replay_entry<S: Station, B: Book>(
 {
     match entry.kind {
         EntryKind::Frames => {}
-        EntryKind::Image => {
+        EntryKind::OldImage | EntryKind::Image => {
             core.clear();
             let met = Met {
                 entry: *entry,

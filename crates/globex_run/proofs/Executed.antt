@@ -19,7 +19,7 @@ use Rattle.journal_print.specs.Reading.{ReadsAndSends}
 use Rattle.journal_print.specs.declared.unprinted.Unprinted.{Unprinted}
 use Rattle.journal_print.specs.declared.unprinted.Unprinted.TheVariants as unprinted
 use Rattle.command_words.specs.declared.command.Command.{Command}
-use Rattle.command_words.specs.declared.command.Command.TheVariants.{Run, Replay, Fills, Ledger, Book, Steps, Drill, Checkpoint}
+use Rattle.command_words.specs.declared.command.Command.TheVariants.{Run, Steps, Drill, Checkpoint}
 use Rattle.globex_run.specs.Outside.{SourceAt, Streams, streams_at, station_at}
 use Rattle.globex_run.specs.Outcomes.{outcome_of, is_outcome}
 use Rattle.globex_run.specs.Words.{IsWriting}

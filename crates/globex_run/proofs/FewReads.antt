@@ -1,6 +1,6 @@
 -- How much of the journal is read, where no call on the store failed.
 use Rattle.globex_run.specs.Inner.Keeping.{KeepsEvents}
-use Rattle.std.proofs.Common.{◌≡◌, ◌≢◌, inl, inr, ℕ, List, Option, Some, sym, ap, subst, ◌∙◌, arith}
+use Rattle.std.proofs.Common.{◌≡◌, inl, inr, ℕ, List, Option, Some, sym, ap, subst}
 use Rattle.std.proofs.lemmas.Bool.Decides.{eqb_tells}
 use Rattle.gx_base.specs.declared.event.Event.{Event}
 use Rattle.gx_station.specs.Stations.{StationMeanings}
@@ -13,12 +13,10 @@ use Rattle.exec_report.specs.Forms.{LineText}
 use Rattle.book_print.specs.TallyText.{no_tally}
 use Rattle.book_print.specs.Printing.{tally_form}
 use Rattle.globex_run.specs.Outside.{Streams, streams_at}
-use Rattle.globex_run.specs.Outcomes.{outcome_of}
 use Rattle.globex_run.specs.Journals.{most_read}
 use Rattle.globex_run.specs.Inner.Sessions.{SessionResult}
 use Rattle.globex_run.specs.Inner.Drilling.{DrillResult}
 use Rattle.globex_run.specs.declared.outcome.Outcome.{Outcome}
-use Rattle.globex_run.specs.declared.ending.Ending.{Ending}
 
 -- how a session read its journal
 pub session-reads : {I S : Type 0} (m : StationMeanings S) (line : LineText) (product : ProductLists) (text : List ℕ) (before after : Streams I S) (Published : List Event → Type 0) (then : State) (outcome : Outcome) → SessionResult m line product text before after Published then outcome

@@ -1,5 +1,5 @@
 -- A session from the image of entry on: its journal is opened, and the input served.
-use Rattle.std.proofs.Common.{◌≡◌, ◌⊎◌, inl, inr, ⊎_elim, ℕ, ◌+◌, ◌-◌, ◌≤◌, max, List, [], ◌∷◌, ◌++◌, length, take, Option, Some, None, Result, Ok, Err, IfSome, refl, sym, ap, subst, ◌∙◌, arith, length-append}
+use Rattle.std.proofs.Common.{◌≡◌, ◌⊎◌, inl, inr, ⊎_elim, ℕ, ◌+◌, ◌-◌, ◌≤◌, max, List, [], ◌∷◌, ◌++◌, length, take, Option, Some, None, Ok, Err, IfSome, refl, sym, ap, subst, ◌∙◌, arith, length-append}
 use Rattle.std.proofs.lemmas.List.{append-nil}
 use Rattle.gx_base.specs.KnownBytes.{IsKnownPrefix, known_itself}
 use Rattle.gx_station.specs.Counts.{Rose}
@@ -13,7 +13,7 @@ use Rattle.match_journal.specs.Opening.{IsOpening}
 use Rattle.match_journal.specs.Steps.{HoldsOne}
 use Rattle.match_journal.specs.StepLaws.{adds_then, adds_weaker}
 use Rattle.match_journal.specs.declared.standing.Standing.{Standing}
-use Rattle.book_recovery.specs.Records.{AreWhole, messages_in, state_kept, AreGoodRecords, AreTrueRecords}
+use Rattle.book_recovery.specs.Records.{AreWhole, messages_in, state_kept}
 use Rattle.book_recovery.specs.Kept.{CanBeRecovered}
 use Rattle.match_journal.specs.declared.limits.TheConstants.{MOST_UNFINISHED}
 use Rattle.product_file.specs.declared.limits.TheConstants.{LEAST_JOURNAL}

@@ -1,18 +1,19 @@
 -- Reading what a record holds, behind some messages that are counted.
-use Rattle.std.specs.Prelude.{◌≡◌, ℕ, ◌+◌, List, [], length, Result, Ok, Err}
+use Rattle.std.specs.Prelude.{◌≡◌, ℕ, ◌+◌, true, List, [], length, Result, Ok, Err}
 use Rattle.fix_frame.specs.Stream.{messages_of}
 use Rattle.product_file.specs.Products.{ProductLists}
 use Rattle.order_kinds.specs.State.{State, state_numbered}
 use Rattle.book_image.specs.Reading.{state_of_image}
 use Rattle.match_journal.specs.declared.entry.EntryKind.{EntryKind}
-use Rattle.match_journal.specs.declared.entry.EntryKind.TheVariants.{Frames, Image}
-use Rattle.book_recovery.specs.Records.{messages_as, count_as, AreGoodFrames, IsGoodAs}
+use Rattle.match_journal.specs.declared.entry.EntryKind.TheVariants.{Frames, OldImage, Image}
+use Rattle.book_recovery.specs.Records.{is_image_kind, messages_as, count_as, AreGoodFrames, IsGoodAs}
 use Rattle.book_recovery.specs.declared.recovery.RecoverFault.{RecoverFault}
 use Rattle.book_recovery.specs.declared.recovery.RecoverFault.TheVariants as fault
 
 -- the count behind a record: frames add theirs, and the state of an image says it
 abbrev pub CountsBehind : ℕ → EntryKind → List (List ℕ) → State → ℕ → Type 0
 CountsBehind count Frames given core behind = behind ≡ count + length given
+CountsBehind count OldImage given core behind = (given ≡ []) × (behind ≡ core.desk.messages)
 CountsBehind count Image given core behind = (given ≡ []) × (behind ≡ core.desk.messages)
 
 -- what is answered at frames with this payload and gate
@@ -26,7 +27,7 @@ pub record IsContent (product : ProductLists) (count : ℕ) (kind : EntryKind) (
   pub good : IsGoodAs product count kind payload
   pub given_are : given ≡ messages_as kind payload
   pub behind_is : behind ≡ count_as count kind payload
-  pub state : kind ≡ Image → state_numbered core ≡ state_of_image product payload
+  pub state : is_image_kind kind ≡ true → state_numbered core ≡ state_of_image kind product payload
 
 -- what is answered at a record of this kind, with its payload and gate
 abbrev pub ReadsContent : ProductLists → ℕ → EntryKind → List ℕ → ℕ → List (List ℕ) → State → Result ℕ RecoverFault → Type 0

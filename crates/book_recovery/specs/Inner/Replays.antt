@@ -8,6 +8,7 @@ use Rattle.book_image.specs.Reading.{state_of_image}
 use Rattle.match_journal.specs.Journal.{Record}
 use Rattle.match_journal.specs.Appending.{IsJournalTo}
 use Rattle.match_journal.specs.declared.entry.Entry.{Entry}
+use Rattle.match_journal.specs.declared.entry.EntryKind.{EntryKind}
 use Rattle.book_recovery.specs.Records.{is_image, from_last_image, messages_in, count_behind, count_behind_all, state_behind, IsGoodRecord, AreGoodRecords, AreTrueRecords}
 use Rattle.book_recovery.specs.BadPlaces.{HasBadPayloadAt}
 use Rattle.book_recovery.specs.Recovering.{IsStateAfter}
@@ -21,16 +22,16 @@ payload_at image entry = take entry.length (drop (entry.at + 6) image)
 abbrev pub record_at : List ℕ → Entry → Record
 record_at image entry = record { kind = entry.kind; payload = payload_at image entry }
 
--- the payload is a right image, and the state is the one that it is of
-pub record IsImageRead (product : ProductLists) (payload : List ℕ) (new : State) : Type 0 where
-  pub right : image_fault product payload ≡ None
-  pub state : state_numbered new ≡ state_of_image product payload
+-- the payload is a right image of this kind, and the state is the one that it is of
+pub record IsImageRead (kind : EntryKind) (product : ProductLists) (payload : List ℕ) (new : State) : Type 0 where
+  pub right : image_fault kind product payload ≡ None
+  pub state : state_numbered new ≡ state_of_image kind product payload
 
--- what is answered at an image with this payload and gate
-abbrev pub ReadsImage : ProductLists → List ℕ → State → ℕ → Result (Unit {0}) RecoverFault → Type 0
-ReadsImage product payload new gate (Ok t) = IsImageRead product payload new
-ReadsImage product payload new gate (Err fault.Store) = Unit {0}
-ReadsImage product payload new gate (Err (fault.Bad at)) = (image_fault product payload ≡ None → ⊥) × (at ≡ gate)
+-- what is answered at an image of this kind, with its payload and gate
+abbrev pub ReadsImage : EntryKind → ProductLists → List ℕ → State → ℕ → Result (Unit {0}) RecoverFault → Type 0
+ReadsImage kind product payload new gate (Ok t) = IsImageRead kind product payload new
+ReadsImage kind product payload new gate (Err fault.Store) = Unit {0}
+ReadsImage kind product payload new gate (Err (fault.Bad at)) = (image_fault kind product payload ≡ None → ⊥) × (at ≡ gate)
 
 -- The record is good behind so many messages, and the state is the one behind it; where it is frames, only if order numbers differed.
 pub record IsReplayed (product : ProductLists) (old new : State) (r : Record) : Type 0 where

@@ -1,6 +1,6 @@
 -- A drill: the made messages are served, nothing is sent of them, and where all of them are kept their summary is sent.
 use Rattle.globex_run.specs.Inner.Keeping.{KeepsEvents}
-use Rattle.std.specs.Prelude.{◌≡◌, ◌≢◌, ◌⊎◌, ℕ, List, [], length, Result}
+use Rattle.std.specs.Prelude.{◌≡◌, ◌≢◌, ℕ, List, [], length, Result}
 use Rattle.gx_station.specs.Stations.{StationMeanings}
 use Rattle.gx_station.specs.Quiet.{Sends}
 use Rattle.fix_frame.specs.Stream.{rest_of}

@@ -2,5 +2,5 @@ use Rattle.std.proofs.Common.{◌∙◌}
 use Rattle.book_recovery.proofs.NewCores.{cleared_new}
 use Rattle.book_recovery.proofs.records.clear_spare.Goals as goal
 
-pub returns-in-Image : goal.returns-in-Image
-returns-in-Image g c = c.clear.ensures ∙ cleared_new c.args._product.now c.args.spare.now c.requires.fits
+pub returns-in-OldImage : goal.returns-in-OldImage
+returns-in-OldImage g c = c.clear.ensures ∙ cleared_new c.args._product.now c.args.spare.now c.requires.fits

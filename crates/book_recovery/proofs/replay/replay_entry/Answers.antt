@@ -6,6 +6,7 @@ use Rattle.book_recovery.specs.Inner.Replays.{payload_at}
 use Rattle.book_recovery.proofs.NewCores.{cleared_new}
 use Rattle.book_recovery.proofs.RecordContents.{frames_counted}
 use Rattle.book_recovery.proofs.ReplayedOne.{image_replayed, image_not_replayed, frames_replayed, frames_not_replayed}
+use Rattle.book_recovery.proofs.ImageKinds.{either-image, not-frames}
 use Rattle.book_recovery.proofs.replay.replay_entry.Goals as goal
 
 -- ---- an image
@@ -20,14 +21,17 @@ read_record-requires-clause-fits g c =
 pub returns-in-Ok-clause-replays : goal.returns-in-Ok-clause-replays
 returns-in-Ok-clause-replays g c = λ image read known.
     let entry = c.args.entry.now in
-    image_replayed c.args.product.now c.args.core.now 0 (payload_at image entry) c.read_record.new.scratch.framer.given entry.kind c.in-Image.is c.read_record.new.core c.in-Ok.field-0 c.in-Ok.ensures.counts (c.in-Ok.ensures.reads image read known)
+    image_replayed c.args.product.now c.args.core.now 0 (payload_at image entry) c.read_record.new.scratch.framer.given entry.kind (either-image entry.kind c.in-OldImage.is) c.read_record.new.core c.in-Ok.field-0 c.in-Ok.ensures.counts (c.in-Ok.ensures.reads image read known)
 
 pub returns-in-Err-clause-replays : goal.returns-in-Err-clause-replays
 returns-in-Err-clause-replays g c = λ image read known.
     let entry = c.args.entry.now in
-    image_not_replayed c.args.product.now c.args.core.now 0 (payload_at image entry) c.read_record.new.scratch.framer.given entry.kind c.in-Image.is c.read_record.new.core c.read_record.new.core entry.at c.in-Err.why (c.in-Err.ensures.reads image read known)
+    image_not_replayed c.args.product.now c.args.core.now 0 (payload_at image entry) c.read_record.new.scratch.framer.given entry.kind (either-image entry.kind c.in-OldImage.is) c.read_record.new.core c.read_record.new.core entry.at c.in-Err.why (c.in-Err.ensures.reads image read known)
 
 -- ---- frames
+
+pub read_record-requires-2-clause-new : goal.read_record-requires-2-clause-new
+read_record-requires-2-clause-new g c = λ image. absurd (not-frames c.args.entry.now.kind image c.in-Frames.is)
 
 pub apply_given-requires-clause-few : goal.apply_given-requires-clause-few
 apply_given-requires-clause-few g c =

@@ -1,10 +1,10 @@
-use Rattle.std.proofs.Common.{IfOk, ℕ, List, Result, sym, subst}
+use Rattle.std.proofs.Common.{IfOk, sym, subst}
 use Rattle.command_words.specs.declared.command.Command.{Command}
-use Rattle.command_words.specs.declared.command.Command.TheVariants.{Replay, Fills, Ledger, Book, Steps, Drill, Checkpoint}
+use Rattle.command_words.specs.declared.command.Command.TheVariants.{Replay, Fills, Ledger, Book}
 use Rattle.book_print.specs.declared.ledger.Totals.{Totals}
 use Rattle.journal_print.specs.declared.work.Lines.{Lines}
 use Rattle.journal_print.proofs.WholeTexts.{reports_printed, fills_printed, ledger_printed}
-use Rattle.globex_run.specs.Outside.{source_at, station_at, streams_at}
+use Rattle.globex_run.specs.Outside.{source_at, streams_at}
 use Rattle.globex_run.specs.Inner.Executing.{IsExecuted}
 use Rattle.globex_run.specs.declared.outcome.Outcome.{Outcome}
 use Rattle.globex_run.proofs.Executed.{if-ok, if-ok-three, drill-executed, checkpoint-executed, steps-executed, print-executed}

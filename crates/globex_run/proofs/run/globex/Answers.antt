@@ -1,10 +1,10 @@
-use Rattle.std.proofs.Common.{◌≤◌, inl, ℕ, List, length, refl, sym, subst, ◌∙◌}
+use Rattle.std.proofs.Common.{◌≤◌, inl, ℕ, List, length, sym, subst, ◌∙◌}
 use Rattle.std.proofs.lemmas.Option.{same_Some}
 use Rattle.product_file.specs.Products.{ProductLists}
 use Rattle.report_laws.specs.Sums.{IsReadBalanced}
 use Rattle.globex_run.specs.Outside.{source_at}
 use Rattle.globex_run.specs.Words.{IsWriting}
-use Rattle.globex_run.proofs.Runs.{short-text, few-of-product, memory-without, told-product, product-early, product-none, product-taken, words-early}
+use Rattle.globex_run.proofs.Runs.{short-text, memory-without, told-product, product-early, product-none, product-taken, words-early}
 use Rattle.globex_run.proofs.Commands.{product-told, no-memory, only-reads, leaves-the-input, does-all, ends-as-told, leaves-a-front, leaves-the-entry, keeps-what-is-sent, adds-messages-alone, adds-a-record-per-read, reads-it-once, is-full-for-messages, is-full-for-image, sends-nothing-then, prints-its-text, ends-well, all-balance, ends-where-told, refuses-what-it-must, opens-it-again, has-its-statuses}
 use Rattle.globex_run.proofs.run.globex.Goals as goal
 
