@@ -11,7 +11,7 @@ use draws::{INSTRUMENTS, Random};
 use gx_base::{Kind, Order, ShortId, Side, Slot};
 use plain_book::{Book, PlainBook};
 use reads::{
-    Answer, Call, Log, ROOM, answer_at, early_at, named, order_at, read_numbers, read_orders,
+    Answer, Call, Line, Log, ROOM, answer_at, early_at, named, order_at, read_numbers, read_orders,
     top_of,
 };
 use std::process::Abort;
@@ -297,20 +297,44 @@ fn run<B: Book>(rt: &(impl Abort + AllocGlobal), book: &mut B) -> Log
     log
 }
 
-#[test]
-fn both_books_give_the_same_answers(rt: HostRuntime) {
-    let alloc = rt.alloc();
-    let mut book = PlainBook::new(alloc, CAPACITY, INSTRUMENTS).expect(&rt, "memory");
-    let log = run(&rt, &mut book);
-    let mut book = LinkedBook::new(alloc, CAPACITY, INSTRUMENTS).expect(&rt, "memory");
-    let other = run(&rt, &mut book);
-    for (place, (line, other)) in log.lines().iter().zip(other.lines()).enumerate() {
-        assert_eq!(rt; *line, *other, "line {place}");
+/// What a book in two lists answers.
+fn log_of_lists(rt: &(impl Abort + AllocGlobal)) -> Log {
+    let mut book = PlainBook::new(rt.alloc(), CAPACITY, INSTRUMENTS).expect(rt, "memory");
+    run(rt, &mut book)
+}
+
+/// What a book of a run answers.
+fn log_of_queues(rt: &(impl Abort + AllocGlobal)) -> Log {
+    let mut book = LinkedBook::new(rt.alloc(), CAPACITY, INSTRUMENTS).expect(rt, "memory");
+    run(rt, &mut book)
+}
+
+/// Looks for the same line at a place.
+fn expect_same(rt: &impl Abort, place: usize, line: &Line, other: &Line) {
+    assert_eq!(rt; *line, *other, "line {place}");
+}
+
+/// Looks for the same lines, and for fewer than there is room for.
+fn expect_same_lines(rt: &impl Abort, lines: &[Line], others: &[Line]) {
+    for (place, (line, other)) in lines.iter().zip(others).enumerate() {
+        expect_same(rt, place, line, other);
     }
-    assert_eq!(rt; log.lines().len(), other.lines().len());
-    assert!(rt; log.lines().len() < ROOM);
+    assert_eq!(rt; lines.len(), others.len());
+    assert!(rt; lines.len() < ROOM);
+}
+
+/// Looks for each call as often as a run makes it at least.
+fn expect_each_call(rt: &impl Abort, log: &Log) {
     for (call, least) in LEAST {
         let times = log.times(call);
         assert!(rt; times >= least, "{call:?} is made {times} times");
     }
+}
+
+#[test]
+fn both_books_give_the_same_answers(rt: HostRuntime) {
+    let log = log_of_lists(&rt);
+    let other = log_of_queues(&rt);
+    expect_same_lines(&rt, log.lines(), other.lines());
+    expect_each_call(&rt, &log);
 }

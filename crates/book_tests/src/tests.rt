@@ -12,7 +12,6 @@ use plain_book::{Book, PlainBook};
 use product_file::{Product, read_product};
 use run_fixtures::{PRODUCT, apply_held, ended, product_text, run_over};
 use std::process::Abort;
-use std::test::Fail;
 
 /// The usual product with room for 100,000 live orders, and for the journal of the drill.
 const LARGE_PRODUCT: &str =
@@ -23,47 +22,69 @@ const MESSAGES: u32 = 3_000;
 /// Room for all lines of the stream.
 const ROOM: usize = 4_194_304;
 
+/// Looks for this count.
+fn expect_count(rt: &impl Abort, got: u64, want: u64) {
+    assert_eq!(rt; got, want);
+}
+
+/// The next bytes of a made stream come into a framer. `false` is the end of the stream.
+fn feed_made(rt: &impl Abort, source: &mut MakerSource<'_>, framer: &mut Framer) -> bool {
+    let mut into = [0; LEAST_READ];
+    let count = source.read(&mut into).expect(rt, "messages");
+    if count == 0 {
+        return false;
+    }
+    assert!(rt; count <= into.len() && framer.offset() < 1 << 40 && framer.rest() < 1 << 40);
+    expect_count(rt, framer.feed(&into[..count]) as u64, count as u64);
+    true
+}
+
 /// The lines of a made stream, which a core over this book puts into the log.
 fn apply_made<B: Book>(
     rt: &(impl Abort + AllocGlobal),
     product: &Product,
     core: &mut Core<B>,
     log: &mut ByteEmit<'_>,
-) -> Result<(), Fail>
+)
     requires fits { FitsProduct product.now core.old }
 {
     let mut source = MakerSource::new(product, 3, MESSAGES);
-    let mut framer = Framer::new(rt.alloc())?;
-    let mut into = [0; LEAST_READ];
+    let mut framer = Framer::new(rt.alloc()).expect(rt, "memory");
     for _read in 0..MESSAGES {
-        let count = source.read(&mut into)?;
-        if count == 0 {
+        if !feed_made(rt, &mut source, &mut framer) {
             break;
         }
-        assert!(rt; count <= into.len() && framer.offset() < 1 << 40);
-        assert_eq!(rt; framer.feed(&into[..count]), count);
         apply_held(product, core, &mut framer, LEAST_READ, log);
     }
-    assert_eq!(rt; core.messages(), u64::from(MESSAGES));
+    expect_count(rt, core.messages(), u64::from(MESSAGES));
     assert!(rt; !log.failed());
-    Ok(())
+}
+
+/// Puts the lines of a core over a book in two lists into the log.
+fn apply_over_lists(rt: &(impl Abort + AllocGlobal), product: &Product, log: &mut ByteEmit<'_>) {
+    let instruments = product.names().instrument_count() as u8;
+    let book = PlainBook::new(rt.alloc(), product.max_orders(), instruments).expect(rt, "memory");
+    let mut core = Core::new(book, product);
+    apply_made(rt, product, &mut core, log);
+}
+
+/// Puts the lines of a core over a book of a run into the log.
+fn apply_over_queues(rt: &(impl Abort + AllocGlobal), product: &Product, log: &mut ByteEmit<'_>) {
+    let instruments = product.names().instrument_count() as u8;
+    let book = LinkedBook::new(rt.alloc(), product.max_orders(), instruments).expect(rt, "memory");
+    let mut core = Core::new(book, product);
+    apply_made(rt, product, &mut core, log);
 }
 
 #[test]
-fn both_books_give_the_same_lines(rt: HostRuntime) -> Result<(), Fail> {
+fn both_books_give_the_same_lines(rt: HostRuntime) {
     let alloc = rt.alloc();
-    let product = read_product(alloc, PRODUCT.as_bytes())?;
-    let instruments = product.names().instrument_count() as u8;
-    let book = PlainBook::new(alloc, product.max_orders(), instruments)?;
-    let mut core = Core::new(book, &product);
-    let mut log = ByteEmit::new(alloc, product.names(), ROOM)?;
-    apply_made(&rt, &product, &mut core, &mut log)?;
-    let book = LinkedBook::new(alloc, product.max_orders(), instruments)?;
-    let mut core = Core::new(book, &product);
-    let mut other = ByteEmit::new(alloc, product.names(), ROOM)?;
-    apply_made(&rt, &product, &mut core, &mut other)?;
+    let product = read_product(alloc, PRODUCT.as_bytes()).expect(&rt, "a product");
+    let mut log = ByteEmit::new(alloc, product.names(), ROOM).expect(&rt, "memory");
+    apply_over_lists(&rt, &product, &mut log);
+    let mut other = ByteEmit::new(alloc, product.names(), ROOM).expect(&rt, "memory");
+    apply_over_queues(&rt, &product, &mut other);
     assert_eq!(rt; log.bytes(), other.bytes());
-    Ok(())
 }
 
 /// At the end the book is full.

@@ -78,10 +78,13 @@ const VALUES: [&str; 48] = [
 
 /// Where the line begins in which a place is.
 fn line_start(text: &[u8], at: usize) -> usize {
-    match front(text, at).iter().rposition(|c| *c == b'\n') {
-        Some(place) => place.wrapping_add(1),
-        None => 0,
+    let mut start: usize = 0;
+    for (place, byte) in front(text, at).iter().enumerate() {
+        if *byte == b'\n' {
+            start = place.wrapping_add(1);
+        }
     }
+    start
 }
 
 /// How many bytes come before the next one of a kind.

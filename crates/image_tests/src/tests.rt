@@ -1,9 +1,11 @@
 //! Images alone, and journals that have them.
 mod checkpoints;
 mod endings;
+mod expects;
 mod images;
 mod prefixes;
 
+use expects::{expect_bytes, expect_outcome, expect_success};
 use globex_run::Outcome;
 use gx_station::{MemSource, MemStation};
 use run_fixtures::{ROOM, ended, frames_of, product_text, run_over, station_over};
@@ -24,9 +26,33 @@ const THIRD_REPORTS: [&str; 3] = [
 ];
 
 /// A source of these bytes, whose reads do not fail.
-fn source_of(rt: &(impl Abort + AllocGlobal), bytes: Vec<u8>) -> MemSource {
+fn source_of(rt: &(impl Abort + AllocGlobal), bytes: &[u8]) -> MemSource {
     let alloc = rt.alloc();
+    let bytes = bytes.to_vec(alloc).expect(rt, "memory");
     MemSource::new(alloc, bytes, Vec::new(alloc), Vec::new(alloc)).expect(rt, "memory")
+}
+
+/// A source of the frames of these bodies.
+fn source_of_frames(rt: &(impl Abort + AllocGlobal), bodies: &[&str]) -> MemSource {
+    let frames = frames_of(rt.alloc(), bodies).expect(rt, "memory");
+    source_of(rt, frames.as_slice())
+}
+
+/// A station over this image, whose calls do not fail.
+fn station_of(rt: &(impl Abort + AllocGlobal), image: &[u8]) -> MemStation {
+    assert!(rt; image.len() <= ROOM);
+    station_over(rt.alloc(), image, Vec::new(rt.alloc())).expect(rt, "memory")
+}
+
+/// Executes the command of these words over these sources and this station.
+fn execute_from(
+    rt: &(impl Abort + AllocGlobal),
+    line: &str,
+    mut product: MemSource,
+    mut input: MemSource,
+    station: &mut MemStation,
+) -> Outcome {
+    run_over(rt.alloc(), line, &mut product, &mut input, station).expect(rt, "memory")
 }
 
 /// Executes the command of these words over the product of this text and the frames of these bodies.
@@ -37,12 +63,22 @@ fn execute(
     bodies: &[&str],
     station: &mut MemStation,
 ) -> Outcome {
-    let alloc = rt.alloc();
-    let text = text.as_bytes().to_vec(alloc).expect(rt, "memory");
-    let mut product = source_of(rt, text);
-    let frames = frames_of(alloc, bodies).expect(rt, "memory");
-    let mut input = source_of(rt, frames);
-    run_over(alloc, line, &mut product, &mut input, station).expect(rt, "memory")
+    let product = source_of(rt, text.as_bytes());
+    let input = source_of_frames(rt, bodies);
+    execute_from(rt, line, product, input, station)
+}
+
+/// Executes the command over the product of this text; it does all it should, and counts so many messages.
+fn execute_well(
+    rt: &(impl Abort + AllocGlobal),
+    text: &str,
+    line: &str,
+    bodies: &[&str],
+    station: &mut MemStation,
+    messages: u64,
+) {
+    let got = execute(rt, text, line, bodies, station);
+    expect_outcome(rt, line, got, ended(0, 0, messages));
 }
 
 /// Executes the command over the small product and this image.
@@ -52,11 +88,30 @@ fn execute_over(
     bodies: &[&str],
     image: &[u8],
 ) -> (Outcome, MemStation) {
-    let alloc = rt.alloc();
-    assert!(rt; image.len() <= ROOM);
-    let mut station = station_over(alloc, image, Vec::new(alloc)).expect(rt, "memory");
+    let mut station = station_of(rt, image);
     let outcome = execute(rt, SMALL_PRODUCT, line, bodies, &mut station);
     (outcome, station)
+}
+
+/// A command over the small product and this image ends so, and sends these bytes.
+fn expect_sent(
+    rt: &(impl Abort + AllocGlobal),
+    line: &str,
+    bodies: &[&str],
+    image: &[u8],
+    outcome: Outcome,
+    sent: &[u8],
+) {
+    let (got, station) = execute_over(rt, line, bodies, image);
+    expect_outcome(rt, line, got, outcome);
+    expect_bytes(rt, line, station.output(), sent);
+}
+
+/// A run of `THIRD_ORDER` over this image sends its reports.
+fn expect_third_reports(rt: &(impl Abort + AllocGlobal), image: &[u8]) {
+    let reports = frames_of(rt.alloc(), &THIRD_REPORTS).expect(rt, "memory");
+    let sent = reports.as_slice();
+    expect_sent(rt, "run", &[THIRD_ORDER], image, ended(0, 0, 1), sent);
 }
 
 /// The image after a command over this one that does all it should.
@@ -67,22 +122,40 @@ fn image_behind(
     image: &[u8],
 ) -> Vec<u8> {
     let (got, station) = execute_over(rt, line, bodies, image);
-    assert_eq!(rt; got.status, 0, "{line}");
+    expect_success(rt, line, got);
     station.image().to_vec(rt.alloc()).expect(rt, "memory")
 }
 
-/// The first bytes of some.
-fn front_of(rt: &(impl Abort + AllocGlobal), bytes: &[u8], count: usize) -> Vec<u8> {
-    assert!(rt; count <= bytes.len());
-    bytes[..count].to_vec(rt.alloc()).expect(rt, "memory")
+/// What a command over this image sends that does all it should.
+fn output_behind(
+    rt: &(impl Abort + AllocGlobal),
+    line: &str,
+    bodies: &[&str],
+    image: &[u8],
+) -> Vec<u8> {
+    let (got, station) = execute_over(rt, line, bodies, image);
+    expect_success(rt, line, got);
+    station.output().to_vec(rt.alloc()).expect(rt, "memory")
 }
 
-/// The parts, one behind the other, and a closed gate.
-fn closed(rt: &(impl Abort + AllocGlobal), parts: &[&[u8]]) -> Vec<u8> {
+/// The first bytes of some.
+fn front_of<'a>(rt: &impl Abort, bytes: &'a [u8], count: usize) -> &'a [u8] {
+    assert!(rt; count <= bytes.len());
+    &bytes[..count]
+}
+
+/// The parts, one behind the other.
+fn joined(rt: &(impl Abort + AllocGlobal), parts: &[&[u8]]) -> Vec<u8> {
     let mut bytes = Vec::new(rt.alloc());
     for part in parts {
         bytes.extend_from_slice(part).expect(rt, "memory");
     }
+    bytes
+}
+
+/// The parts, one behind the other, and a closed gate.
+fn closed(rt: &(impl Abort + AllocGlobal), parts: &[&[u8]]) -> Vec<u8> {
+    let mut bytes = joined(rt, parts);
     bytes.push(0).expect(rt, "memory");
     bytes
 }

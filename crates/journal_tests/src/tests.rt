@@ -1,15 +1,17 @@
 //! Runs over the stored example and journals of it. Each file has tables of cases, and few tests that go through them.
+mod expects;
 mod faults;
 mod journals;
 mod printed;
 mod records;
 mod refused;
 
+use expects::expect_outcome;
 use globex_run::Outcome;
 use gx_station::{MemSource, MemStation};
 use run_fixtures::{
-    ACCEPTED, FILLED, ORDER, PRODUCT, ROOM, SECOND_ACCEPTED, SECOND_FILLED, SECOND_ORDER, join,
-    run_over, station_over,
+    ACCEPTED, FILLED, ORDER, PRODUCT, ROOM, SECOND_ACCEPTED, SECOND_FILLED, SECOND_ORDER, ended,
+    join, run_over, station_over,
 };
 use std::process::Abort;
 
@@ -40,10 +42,8 @@ fn image_of(rt: &(impl Abort + AllocGlobal), parts: &[&[u8]]) -> Vec<u8> {
 /// A journal of the product with these records, each with its head, and a closed gate.
 fn journal_of(rt: &(impl Abort + AllocGlobal), records: &[&[u8]]) -> Vec<u8> {
     let records = image_of(rt, records);
-    image_of(
-        rt,
-        &[HEADER, PRODUCT.as_bytes(), records.as_slice(), b"\x00"],
-    )
+    let parts: [&[u8]; 4] = [HEADER, PRODUCT.as_bytes(), records.as_slice(), b"\x00"];
+    image_of(rt, &parts)
 }
 
 /// The bytes of these texts, one behind the other.
@@ -131,4 +131,36 @@ fn run_from(
     let mut station = station_of(rt, image);
     let outcome = execute_from(rt, "run", product, input, &mut station);
     (outcome, station)
+}
+
+/// Executes the command over a station; it does all it should, and counts so many messages.
+fn execute_well(
+    rt: &(impl Abort + AllocGlobal),
+    line: &str,
+    frames: &[&str],
+    station: &mut MemStation,
+    messages: u64,
+) {
+    let got = execute(rt, line, frames, station);
+    expect_outcome(rt, line, got, ended(0, 0, messages));
+}
+
+/// The station after a run over an empty image and both orders, of which the first read gives so many bytes.
+fn run_of_orders(rt: &(impl Abort + AllocGlobal), first: usize) -> MemStation {
+    let orders = joined(rt, &ORDERS);
+    let (got, station) = run_from(rt, b"", orders.as_slice(), first);
+    expect_outcome(rt, "both orders", got, ended(0, 0, 2));
+    station
+}
+
+/// A station over an empty image, with so much room for the image and for what is sent, and for so many calls.
+fn roomy_station(
+    rt: &(impl Abort + AllocGlobal),
+    room: usize,
+    sent: usize,
+    calls: usize,
+) -> MemStation {
+    let alloc = rt.alloc();
+    let none = Vec::new(alloc);
+    MemStation::new(alloc, none, room, sent, calls, Vec::new(alloc)).expect(rt, "memory")
 }

@@ -13,25 +13,54 @@ const QUEUES: u32 = 7;
 /// A queue as a plain list.
 type Line = Vec<(Slot, Order)>;
 
+/// Looks for this slot, or for none.
+fn expect_slot(rt: &impl Abort, got: Option<Slot>, want: Option<Slot>) {
+    assert_eq!(rt; got, want);
+}
+
+/// Looks for this order.
+fn expect_order(rt: &impl Abort, got: &Order, want: &Order) {
+    assert_eq!(rt; *got, *want);
+}
+
+/// Looks for this number.
+fn expect_number(rt: &impl Abort, got: usize, want: usize) {
+    assert_eq!(rt; got, want);
+}
+
+/// An order with this number comes, for which there has to be room.
+fn push_back(rt: &impl Abort, pool: &mut Pool, queue: u32, number: u64) -> Slot {
+    assert!(rt; queue < pool.queues() && pool.live() < pool.capacity());
+    pool.push_back(queue, &order(number))
+}
+
+/// An order leaves, which has to be live and to have this number.
+fn unlink(rt: &impl Abort, pool: &mut Pool, slot: Slot, number: u64) {
+    assert!(rt; pool.is_live(slot));
+    expect_order(rt, pool.order(slot), &order(number));
+    pool.unlink(slot);
+}
+
+/// An order goes to the back of its queue, and has to be live.
+fn to_back(rt: &impl Abort, pool: &mut Pool, slot: Slot) {
+    assert!(rt; pool.is_live(slot));
+    pool.to_back(slot);
+}
+
 #[test]
 fn queues_after_a_few_calls(rt: HostRuntime) {
     let mut pool = Pool::new(rt.alloc(), 3, 2).expect(&rt, "memory");
-    let a = pool.push_back(0, &order(1));
-    let b = pool.push_back(0, &order(2));
-    let c = pool.push_back(0, &order(3));
-    assert!(rt; pool.is_live(b));
-    assert_eq!(rt; *pool.order(b), order(2));
-    pool.unlink(b);
-    let d = pool.push_back(1, &order(4));
-    assert!(rt; pool.is_live(c));
-    assert_eq!(rt; *pool.order(c), order(3));
-    pool.unlink(c);
-    let e = pool.push_back(0, &order(5));
-    assert!(rt; pool.is_live(a));
-    pool.to_back(a);
+    let a = push_back(&rt, &mut pool, 0, 1);
+    let b = push_back(&rt, &mut pool, 0, 2);
+    let c = push_back(&rt, &mut pool, 0, 3);
+    unlink(&rt, &mut pool, b, 2);
+    let d = push_back(&rt, &mut pool, 1, 4);
+    unlink(&rt, &mut pool, c, 3);
+    let e = push_back(&rt, &mut pool, 0, 5);
+    to_back(&rt, &mut pool, a);
     expect_queue(&rt, &pool, 0, &[(e, order(5)), (a, order(1))]);
     expect_queue(&rt, &pool, 1, &[(d, order(4))]);
-    assert_eq!(rt; pool.live(), 3);
+    expect_number(&rt, pool.live() as usize, 3);
 }
 
 #[test]
@@ -55,14 +84,14 @@ fn expect_queue(rt: &impl Abort, pool: &Pool, queue: u32, line: &[(Slot, Order)]
     assert!(rt; queue < pool.queues());
     let mut next = pool.first(queue);
     for &(slot, order) in line {
-        assert_eq!(rt; next, Some(slot));
+        expect_slot(rt, next, Some(slot));
         assert!(rt; pool.is_live(slot));
-        assert_eq!(rt; *pool.order(slot), order);
-        assert_eq!(rt; pool.queue_of(slot), queue);
+        expect_order(rt, pool.order(slot), &order);
+        expect_number(rt, pool.queue_of(slot) as usize, queue as usize);
         next = pool.next(slot);
     }
-    assert_eq!(rt; next, None);
-    assert_eq!(rt; pool.len(queue) as usize, line.len());
+    expect_slot(rt, next, None);
+    expect_number(rt, pool.len(queue) as usize, line.len());
 }
 
 /// A pool and the queues that it should have.
@@ -89,7 +118,7 @@ impl Pair {
         assert!(rt; self.pool.is_live(slot));
         match draws.random_range(0..3) {
             0 => {
-                assert_eq!(rt; *self.pool.order(slot), was);
+                expect_order(rt, self.pool.order(slot), &was);
                 self.pool.unlink(slot);
                 assert!(rt; !self.pool.is_live(slot));
                 line.remove(place);
@@ -112,7 +141,7 @@ impl Pair {
         for line in &self.lines {
             live = usize::saturating_add(live, line.len());
         }
-        assert_eq!(rt; self.pool.live() as usize, live);
+        expect_number(rt, self.pool.live() as usize, live);
         let line = self.lines.get(queue as usize).expect(rt, "a line");
         expect_queue(rt, &self.pool, queue, line);
     }

@@ -7,22 +7,41 @@ use rand::{RngExt, SeedableRng};
 use std::collections::BTreeMap;
 use std::process::Abort;
 
+/// An id comes, for which there has to be room, and which is not there yet.
+fn insert(rt: &impl Abort, table: &mut IdTable, firm: u8, id: ShortId, slot: u32) {
+    assert!(rt; table.len() < table.capacity() && table.find(firm, &id).is_none());
+    table.insert(firm, id, Slot(slot));
+}
+
+/// An id that is there gets a name that is not.
+fn rename(rt: &impl Abort, table: &mut IdTable, firm: u8, old: &ShortId, new: ShortId) {
+    assert!(rt; table.find(firm, old).is_some() && table.find(firm, &new).is_none());
+    table.rename(firm, old, new);
+}
+
+/// An id leaves that is there.
+fn remove(rt: &impl Abort, table: &mut IdTable, firm: u8, id: &ShortId) {
+    assert!(rt; table.find(firm, id).is_some());
+    table.remove(firm, id);
+}
+
+/// Looks for this slot of an id, or for none.
+fn expect_slot(rt: &impl Abort, table: &IdTable, firm: u8, id: &ShortId, slot: Option<Slot>) {
+    assert_eq!(rt; table.find(firm, id), slot);
+}
+
 #[test]
 fn ids_after_a_few_calls(rt: HostRuntime) {
     let x = ShortId::new(b"x").expect(&rt, "an id");
     let y = ShortId::new(b"y").expect(&rt, "an id");
     let mut table = IdTable::new(rt.alloc(), 2).expect(&rt, "memory");
-    assert!(rt; table.len() < table.capacity() && table.find(0, &x).is_none());
-    table.insert(0, x, Slot(7));
-    assert!(rt; table.len() < table.capacity() && table.find(1, &x).is_none());
-    table.insert(1, x, Slot(3));
-    assert!(rt; table.find(0, &x).is_some() && table.find(0, &y).is_none());
-    table.rename(0, &x, y);
-    assert!(rt; table.find(1, &x).is_some());
-    table.remove(1, &x);
-    assert_eq!(rt; table.find(0, &x), None);
-    assert_eq!(rt; table.find(1, &x), None);
-    assert_eq!(rt; table.find(0, &y), Some(Slot(7)));
+    insert(&rt, &mut table, 0, x, 7);
+    insert(&rt, &mut table, 1, x, 3);
+    rename(&rt, &mut table, 0, &x, y);
+    remove(&rt, &mut table, 1, &x);
+    expect_slot(&rt, &table, 0, &x, None);
+    expect_slot(&rt, &table, 1, &x, None);
+    expect_slot(&rt, &table, 0, &y, Some(Slot(7)));
     assert_eq!(rt; table.len(), 1);
 }
 
@@ -35,21 +54,17 @@ fn id_of(rt: &(impl Abort + AllocGlobal), number: u32) -> ShortId {
 /// Three ids come, the first one leaves, and the second one takes its name.
 fn first_of_three_leaves(rt: &(impl Abort + AllocGlobal), x: ShortId, y: ShortId, z: ShortId) {
     let mut table = IdTable::new(rt.alloc(), 3).expect(rt, "memory");
-    assert!(rt; table.len() < table.capacity() && table.find(0, &x).is_none());
-    table.insert(0, x, Slot(1));
-    assert!(rt; table.len() < table.capacity() && table.find(0, &y).is_none());
-    table.insert(0, y, Slot(2));
-    assert!(rt; table.len() < table.capacity() && table.find(0, &z).is_none());
-    table.insert(0, z, Slot(3));
-    assert_eq!(rt; table.find(0, &x), Some(Slot(1)));
-    table.remove(0, &x);
-    assert_eq!(rt; table.find(0, &y), Some(Slot(2)));
-    assert_eq!(rt; table.find(0, &z), Some(Slot(3)));
-    assert!(rt; table.find(0, &y).is_some() && table.find(0, &x).is_none());
-    table.rename(0, &y, x);
-    assert_eq!(rt; table.find(0, &x), Some(Slot(2)));
-    assert_eq!(rt; table.find(0, &y), None);
-    assert_eq!(rt; table.find(0, &z), Some(Slot(3)));
+    insert(rt, &mut table, 0, x, 1);
+    insert(rt, &mut table, 0, y, 2);
+    insert(rt, &mut table, 0, z, 3);
+    expect_slot(rt, &table, 0, &x, Some(Slot(1)));
+    remove(rt, &mut table, 0, &x);
+    expect_slot(rt, &table, 0, &y, Some(Slot(2)));
+    expect_slot(rt, &table, 0, &z, Some(Slot(3)));
+    rename(rt, &mut table, 0, &y, x);
+    expect_slot(rt, &table, 0, &x, Some(Slot(2)));
+    expect_slot(rt, &table, 0, &y, None);
+    expect_slot(rt, &table, 0, &z, Some(Slot(3)));
 }
 
 /// Each three of sixteen ids, in each order. A table for three has few buckets, so some of them meet in one, where the first

@@ -1,5 +1,6 @@
 //! One stream of orders under each letter, through a log of lines. `examples/` has the same orders and reports as files.
 
+use super::expects::expect_bytes;
 use exec_report::ByteEmit;
 use fix_frame::Framer;
 use gx_base::Emit;
@@ -27,27 +28,44 @@ const ACCEPTED: [&str; 5] = [
     "35=8|34=1|49=GX|52=20240102-09:30:04|56=DDD|37=5|11=d1|17=5|20=0|150=0|39=0|55=ESZ4|54=1|38=41|40=2|44=100.00|59=0|151=41|14=0|6=0|60=20240102-09:30:04|9003=0|",
 ];
 
-/// Applies the orders under this product, and looks for these fills behind the five acceptances.
-fn expect_fills(rt: &(impl Abort + AllocGlobal), name: &str, product: &str, fills: &[&str]) {
-    let alloc = rt.alloc();
-    let product = read_product(alloc, product.as_bytes()).expect(rt, "a product");
-    let instruments = product.names().instrument_count() as u8;
-    let book = PlainBook::new(alloc, product.max_orders(), instruments).expect(rt, "memory");
-    let mut core = Core::new(book, &product);
-    let mut framer = Framer::new(alloc).expect(rt, "memory");
-    let mut log = ByteEmit::new(alloc, product.names(), 8192).expect(rt, "memory");
-    let bytes = frames_of(alloc, &ORDERS).expect(rt, "memory");
+/// A framer that holds the orders.
+fn framer_of_orders(rt: &(impl Abort + AllocGlobal)) -> Framer {
+    let mut framer = Framer::new(rt.alloc()).expect(rt, "memory");
+    let bytes = frames_of(rt.alloc(), &ORDERS).expect(rt, "memory");
     assert!(rt; bytes.len() <= 4096);
     assert_eq!(rt; framer.feed(bytes.as_slice()), bytes.len());
-    let applied = apply_held(&product, &mut core, &mut framer, ORDERS.len(), &mut log);
-    assert_eq!(rt; applied, ORDERS.len());
-    assert!(rt; !log.failed(), "{name}");
-    let mut expected = frames_of(alloc, &ACCEPTED).expect(rt, "memory");
-    let fills = frames_of(alloc, fills).expect(rt, "memory");
-    expected
+    framer
+}
+
+/// The lines of the five acceptances, and these fills behind them.
+fn expected_lines(rt: &(impl Abort + AllocGlobal), fills: &[&str]) -> Vec<u8> {
+    let mut lines = frames_of(rt.alloc(), &ACCEPTED).expect(rt, "memory");
+    let fills = frames_of(rt.alloc(), fills).expect(rt, "memory");
+    lines
         .extend_from_slice(fills.as_slice())
         .expect(rt, "memory");
-    assert_eq!(rt; log.bytes(), expected.as_slice(), "{name}");
+    lines
+}
+
+/// Applies the orders to a new core, and looks for these lines.
+fn expect_lines(rt: &(impl Abort + AllocGlobal), name: &str, product: &Product, lines: &[u8]) {
+    let alloc = rt.alloc();
+    let instruments = product.names().instrument_count() as u8;
+    let book = PlainBook::new(alloc, product.max_orders(), instruments).expect(rt, "memory");
+    let mut core = Core::new(book, product);
+    let mut framer = framer_of_orders(rt);
+    let mut log = ByteEmit::new(alloc, product.names(), 8192).expect(rt, "memory");
+    let applied = apply_held(product, &mut core, &mut framer, ORDERS.len(), &mut log);
+    assert_eq!(rt; applied, ORDERS.len());
+    assert!(rt; !log.failed(), "{name}");
+    expect_bytes(rt, name, log.bytes(), lines);
+}
+
+/// Applies the orders under this product, and looks for these fills behind the five acceptances.
+fn expect_fills(rt: &(impl Abort + AllocGlobal), name: &str, product: &str, fills: &[&str]) {
+    let product = read_product(rt.alloc(), product.as_bytes()).expect(rt, "a product");
+    let lines = expected_lines(rt, fills);
+    expect_lines(rt, name, &product, lines.as_slice());
 }
 
 /// The oldest order first.
@@ -187,26 +205,21 @@ const NO_MAKER: &str = product_text!(letter: "T");
 const THRESHOLD_WITHOUT_MAKER: &str =
     product_text!(letter: "Q", "top_min = 5", "top_max = 8", "least = 2");
 
-/// A name, a product, and the fills of the orders under it.
-const LETTERS: [(&str, &str, &[&str]); 9] = [
-    ("fifo", PRODUCT, &FIFO_FILLS),
-    ("lmm fifo", LMM_FIFO, &LMM_FIFO_FILLS),
-    ("pro rata", PRO_RATA, &PRO_RATA_FILLS),
-    ("allocation", ALLOCATION, &ALLOCATION_FILLS),
-    ("threshold", THRESHOLD, &THRESHOLD_FILLS),
-    ("threshold lmm", THRESHOLD_LMM, &THRESHOLD_LMM_FILLS),
-    ("configurable", CONFIGURABLE, &CONFIGURABLE_FILLS),
-    ("lmm fifo without a maker", NO_MAKER, &FIFO_FILLS),
-    (
+/// Each letter, with the fills of the orders under it.
+#[test]
+fn fills_of_each_letter(rt: HostRuntime) {
+    expect_fills(&rt, "fifo", PRODUCT, &FIFO_FILLS);
+    expect_fills(&rt, "lmm fifo", LMM_FIFO, &LMM_FIFO_FILLS);
+    expect_fills(&rt, "pro rata", PRO_RATA, &PRO_RATA_FILLS);
+    expect_fills(&rt, "allocation", ALLOCATION, &ALLOCATION_FILLS);
+    expect_fills(&rt, "threshold", THRESHOLD, &THRESHOLD_FILLS);
+    expect_fills(&rt, "threshold lmm", THRESHOLD_LMM, &THRESHOLD_LMM_FILLS);
+    expect_fills(&rt, "configurable", CONFIGURABLE, &CONFIGURABLE_FILLS);
+    expect_fills(&rt, "lmm fifo without a maker", NO_MAKER, &FIFO_FILLS);
+    expect_fills(
+        &rt,
         "threshold lmm without a maker",
         THRESHOLD_WITHOUT_MAKER,
         &THRESHOLD_FILLS,
-    ),
-];
-
-#[test]
-fn fills_of_each_letter(rt: HostRuntime) {
-    for (name, product, fills) in LETTERS {
-        expect_fills(&rt, name, product, fills);
-    }
+    );
 }

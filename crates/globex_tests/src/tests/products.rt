@@ -1,4 +1,5 @@
 //! Products that are refused, before the input is read: by which rule, and with which text.
+use super::expects::{expect_bytes, expect_outcome};
 use gx_station::MemSource;
 use product_file::read_product;
 use run_fixtures::{PRODUCT, ended, run_over, station_over};
@@ -9,108 +10,6 @@ const FIRMS: &str = r#"firms = ["AAA", "BBB"]"#;
 const TICK: &str = "tick = 1";
 
 const F: &str = r#"algorithm = "F""#;
-
-/// Lines of a product file: that of the firms, that of the tick, and those from the algorithm on. Then the number of the
-/// first rule that it breaks, and what the fault says.
-type Refused = (&'static str, &'static str, &'static str, u8, &'static str);
-
-const REFUSED: [Refused; 17] = [
-    (
-        r#"firms = ["AAA"#,
-        TICK,
-        F,
-        2,
-        "the product file is no TOML document",
-    ),
-    ("", TICK, F, 3, "`firms` is missing"),
-    (FIRMS, "", F, 3, "`tick` is missing"),
-    (
-        FIRMS,
-        TICK,
-        "algorithm = \"T\"\nlmm = [{ percent = 1 }]",
-        3,
-        "`firm` is missing",
-    ),
-    ("firms = [1]", TICK, F, 4, "`firms` is of another type"),
-    ("firms = []", TICK, F, 5, "`firms` is out of range"),
-    (
-        r#"firms = ["AAA", "AAA"]"#,
-        TICK,
-        F,
-        6,
-        "the name `AAA` stands twice",
-    ),
-    (
-        r#"firms = ["AAA", "BBB", "BBB", "AAA"]"#,
-        TICK,
-        F,
-        6,
-        "the name `BBB` stands twice",
-    ),
-    (
-        FIRMS,
-        TICK,
-        "algorithm = \"T\"\nlmm = [{ firm = \"ZZZ\", percent = 1 }]",
-        7,
-        "`firm` is none of the firms",
-    ),
-    (
-        FIRMS,
-        TICK,
-        r#"algorithm = "S""#,
-        8,
-        "there is no algorithm or step of this name",
-    ),
-    (
-        FIRMS,
-        TICK,
-        "algorithm = \"K\"\nsteps = [\"FIFO\", \"LMN\"]",
-        8,
-        "there is no algorithm or step of this name",
-    ),
-    (
-        FIRMS,
-        TICK,
-        "algorithm = \"K\"\nsteps = [\"FIFO\", \"FIFO\"]",
-        9,
-        "the steps are faulty: two steps are named Fifo",
-    ),
-    (
-        FIRMS,
-        TICK,
-        "algorithm = \"K\"\nsteps = [\"FIFO\", \"PRORATA\"]",
-        9,
-        "the steps are faulty: the last step is not FIFO",
-    ),
-    (
-        FIRMS,
-        TICK,
-        "algorithm = \"T\"\nlmm = [{ firm = \"AAA\", percent = 60 }, { firm = \"BBB\", percent = 41 }]",
-        9,
-        "the steps are faulty: 101 is no percentage from 1 to 100",
-    ),
-    (
-        FIRMS,
-        TICK,
-        "algorithm = \"T\"\nlmm = [{ firm = \"AAA\", percent = 60 }, { firm = \"AAA\", percent = 4 }]",
-        6,
-        "the name `AAA` stands twice",
-    ),
-    (
-        FIRMS,
-        TICK,
-        "algorithm = \"C\"\nleast = 0",
-        5,
-        "`least` is out of range",
-    ),
-    (
-        FIRMS,
-        TICK,
-        "algorithm = \"O\"\ntop_min = 9\ntop_max = 8",
-        9,
-        "the steps are faulty: the limits of 9 and 8 lots are not in order from 1 to 999999",
-    ),
-];
 
 /// A product file of these lines.
 fn file(rt: &(impl Abort + AllocGlobal), firms: &str, tick: &str, algorithm: &str) -> String {
@@ -133,53 +32,189 @@ fn expect_refused(rt: &(impl Abort + AllocGlobal), text: &[u8], number: u8, says
     let mut input = source(rt, b"");
     let mut station = station_over(alloc, b"", Vec::new(alloc)).expect(rt, "memory");
     let got = run_over(alloc, "run", &mut product, &mut input, &mut station).expect(rt, "memory");
-    assert_eq!(rt; got, ended(3, u64::from(number), 0), "{says}");
+    expect_outcome(rt, says, got, ended(3, u64::from(number), 0));
     assert_eq!(rt; station.calls(), 0, "{says}");
     let fault = read_product(alloc, text).err().expect(rt, "a fault");
     let shown = format!(in alloc; "{fault}").expect(rt, "memory");
-    assert_eq!(rt; shown.as_str(), says);
+    expect_bytes(rt, says, shown.as_bytes(), says.as_bytes());
+}
+
+/// The same of a product file of these lines.
+fn expect_lines_refused(
+    rt: &(impl Abort + AllocGlobal),
+    firms: &str,
+    tick: &str,
+    algorithm: &str,
+    number: u8,
+    says: &str,
+) {
+    let text = file(rt, firms, tick, algorithm);
+    expect_refused(rt, text.as_bytes(), number, says);
+}
+
+/// Rules 2 to 6: no document, keys that are missing, of another type or out of range, and names that stand twice.
+#[test]
+fn products_with_wrong_values(rt: HostRuntime) {
+    expect_refused(&rt, b"", 3, "`exchange` is missing");
+    expect_refused(&rt, b"=", 2, "the product file is no TOML document");
+    expect_lines_refused(
+        &rt,
+        r#"firms = ["AAA"#,
+        TICK,
+        F,
+        2,
+        "the product file is no TOML document",
+    );
+    expect_lines_refused(&rt, "", TICK, F, 3, "`firms` is missing");
+    expect_lines_refused(&rt, FIRMS, "", F, 3, "`tick` is missing");
+    expect_lines_refused(
+        &rt,
+        FIRMS,
+        TICK,
+        "algorithm = \"T\"\nlmm = [{ percent = 1 }]",
+        3,
+        "`firm` is missing",
+    );
+    expect_lines_refused(&rt, "firms = [1]", TICK, F, 4, "`firms` is of another type");
+    expect_lines_refused(&rt, "firms = []", TICK, F, 5, "`firms` is out of range");
+    expect_lines_refused(
+        &rt,
+        r#"firms = ["AAA", "AAA"]"#,
+        TICK,
+        F,
+        6,
+        "the name `AAA` stands twice",
+    );
+    expect_lines_refused(
+        &rt,
+        r#"firms = ["AAA", "BBB", "BBB", "AAA"]"#,
+        TICK,
+        F,
+        6,
+        "the name `BBB` stands twice",
+    );
+    expect_lines_refused(
+        &rt,
+        FIRMS,
+        TICK,
+        "algorithm = \"T\"\nlmm = [{ firm = \"AAA\", percent = 60 }, { firm = \"AAA\", percent = 4 }]",
+        6,
+        "the name `AAA` stands twice",
+    );
+    expect_lines_refused(
+        &rt,
+        FIRMS,
+        TICK,
+        "algorithm = \"C\"\nleast = 0",
+        5,
+        "`least` is out of range",
+    );
+}
+
+/// Rules 7 to 9: a firm, an algorithm or a step that there is not, and lists of steps that are faulty.
+#[test]
+fn products_with_wrong_steps(rt: HostRuntime) {
+    expect_lines_refused(
+        &rt,
+        FIRMS,
+        TICK,
+        "algorithm = \"T\"\nlmm = [{ firm = \"ZZZ\", percent = 1 }]",
+        7,
+        "`firm` is none of the firms",
+    );
+    expect_lines_refused(
+        &rt,
+        FIRMS,
+        TICK,
+        r#"algorithm = "S""#,
+        8,
+        "there is no algorithm or step of this name",
+    );
+    expect_lines_refused(
+        &rt,
+        FIRMS,
+        TICK,
+        "algorithm = \"K\"\nsteps = [\"FIFO\", \"LMN\"]",
+        8,
+        "there is no algorithm or step of this name",
+    );
+    expect_lines_refused(
+        &rt,
+        FIRMS,
+        TICK,
+        "algorithm = \"K\"\nsteps = [\"FIFO\", \"FIFO\"]",
+        9,
+        "the steps are faulty: two steps are named Fifo",
+    );
+    expect_lines_refused(
+        &rt,
+        FIRMS,
+        TICK,
+        "algorithm = \"K\"\nsteps = [\"FIFO\", \"PRORATA\"]",
+        9,
+        "the steps are faulty: the last step is not FIFO",
+    );
+    expect_lines_refused(
+        &rt,
+        FIRMS,
+        TICK,
+        "algorithm = \"T\"\nlmm = [{ firm = \"AAA\", percent = 60 }, { firm = \"BBB\", percent = 41 }]",
+        9,
+        "the steps are faulty: 101 is no percentage from 1 to 100",
+    );
+    expect_lines_refused(
+        &rt,
+        FIRMS,
+        TICK,
+        "algorithm = \"O\"\ntop_min = 9\ntop_max = 8",
+        9,
+        "the steps are faulty: the limits of 9 and 8 lots are not in order from 1 to 999999",
+    );
+}
+
+/// The same of the usual product file with a text in place of another one.
+fn expect_change_refused(
+    rt: &(impl Abort + AllocGlobal),
+    old: &str,
+    new: &str,
+    number: u8,
+    says: &str,
+) {
+    let text = PRODUCT.replace(rt.alloc(), old, new).expect(rt, "memory");
+    expect_refused(rt, text.as_bytes(), number, says);
 }
 
 #[test]
-fn refused_products(rt: HostRuntime) {
-    expect_refused(&rt, b"", 3, "`exchange` is missing");
-    expect_refused(&rt, b"=", 2, "the product file is no TOML document");
-    for (firms, tick, algorithm, number, says) in REFUSED {
-        let text = file(&rt, firms, tick, algorithm);
-        expect_refused(&rt, text.as_bytes(), number, says);
-    }
-}
-
-/// A text of the usual product file, the one that stands there instead, the number of the rule, and what the fault says.
-const CHANGED: [(&str, &str, u8, &str); 5] = [
-    ("tick = 1", "tick = \"1\"", 4, "`tick` is of another type"),
-    (
+fn products_with_one_change(rt: HostRuntime) {
+    expect_change_refused(
+        &rt,
+        "tick = 1",
+        "tick = \"1\"",
+        4,
+        "`tick` is of another type",
+    );
+    expect_change_refused(
+        &rt,
         "decimals = 2",
         "decimals = 9",
         5,
         "`decimals` is out of range",
-    ),
-    ("\"DDD\"", "\"UNKNOWN\"", 5, "`firms` is out of range"),
-    (
+    );
+    expect_change_refused(&rt, "\"DDD\"", "\"UNKNOWN\"", 5, "`firms` is out of range");
+    expect_change_refused(
+        &rt,
         "algorithm = \"F\"",
         "algorithm = \"T\"\nlmm = [{ firm = \"AAA\", percent = 60 }, { firm = \"BBB\", percent = 60 }]",
         9,
         "the steps are faulty: 120 is no percentage from 1 to 100",
-    ),
-    (
+    );
+    expect_change_refused(
+        &rt,
         "algorithm = \"F\"",
         "algorithm = \"K\"\nsteps = [\"LEVELING\", \"PRORATA\", \"FIFO\"]",
         9,
         "the steps are faulty: LEVELING stands before PRORATA",
-    ),
-];
-
-#[test]
-fn products_with_one_change(rt: HostRuntime) {
-    for (old, new, number, says) in CHANGED {
-        let text = PRODUCT.replace(rt.alloc(), old, new).expect(&rt, "memory");
-        expect_refused(&rt, text.as_bytes(), number, says);
-    }
+    );
 }
 
 /// A product file with a byte that no text has at its front, and one that is a byte too long.

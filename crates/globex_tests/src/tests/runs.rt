@@ -2,6 +2,7 @@
 ghost use Rattle.std.specs.Prelude.{◌≤◌};
 ghost use Rattle.std.specs.List.{AllByRecursion};
 
+use super::expects::{expect_bytes, expect_outcome};
 use globex_run::Outcome;
 use run_fixtures::{
     ACCEPTED, DUPLICATE, FILLED, ORDER, PRODUCT, SECOND_ACCEPTED, SECOND_FILLED, SECOND_ORDER,
@@ -32,8 +33,8 @@ fn expect_run(
     requires { AllByRecursion (λ size. 1 ≤ size) pieces.items }
 {
     let (got, station) = run(rt.alloc(), word, PRODUCT, input, pieces).expect(rt, "memory");
-    assert_eq!(rt; got, outcome, "{name}");
-    assert_eq!(rt; station.output(), sent, "{name}");
+    expect_outcome(rt, name, got, outcome);
+    expect_bytes(rt, name, station.output(), sent);
 }
 
 /// Runs over this input, read at once, byte by byte, and cut at every place into two reads.

@@ -9,39 +9,6 @@ fn answer(rt: &(impl Abort + AllocGlobal), line: &str) -> Result<Command, WordsF
     read_command(rt.alloc(), words.as_slice())
 }
 
-const TAKEN: [(&str, Command); 12] = [
-    ("run", Command::Run),
-    ("replay", Command::Replay),
-    ("book", Command::Book),
-    ("fills", Command::Fills),
-    ("steps", Command::Steps),
-    ("checkpoint", Command::Checkpoint),
-    ("-- ledger", Command::Ledger),
-    (
-        "--count 2 drill --first 7",
-        Command::Drill { first: 7, count: 2 },
-    ),
-    (
-        "drill --first=0003 --count=01",
-        Command::Drill { first: 3, count: 1 },
-    ),
-    (
-        "drill --first +1 --count +1",
-        Command::Drill { first: 1, count: 1 },
-    ),
-    (
-        "drill --first 2147483647 --count 1000000",
-        Command::Drill {
-            first: 2147483647,
-            count: 1000000,
-        },
-    ),
-    (
-        "drill --first 0 --count 0",
-        Command::Drill { first: 0, count: 0 },
-    ),
-];
-
 const REFUSED: [&str; 30] = [
     "",
     "Run",
@@ -75,13 +42,54 @@ const REFUSED: [&str; 30] = [
     "drill --firs 1 --count 1",
 ];
 
+/// Looks for this answer to the words of a text.
+fn expect_answer(rt: &(impl Abort + AllocGlobal), line: &str, want: Result<Command, WordsFault>) {
+    assert!(rt; answer(rt, line) == want, "{line}");
+}
+
 #[test]
-fn words(rt: HostRuntime) {
-    for (line, command) in TAKEN {
-        assert!(rt; answer(&rt, line) == Ok(command), "{line}");
-    }
+fn words_of_commands(rt: HostRuntime) {
+    expect_answer(&rt, "run", Ok(Command::Run));
+    expect_answer(&rt, "replay", Ok(Command::Replay));
+    expect_answer(&rt, "book", Ok(Command::Book));
+    expect_answer(&rt, "fills", Ok(Command::Fills));
+    expect_answer(&rt, "steps", Ok(Command::Steps));
+    expect_answer(&rt, "checkpoint", Ok(Command::Checkpoint));
+    expect_answer(&rt, "-- ledger", Ok(Command::Ledger));
+    expect_answer(
+        &rt,
+        "--count 2 drill --first 7",
+        Ok(Command::Drill { first: 7, count: 2 }),
+    );
+    expect_answer(
+        &rt,
+        "drill --first=0003 --count=01",
+        Ok(Command::Drill { first: 3, count: 1 }),
+    );
+    expect_answer(
+        &rt,
+        "drill --first +1 --count +1",
+        Ok(Command::Drill { first: 1, count: 1 }),
+    );
+    expect_answer(
+        &rt,
+        "drill --first 2147483647 --count 1000000",
+        Ok(Command::Drill {
+            first: 2147483647,
+            count: 1000000,
+        }),
+    );
+    expect_answer(
+        &rt,
+        "drill --first 0 --count 0",
+        Ok(Command::Drill { first: 0, count: 0 }),
+    );
+}
+
+#[test]
+fn words_of_none(rt: HostRuntime) {
     assert!(rt; read_command(rt.alloc(), &[]) == Err(WordsFault::Refused));
     for line in REFUSED {
-        assert!(rt; answer(&rt, line) == Err(WordsFault::Refused), "{line}");
+        expect_answer(&rt, line, Err(WordsFault::Refused));
     }
 }

@@ -1,12 +1,16 @@
 //! Images of small books: their bytes, and the place of each thing that is wrong with one.
-ghost use Rattle.std.specs.Prelude.{◌≡◌};
+ghost use Rattle.std.specs.Prelude.{◌≡◌, ◌≢◌};
+ghost use Rattle.match_journal.specs.declared.entry.EntryKind.TheVariants.{Frames};
 ghost use Rattle.order_kinds.specs.State.{empty_state};
 ghost use Rattle.order_kinds.specs.Cores.{FitsProduct};
 
+use super::expects::{expect_bytes, expect_count};
+use super::{front_of, joined};
 use book_image::{ImageBad, image_len, read_image, write_image};
 use book_side::LinkedBook;
 use fix_frame::Framer;
-use gx_base::NullEmit;
+use gx_base::{NullEmit, Trading};
+use match_journal::EntryKind;
 use order_kinds::Core;
 use plain_book::Book;
 use product_file::{Product, read_product};
@@ -19,11 +23,14 @@ pub(super) const ONE_ORDER: [&str; 2] = [
     "35=D|49=BBB|56=GX|34=1|52=20240102-09:30:01|11=b1|55=ESZ4|54=1|38=4|40=2|44=100.00|59=0|",
 ];
 
-/// How many bytes the image of `ONE_ORDER` has, with one instrument and one order.
-pub(super) const ONE_ORDER_BYTES: usize = 667;
+/// How many bytes the image of `ONE_ORDER` has, with one instrument and one order. The last one says that the market is open.
+pub(super) const ONE_ORDER_BYTES: usize = 668;
+
+/// How many bytes an old image has of them, which does not say it.
+pub(super) const OLD_BYTES: usize = 667;
 
 /// The bytes of that image that are not 0, each with its place.
-const ONE_ORDER_IMAGE: [(usize, u8); 24] = [
+const ONE_ORDER_IMAGE: [(usize, u8); 25] = [
     // two messages, two orders, four reports, one trade; two lines to each of two firms
     (7, 2),
     (15, 2),
@@ -52,6 +59,8 @@ const ONE_ORDER_IMAGE: [(usize, u8); 24] = [
     // no waiting stop
     (663, 0),
     (666, 0),
+    // the market is open
+    (667, 1),
 ];
 
 /// Two instruments, of which the first has a TOP step, behind the number of orders that may be live.
@@ -94,6 +103,14 @@ const WAITING: u64 = 852;
 
 const STOP: u64 = 856;
 
+/// A framer that holds the frames of these bodies.
+fn framer_of(rt: &(impl Abort + AllocGlobal), bodies: &[&str]) -> Framer {
+    let bytes = frames_of(rt.alloc(), bodies).expect(rt, "memory");
+    let mut framer = Framer::new(rt.alloc()).expect(rt, "memory");
+    assert_eq!(rt; framer.feed(bytes.as_slice()), bytes.len());
+    framer
+}
+
 /// Applies the messages of these bodies, with no report.
 fn apply_all<B: Book>(
     rt: &(impl Abort + AllocGlobal),
@@ -104,12 +121,10 @@ fn apply_all<B: Book>(
     requires fits { FitsProduct product.now core.old }
     ensures fits { FitsProduct product.now core.new }
 {
-    let bytes = frames_of(rt.alloc(), bodies).expect(rt, "memory");
-    let mut framer = Framer::new(rt.alloc()).expect(rt, "memory");
-    assert_eq!(rt; framer.feed(bytes.as_slice()), bytes.len());
+    let mut framer = framer_of(rt, bodies);
     let applied = apply_held(product, core, &mut framer, bodies.len(), &mut NullEmit);
-    assert_eq!(rt; applied, bodies.len());
-    assert_eq!(rt; framer.rest(), 0);
+    expect_count(rt, "messages", applied, bodies.len());
+    expect_count(rt, "the rest", framer.rest(), 0);
 }
 
 /// The product of two instruments, with room for so many orders.
@@ -142,14 +157,20 @@ fn image_of<B: Book>(rt: &(impl Abort + AllocGlobal), product: &Product, core: &
     image
 }
 
-/// What is answered to who reads this payload into a new core.
+/// What is answered to who reads this payload of a kind into a new core, and the session that the core is in then.
 fn read(
     rt: &(impl Abort + AllocGlobal),
     product: &Product,
+    kind: EntryKind,
     payload: &[u8],
-) -> Result<(), ImageBad> {
+) -> Result<Trading, ImageBad>
+    requires { kind ≢ Frames }
+{
     let mut core = new_core(rt, product);
-    read_image(payload, product, &mut core)
+    match read_image(kind, payload, product, &mut core) {
+        Ok(()) => Ok(core.trading()),
+        Err(bad) => Err(bad),
+    }
 }
 
 /// The image after these messages.
@@ -159,7 +180,35 @@ fn image_after(rt: &(impl Abort + AllocGlobal), product: &Product, bodies: &[&st
     image_of(rt, product, &core)
 }
 
-/// Each of these images is refused at its place: the image after some messages, with these bytes in place of its own.
+/// Bytes that take the place of others in an image, and what is answered then.
+type Change<'a> = (&'a [(usize, u8)], Result<Trading, ImageBad>);
+
+/// Looks for this answer.
+fn expect_answer(rt: &impl Abort, got: Result<Trading, ImageBad>, want: Result<Trading, ImageBad>) {
+    assert_eq!(rt; got, want);
+}
+
+/// Of a payload of a kind: what is answered with each of these changes.
+fn expect_answers(
+    rt: &(impl Abort + AllocGlobal),
+    product: &Product,
+    kind: EntryKind,
+    payload: &[u8],
+    changes: &[Change<'_>],
+)
+    requires { kind ≢ Frames }
+{
+    for (bytes, want) in changes {
+        let mut other = payload.to_vec(rt.alloc()).expect(rt, "memory");
+        for (at, byte) in *bytes {
+            assert!(rt; *at < other.len());
+            other.as_mut_slice()[*at] = *byte;
+        }
+        expect_answer(rt, read(rt, product, kind, other.as_slice()), *want);
+    }
+}
+
+/// The image after some messages, and the old image, which has one byte less, are refused alike with each of these changes.
 fn expect_faults(
     rt: &(impl Abort + AllocGlobal),
     text: &str,
@@ -168,14 +217,13 @@ fn expect_faults(
 ) {
     let product = product_from(rt, text);
     let image = image_after(rt, &product, bodies);
-    assert_eq!(rt; read(rt, &product, image.as_slice()), Ok(()));
-    for (changes, place) in faults {
-        let mut other = image.as_slice().to_vec(rt.alloc()).expect(rt, "memory");
-        for (at, byte) in *changes {
-            assert!(rt; *at < other.len());
-            other.as_mut_slice()[*at] = *byte;
-        }
-        assert_eq!(rt; read(rt, &product, other.as_slice()), Err(ImageBad(*place)));
+    let image = image.as_slice();
+    assert!(rt; !image.is_empty());
+    let old = &image[..image.len() - 1];
+    for (bytes, place) in faults {
+        let change = [(*bytes, Err(ImageBad(*place)))];
+        expect_answers(rt, &product, EntryKind::Image, image, &change);
+        expect_answers(rt, &product, EntryKind::OldImage, old, &change);
     }
 }
 
@@ -193,7 +241,17 @@ pub(super) fn one_order_image(rt: &impl Abort) -> [u8; ONE_ORDER_BYTES] {
 fn image_of_one_order(rt: HostRuntime) {
     let product = product_from(&rt, PRODUCT);
     let image = image_after(&rt, &product, &ONE_ORDER);
-    assert_eq!(rt; image.as_slice(), one_order_image(&rt).as_slice());
+    expect_bytes(&rt, "one order", image.as_slice(), &one_order_image(&rt));
+}
+
+/// A core that this image was read into.
+fn core_from(rt: &(impl Abort + AllocGlobal), product: &Product, image: &[u8]) -> Core<LinkedBook>
+    ensures fits { FitsProduct product.now result }
+{
+    let mut core = new_core(rt, product);
+    let got = read_image(EntryKind::Image, image, product, &mut core);
+    assert_eq!(rt; got, Ok(()));
+    core
 }
 
 /// The core that an image was read into has that image.
@@ -201,26 +259,113 @@ fn image_of_one_order(rt: HostRuntime) {
 fn image_is_read_back(rt: HostRuntime) {
     let product = product_from(&rt, two_instruments(&rt, 4).as_str());
     let image = image_after(&rt, &product, &FOUR_ORDERS);
-    let mut core = new_core(&rt, &product);
-    assert_eq!(rt; read_image(image.as_slice(), &product, &mut core), Ok(()));
-    assert_eq!(rt; image_of(&rt, &product, &core).as_slice(), image.as_slice());
+    let core = core_from(&rt, &product, image.as_slice());
+    let again = image_of(&rt, &product, &core);
+    expect_bytes(&rt, "four orders", again.as_slice(), image.as_slice());
     assert_eq!(rt; core.messages(), 4);
     assert_eq!(rt; core.book().live(), 4);
 }
 
-/// An image that ends too early, in each of its parts, or goes on.
+/// These bytes are refused at this place, as an image of a kind.
+fn expect_cut(
+    rt: &(impl Abort + AllocGlobal),
+    product: &Product,
+    kind: EntryKind,
+    front: &[u8],
+    place: u64,
+)
+    requires { kind ≢ Frames }
+{
+    let got = read(rt, product, kind, front);
+    expect_answer(rt, got, Err(ImageBad(place)));
+}
+
+/// An image that ends too early, in each of its parts. Its last byte is none of the parts.
 #[test]
-fn lengths_of_images(rt: HostRuntime) {
+fn images_that_end_too_early(rt: HostRuntime) {
     let product = product_from(&rt, PRODUCT);
     let image = image_after(&rt, &product, &ONE_ORDER);
+    let image = image.as_slice();
     for count in [0, 8, 551, 552, 576, 577, 580, 581, 662, 663, 666] {
-        assert!(rt; count < image.len());
-        let short = &image.as_slice()[..count];
-        assert_eq!(rt; read(&rt, &product, short), Err(ImageBad(count as u64)));
+        let old = front_of(&rt, image, count);
+        expect_cut(&rt, &product, EntryKind::OldImage, old, count as u64);
+        let front = front_of(&rt, image, count + 1);
+        expect_cut(&rt, &product, EntryKind::Image, front, count as u64);
     }
-    let mut long = image.as_slice().to_vec(rt.alloc()).expect(&rt, "memory");
-    long.push(0).expect(&rt, "memory");
-    assert_eq!(rt; read(&rt, &product, long.as_slice()), Err(ImageBad(667)));
+    expect_cut(&rt, &product, EntryKind::Image, b"", 0);
+    // An image without its last byte is none, and an old image with one byte more is none either.
+    let front = front_of(&rt, image, OLD_BYTES);
+    expect_cut(&rt, &product, EntryKind::Image, front, 666);
+    expect_cut(&rt, &product, EntryKind::OldImage, image, 667);
+}
+
+/// An image that goes on.
+#[test]
+fn images_that_go_on(rt: HostRuntime) {
+    let product = product_from(&rt, PRODUCT);
+    let image = image_after(&rt, &product, &ONE_ORDER);
+    let long = joined(&rt, &[image.as_slice(), b"\x01"]);
+    expect_cut(&rt, &product, EntryKind::OldImage, long.as_slice(), 667);
+    expect_cut(&rt, &product, EntryKind::Image, long.as_slice(), 667);
+}
+
+/// What the last byte of an image says: 0 is a closed market, in which each order is good till cancelled, and 1 an open one.
+#[test]
+fn sessions_of_one_order(rt: HostRuntime) {
+    let product = product_from(&rt, PRODUCT);
+    let image = image_after(&rt, &product, &ONE_ORDER);
+    let image = image.as_slice();
+    expect_answers(
+        &rt,
+        &product,
+        EntryKind::Image,
+        image,
+        &[
+            (&[], Ok(Trading::Open)),
+            (&[(593, 1)], Ok(Trading::Open)),
+            (&[(593, 1), (667, 0)], Ok(Trading::Closed)),
+            // a day order in a closed market; a byte that says neither, with a day order and without one
+            (&[(667, 0)], Err(ImageBad(581))),
+            (&[(667, 2)], Err(ImageBad(667))),
+            (&[(667, 255), (593, 1)], Err(ImageBad(667))),
+            // the byte is tried after the rows, and before TOP
+            (&[(667, 2), (588, 3)], Err(ImageBad(581))),
+            (&[(667, 2), (666, 1)], Err(ImageBad(667))),
+            (&[(667, 2), (568, 1)], Err(ImageBad(667))),
+            (&[(667, 0), (593, 1), (568, 1)], Err(ImageBad(552))),
+        ],
+    );
+    expect_answers(
+        &rt,
+        &product,
+        EntryKind::OldImage,
+        front_of(&rt, image, OLD_BYTES),
+        &[(&[], Ok(Trading::Open)), (&[(593, 1)], Ok(Trading::Open))],
+    );
+}
+
+/// In a closed market a waiting stop is good till cancelled, too, and a row is tried after those before it.
+#[test]
+fn sessions_of_four_orders(rt: HostRuntime) {
+    let product = product_from(&rt, two_instruments(&rt, 4).as_str());
+    let image = image_after(&rt, &product, &FOUR_ORDERS);
+    expect_answers(
+        &rt,
+        &product,
+        EntryKind::Image,
+        image.as_slice(),
+        &[
+            (&[(938, 0)], Err(ImageBad(FIRST_BUY))),
+            (&[(938, 0), (618, 1)], Err(ImageBad(SELL))),
+            (&[(938, 0), (618, 1), (782, 1)], Err(ImageBad(STOP))),
+            (
+                &[(938, 0), (618, 1), (782, 1), (868, 1)],
+                Ok(Trading::Closed),
+            ),
+            (&[(938, 0), (684, 1)], Err(ImageBad(FIRST_BUY))),
+            (&[(938, 2), (868, 9)], Err(ImageBad(STOP))),
+        ],
+    );
 }
 
 /// Counters, the parts of an instrument, counts, and each field of a row.
@@ -331,7 +476,7 @@ fn more_orders_than_may_be_live(rt: HostRuntime) {
     let image = image_after(&rt, &product, &FOUR_ORDERS);
     for (orders, place) in [(3, WAITING), (2, RESTING)] {
         let smaller = product_from(&rt, two_instruments(&rt, orders).as_str());
-        let answer = read(&rt, &smaller, image.as_slice());
+        let answer = read(&rt, &smaller, EntryKind::Image, image.as_slice());
         assert_eq!(rt; answer, Err(ImageBad(place)));
     }
 }

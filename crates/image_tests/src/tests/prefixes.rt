@@ -1,43 +1,53 @@
 //! A journal with two orders and a book image, cut at each place.
 use super::checkpoints::IMAGE_HEAD;
+use super::expects::{expect_bytes, expect_count, expect_outcome};
 use super::images::{ONE_ORDER, one_order_image};
-use super::{closed, execute, front_of};
+use super::{closed, execute, front_of, station_of};
 use globex_run::Outcome;
-use run_fixtures::{PRODUCT, ROOM, ended, frames_of, station_over};
+use gx_station::MemStation;
+use run_fixtures::{PRODUCT, ended, frames_of};
 use std::process::Abort;
 
-/// Over these first bytes of the journal a run of no messages ends so. Of at most one byte it makes a new journal, and all others
-/// it leaves as they are.
-fn expect_prefix(rt: &(impl Abort + AllocGlobal), journal: &[u8], length: usize, outcome: Outcome) {
-    let alloc = rt.alloc();
-    let image = front_of(rt, journal, length);
-    assert!(rt; image.len() <= ROOM);
-    let mut station = station_over(alloc, image.as_slice(), Vec::new(alloc)).expect(rt, "memory");
+/// The station after a run of no messages over this image, which ends so and sends nothing.
+fn run_of_none(rt: &(impl Abort + AllocGlobal), image: &[u8], outcome: Outcome) -> MemStation {
+    let mut station = station_of(rt, image);
     let got = execute(rt, PRODUCT, "run", &[], &mut station);
-    assert_eq!(rt; got, outcome, "{length} bytes");
-    assert!(rt; station.output().is_empty());
-    let left = if length > 1 {
-        image
-    } else {
-        closed(rt, &[front_of(rt, journal, 149).as_slice()])
-    };
-    assert_eq!(rt; station.image(), left.as_slice());
+    expect_outcome(rt, "a run of no messages", got, outcome);
+    expect_bytes(rt, "a run of no messages", station.output(), b"");
+    station
 }
 
-/// The least and the greatest of some lengths, the status, and the place: nothing tells what the bytes are, the product is cut,
-/// the record of the orders is, that of the image is, and nothing is.
-const PREFIXES: [(usize, usize, u8, u64); 5] = [
-    (0, 1, 0, 0),
-    (9, 149, 10, 9),
-    (150, 376, 10, 149),
-    (377, 1_049, 10, 376),
-    (1_050, 1_050, 0, 0),
-];
+/// Over these first bytes of the journal a run of no messages ends so, and leaves them as they are.
+fn expect_left(rt: &(impl Abort + AllocGlobal), journal: &[u8], length: usize, outcome: Outcome) {
+    let image = front_of(rt, journal, length);
+    let station = run_of_none(rt, image, outcome);
+    expect_bytes(rt, "the bytes of before", station.image(), image);
+}
 
-#[test]
-fn prefixes_of_a_journal(rt: HostRuntime) {
-    let orders = frames_of(rt.alloc(), &ONE_ORDER).expect(&rt, "memory");
-    let payload = one_order_image(&rt);
+/// The same of each length from the least to the greatest.
+fn expect_all_left(
+    rt: &(impl Abort + AllocGlobal),
+    journal: &[u8],
+    least: usize,
+    greatest: usize,
+    outcome: Outcome,
+) {
+    for length in least..=greatest {
+        expect_left(rt, journal, length, outcome);
+    }
+}
+
+/// Over so many first bytes of the journal, which are too few to tell what they are, a run of no messages makes a new one.
+fn expect_new(rt: &(impl Abort + AllocGlobal), journal: &[u8], length: usize) {
+    let new = closed(rt, &[front_of(rt, journal, 149)]);
+    let station = run_of_none(rt, front_of(rt, journal, length), ended(0, 0, 0));
+    expect_bytes(rt, "a new journal", station.image(), new.as_slice());
+}
+
+/// The journal of `ONE_ORDER`, with the image of it.
+fn journal_of_one_order(rt: &(impl Abort + AllocGlobal)) -> Vec<u8> {
+    let orders = frames_of(rt.alloc(), &ONE_ORDER).expect(rt, "memory");
+    let payload = one_order_image(rt);
     let parts: [&[u8]; 6] = [
         b"\x01GXJOURN1\x00\x00\x00\x88",
         PRODUCT.as_bytes(),
@@ -46,16 +56,23 @@ fn prefixes_of_a_journal(rt: HostRuntime) {
         IMAGE_HEAD,
         payload.as_slice(),
     ];
-    let journal = closed(&rt, &parts);
-    assert_eq!(rt; journal.len(), 1_050);
+    closed(rt, &parts)
+}
+
+#[test]
+fn prefixes_of_a_journal(rt: HostRuntime) {
+    let journal = journal_of_one_order(&rt);
+    let journal = journal.as_slice();
+    expect_count(&rt, "the journal", journal.len(), 1_051);
+    expect_new(&rt, journal, 0);
+    expect_new(&rt, journal, 1);
     // In the name of a journal, the first byte that is missing is the place.
     for length in 2..9 {
-        let outcome = ended(9, length as u64, 0);
-        expect_prefix(&rt, journal.as_slice(), length, outcome);
+        expect_left(&rt, journal, length, ended(9, length as u64, 0));
     }
-    for (least, greatest, status, at) in PREFIXES {
-        for length in least..=greatest {
-            expect_prefix(&rt, journal.as_slice(), length, ended(status, at, 0));
-        }
-    }
+    // The product is cut, the record of the orders is, that of the image is, and nothing is.
+    expect_all_left(&rt, journal, 9, 149, ended(10, 9, 0));
+    expect_all_left(&rt, journal, 150, 376, ended(10, 149, 0));
+    expect_all_left(&rt, journal, 377, 1_050, ended(10, 376, 0));
+    expect_left(&rt, journal, 1_051, ended(0, 0, 0));
 }

@@ -1,4 +1,7 @@
 //! Journals in memory: two messages in one record, images that are opened or refused, and what failed calls leave.
+ghost use Rattle.std.specs.Prelude.{◌≤◌};
+ghost use Rattle.match_journal.specs.Journal.{least_payload, most_payload};
+
 use super::{ORDERS, failing_station, joined, journal_of, station_of};
 use gx_station::Station;
 use match_journal::{AppendFault, Entry, EntryKind, Journal, StartFault};
@@ -55,13 +58,15 @@ fn records_are_read_in_their_order(rt: HostRuntime) {
     assert_eq!(rt; journal.next_entry(&mut station), Ok(Some(first)));
 }
 
-/// Records of book images: an empty one, and one longer than the frames of a record may be.
-#[test]
-fn records_of_images(rt: HostRuntime) {
-    let mut station = station_of(&rt, b"");
+/// Two records of book images of a kind, of which the second is longer than the frames of a record may be, are read as they were
+/// written, and the image has the byte of the kind.
+fn expect_images(rt: &(impl Abort + AllocGlobal), kind: EntryKind, byte: u8)
+    requires some { least_payload kind ≤ 0 }
+    requires few { 9000 ≤ most_payload kind }
+{
+    let mut station = station_of(rt, b"");
     let started = Journal::start(&mut station, PRODUCT.as_bytes(), LIMIT);
-    let mut journal = started.expect(&rt, "a journal");
-    let kind = EntryKind::Image;
+    let mut journal = started.expect(rt, "a journal");
     let long = [b'x'; 9_000];
     assert_eq!(rt; journal.next_entry(&mut station), Ok(None));
     assert!(rt; journal.at_end());
@@ -84,6 +89,16 @@ fn records_of_images(rt: HostRuntime) {
     assert_eq!(rt; journal.next_entry(&mut station), Ok(Some(whole)));
     assert_eq!(rt; journal.next_entry(&mut station), Ok(None));
     assert!(rt; station.image().ends_with(b"xxx\x00"));
+    for gate in [149, 155] {
+        assert_eq!(rt; station.image().get(gate + 1), Some(&byte));
+    }
+}
+
+/// Records of book images, of now and of before.
+#[test]
+fn records_of_images(rt: HostRuntime) {
+    expect_images(&rt, EntryKind::Image, b'D');
+    expect_images(&rt, EntryKind::OldImage, b'C');
 }
 
 /// Each image with what is answered to one who looks, whether there is a journal, or why not; the product is `text`.

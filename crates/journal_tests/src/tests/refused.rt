@@ -1,4 +1,5 @@
 //! Images that are refused: what each command answers and sends, and that they stay as they are.
+use super::expects::{expect_bytes, expect_outcome, expect_texts};
 use super::{HEADER, ORDERS, REPORTS, execute_over, image_of, joined, journal_of};
 use globex_run::Outcome;
 use run_fixtures::{ORDER, PRODUCT, ended};
@@ -13,10 +14,9 @@ fn expect_left(
     texts: &[&str],
 ) {
     let (got, station) = execute_over(rt, line, &ORDERS, image);
-    let sent = joined(rt, texts);
-    assert_eq!(rt; got, outcome, "{line}");
-    assert_eq!(rt; station.output(), sent.as_slice(), "{line}");
-    assert_eq!(rt; station.image(), image, "{line}");
+    expect_outcome(rt, line, got, outcome);
+    expect_texts(rt, line, station.output(), texts);
+    expect_bytes(rt, line, station.image(), image);
 }
 
 /// What `steps` sends, whatever the image is.
@@ -33,60 +33,49 @@ const OPENING: [&str; 7] = [
     "checkpoint",
 ];
 
+/// Each command that opens the journal ends so over this image, and sends nothing.
+fn expect_unopened(rt: &(impl Abort + AllocGlobal), image: &[u8], outcome: Outcome) {
+    for line in OPENING {
+        expect_left(rt, line, image, outcome, &[]);
+    }
+    expect_left(rt, "steps", image, ended(0, 0, 0), &[STEPS]);
+}
+
+/// The journal of another product.
+fn other_journal(rt: &(impl Abort + AllocGlobal)) -> Vec<u8> {
+    let other = PRODUCT
+        .replace(rt.alloc(), "protection = 2", "protection = 3")
+        .expect(rt, "memory");
+    image_of(rt, &[HEADER, other.as_bytes(), b"\x00"])
+}
+
 /// Images of something else, with a bad header, and of another product.
 #[test]
 fn images_that_no_command_opens(rt: HostRuntime) {
-    let other = PRODUCT.replace(rt.alloc(), "protection = 2", "protection = 3");
-    let other = other.expect(&rt, "memory");
-    let other_journal = image_of(&rt, &[HEADER, other.as_bytes(), b"\x00"]);
-    let bad_header = image_of(
-        &rt,
-        &[b"\x01GXJOURN1\x00\x01\x00\x01", PRODUCT.as_bytes(), b"\x00"],
-    );
-    let rows: [(&[u8], Outcome); 4] = [
-        (b"hello", ended(9, 0, 0)),
-        (b"\x01GXJOURN2", ended(9, 8, 0)),
-        (bad_header.as_slice(), ended(10, 9, 0)),
-        (other_journal.as_slice(), ended(11, 131, 0)),
-    ];
-    for (image, outcome) in rows {
-        for line in OPENING {
-            expect_left(&rt, line, image, outcome, &[]);
-        }
-        expect_left(&rt, "steps", image, ended(0, 0, 0), &[STEPS]);
-    }
+    expect_unopened(&rt, b"hello", ended(9, 0, 0));
+    expect_unopened(&rt, b"\x01GXJOURN2", ended(9, 8, 0));
+    let head: &[u8] = b"\x01GXJOURN1\x00\x01\x00\x01";
+    let bad_header = image_of(&rt, &[head, PRODUCT.as_bytes(), b"\x00"]);
+    expect_unopened(&rt, bad_header.as_slice(), ended(10, 9, 0));
+    let other = other_journal(&rt);
+    expect_unopened(&rt, other.as_slice(), ended(11, 131, 0));
 }
 
 /// The commands that begin with the last book image, or with the first record, and send nothing where they meet a bad one.
 const BEGINNING: [&str; 4] = ["run", "book", "drill --first 1 --count 2", "checkpoint"];
 
-/// The commands that send as they read, with what they send of the two orders; the ledger lacks its last line.
-const READING: [(&str, &[&str]); 3] = [
-    ("replay", &REPORTS),
-    (
-        "fills",
-        &[
-            "1 FIFO ESZ4 S 4@100.00 #1 AAA a1\n",
-            "1 FIFO ESZ4 B 4@100.00 #2 BBB b1\n",
-        ],
-    ),
-    (
-        "ledger",
-        &[
-            "#1 entered 10 filled 0 open 10 cancelled 0\n",
-            "#2 entered 4 filled 0 open 4 cancelled 0\n",
-            "#1 entered 10 filled 4 open 6 cancelled 0\n",
-            "#2 entered 4 filled 4 open 0 cancelled 0\n",
-        ],
-    ),
+/// What `fills` sends of the two orders.
+const FILLS: [&str; 2] = [
+    "1 FIFO ESZ4 S 4@100.00 #1 AAA a1\n",
+    "1 FIFO ESZ4 B 4@100.00 #2 BBB b1\n",
 ];
 
-/// What stands behind a record of both orders, and where those that begin and those that read are refused: a payload that is no
-/// frame, a head with too great a length, and one behind the other. Who begins meets a bad head before a bad payload.
-const BAD: [(&[u8], u64, u64); 3] = [
-    (b"\x01M\x00\x00\x00\x05hello", 376, 376),
-    (b"\x01M\x00\x00\x20\x01", 376, 376),
-    (b"\x01M\x00\x00\x00\x05hello\x01M\x00\x00\x20\x01", 387, 376),
+/// What the ledger sends of them, but for its last line.
+const LEDGER: [&str; 4] = [
+    "#1 entered 10 filled 0 open 10 cancelled 0\n",
+    "#2 entered 4 filled 0 open 4 cancelled 0\n",
+    "#1 entered 10 filled 4 open 6 cancelled 0\n",
+    "#2 entered 4 filled 4 open 0 cancelled 0\n",
 ];
 
 /// A journal of one record of both orders, with these bytes behind it.
@@ -100,36 +89,44 @@ fn expect_bad(rt: &(impl Abort + AllocGlobal), image: &[u8], beginning: u64, rea
     for line in BEGINNING {
         expect_left(rt, line, image, ended(10, beginning, 0), &[]);
     }
-    for (line, texts) in READING {
-        expect_left(rt, line, image, ended(10, reading, 0), texts);
-    }
+    let read = ended(10, reading, 0);
+    expect_left(rt, "replay", image, read, &REPORTS);
+    expect_left(rt, "fills", image, read, &FILLS);
+    expect_left(rt, "ledger", image, read, &LEDGER);
     expect_left(rt, "steps", image, ended(0, 0, 0), &[STEPS]);
 }
 
+/// The same behind a record of both orders.
+fn expect_bad_behind(rt: &(impl Abort + AllocGlobal), bad: &[u8], beginning: u64, reading: u64) {
+    let image = behind_orders(rt, bad);
+    expect_bad(rt, image.as_slice(), beginning, reading);
+}
+
+/// A payload that is no frame, a head with too great a length, and one behind the other. Who begins meets a bad head before a bad
+/// payload.
 #[test]
 fn bad_records_behind_a_good_one(rt: HostRuntime) {
-    for (bad, beginning, reading) in BAD {
-        let image = behind_orders(&rt, bad);
-        expect_bad(&rt, image.as_slice(), beginning, reading);
-    }
+    expect_bad_behind(&rt, b"\x01M\x00\x00\x00\x05hello", 376, 376);
+    expect_bad_behind(&rt, b"\x01M\x00\x00\x20\x01", 376, 376);
+    let both = b"\x01M\x00\x00\x00\x05hello\x01M\x00\x00\x20\x01";
+    expect_bad_behind(&rt, both, 387, 376);
+}
+
+/// A run over a journal of these records is refused at this place.
+fn expect_run_refused(rt: &(impl Abort + AllocGlobal), records: &[&[u8]], place: u64) {
+    let image = journal_of(rt, records);
+    expect_left(rt, "run", image.as_slice(), ended(10, place, 0), &[]);
 }
 
 /// Records that a run refuses: one longer than the image, one whose last frame is cut, and behind a good one an image of one byte.
 #[test]
 fn bad_records(rt: HostRuntime) {
+    expect_run_refused(&rt, &[b"\x01M\x00\x00\x00\x64"], 149);
     let order = joined(&rt, &[ORDER]);
-    let long_record = journal_of(&rt, &[b"\x01M\x00\x00\x00\x64"]);
     let whole = order.as_slice();
     assert!(rt; whole.len() >= 110);
-    let cut_frame = journal_of(&rt, &[b"\x01M\x00\x00\x00\x6E", &whole[..110]]);
+    let cut_frame: [&[u8]; 2] = [b"\x01M\x00\x00\x00\x6E", &whole[..110]];
+    expect_run_refused(&rt, &cut_frame, 149);
     let good_and_bad: [&[u8]; 3] = [b"\x01M\x00\x00\x00\x6F", whole, b"\x01C\x00\x00\x00\x01x"];
-    let good_and_bad = journal_of(&rt, &good_and_bad);
-    let rows: [(&[u8], u64); 3] = [
-        (long_record.as_slice(), 149),
-        (cut_frame.as_slice(), 149),
-        (good_and_bad.as_slice(), 266),
-    ];
-    for (image, place) in rows {
-        expect_left(&rt, "run", image, ended(10, place, 0), &[]);
-    }
+    expect_run_refused(&rt, &good_and_bad, 266);
 }

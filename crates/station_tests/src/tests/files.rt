@@ -1,10 +1,12 @@
 //! The adapters over a file and a writer that fail at will, and over files that are locked.
 ghost use Rattle.std.specs.Prelude.{◌≡◌, ◌+◌, ◌≤◌, IfOk};
 
+use super::expects::{expect, expect_answer, expect_bytes};
 use super::stations::{gives, write_within};
 use gx_station::{Failed, FileStation, ImageFile, Station, locked};
 use std::fs::{File, OpenOptions};
 use std::io::{ErrorKind, Write};
+use std::process::Abort;
 use std::{fs, io};
 
 /// The room of a file in memory.
@@ -103,18 +105,18 @@ fn answers_what_the_file_answered(rt: HostRuntime) {
     let mut file = MemFile::new(&[3, 5, 6, 8]);
     let mut out: Vec<u8> = Vec::new(rt.alloc());
     let mut station = FileStation::new(Some(Lent { file: &mut file }), &mut out);
-    assert_eq!(rt; write_within(&mut station, 0, b"abcd"), Ok(()));
-    assert_eq!(rt; write_within(&mut station, 2, b"XYZ"), Err(Failed));
-    assert_eq!(rt; write_within(&mut station, 2, b"XYZ"), Err(Failed));
-    assert_eq!(rt; station.sync(), Err(Failed));
-    assert!(rt; !gives(&mut station, b"abcd"));
-    assert!(rt; gives(&mut station, b"abcd"));
-    assert_eq!(rt; write_within(&mut station, 2, b"XYZ"), Ok(()));
-    assert_eq!(rt; station.sync(), Ok(()));
-    assert_eq!(rt; write_within(&mut station, 5, b"!"), Ok(()));
-    assert!(rt; gives(&mut station, b"abXYZ!"));
+    expect_answer(&rt, write_within(&mut station, 0, b"abcd"), Ok(()));
+    expect_answer(&rt, write_within(&mut station, 2, b"XYZ"), Err(Failed));
+    expect_answer(&rt, write_within(&mut station, 2, b"XYZ"), Err(Failed));
+    expect_answer(&rt, station.sync(), Err(Failed));
+    expect(&rt, !gives(&mut station, b"abcd"));
+    expect(&rt, gives(&mut station, b"abcd"));
+    expect_answer(&rt, write_within(&mut station, 2, b"XYZ"), Ok(()));
+    expect_answer(&rt, station.sync(), Ok(()));
+    expect_answer(&rt, write_within(&mut station, 5, b"!"), Ok(()));
+    expect(&rt, gives(&mut station, b"abXYZ!"));
     drop(station);
-    assert_eq!(rt; &file.synced[..6], b"abXYZ\0".as_slice());
+    expect_bytes(&rt, &file.synced[..6], b"abXYZ\0");
     assert_eq!(rt; file.calls, 17);
 }
 
@@ -126,30 +128,31 @@ fn hands_on_only_what_it_locked(rt: HostRuntime) {
     assert_eq!(rt; file.calls, 2);
 }
 
-/// The file of a test, made empty where it is absent.
-fn open(rt: &HostRuntime, path: &str) -> io::Result<File> {
+/// The file of a test, made empty where it is absent, or where it is to be.
+pub fn opened(rt: &HostRuntime, path: &str, is_emptied: bool) -> io::Result<File> {
     OpenOptions::new()
         .read(true)
         .write(true)
         .create(true)
+        .truncate(is_emptied)
         .open(rt, path)
 }
 
 #[test]
 fn a_lock_keeps_other_opens_out(rt: HostRuntime) {
     let path = "locked-by-a-test.gxj";
-    let first = locked(open(&rt, path).expect(&rt, "a file"));
+    let first = locked(opened(&rt, path, false).expect(&rt, "a file"));
     assert!(rt; first.is_some());
-    let second = locked(open(&rt, path).expect(&rt, "a second open"));
+    let second = locked(opened(&rt, path, false).expect(&rt, "a second open"));
     assert!(rt; second.is_none());
     let mut out: Vec<u8> = Vec::new(rt.alloc());
     let mut station = FileStation::new(second, &mut out);
     assert_eq!(rt; station.length(), Err(Failed));
     assert_eq!(rt; station.read(0, &mut []), Err(Failed));
-    assert_eq!(rt; station.write(0, b"x"), Err(Failed));
-    assert_eq!(rt; station.sync(), Err(Failed));
+    expect_answer(&rt, station.write(0, b"x"), Err(Failed));
+    expect_answer(&rt, station.sync(), Err(Failed));
     drop(first);
-    assert!(rt; locked(open(&rt, path).expect(&rt, "a third open")).is_some());
+    assert!(rt; locked(opened(&rt, path, false).expect(&rt, "a third open")).is_some());
     fs::remove_file(&rt, path).expect(&rt, "a removal");
 }
 
@@ -225,6 +228,11 @@ fn send_by(acts: &'static [Act], can_flush: bool) -> Sent {
     }
 }
 
+/// Looks for what a send answered and made of a writer.
+fn expect_sent(rt: &impl Abort, got: Sent, want: Sent) {
+    assert_eq!(rt; got, want);
+}
+
 #[test]
 fn sends_until_all_is_taken_and_flushed(rt: HostRuntime) {
     let sent = |answer, writes, taken, flushes| Sent {
@@ -234,11 +242,20 @@ fn sends_until_all_is_taken_and_flushed(rt: HostRuntime) {
         flushes,
     };
     let short = &[Act::Interrupt, Act::Take(1), Act::Interrupt, Act::Take(9)];
-    assert_eq!(rt; send_by(short, true), sent(Ok(()), 4, 3, 1));
-    assert_eq!(rt; send_by(&[Act::Take(3)], false), sent(Err(Failed), 1, 3, 1));
-    assert_eq!(rt;
-        send_by(&[Act::Take(1), Act::Take(0)], true),
-        sent(Err(Failed), 2, 1, 0)
+    expect_sent(&rt, send_by(short, true), sent(Ok(()), 4, 3, 1));
+    expect_sent(
+        &rt,
+        send_by(&[Act::Take(3)], false),
+        sent(Err(Failed), 1, 3, 1),
     );
-    assert_eq!(rt; send_by(&[Act::Break], true), sent(Err(Failed), 1, 0, 0));
+    expect_sent(
+        &rt,
+        send_by(&[Act::Take(1), Act::Take(0)], true),
+        sent(Err(Failed), 2, 1, 0),
+    );
+    expect_sent(
+        &rt,
+        send_by(&[Act::Break], true),
+        sent(Err(Failed), 1, 0, 0),
+    );
 }
