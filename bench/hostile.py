@@ -323,8 +323,9 @@ def time_journals(caller, scale):
 
 
 def last_row(image):
-    """Where the last row of resting orders begins in a journal whose last record is an image without stops."""
-    return len(image) - 1 - 4 - 82
+    """Where the last row of resting orders begins in a journal whose last record is an image without stops: before the count of
+    stops, the session and the last gate."""
+    return len(image) - 82 - 4 - 1 - 1
 
 
 def time_images(caller, scale):
@@ -343,7 +344,7 @@ def time_images(caller, scale):
     pathlib.Path(caller.path("broken")).write_bytes(image)
     length = len(image) - os.path.getsize(caller.path("messages"))
     del image
-    rows = (length - 6 - 560 - 25) // 82
+    rows = (length - 6 - 561 - 25) // 82
     for name, file, statuses in ((f"an image of {rows} rows", "image", (0,)), ("one wrong in its last row", "broken", (10,))):
         for command in ("run", "book"):
             caller.compare(

@@ -13,12 +13,17 @@ MOST_MESSAGES = 1 << 24
 HEAD = 6
 TEXT_AT = 13
 
-MESSAGES, IMAGE = b"M", b"C"
+MESSAGES, OLD_IMAGE, IMAGE = b"M", b"C", b"D"
 OPEN, CLOSED = b"\x01", b"\x00"
 
 IMAGE_FRONT = 552
 INSTRUMENT_BYTES = 25
 ORDER_BYTES = 82
+LIFE_AT = 12
+UNTIL_CANCELLED = 1
+# of each kind of image; an old one stands for an open market
+SESSION_BYTES = {OLD_IMAGE: 0, IMAGE: 1}
+MARKET_CLOSED, MARKET_OPEN = 0, 1
 
 
 class Bad(Exception):
@@ -46,6 +51,10 @@ class Record:
     @property
     def end(self):
         return self.gate + HEAD + self.length
+
+    @property
+    def is_image(self):
+        return self.kind in SESSION_BYTES
 
 
 def number_at(data, place, width):
@@ -130,8 +139,8 @@ class Journal:
         if len(data) < gate + HEAD:
             raise Bad(gate, "the file ends inside the head of a record")
         kind, length = data[gate + 1 : gate + 2], number_at(data, gate + 2, 4)
-        if kind not in (MESSAGES, IMAGE):
-            raise Bad(gate, f"the kind of the record is the byte {data[gate + 1]}, and neither M nor C")
+        if kind not in (MESSAGES, OLD_IMAGE, IMAGE):
+            raise Bad(gate, f"the kind of the record is the byte {data[gate + 1]}, and none of M, C and D")
         if kind == MESSAGES and not 1 <= length <= MOST_PAYLOAD:
             raise Bad(gate, f"a record of messages has {length:,} bytes, and not 1 to {MOST_PAYLOAD:,}")
         if gate + HEAD + 1 + length > len(data):
@@ -143,8 +152,8 @@ class Journal:
         gate, data = self.gate, self.data
         kind, length = data[gate + 1 : gate + 2], number_at(data, gate + 2, 4)
         payload = data[gate + HEAD : gate + HEAD + length]
-        if kind == IMAGE:
-            fault = image_fault(payload, self.product)
+        if kind in SESSION_BYTES:
+            fault = image_fault(kind, payload, self.product)
             own = number_at(payload, 0, 8) if fault is None else counted
             return Record(gate, kind, length, 0, before, own, fault)
         count, fault = count_of(payload)
@@ -174,7 +183,7 @@ class Journal:
         last image on."""
         if self.bad_head is not None:
             return self.bad_head
-        images = [number for number, record in enumerate(self.records) if record.kind == IMAGE]
+        images = [number for number, record in enumerate(self.records) if record.is_image]
         for record in self.records[images[-1] if images else 0 :]:
             if record.fault is not None:
                 return Bad(record.gate, record.fault)
@@ -200,7 +209,7 @@ class Journal:
     def miscounted(self):
         """The first good image whose count is not that of the messages before it, or nothing. The engine does not try this."""
         for record in self.records:
-            if record.kind == IMAGE and record.fault is None and record.counted != record.before:
+            if record.is_image and record.fault is None and record.counted != record.before:
                 why = f"the image counts {record.counted:,} messages, and {record.before:,} are before it"
                 return Bad(record.gate, why)
         return None
@@ -214,9 +223,9 @@ def count_of(payload):
         return stopped.count, f"its payload is not whole frames: at its byte {stopped.offset} {stopped.why}"
 
 
-def image_fault(image, product):
-    """What is wrong with the length of an image, with its count of messages or of live orders; the engine tries more. Without a
-    product nothing is known of its instruments."""
+def image_fault(kind, image, product):
+    """What is wrong with the length of an image, with its count of messages or of live orders, or with its session; the engine
+    tries more. Without a product nothing is known of its instruments."""
     if product is None:
         return None
     resting_at = IMAGE_FRONT + INSTRUMENT_BYTES * len(product.decimals)
@@ -224,20 +233,34 @@ def image_fault(image, product):
         return f"its image has {len(image):,} bytes, and the count of resting orders is not there"
     if number_at(image, 0, 8) >= MOST_MESSAGES:
         return f"its image counts {number_at(image, 0, 8):,} messages, and not fewer than {MOST_MESSAGES:,}"
-    waiting_at = resting_at + 4 + ORDER_BYTES * number_at(image, resting_at, 4)
+    resting = number_at(image, resting_at, 4)
+    waiting_at = resting_at + 4 + ORDER_BYTES * resting
     if len(image) < waiting_at + 4:
         return f"its image has {len(image):,} bytes, and the count of waiting stops is not there"
-    length = waiting_at + 4 + ORDER_BYTES * number_at(image, waiting_at, 4)
+    waiting = number_at(image, waiting_at, 4)
+    length = waiting_at + 4 + ORDER_BYTES * waiting + SESSION_BYTES[kind]
     if len(image) != length:
         return f"its image has {len(image):,} bytes, and its counts say {length:,}"
-    if live_orders(image, product) > product.max_orders:
-        return f"its image has {live_orders(image, product):,} live orders, and max_orders is {product.max_orders:,}"
+    if resting + waiting > product.max_orders:
+        return f"its image has {resting + waiting:,} live orders, and max_orders is {product.max_orders:,}"
+    if kind == OLD_IMAGE:
+        return None
+    rows = [resting_at + 4 + ORDER_BYTES * number for number in range(resting)]
+    rows += [waiting_at + 4 + ORDER_BYTES * number for number in range(waiting)]
+    return session_fault(image, rows)
+
+
+def session_fault(image, rows):
+    """What is wrong with the last byte of an image, or with a row: while the market is closed all live orders are good till
+    cancelled."""
+    if image[-1] not in (MARKET_CLOSED, MARKET_OPEN):
+        return f"the last byte of its image is {image[-1]}, and neither 0 nor 1"
+    if image[-1] == MARKET_CLOSED:
+        for row in rows:
+            number, life = number_at(image, row, 8), image[row + LIFE_AT]
+            if life != UNTIL_CANCELLED:
+                return f"its image is of a closed market, and order {number} has the life {life}, and not {UNTIL_CANCELLED}"
     return None
-
-
-def live_orders(image, product):
-    """How many orders an image of a right length has."""
-    return (len(image) - IMAGE_FRONT - 8 - INSTRUMENT_BYTES * len(product.decimals)) // ORDER_BYTES
 
 
 # ---- copies

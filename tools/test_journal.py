@@ -24,6 +24,10 @@ def messages_record(*frames):
 
 
 def image_record(image):
+    return b"\x01D" + len(image).to_bytes(4, "big") + image
+
+
+def old_image_record(image):
     return b"\x01C" + len(image).to_bytes(4, "big") + image
 
 
@@ -32,10 +36,10 @@ def journal_of(*records):
 
 
 def documented_image():
-    """The 667 bytes of the image after the two messages, from the table of docs/FORMATS.md."""
+    """The 668 bytes of the image after the two messages, from the table of docs/FORMATS.md."""
     text = FORMATS.read_text()
     table = text[text.index("The image after the two messages") :].split("\n\n")[1]
-    image = bytearray(667)
+    image = bytearray(668)
     for places, values in re.findall(r"^\| ([0-9, ]+) \| ([0-9a-f ,]+) \|", table, re.MULTILINE):
         values = [bytes.fromhex(value) for value in values.split(", ")]
         for place, value in zip(map(int, places.split(", ")), values, strict=True):
@@ -44,21 +48,39 @@ def documented_image():
 
 
 IMAGE = documented_image()
+OLD_IMAGE = IMAGE[:-1]
+ROW = IMAGE[581:663]
+MARKET_CLOSED, MARKET_OPEN = b"\x00", b"\x01"
 
 
-def image_after(count):
-    """An image without orders that counts so many messages."""
+def old_image_after(count):
+    """An old image without orders that counts so many messages."""
     return count.to_bytes(8, "big") + bytes(560 + 25 - 8)
 
 
-# An image of an empty book, a record of two messages, an image, one message, two images, and one message.
+def image_after(count, session=MARKET_OPEN):
+    return old_image_after(count) + session
+
+
+def old_image_of(resting, waiting):
+    """An old image of some rows, which counts no messages."""
+    counted = [len(rows).to_bytes(4, "big") + b"".join(rows) for rows in (resting, waiting)]
+    return bytes(577) + b"".join(counted)
+
+
+def row_of(number, life):
+    return number.to_bytes(8, "big") + ROW[8:12] + bytes([life]) + ROW[13:]
+
+
+# An image of an empty book, a record of two messages, an old image, one message, an image of a closed market, an old image, and one
+# message.
 RECORDS = [
     image_record(image_after(0)),
     messages_record(SELL, BUY),
-    image_record(IMAGE),
+    old_image_record(OLD_IMAGE),
     messages_record(CANCEL),
-    image_record(image_after(3)),
-    image_record(image_after(3)),
+    image_record(image_after(3, MARKET_CLOSED)),
+    old_image_record(old_image_after(3)),
     messages_record(CANCEL),
 ]
 GATES = [149 + sum(map(len, RECORDS[:number])) for number in range(len(RECORDS) + 1)]
@@ -68,11 +90,18 @@ KEPT = [SELL, BUY, CANCEL, CANCEL]
 BAD_HEADS = [
     (b"\x01", "the file ends inside the head of a record"),
     (b"\x01M\x00\x00\x00", "the file ends inside the head of a record"),
-    (b"\x01m" + messages_record(SELL)[2:] + b"\x00", "the kind of the record is the byte 109, and neither M nor C"),
+    (b"\x01m" + messages_record(SELL)[2:] + b"\x00", "the kind of the record is the byte 109, and none of M, C and D"),
+    (b"\x01E" + image_record(IMAGE)[2:] + b"\x00", "the kind of the record is the byte 69, and none of M, C and D"),
     (b"\x01M\x00\x00\x00\x00\x00", "a record of messages has 0 bytes, and not 1 to 8,192"),
     (b"\x01M\x00\x00\x20\x01" + bytes(9_000), "a record of messages has 8,193 bytes, and not 1 to 8,192"),
     (messages_record(SELL), "a record of 111 bytes goes past the end of the file"),
+    (old_image_record(OLD_IMAGE), "a record of 667 bytes goes past the end of the file"),
+    (image_record(IMAGE), "a record of 668 bytes goes past the end of the file"),
+]
+# with the least journal_limit
+LONG_HEADS = [
     (b"\x01C\x00\x03\x00\x00" + bytes(200_000), "a record of 196,608 bytes goes past journal_limit, 131,072"),
+    (b"\x01D\x00\x03\x00\x00" + bytes(200_000), "a record of 196,608 bytes goes past journal_limit, 131,072"),
 ]
 SHORT = b"its payload is not whole frames: at its byte 111 the input ends inside a frame, of which 50 bytes are there"
 BAD_PAYLOADS = [
@@ -81,12 +110,24 @@ BAD_PAYLOADS = [
         messages_record(SELL + b"\n" + BUY),
         "its payload is not whole frames: at its byte 111 no frame begins here: it does not begin with 8=FIX.4.2|9= (byte 111)",
     ),
-    (image_record(IMAGE[:-1] + b"\x01"), "its image has 667 bytes, and its counts say 749"),
-    (image_record(IMAGE[:-1]), "its image has 666 bytes, and the count of waiting stops is not there"),
-    (image_record(IMAGE + b"\x00"), "its image has 668 bytes, and its counts say 667"),
+    (old_image_record(OLD_IMAGE[:-1] + b"\x01"), "its image has 667 bytes, and its counts say 749"),
+    (old_image_record(OLD_IMAGE[:-1]), "its image has 666 bytes, and the count of waiting stops is not there"),
+    (old_image_record(IMAGE), "its image has 668 bytes, and its counts say 667"),
+    (old_image_record(OLD_IMAGE[:580]), "its image has 580 bytes, and the count of resting orders is not there"),
+    (old_image_record(b""), "its image has 0 bytes, and the count of resting orders is not there"),
+    (
+        old_image_record(b"\x00" * 4 + b"\x01" + OLD_IMAGE[5:]),
+        "its image counts 16,777,218 messages, and not fewer than 16,777,216",
+    ),
+    (image_record(OLD_IMAGE[:-1] + b"\x01" + MARKET_OPEN), "its image has 668 bytes, and its counts say 750"),
+    (image_record(OLD_IMAGE), "its image has 667 bytes, and its counts say 668"),
+    (image_record(IMAGE[:666]), "its image has 666 bytes, and the count of waiting stops is not there"),
+    (image_record(IMAGE + MARKET_OPEN), "its image has 669 bytes, and its counts say 668"),
     (image_record(IMAGE[:580]), "its image has 580 bytes, and the count of resting orders is not there"),
     (image_record(b""), "its image has 0 bytes, and the count of resting orders is not there"),
     (image_record(b"\x00" * 4 + b"\x01" + IMAGE[5:]), "its image counts 16,777,218 messages, and not fewer than 16,777,216"),
+    (image_record(OLD_IMAGE + b"\x02"), "the last byte of its image is 2, and neither 0 nor 1"),
+    (image_record(OLD_IMAGE + MARKET_CLOSED), "its image is of a closed market, and order 1 has the life 0, and not 1"),
 ]
 
 
@@ -120,29 +161,35 @@ class Documented(InFolder):
         self.assertEqual(len(journal_of(messages_record(SELL, BUY))), 377)
         self.assertEqual(len(journal_of(messages_record(SELL), messages_record(BUY))), 383)
         checkpoint = journal_of(messages_record(SELL, BUY), image_record(IMAGE))
-        self.assertEqual(len(checkpoint), 1_050)
+        self.assertEqual(len(checkpoint), 1_051)
         self.assertEqual(checkpoint[149:155], bytes.fromhex("01 4d 00 00 00 dd"))
-        self.assertEqual(checkpoint[376:382], bytes.fromhex("01 43 00 00 02 9b"))
-        self.assertEqual(sum(byte != 0 for byte in IMAGE), 22)
+        self.assertEqual(checkpoint[376:382], bytes.fromhex("01 44 00 00 02 9c"))
+        self.assertEqual(sum(byte != 0 for byte in IMAGE), 23)
 
     def test_list(self):
-        checkpoint = journal_of(messages_record(SELL, BUY), image_record(IMAGE))
-        listed = (
-            b"header: product text of 136 bytes, journal_limit 16777216\n"
-            b"149 M 2 messages, 221 bytes\n"
-            b"376 C image after 2 messages, 667 bytes\n"
-            b"1049 last gate\n"
-            b"a journal at rest, which keeps 2 messages\n"
-        )
-        self.assertEqual(self.over(checkpoint, "list"), (0, listed, ""))
-        behind = listed.replace(b"last gate", b"last gate, and 3 bytes after it that mean nothing")
-        self.assertEqual(self.over(checkpoint + b"\x01M\x00", "list"), (0, behind, ""))
+        for image, line, gate in [
+            (image_record(IMAGE), b"376 D image after 2 messages, 668 bytes\n", 1_050),
+            (old_image_record(OLD_IMAGE), b"376 C image after 2 messages, 667 bytes\n", 1_049),
+        ]:
+            with self.subTest(line):
+                checkpoint = journal_of(messages_record(SELL, BUY), image)
+                listed = (
+                    b"header: product text of 136 bytes, journal_limit 16777216\n"
+                    b"149 M 2 messages, 221 bytes\n"
+                    b"%b"
+                    b"%d last gate\n"
+                    b"a journal at rest, which keeps 2 messages\n"
+                ) % (line, gate)
+                self.assertEqual(self.over(checkpoint, "list"), (0, listed, ""))
+                more = listed.replace(b"last gate", b"last gate, and 3 bytes after it that mean nothing")
+                self.assertEqual(self.over(checkpoint + b"\x01M\x00", "list"), (0, more, ""))
 
     def test_check_and_count(self):
         for data, checked, count in [
             (EMPTY, b"0 messages, 0 records, 0 images\n", b"0\n"),
             (journal_of(messages_record(SELL, BUY)), b"2 messages, 1 records, 0 images\n", b"2\n"),
             (journal_of(messages_record(SELL, BUY), image_record(IMAGE)), b"2 messages, 2 records, 1 images\n", b"2\n"),
+            (journal_of(messages_record(SELL, BUY), old_image_record(OLD_IMAGE)), b"2 messages, 2 records, 1 images\n", b"2\n"),
             (FULL, b"4 messages, 7 records, 4 images\n", b"4\n"),
         ]:
             self.assertEqual(self.over(data, "check"), (0, checked, ""))
@@ -205,7 +252,7 @@ class Copies(InFolder):
             self.assertEqual(self.copied(old, "cut", "--messages", 2), journal_of(messages_record(SELL, BUY)))
 
     def test_cut_in_front_of_a_bad_record(self):
-        for bad, why in BAD_PAYLOADS + BAD_HEADS[:-1]:
+        for bad, why in BAD_PAYLOADS + BAD_HEADS:
             with self.subTest(why):
                 damaged = journal_of(messages_record(SELL, BUY), bad)[:-1]
                 if bad[:1] == b"\x01" and (bad, why) in BAD_PAYLOADS:
@@ -222,7 +269,7 @@ class Copies(InFolder):
 
     def test_drop_each_image(self):
         for number, record in enumerate(RECORDS):
-            if record[1:2] == b"C":
+            if record[1:2] in (b"C", b"D"):
                 with self.subTest(number):
                     copy = self.copied(FULL, "drop", "--gate", GATES[number])
                     self.assertEqual(copy, journal_of(*RECORDS[:number], *RECORDS[number + 1 :]))
@@ -230,9 +277,10 @@ class Copies(InFolder):
                     self.assertEqual(call("journal", "check", self.copy)[1], b"4 messages, 6 records, 3 images\n")
 
     def test_a_bad_image_can_be_dropped(self):
-        damaged = journal_of(messages_record(SELL, BUY), image_record(IMAGE[:-1]), messages_record(CANCEL))
-        copy = self.copied(damaged, "drop", "--gate", 376)
-        self.assertEqual(copy, journal_of(messages_record(SELL, BUY), messages_record(CANCEL)))
+        for image in (image_record(IMAGE[:-1]), image_record(OLD_IMAGE + b"\x02"), old_image_record(OLD_IMAGE[:-1])):
+            damaged = journal_of(messages_record(SELL, BUY), image, messages_record(CANCEL))
+            copy = self.copied(damaged, "drop", "--gate", 376)
+            self.assertEqual(copy, journal_of(messages_record(SELL, BUY), messages_record(CANCEL)))
 
     def test_drop_refuses_all_else(self):
         none = self.folder / "none"
@@ -248,7 +296,7 @@ class Copies(InFolder):
                 error = f"place {gate}: {why}\n"
                 self.assertEqual(self.over(data, "drop", "--gate", gate, "--output", none), (1, b"", error))
         damaged = FULL[:-1] + b"\x01X\x00\x00\x00\x00\x00"
-        error = f"place {GATES[7]}: the kind of the record is the byte 88, and neither M nor C\n"
+        error = f"place {GATES[7]}: the kind of the record is the byte 88, and none of M, C and D\n"
         self.assertEqual(self.over(damaged, "drop", "--gate", GATES[2], "--output", none), (1, b"", error))
         self.assertFalse(none.exists())
 
@@ -276,7 +324,7 @@ class Damaged(InFolder):
     def test_heads(self):
         small = TEXT.replace(b"\n\n", b"\njournal_limit = 131072\n\n", 1)
         front = b"\x01GXJOURN1" + len(small).to_bytes(4, "big") + small
-        for bad, why in BAD_HEADS:
+        for bad, why in BAD_HEADS + LONG_HEADS:
             with self.subTest(why):
                 self.refused(front + bad, len(front), why)
                 self.refused(front + messages_record(SELL) + bad, len(front) + 117, why)
@@ -310,34 +358,62 @@ class Damaged(InFolder):
                 self.assertEqual(self.over(damaged, "messages", "--last", 1), (0, SELL, ""))
 
     def test_a_bad_record_before_a_later_image(self):
-        damaged = journal_of(messages_record(SELL + BUY[:50]), image_record(IMAGE))
-        self.refused(damaged, 149, SHORT.decode() + "; run, drill, checkpoint and book go on from a later image")
-        head = damaged[:-1] + b"\x01X\x00\x00\x00\x00\x00"
-        self.refused(head, 149, SHORT.decode())
+        for image in (image_record(IMAGE), old_image_record(OLD_IMAGE)):
+            damaged = journal_of(messages_record(SELL + BUY[:50]), image)
+            self.refused(damaged, 149, SHORT.decode() + "; run, drill, checkpoint and book go on from a later image")
+            head = damaged[:-1] + b"\x01X\x00\x00\x00\x00\x00"
+            self.refused(head, 149, SHORT.decode())
 
     def test_more_live_orders_than_max_orders(self):
         text = TEXT.replace(b"\n\n", b"\nmax_orders = 2\n\n", 1)
         front = b"\x01GXJOURN1" + len(text).to_bytes(4, "big") + text
-        row = IMAGE[581:663]
         for resting, waiting in ((2, 0), (1, 1), (3, 0), (1, 2)):
-            image = bytes(577) + resting.to_bytes(4, "big") + row * resting + waiting.to_bytes(4, "big") + row * waiting
-            data = front + image_record(image) + b"\x00"
-            if resting + waiting == 2:
-                self.assertEqual(self.over(data, "check"), (0, b"0 messages, 1 records, 1 images\n", ""))
-            else:
-                self.refused(data, len(front), "its image has 3 live orders, and max_orders is 2")
+            image = old_image_of([ROW] * resting, [ROW] * waiting)
+            for record in (image_record(image + MARKET_OPEN), old_image_record(image)):
+                data = front + record + b"\x00"
+                if resting + waiting == 2:
+                    self.assertEqual(self.over(data, "check"), (0, b"0 messages, 1 records, 1 images\n", ""))
+                else:
+                    self.refused(data, len(front), "its image has 3 live orders, and max_orders is 2")
+
+    def test_lives_in_a_closed_market(self):
+        day, kept, killed = row_of(3, 0), row_of(4, 1), row_of(5, 4)
+        for resting, waiting, bad in [
+            ([], [], None),
+            ([kept, kept], [kept], None),
+            ([kept, day], [kept], "order 3 has the life 0"),
+            ([kept], [kept, day], "order 3 has the life 0"),
+            ([day], [killed], "order 3 has the life 0"),
+            ([], [killed], "order 5 has the life 4"),
+        ]:
+            with self.subTest(bad):
+                image = old_image_of(resting, waiting)
+                for record in (image_record(image + MARKET_OPEN), old_image_record(image)):
+                    self.assertEqual(self.over(journal_of(record), "check")[0], 0)
+                closed = journal_of(image_record(image + MARKET_CLOSED))
+                if bad is None:
+                    self.assertEqual(self.over(closed, "check"), (0, b"0 messages, 1 records, 1 images\n", ""))
+                else:
+                    self.refused(closed, 149, f"its image is of a closed market, and {bad}, and not 1")
+                for byte in (2, 255):
+                    why = f"the last byte of its image is {byte}, and neither 0 nor 1"
+                    self.refused(journal_of(image_record(image + bytes([byte]))), 149, why)
 
     def test_the_count_of_messages(self):
-        data = journal_of(image_record(image_after((1 << 24) - 2)), messages_record(SELL))
-        self.refused(data, 149, "the image counts 16,777,214 messages, and 0 are before it")
-        data = journal_of(image_record(image_after((1 << 24) - 2)), messages_record(SELL, BUY))
-        self.refused(data, 149 + 7 + 584, "16,777,216 messages are counted with it, and not fewer than 16,777,216")
+        most = (1 << 24) - 2
+        for record in (image_record(image_after(most)), old_image_record(old_image_after(most))):
+            data = journal_of(record, messages_record(SELL))
+            self.refused(data, 149, "the image counts 16,777,214 messages, and 0 are before it")
+            data = journal_of(record, messages_record(SELL, BUY))
+            why = "16,777,216 messages are counted with it, and not fewer than 16,777,216"
+            self.refused(data, 149 + len(record), why)
 
     def test_an_image_of_other_messages(self):
-        data = journal_of(messages_record(SELL), image_record(IMAGE))
-        self.refused(data, 266, "the image counts 2 messages, and 1 are before it")
-        line = b"266 C image after 1 message, 667 bytes, but it counts 2 messages\n"
-        self.assertIn(line, self.over(data, "list")[1])
+        for record, what in ((image_record(IMAGE), b"D"), (old_image_record(OLD_IMAGE), b"C")):
+            data = journal_of(messages_record(SELL), record)
+            self.refused(data, 266, "the image counts 2 messages, and 1 are before it")
+            line = b"266 %b image after 1 message, %d bytes, but it counts 2 messages\n" % (what, len(record) - 6)
+            self.assertIn(line, self.over(data, "list")[1])
 
     def test_what_is_no_journal(self):
         for data, place in [
