@@ -71,10 +71,10 @@ fn execute(
 /// Executes the command over the product of this text; it does all it should, and counts so many messages.
 fn execute_well(
     rt: &(impl Abort + AllocGlobal),
+    station: &mut MemStation,
     text: &str,
     line: &str,
     bodies: &[&str],
-    station: &mut MemStation,
     messages: u64,
 ) {
     let got = execute(rt, text, line, bodies, station);
@@ -114,28 +114,27 @@ fn expect_third_reports(rt: &(impl Abort + AllocGlobal), image: &[u8]) {
     expect_sent(rt, "run", &[THIRD_ORDER], image, ended(0, 0, 1), sent);
 }
 
-/// The image after a command over this one that does all it should.
+/// The station after a command over this image that does all it should.
+fn station_behind(
+    rt: &(impl Abort + AllocGlobal),
+    line: &str,
+    bodies: &[&str],
+    image: &[u8],
+) -> MemStation {
+    let (got, station) = execute_over(rt, line, bodies, image);
+    expect_success(rt, line, got);
+    station
+}
+
+/// The image after it.
 fn image_behind(
     rt: &(impl Abort + AllocGlobal),
     line: &str,
     bodies: &[&str],
     image: &[u8],
 ) -> Vec<u8> {
-    let (got, station) = execute_over(rt, line, bodies, image);
-    expect_success(rt, line, got);
+    let station = station_behind(rt, line, bodies, image);
     station.image().to_vec(rt.alloc()).expect(rt, "memory")
-}
-
-/// What a command over this image sends that does all it should.
-fn output_behind(
-    rt: &(impl Abort + AllocGlobal),
-    line: &str,
-    bodies: &[&str],
-    image: &[u8],
-) -> Vec<u8> {
-    let (got, station) = execute_over(rt, line, bodies, image);
-    expect_success(rt, line, got);
-    station.output().to_vec(rt.alloc()).expect(rt, "memory")
 }
 
 /// The first bytes of some.

@@ -27,6 +27,18 @@ const ONE: usize = 111;
 /// The reports of both.
 const REPORTS: [&str; 4] = [ACCEPTED, SECOND_ACCEPTED, FILLED, SECOND_FILLED];
 
+/// What `fills` sends of both.
+const FILLS: &str = "1 FIFO ESZ4 S 4@100.00 #1 AAA a1
+1 FIFO ESZ4 B 4@100.00 #2 BBB b1
+";
+
+/// What `ledger` sends of both before its last line.
+const ENTRIES: &str = "#1 entered 10 filled 0 open 10 cancelled 0
+#2 entered 4 filled 0 open 4 cancelled 0
+#1 entered 10 filled 4 open 6 cancelled 0
+#2 entered 4 filled 4 open 0 cancelled 0
+";
+
 /// What stands in a journal of the product before its text.
 const HEADER: &[u8] = b"\x01GXJOURN1\x00\x00\x00\x88";
 
@@ -119,6 +131,18 @@ fn execute_over(
     (outcome, station)
 }
 
+/// How a run over these sources and this station ends, and the station then.
+fn run_over_sources(
+    rt: &(impl Abort + AllocGlobal),
+    product: MemSource,
+    input: MemSource,
+    station: MemStation,
+) -> (Outcome, MemStation) {
+    let mut station = station;
+    let outcome = execute_from(rt, "run", product, input, &mut station);
+    (outcome, station)
+}
+
 /// Runs over this image and this input, of which the first read gives so many bytes, and the next one all others.
 fn run_from(
     rt: &(impl Abort + AllocGlobal),
@@ -128,9 +152,7 @@ fn run_from(
 ) -> (Outcome, MemStation) {
     let product = source_of(rt, PRODUCT.as_bytes());
     let input = cut_source(rt, input, first, Vec::new(rt.alloc()));
-    let mut station = station_of(rt, image);
-    let outcome = execute_from(rt, "run", product, input, &mut station);
-    (outcome, station)
+    run_over_sources(rt, product, input, station_of(rt, image))
 }
 
 /// Executes the command over a station; it does all it should, and counts so many messages.

@@ -5,7 +5,7 @@ use super::images::{
 };
 use super::{
     SMALL_PRODUCT, THIRD_ORDER, THIRD_REPORTS, closed, execute_over, execute_well, expect_sent,
-    expect_third_reports, front_of, image_behind, joined, output_behind, station_of,
+    expect_third_reports, front_of, image_behind, joined, station_behind, station_of,
 };
 use globex_run::Outcome;
 use gx_station::MemStation;
@@ -28,7 +28,7 @@ fn journal_with_image(rt: &(impl Abort + AllocGlobal), journal: &[u8]) -> Vec<u8
 /// The station after a run of `ONE_ORDER` over the usual product.
 fn station_of_one_order(rt: &(impl Abort + AllocGlobal)) -> MemStation {
     let mut station = station_of(rt, b"");
-    execute_well(rt, PRODUCT, "run", &ONE_ORDER, &mut station, 2);
+    execute_well(rt, &mut station, PRODUCT, "run", &ONE_ORDER, 2);
     expect_count(rt, "the journal", station.image().len(), 377);
     station
 }
@@ -42,7 +42,7 @@ fn expect_image(
     image: &[u8],
 ) {
     let sent = station.output().len();
-    execute_well(rt, PRODUCT, line, &[], station, messages);
+    execute_well(rt, station, PRODUCT, line, &[], messages);
     expect_bytes(rt, line, station.image(), image);
     expect_count(rt, line, station.output().len(), sent);
 }
@@ -69,9 +69,9 @@ fn run_behind_an_image(rt: HostRuntime) {
     let first = image_behind(&rt, "run", &ONE_ORDER, b"");
     let image = image_behind(&rt, "checkpoint", &[], first.as_slice());
     expect_third_reports(&rt, image.as_slice());
-    let sent = output_behind(&rt, "run", &ONE_ORDER, b"");
+    let station = station_behind(&rt, "run", &ONE_ORDER, b"");
     let reports = frames_of(rt.alloc(), &THIRD_REPORTS).expect(&rt, "memory");
-    expect_whole_run(&rt, sent.as_slice(), reports.as_slice());
+    expect_whole_run(&rt, station.output(), reports.as_slice());
 }
 
 /// A command: its words, the messages that it reads, and the number of messages that its outcome has.
@@ -86,9 +86,9 @@ fn expect_step(
     plain: &mut MemStation,
 ) {
     let (line, bodies, messages) = *step;
-    execute_well(rt, text, line, bodies, station, messages);
+    execute_well(rt, station, text, line, bodies, messages);
     if line != "checkpoint" {
-        execute_well(rt, text, line, bodies, plain, messages);
+        execute_well(rt, plain, text, line, bodies, messages);
     }
     expect_bytes(rt, line, station.output(), plain.output());
 }
@@ -231,8 +231,8 @@ fn expect_front(rt: &impl Abort, line: &str, whole: &[u8], front: &[u8]) {
 fn expect_lines_before(rt: &(impl Abort + AllocGlobal), line: &str, image: &[u8], bad: usize) {
     let sent = sent_before(rt, line, image, bad);
     let before = closed(rt, &[front_of(rt, image, bad)]);
-    let whole = output_behind(rt, line, &[], before.as_slice());
-    expect_front(rt, line, whole.as_slice(), sent.as_slice());
+    let whole = station_behind(rt, line, &[], before.as_slice());
+    expect_front(rt, line, whole.output(), sent.as_slice());
 }
 
 /// The commands that begin with the last image, and those that read each record.
@@ -558,13 +558,13 @@ fn filled_up(rt: &(impl Abort + AllocGlobal), image: &[u8]) -> Vec<u8> {
     station.image().to_vec(rt.alloc()).expect(rt, "memory")
 }
 
-/// A command over this image ends so.
+/// Over this image a command ends so.
 fn expect_ended(
     rt: &(impl Abort + AllocGlobal),
-    line: &str,
-    bodies: &[&str],
     image: &[u8],
     outcome: Outcome,
+    line: &str,
+    bodies: &[&str],
 ) {
     let (got, _) = execute_over(rt, line, bodies, image);
     expect_outcome(rt, line, got, outcome);
@@ -584,10 +584,10 @@ fn last_messages_that_are_counted(rt: HostRuntime) {
     let image = nearly_full(&rt);
     let full = filled_up(&rt, image.as_slice());
     let full = full.as_slice();
-    expect_ended(&rt, "run", &[THIRD_ORDER], full, ended(12, 0, 0));
-    expect_ended(&rt, "book", &[], full, ended(0, 0, 16_777_215));
-    expect_ended(&rt, "checkpoint", &[], full, ended(0, 0, 16_777_215));
-    expect_ended(&rt, "replay", &[], full, ended(0, 0, 4));
+    expect_ended(&rt, full, ended(12, 0, 0), "run", &[THIRD_ORDER]);
+    expect_ended(&rt, full, ended(0, 0, 16_777_215), "book", &[]);
+    expect_ended(&rt, full, ended(0, 0, 16_777_215), "checkpoint", &[]);
+    expect_ended(&rt, full, ended(0, 0, 4), "replay", &[]);
     expect_count(&rt, "the journal", full.len(), LATER_GATE + 227);
     expect_bad_third(&rt, full);
 }

@@ -5,7 +5,7 @@ use super::expects::{expect_bytes, expect_count, expect_outcome};
 use super::images::ONE_ORDER;
 use super::{
     SMALL_PRODUCT, closed, execute, execute_from, execute_over, execute_well, expect_sent,
-    expect_third_reports, front_of, image_behind, output_behind, source_of, station_of,
+    expect_third_reports, front_of, image_behind, source_of, station_behind, station_of,
 };
 use globex_run::Outcome;
 use gx_station::{MemSource, MemStation};
@@ -134,7 +134,7 @@ fn expect_length_behind(
     let got = execute(rt, SMALL_PRODUCT, "checkpoint", &[], station);
     expect_outcome(rt, "checkpoint", got, outcome);
     expect_count(rt, "checkpoint", station.image().len(), length);
-    execute_well(rt, SMALL_PRODUCT, "replay", &[], station, 33);
+    execute_well(rt, station, SMALL_PRODUCT, "replay", &[], 33);
 }
 
 /// After 33 heartbeats there is just room for the image of an empty book, which has 586 bytes.
@@ -220,11 +220,10 @@ fn expect_crashes(rt: &(impl Abort + AllocGlobal), clean: &MemStation, reports: 
 /// A crash at each call of a checkpoint, and a fault of each call: the journal keeps what it kept.
 #[test]
 fn crashes_and_faults(rt: HostRuntime) {
-    let first = image_behind(&rt, "run", &ONE_ORDER, b"");
-    let reports = output_behind(&rt, "run", &ONE_ORDER, b"");
-    let clean = clean_checkpoint(&rt, first.as_slice());
-    expect_crashes(&rt, &clean, reports.as_slice());
+    let first = station_behind(&rt, "run", &ONE_ORDER, b"");
+    let clean = clean_checkpoint(&rt, first.image());
+    expect_crashes(&rt, &clean, first.output());
     for call in 1..=clean.calls() {
-        expect_kept_over_fault(&rt, first.as_slice(), call, reports.as_slice());
+        expect_kept_over_fault(&rt, first.image(), call, first.output());
     }
 }

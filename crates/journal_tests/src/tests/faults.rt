@@ -1,8 +1,8 @@
 //! Runs in which a call of the outside fails, what can still be done then, and a run for which memory may not suffice.
 use super::expects::{expect_bytes, expect_count, expect_outcome, expect_texts};
 use super::{
-    BOTH, ONE, ORDERS, REPORTS, cut_source, execute_from, execute_over, failing_station, joined,
-    source_of, station_of,
+    BOTH, ONE, ORDERS, REPORTS, cut_source, execute_over, failing_station, joined,
+    run_over_sources, source_of, station_of,
 };
 use globex_run::Outcome;
 use gx_station::{LEAST_READ, MemSource, MemStation, Source};
@@ -45,9 +45,7 @@ fn run_failing(
     let (product_read, input_read, call) = fails;
     let product = failing_product(rt, product_read);
     let input = failing_input(rt, frames, first, input_read);
-    let mut station = failing_station(rt, call);
-    let outcome = execute_from(rt, "run", product, input, &mut station);
-    (outcome, station)
+    run_over_sources(rt, product, input, failing_station(rt, call))
 }
 
 /// A run with calls that fail, as of `run_failing`: how it ends, what is sent, how often the station is called, and how many bytes

@@ -312,11 +312,9 @@ fn expect_sent(rt: &(impl Abort + AllocGlobal), file: File, frames: &[&str], rep
 
 /// The file of this path, which is made if it is absent.
 fn opened(rt: &HostRuntime, path: &str) -> io::Result<File> {
-    OpenOptions::new()
-        .read(true)
-        .write(true)
-        .create(true)
-        .open(rt, path)
+    let mut options = OpenOptions::new();
+    options.read(true).write(true).create(true);
+    options.open(rt, path)
 }
 
 /// Two runs over one file.

@@ -1,8 +1,8 @@
 //! What the commands print of the stored example and of made messages.
 use super::expects::{expect_bytes, expect_last, expect_outcome, expect_texts};
 use super::{
-    ORDERS, REPORTS, execute, execute_well, failing_station, image_of, joined, roomy_station,
-    station_of,
+    ENTRIES, FILLS, ORDERS, REPORTS, execute, execute_well, failing_station, image_of, joined,
+    roomy_station, station_of,
 };
 use gx_station::MemStation;
 use run_fixtures::ended;
@@ -43,18 +43,7 @@ fn printed_forms_of_none(rt: HostRuntime) {
 
 const BOOK: [&str; 2] = ["ESZ4 last 100.00\n", "S 100.00 6/6 #1 AAA a1\n"];
 
-const FILLS: [&str; 2] = [
-    "1 FIFO ESZ4 S 4@100.00 #1 AAA a1\n",
-    "1 FIFO ESZ4 B 4@100.00 #2 BBB b1\n",
-];
-
-const LEDGER: [&str; 5] = [
-    "#1 entered 10 filled 0 open 10 cancelled 0\n",
-    "#2 entered 4 filled 0 open 4 cancelled 0\n",
-    "#1 entered 10 filled 4 open 6 cancelled 0\n",
-    "#2 entered 4 filled 4 open 0 cancelled 0\n",
-    "total entered 14 filled 8 open 6 cancelled 0\n",
-];
+const TOTAL_OF_BOTH: &str = "total entered 14 filled 8 open 6 cancelled 0\n";
 
 /// What the commands print of both orders.
 #[test]
@@ -62,17 +51,17 @@ fn printed_forms(rt: HostRuntime) {
     let mut station = station_of(&rt, b"");
     expect_step(&rt, &mut station, "run", &ORDERS, 2, &REPORTS);
     expect_step(&rt, &mut station, "book", &[], 2, &BOOK);
-    expect_step(&rt, &mut station, "fills", &[], 2, &FILLS);
-    expect_step(&rt, &mut station, "ledger", &[], 2, &LEDGER);
+    expect_step(&rt, &mut station, "fills", &[], 2, &[FILLS]);
+    let ledger = [ENTRIES, TOTAL_OF_BOTH];
+    expect_step(&rt, &mut station, "ledger", &[], 2, &ledger);
     expect_step(&rt, &mut station, "steps", &[], 0, &["ESZ4 F FIFO\n"]);
     expect_step(&rt, &mut station, "replay", &[], 2, &REPORTS);
 }
 
-const DRILLED_BOOK: [&str; 3] = [
-    "ESZ4 last -\n",
-    "B 99.25 52/52 #1 BBB G2\n",
-    "B 99.20 20/20 #2 CCC G3\n",
-];
+const DRILLED_BOOK: &str = "ESZ4 last -
+B 99.25 52/52 #1 BBB G2
+B 99.20 20/20 #2 CCC G3
+";
 
 #[test]
 fn drills(rt: HostRuntime) {
@@ -95,7 +84,7 @@ fn drills(rt: HostRuntime) {
         3,
         &[three],
     );
-    expect_step(&rt, &mut station, "book", &[], 3, &DRILLED_BOOK);
+    expect_step(&rt, &mut station, "book", &[], 3, &[DRILLED_BOOK]);
 }
 
 /// The send of the reports fails; they can be sent later.

@@ -1,6 +1,6 @@
 //! Images that are refused: what each command answers and sends, and that they stay as they are.
 use super::expects::{expect_bytes, expect_outcome, expect_texts};
-use super::{HEADER, ORDERS, REPORTS, execute_over, image_of, joined, journal_of};
+use super::{ENTRIES, FILLS, HEADER, ORDERS, REPORTS, execute_over, image_of, joined, journal_of};
 use globex_run::Outcome;
 use run_fixtures::{ORDER, PRODUCT, ended};
 use std::process::Abort;
@@ -64,20 +64,6 @@ fn images_that_no_command_opens(rt: HostRuntime) {
 /// The commands that begin with the last book image, or with the first record, and send nothing where they meet a bad one.
 const BEGINNING: [&str; 4] = ["run", "book", "drill --first 1 --count 2", "checkpoint"];
 
-/// What `fills` sends of the two orders.
-const FILLS: [&str; 2] = [
-    "1 FIFO ESZ4 S 4@100.00 #1 AAA a1\n",
-    "1 FIFO ESZ4 B 4@100.00 #2 BBB b1\n",
-];
-
-/// What the ledger sends of them, but for its last line.
-const LEDGER: [&str; 4] = [
-    "#1 entered 10 filled 0 open 10 cancelled 0\n",
-    "#2 entered 4 filled 0 open 4 cancelled 0\n",
-    "#1 entered 10 filled 4 open 6 cancelled 0\n",
-    "#2 entered 4 filled 4 open 0 cancelled 0\n",
-];
-
 /// A journal of one record of both orders, with these bytes behind it.
 fn behind_orders(rt: &(impl Abort + AllocGlobal), bad: &[u8]) -> Vec<u8> {
     let orders = joined(rt, &ORDERS);
@@ -91,8 +77,8 @@ fn expect_bad(rt: &(impl Abort + AllocGlobal), image: &[u8], beginning: u64, rea
     }
     let read = ended(10, reading, 0);
     expect_left(rt, "replay", image, read, &REPORTS);
-    expect_left(rt, "fills", image, read, &FILLS);
-    expect_left(rt, "ledger", image, read, &LEDGER);
+    expect_left(rt, "fills", image, read, &[FILLS]);
+    expect_left(rt, "ledger", image, read, &[ENTRIES]);
     expect_left(rt, "steps", image, ended(0, 0, 0), &[STEPS]);
 }
 
