@@ -1,5 +1,5 @@
 -- The texts of each request are short: ids and symbols are names, and the time has at most 24 bytes.
-use Rattle.std.proofs.Common.{◌≡◌, ℕ, ◌≤◌, Bool, true, false, cond, ◌||◌, ◌&&◌, List, [], length, Option, Some, None, Result, Ok, Err, refl, subst, arith, eqb-true}
+use Rattle.std.proofs.Common.{◌≡◌, ℕ, ◌≤◌, Bool, true, false, cond, ◌||◌, ◌&&◌, List, length, Option, Some, None, Result, Ok, Err, refl, subst, arith, eqb-true}
 use Rattle.std.proofs.lemmas.Bool.{and_parts}
 use Rattle.std.specs.Prelude.{◌==◌, IfOk, MatchResult}
 use Rattle.std.specs.Option.{ok_or}

@@ -25,7 +25,7 @@ use Rattle.gx_base.specs.declared.event.ChangeFault.{ChangeFault}
 use Rattle.gx_base.specs.declared.event.ChangeFault.TheVariants as changes
 use Rattle.gx_base.specs.declared.event.Head.{Head}
 use Rattle.gx_base.specs.declared.event.Event.{Event}
-use Rattle.gx_base.specs.declared.event.Event.TheVariants.{Accepted, Triggered, Fill, Cancelled, Replaced, RefusedNew, RefusedChange, RefusedSession}
+use Rattle.gx_base.specs.declared.event.Event.TheVariants.{Accepted, Triggered, Fill, Cancelled, Expired, Replaced, RefusedNew, RefusedChange, RefusedSession}
 
 -- ---- names, where a number that is not listed is written as UNKNOWN
 
@@ -74,6 +74,7 @@ fill_status leaves = if leaves == 0 then codes "2" else codes "1"
 
 -- our own words for why a new order is refused (58)
 abbrev pub fault_text : NewFault → List ℕ
+fault_text faults.Closed = codes "CLOSED"
 fault_text faults.Symbol = codes "SYMBOL"
 fault_text faults.Duplicate = codes "DUPLICATE"
 fault_text faults.Quantity = codes "QUANTITY"
@@ -85,9 +86,10 @@ fault_text faults.Show = codes "SHOW"
 fault_text faults.BookFull = codes "BOOK FULL"
 fault_text faults.NoMarket = codes "NO MARKET"
 
--- the reason of a refusal (103) in FIX 4.2: 0 exchange option, 1 unknown symbol, 3 order exceeds limit, 6 duplicate
--- order. Which fault has which of them is our own rule
+-- the reason of a refusal (103) in FIX 4.2: 0 exchange option, 1 unknown symbol, 2 exchange closed, 3 order exceeds
+-- limit, 6 duplicate order. Which fault has which of them is our own rule
 abbrev pub reject_reason : NewFault → List ℕ
+reject_reason faults.Closed = codes "2"
 reject_reason faults.Symbol = codes "1"
 reject_reason faults.Duplicate = codes "6"
 reject_reason faults.Quantity = codes "3"
@@ -107,6 +109,7 @@ cause_text causes.MinQty = Some (codes "MINQTY NOT MET")
 
 -- our own words for why a cancel or a replace is refused (58)
 abbrev pub change_text : ChangeFault → List ℕ
+change_text changes.Closed = codes "CLOSED"
 change_text changes.Unknown = codes "UNKNOWN"
 change_text changes.Mismatch = codes "MISMATCH"
 change_text changes.Duplicate = codes "DUPLICATE"
@@ -120,6 +123,7 @@ change_text changes.Show = codes "SHOW"
 -- the reason of such a refusal (102) in FIX 4.2: 0 too late, 1 unknown order, 2 broker option. Which fault has which of
 -- them is our own rule
 abbrev pub change_reason : ChangeFault → List ℕ
+change_reason changes.Closed = codes "2"
 change_reason changes.Unknown = codes "1"
 change_reason changes.Mismatch = codes "2"
 change_reason changes.Duplicate = codes "2"
@@ -130,8 +134,9 @@ change_reason changes.StopLimit = codes "2"
 change_reason changes.StopReached = codes "2"
 change_reason changes.Show = codes "2"
 
--- the status of the order that was to change (39): rejected where there is none, else new or partly filled
+-- the status of the order that was to change (39): rejected if none is named, else new or partly filled
 abbrev pub change_status : ChangeFault → ℕ → List ℕ
+change_status changes.Closed filled = codes "8"
 change_status changes.Unknown filled = codes "8"
 change_status fault filled = if filled == 0 then codes "0" else codes "1"
 
@@ -301,6 +306,11 @@ body_of names (Cancelled head order gone by cause) =
     order_front names head order (cancel_id order by) (cancelled_id order by) (codes "4")
     ++ state_fields head order
     ++ field_if "58" (cause_text cause)
+    ++ field "9003" (decimal gone)
+body_of names (Expired head order gone) =
+    order_front names head order order.id None (codes "C")
+    ++ state_fields head order
+    ++ field "58" (codes "EXPIRED")
     ++ field "9003" (decimal gone)
 body_of names (Replaced head order old old_quantity) =
     order_front names head order order.id (Some old) (codes "5")

@@ -38,6 +38,8 @@ pub struct Head {
 /// Why a new order is refused.
 #[derive(Clone, Copy, Debug, PartialEq, Eq)]
 pub enum NewFault {
+    /// The market is closed.
+    Closed,
     /// No instrument has the name.
     Symbol,
     /// A live order of the firm has this ClOrdID (11).
@@ -88,6 +90,8 @@ pub enum Cause {
 /// Why a cancel or a replace is refused. A cancel is refused as `Unknown` only.
 #[derive(Clone, Copy, Debug, PartialEq, Eq)]
 pub enum ChangeFault {
+    /// The market is closed.
+    Closed,
     /// No live order of the firm has the id in tag 41.
     Unknown,
     /// Instrument, side or order type is not that of the order.
@@ -144,6 +148,14 @@ pub enum Event {
         by: Option<ShortId>,
         cause: Cause,
     },
+    /// The market closed, and what was open of an order that is not good till cancelled ended with that.
+    Expired {
+        head: Head,
+        /// The order after it: nothing is open or shown.
+        order: Order,
+        /// What was open, in lots (9003).
+        gone: u32,
+    },
     /// A replace is accepted. What it changed is not matched again yet.
     Replaced {
         head: Head,
@@ -167,9 +179,9 @@ pub enum Event {
         id: ShortId,
         /// The id of the order that it was to change (41).
         old: ShortId,
-        /// The number of that order (37), or 0 where it is unknown.
+        /// The number of that order (37), or 0 if it is unknown or the market is closed.
         number: u64,
-        /// What is filled of that order, in lots, or 0 where it is unknown.
+        /// What is filled of that order, in lots, or 0 if it is unknown or the market is closed.
         filled: u32,
         /// Whether it is a replace.
         replace: bool,

@@ -5,6 +5,6 @@
 pub enum Trading {
     /// Orders are taken and matched.
     Open,
-    /// No order is taken, and all live orders are good till cancelled.
+    /// New orders and replaces are refused, and cancels are taken. All live orders are good till cancelled.
     Closed,
 }
