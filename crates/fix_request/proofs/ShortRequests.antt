@@ -30,6 +30,7 @@ abbrev pub HasShort : Request → Type 0
 HasShort (request.New order) = (length order.sender.time ≤ 24) × ((is_name order.id ≡ true) × (is_name order.symbol ≡ true))
 HasShort (request.Cancel order) = (length order.sender.time ≤ 24) × ((is_name order.id ≡ true) × (is_name order.old ≡ true))
 HasShort (request.Replace order) = (length order.sender.time ≤ 24) × ((is_name order.id ≡ true) × (is_name order.old ≡ true))
+HasShort (request.Session change) = length change.time ≤ 24
 HasShort (request.Passed sender) = Unit {0}
 HasShort (request.Refused refusal) = length refusal.time ≤ 24
 

@@ -17,4 +17,6 @@ mod texts;
 mod values;
 
 pub use read::read_request;
-pub use request::{CancelOrder, Named, NewOrder, Px, Refusal, ReplaceOrder, Request, Sender};
+pub use request::{
+    CancelOrder, Named, NewOrder, Px, Refusal, ReplaceOrder, Request, Sender, SessionChange,
+};

@@ -17,6 +17,8 @@ pub enum MessageType {
     Cancel,
     /// G.
     Replace,
+    /// h.
+    Trading,
 }
 
 /// The type of a message (35).

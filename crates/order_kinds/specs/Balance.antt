@@ -3,7 +3,7 @@ use Rattle.std.specs.Prelude.{◌≡◌, ℕ, ◌+◌, ◌-◌, ◌==◌, if◌t
 use Rattle.std.specs.List.{AllByRecursion}
 use Rattle.gx_base.specs.declared.order.Order.{Order}
 use Rattle.gx_base.specs.declared.event.Event.{Event}
-use Rattle.gx_base.specs.declared.event.Event.TheVariants.{Accepted, Triggered, Fill, Cancelled, Replaced, RefusedNew, RefusedChange, RefusedSession}
+use Rattle.gx_base.specs.declared.event.Event.TheVariants.{Accepted, Triggered, Fill, Cancelled, Expired, Replaced, RefusedNew, RefusedChange, RefusedSession}
 use Rattle.product_file.specs.Products.{ProductLists}
 use Rattle.plain_book.specs.declared.entry.Entry.{Entry}
 use Rattle.plain_book.specs.Orders.{opposite, order_of}
@@ -38,6 +38,7 @@ quantities_of (Accepted head o) = Some (quantities o 0)
 quantities_of (Triggered head o) = Some (quantities o 0)
 quantities_of (Fill head o lots price step trade) = Some (quantities o 0)
 quantities_of (Cancelled head o gone by cause) = Some (quantities o gone)
+quantities_of (Expired head o gone) = Some (quantities o gone)
 quantities_of (Replaced head o old before) = Some (quantities o 0)
 quantities_of (RefusedNew head new fault) = Some (all_cancelled new.quantity)
 quantities_of (RefusedChange head id old number filled replace fault) = None
@@ -49,6 +50,7 @@ order_in (Accepted head o) = Some o
 order_in (Triggered head o) = Some o
 order_in (Fill head o lots price step trade) = Some o
 order_in (Cancelled head o gone by cause) = Some o
+order_in (Expired head o gone) = Some o
 order_in (Replaced head o old before) = Some o
 order_in (RefusedNew head new fault) = None
 order_in (RefusedChange head id old number filled replace fault) = None
@@ -57,6 +59,11 @@ order_in (RefusedSession head seq tag reason rule) = None
 -- what was ordered is filled, open, or cancelled
 abbrev pub AddsUp : Event → Type 0
 AddsUp event = IfSome (quantities_of event) (λ q. q.ordered ≡ q.filled + (q.leaves + q.cancelled))
+
+-- nothing is open of an order that expired
+abbrev pub IsSpent : Event → Type 0
+IsSpent (Expired head o gone) = o.leaves ≡ 0
+IsSpent _ = Unit {0}
 
 -- ---- one order
 
@@ -125,9 +132,10 @@ filled_in _ = 0
 abbrev pub total_filled : List Event → ℕ
 total_filled events = sum_by filled_in events
 
--- what was open of all cancelled orders
+-- what was open of all orders that were cancelled, and of all that expired
 abbrev pub cancelled_in : Event → ℕ
 cancelled_in (Cancelled head o gone by cause) = gone
+cancelled_in (Expired head o gone) = gone
 cancelled_in _ = 0
 
 abbrev pub total_cancelled : List Event → ℕ
@@ -143,6 +151,8 @@ total_open book = sum_by (λ (e : Entry). e.order.leaves) (live_orders book)
 pub record AreBalanced (events : List Event) (state : State) : Type 0 where
   -- each execution report: 38 = 14 + 151 + 9003
   pub reports : AllByRecursion AddsUp events
+  -- each order that expires: nothing is open of it any more
+  pub expired : AllByRecursion IsSpent events
   -- each order: what is filled is the sum of its fills
   pub fills : FillsAddUp events
   -- each order: what is open by its last report is what is open of it in the book

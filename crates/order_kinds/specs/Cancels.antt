@@ -47,5 +47,5 @@ abbrev pub rejected : Refusal → Desk → Event
 rejected refusal desk = RefusedSession (next_line_head desk refusal.firm refusal.time) refusal.seq refusal.tag refusal.reason refusal.rule
 
 -- a reject is reported to the sender, as far as it is known
-abbrev pub session_step : Refusal → State → State × List Event
-session_step refusal state = (record state { desk = line_counted state.desk refusal.firm }, rejected refusal state.desk ∷ [])
+abbrev pub message_refused : Refusal → State → State × List Event
+message_refused refusal state = (record state { desk = line_counted state.desk refusal.firm }, rejected refusal state.desk ∷ [])

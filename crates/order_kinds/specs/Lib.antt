@@ -1,9 +1,9 @@
 pub mod State
-pub mod TradingSessions
 pub mod Instruments
 pub mod OrderRules
 pub mod NewOrders
 pub mod Entering
+pub mod TradingSessions
 pub mod Stops
 pub mod Reports
 pub mod Cancels

@@ -1,9 +1,7 @@
 -- Fields and values as the code holds them: slices, which contracts see as their bytes.
-use Rattle.std.specs.Prelude.{ℕ, Bool, not, ◌&&◌, ◌==◌, nat_lt, nat_le, if◌then◌else◌, List, length, slice_index, Option, Some, None}
+use Rattle.std.specs.Prelude.{ℕ, Bool, not, ◌&&◌, ◌==◌, nat_lt, if◌then◌else◌, List, length, slice_index, Option, Some, None}
 use Rattle.std.specs.Char.{is_ascii_digit}
 use Rattle.std.specs.List.{before_first, after_first, list_any}
-use Rattle.gx_base.specs.declared.digits.TheConstants.{MOST_DIGITS}
-use Rattle.gx_base.specs.Numbers.{are_digits}
 use Rattle.fix_request.specs.Fields.{is_equals_sign, Field}
 use Rattle.fix_request.specs.Inner.Values.{Values}
 use Rattle.fix_request.specs.Inner.Orders.{has_price, has_trigger, OrderTexts}
@@ -21,10 +19,6 @@ has_tag_of_two_digits text =
     && is_ascii_digit (slice_index text 0)
     && not (slice_index text 0 == 48)
     && is_ascii_digit (slice_index text 1)
-
--- one to MOST_DIGITS digits
-abbrev pub is_number : List ℕ → Bool
-is_number text = nat_le 1 (length text) && nat_le (length text) MOST_DIGITS && are_digits text
 
 -- what stands before the first `=` of a text and behind it, where it has one
 abbrev pub split_at_equals_sign : List ℕ → Option (List ℕ × List ℕ)

@@ -2,6 +2,8 @@
 use Rattle.std.specs.Prelude.{ℕ, ◌+◌, Bool, true, false, List, Option, Some, None, Result, Ok, Err}
 use Rattle.gx_base.specs.declared.order.Kind.{Kind}
 use Rattle.gx_base.specs.declared.order.Kind.TheVariants.{Limit, Market, StopLimit}
+use Rattle.gx_base.specs.declared.trading.Trading.{Trading}
+use Rattle.gx_base.specs.declared.trading.Trading.TheVariants.{Open, Closed}
 use Rattle.gx_base.specs.declared.event.NewFault.{NewFault}
 use Rattle.gx_base.specs.declared.event.ChangeFault.{ChangeFault}
 use Rattle.step_config.specs.declared.step.Step.{Step}
@@ -9,7 +11,7 @@ use Rattle.product_file.specs.Products.{ProductLists}
 use Rattle.fix_request.specs.declared.request.NewOrder.{NewOrder}
 use Rattle.fix_request.specs.declared.request.ReplaceOrder.{ReplaceOrder}
 use Rattle.fix_request.specs.declared.request.Request.{Request}
-use Rattle.fix_request.specs.declared.request.Request.TheVariants.{New, Cancel, Replace, Passed, Refused}
+use Rattle.fix_request.specs.declared.request.Request.TheVariants.{New, Cancel, Replace, Session, Passed, Refused}
 use Rattle.plain_book.specs.Orders.{order_of, slot_named}
 use Rattle.plain_book.specs.Book.{AllDiffer, live_orders}
 use Rattle.plain_book.specs.Match.{MatchState}
@@ -55,11 +57,21 @@ ReplaceApart None product request state naming = Unit {0}
 ReplaceApart (Some slot) product request state naming =
     ReplaceApartBy (replace_terms product request (order_of slot (live_orders state.book)) state) request slot state naming
 
+-- the orders of a request in an open market
+abbrev pub OpenApart : ProductLists → Request → State → Naming → Type 0
+OpenApart product (New order) state naming = NewApart (terms_of product order state) order state naming
+OpenApart product (Replace order) state naming =
+    ReplaceApart (slot_named order.sender.firm order.old (live_orders state.book)) product order state naming
+OpenApart product (Cancel order) state naming = Unit {0}
+OpenApart product (Session change) state naming = Unit {0}
+OpenApart product (Passed sender) state naming = Unit {0}
+OpenApart product (Refused refusal) state naming = Unit {0}
+
+-- in a closed market no order comes in
+abbrev pub ApartIn : Trading → ProductLists → Request → State → Naming → Type 0
+ApartIn Open product request state naming = OpenApart product request state naming
+ApartIn Closed product request state naming = Unit {0}
+
 -- the orders of a request
 abbrev pub StayApart : ProductLists → Request → State → Naming → Type 0
-StayApart product (New order) state naming = NewApart (terms_of product order state) order state naming
-StayApart product (Replace order) state naming =
-    ReplaceApart (slot_named order.sender.firm order.old (live_orders state.book)) product order state naming
-StayApart product (Cancel order) state naming = Unit {0}
-StayApart product (Passed sender) state naming = Unit {0}
-StayApart product (Refused refusal) state naming = Unit {0}
+StayApart product request state naming = ApartIn state.trading product request state naming
