@@ -25,7 +25,8 @@ pub enum StepName {
 /// Where a report goes, and its numbers.
 #[derive(Clone, Copy, Debug, PartialEq, Eq)]
 pub struct Head {
-    /// The number of the firm that it goes to, or `None` where the sender is not known.
+    /// The number of the firm that it goes to, or `None` if it goes to `UNKNOWN`: the sender is not known, or the exchange sent what is
+    /// refused.
     pub firm: Option<u8>,
     /// How many report lines that addressee has had, with this one. It is the line's sequence number (34).
     pub line: u64,

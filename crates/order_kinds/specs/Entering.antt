@@ -20,7 +20,7 @@ use Rattle.order_kinds.specs.NewOrders.{may_rest}
 
 -- ---- cancelled by the engine
 
--- the order as the report of its cancel shows it: nothing is open or shown any more
+-- the order as the report of its cancel or of its end at a close shows it: nothing is open or shown any more
 abbrev pub closed : Order → Order
 closed o = record o { leaves = 0; shown = 0 }
 
