@@ -2,8 +2,14 @@
 pub mod Agree
 pub mod ValidRequests
 pub mod ShortRequests
+pub mod FirmRules
 -- What the proofs of this crate alone cite.
+mod AgreeHeaders
 mod AgreeOrders
+mod AgreeFirms
+mod AgreeChanges
+mod Answering
+mod Rows
 mod ValidOrders
 mod Giving
 mod Holding

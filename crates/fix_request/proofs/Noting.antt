@@ -43,6 +43,7 @@ by_tag at =
       life = at 59;
       min = at 110;
       show = at 210;
+      status = at 340;
     }
 
 same_by_tag : (f g : ℕ → Option (List ℕ)) → ((tag : ℕ) → f tag ≡ g tag) → by_tag f ≡ by_tag g

@@ -14,10 +14,10 @@ use Rattle.fix_frame.specs.Grammar.{body_in}
 use Rattle.product_file.specs.Products.{ProductLists}
 use Rattle.fix_request.proofs.Agree.{body_is}
 use Rattle.fix_request.specs.MessageTable.{named_of}
-use Rattle.fix_request.specs.Inner.Requests.{checked_values, firm_of, target_of, sequence_of, time_of, type_of, content_by, content_of, known, sender_of_body, content_or_refusal, or_refused}
+use Rattle.fix_request.specs.Inner.Requests.{checked_values, firm_of, exchange_of, target_of, sequence_of, time_of, type_of, content_by, content_of, known, sender_in, content_or_refusal, or_refused, request_of_firm, status_of, change_of, is_change, request_of_values, request_of_body}
 use Rattle.fix_request.specs.declared.fault.Fault.{Fault}
 use Rattle.fix_request.specs.declared.message_type.MessageType.{MessageType}
-use Rattle.fix_request.specs.declared.message_type.MessageType.TheVariants.{Session, New, Cancel, Replace}
+use Rattle.fix_request.specs.declared.message_type.MessageType.TheVariants.{Session, New, Cancel, Replace, Trading}
 use Rattle.fix_request.specs.declared.request.Sender.{Sender}
 use Rattle.fix_request.specs.declared.request.NewOrder.{NewOrder}
 use Rattle.fix_request.specs.declared.request.CancelOrder.{CancelOrder}
@@ -107,16 +107,18 @@ replace-short names sender values few =
     ok-then P (listed 44 forms.price) _ (λ price _.
     ok-then P (listed 99 forms.trigger) _ (λ trigger _. (few, (name-formed id_text id 11 is, name-formed old_text old 41 old_is))))))))))))
 
-content-by-short : (names : NameLists) (sender : Sender) (values : Values) (type : MessageType) → length sender.time ≤ 24 → IfOk (content_by names sender values type) HasShort
+content-by-short : (names : NameLists) (sender : Sender) (values : Values) (type : Option MessageType) → length sender.time ≤ 24 → IfOk (content_by names sender values type) HasShort
 unfolding content_by
-content-by-short names sender values Session few = tt
-content-by-short names sender values New few = ok-mapped HasShort request.New (new_of names sender values) (new-short names sender values few)
-content-by-short names sender values Cancel few = ok-mapped HasShort request.Cancel (cancel_of sender values) (cancel-short sender values few)
-content-by-short names sender values Replace few = ok-mapped HasShort request.Replace (replace_of names sender values) (replace-short names sender values few)
+content-by-short names sender values (Some Session) few = tt
+content-by-short names sender values (Some New) few = ok-mapped HasShort request.New (new_of names sender values) (new-short names sender values few)
+content-by-short names sender values (Some Cancel) few = ok-mapped HasShort request.Cancel (cancel_of sender values) (cancel-short sender values few)
+content-by-short names sender values (Some Replace) few = ok-mapped HasShort request.Replace (replace_of names sender values) (replace-short names sender values few)
+content-by-short names sender values (Some Trading) few = tt
+content-by-short names sender values None few = tt
 
 content-short : (names : NameLists) (sender : Sender) (values : Values) → length sender.time ≤ 24 → IfOk (content_of names sender values) HasShort
 unfolding content_of
-content-short names sender values few = ok-then HasShort (type_of values) _ (λ type _. content-by-short names sender values type few)
+content-short names sender values few = content-by-short names sender values (type_of values) few
 
 -- ---- the sender's time
 
@@ -165,28 +167,47 @@ good-then : {A B : Type 0} (P : A → Type 0) (Q : B → Type 0) (r : Result A R
 good-then P Q (Ok a) next h k = k a h
 good-then P Q (Err refusal) next h k = h
 
-abbrev IsShortSent : Sender × Values → Type 0
-IsShortSent sent = length sent.0.time ≤ 24
+abbrev HasShortTime : Sender → Type 0
+HasShortTime sender = length sender.time ≤ 24
 
-sent-short : (names : NameLists) (body : List ℕ) → IsGood IsShortSent (sender_of_body names body)
-unfolding sender_of_body
-sent-short names body =
-    let none : length no_time ≤ 24 = omega arith in
-    known-then IsShortSent None 0 no_time (checked_values body) _ none (λ values _.
-    known-then IsShortSent None 0 no_time (firm_of names values) _ none (λ firm _.
-    known-then IsShortSent (Some firm) 0 no_time (target_of names values) _ none (λ target _.
-    known-then IsShortSent (Some firm) 0 no_time (sequence_of values) _ none (λ seq _.
-    known-then IsShortSent (Some firm) seq no_time (time_of values) _ none (λ time is. of-ok IsShort (time_of values) time (time_of-short values) is)))))
+no_time-short : length no_time ≤ 24
+no_time-short = omega arith
+
+sender-short : (names : NameLists) (values : Values) → IsGood HasShortTime (sender_in names values)
+unfolding sender_in
+sender-short names values =
+    known-then HasShortTime None 0 no_time (firm_of names values) _ no_time-short (λ firm _.
+    known-then HasShortTime (Some firm) 0 no_time (target_of names values) _ no_time-short (λ target _.
+    known-then HasShortTime (Some firm) 0 no_time (sequence_of values) _ no_time-short (λ seq _.
+    known-then HasShortTime (Some firm) seq no_time (time_of values) _ no_time-short (λ time is. of-ok IsShort (time_of values) time (time_of-short values) is))))
+
+firm-short : (names : NameLists) (values : Values) → IsGood HasShort (request_of_firm names values)
+firm-short names values =
+    good-then HasShortTime HasShort (sender_in names values) (content_or_refusal names values) (sender-short names values) (λ sender few.
+    known-last HasShort (Some sender.firm) sender.seq sender.time (content_of names sender values) few (content-short names sender values few))
+
+change-short : (names : NameLists) (values : Values) → IsGood HasShort (change_of names values)
+unfolding change_of
+change-short names values =
+    known-then HasShort None 0 no_time (exchange_of names 4 49 values.sender) _ no_time-short (λ sender _.
+    known-then HasShort None 0 no_time (target_of names values) _ no_time-short (λ target _.
+    known-then HasShort None 0 no_time (sequence_of values) _ no_time-short (λ seq _.
+    known-then HasShort None seq no_time (time_of values) _ no_time-short (λ time is.
+    let few = of-ok IsShort (time_of values) time (time_of-short values) is in
+    known-then HasShort None seq time (status_of values) _ few (λ to _. few)))))
+
+-- by whether the message changes the trading session
+by_change : (names : NameLists) (values : Values) (b : Bool) → IsGood HasShort (cond b (change_of names values) (request_of_firm names values))
+by_change names values true = change-short names values
+by_change names values false = firm-short names values
 
 or-short : (r : Result Request Refusal) → IsGood HasShort r → HasShort (or_refused r)
 or-short (Ok asked) h = h
 or-short (Err refusal) h = h
 
-body-short : (names : NameLists) (body : List ℕ) → HasShort (or_refused (sender_of_body names body >>= content_or_refusal names))
+body-short : (names : NameLists) (body : List ℕ) → HasShort (request_of_body names body)
 body-short names body =
-    or-short (sender_of_body names body >>= content_or_refusal names)
-    (good-then IsShortSent HasShort (sender_of_body names body) (content_or_refusal names) (sent-short names body) (λ sent few.
-    known-last HasShort (Some sent.0.firm) sent.0.seq sent.0.time (content_of names sent.0 sent.1) few (content-short names sent.0 sent.1 few)))
+    or-short _ (known-then HasShort None 0 no_time (checked_values body) (request_of_values names) no_time-short (λ values _. by_change names values (is_change values)))
 
 pub in-short : (names : NameLists) (body : List ℕ) → HasShort (request_in names body)
 in-short names body = subst HasShort (body_is names body) (body-short names body)

@@ -1,11 +1,11 @@
 //! The header of a message (rules 4 to 6).
 ghost use Rattle.std.specs.Prelude.{◌≡◌};
-ghost use Rattle.fix_request.specs.Inner.Requests.{firm_of, target_of, sequence_of, time_of};
+ghost use Rattle.fix_request.specs.Inner.Requests.{firm_of, exchange_of, target_of, sequence_of, time_of};
 ghost use Rattle.std.specs.Option.{ok_or};
 ghost use Rattle.gx_base.specs.Texts.{is_time_text};
 ghost use Rattle.fix_request.specs.Faults.{fault};
 ghost use Rattle.fix_request.specs.Inner.Rules.{where_passes};
-ghost use Rattle.fix_request.specs.Inner.Views.{values_view};
+ghost use Rattle.fix_request.specs.Inner.Views.{values_view, if_not_empty};
 
 use crate::digits::read_sequence_number;
 use crate::fault::Fault;
@@ -28,17 +28,33 @@ pub fn read_firm(names: &Names, values: &Values) -> Result<u8, Fault>
     }
 }
 
+/// Tries whether the exchange is the sender (49).
+#[inline]
+pub fn check_sender(names: &Names, values: &Values) -> Result<(), Fault>
+    ensures { result ≡ exchange_of names.now 4 49 (values_view values.now).sender }
+{
+    check_exchange(names, 4, tags::SENDER, values.sender)
+}
+
 /// Tries whether the exchange is the target (56).
-#[tactic(auto, unfolding(crate::specs::Inner::Requests::target_of))]
 #[inline]
 pub fn check_target(names: &Names, values: &Values) -> Result<(), Fault>
     ensures { result ≡ target_of names.now (values_view values.now) }
 {
-    if values.target.is_empty() {
-        return Err(Fault::missing(5, tags::TARGET));
+    check_exchange(names, 5, tags::TARGET, values.target)
+}
+
+/// Tries whether the value of this tag is there, and is the exchange's name, as this rule asks.
+#[tactic(auto, unfolding(crate::specs::Inner::Requests::exchange_of))]
+#[inline]
+fn check_exchange(names: &Names, rule: u8, tag: u32, text: &[u8]) -> Result<(), Fault>
+    ensures { result ≡ exchange_of names.now rule tag (if_not_empty text.now) }
+{
+    if text.is_empty() {
+        return Err(Fault::missing(rule, tag));
     }
-    if names.exchange().bytes() != values.target {
-        return Err(Fault::comp_id(5, tags::TARGET));
+    if names.exchange().bytes() != text {
+        return Err(Fault::comp_id(rule, tag));
     }
     Ok(())
 }

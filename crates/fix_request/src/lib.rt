@@ -12,6 +12,7 @@ mod orders;
 mod read;
 mod refusal;
 mod request;
+mod session_changes;
 mod tags;
 mod texts;
 mod values;

@@ -1,9 +1,8 @@
 //! Types of messages (rule 7).
 ghost use Rattle.std.specs.Prelude.{◌≡◌};
-ghost use Rattle.fix_request.specs.Inner.Requests.{message_type_of, type_of};
+ghost use Rattle.fix_request.specs.Inner.Requests.{message_type_of, type_of, is_change};
 ghost use Rattle.fix_request.specs.Inner.Views.{values_view};
 
-use crate::fault::Fault;
 use crate::values::Values;
 
 /// What a message of some type is about.
@@ -21,18 +20,23 @@ pub enum MessageType {
     Trading,
 }
 
-/// The type of a message (35).
+/// The type of a message (35). `None` where no message has it.
 #[inline]
-pub fn read_type(values: &Values) -> Result<MessageType, Fault>
+pub fn read_type(values: &Values) -> Option<MessageType>
     ensures { result ≡ type_of (values_view values.now) }
 {
     if values.message_type.is_empty() {
-        return Err(Fault::message_type(7));
+        return None;
     }
-    match message_type_of(values.message_type) {
-        Some(message_type) => Ok(message_type),
-        None => Err(Fault::message_type(7)),
-    }
+    message_type_of(values.message_type)
+}
+
+/// Whether a message changes the trading session (35=h).
+#[inline]
+pub fn is_change(values: &Values) -> bool
+    ensures { result ≡ is_change (values_view values.now) }
+{
+    values.message_type == b"h".as_slice()
 }
 
 /// The type of its text.
@@ -45,6 +49,7 @@ fn message_type_of(text: &[u8]) -> Option<MessageType>
         b"D" => Some(MessageType::New),
         b"F" => Some(MessageType::Cancel),
         b"G" => Some(MessageType::Replace),
+        b"h" => Some(MessageType::Trading),
         _ => None,
     }
 }

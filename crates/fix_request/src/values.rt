@@ -51,6 +51,8 @@ pub struct Values<'a> {
     pub min: &'a [u8],
     /// 210.
     pub show: &'a [u8],
+    /// 340.
+    pub status: &'a [u8],
 }
 
 /// Notes the values of a body, where none is noted yet, in one pass. An `Err` is the first of these faults: the body does
@@ -161,6 +163,7 @@ pub fn no_values<'a>() -> Values<'a>
         life: &[],
         min: &[],
         show: &[],
+        status: &[],
     }
 }
 
@@ -189,6 +192,7 @@ fn note<'a>(values: &mut Values<'a>, tag: u32, value: &'a [u8])
         59 => note_first(&mut values.life, value),
         110 => note_first(&mut values.min, value),
         210 => note_first(&mut values.show, value),
+        340 => note_first(&mut values.status, value),
         _ => {}
     }
 }

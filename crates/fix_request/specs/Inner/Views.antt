@@ -49,6 +49,7 @@ values_view v =
       life = if_not_empty v.life.now;
       min = if_not_empty v.min.now;
       show = if_not_empty v.show.now;
+      status = if_not_empty v.status.now;
     }
 
 -- a text, where it is read
