@@ -2,3 +2,5 @@
 pub mod SideLevels
 pub mod OrderWalks
 pub mod MetOrders
+pub mod SideSlots
+pub mod InstrumentWalks

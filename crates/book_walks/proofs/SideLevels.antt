@@ -33,7 +33,7 @@ better-then Sell a b c h k = int-back b a c h k
 -- ---- one side
 
 -- b, which stands behind a, is not better
-abbrev InPriceOrder : Side → Entry → Entry → Type 0
+abbrev pub InPriceOrder : Side → Entry → Entry → Type 0
 InPriceOrder s a b = is_better s b.order.price.0 a.order.price.0 ≡ false
 
 abbrev pub OnSide : ℕ → Side → Entry → Type 0
@@ -76,7 +76,7 @@ pairs-in-order i s (e ∷ es) h k = (all-in-order i s e es h.0 h.1 k.0, pairs-in
 pub all-on-side : (i : ℕ) (s : Side) (es : List Entry) → AllByRecursion (OnSide i s) (side_of i s es)
 all-on-side i s es = all-passing (OnSide i s) (is_on i s) (on-side i s) es
 
-side-in-order : (i : ℕ) (s : Side) (es : List Entry) → EachPair AreInBookOrder es → EachPair (InPriceOrder s) (side_of i s es)
+pub side-in-order : (i : ℕ) (s : Side) (es : List Entry) → EachPair AreInBookOrder es → EachPair (InPriceOrder s) (side_of i s es)
 side-in-order i s es h = pairs-in-order i s (side_of i s es) (all-on-side i s es) (pairs-filter AreInBookOrder (is_on i s) es h)
 
 -- ---- the levels of a side
@@ -87,7 +87,7 @@ at_price p e = int_eq e.order.price.0 p
 abbrev pub is_worse : Side → ℤ → Entry → Bool
 is_worse s p e = is_better s p e.order.price.0
 
-abbrev not_better : Side → ℤ → Entry → Bool
+abbrev pub not_better : Side → ℤ → Entry → Bool
 not_better s p e = not (is_better s e.order.price.0 p)
 
 abbrev pub worse_orders : Side → Price → List Entry → List Entry
@@ -171,7 +171,7 @@ module _ (s : Side) where
   from-best (e ∷ es) o =
       sym (pass (not_better s e.order.price.0) e es (ap not (is_better-irrefl s e.order.price.0)) ∙ ap (λ (q : List Entry). e ∷ q) (filter-all (not_better s e.order.price.0) es (behind-same e es o.0)))
 
-  first-worse : (p : ℤ) (es : List Entry) (q : Price) → price_of (filter (is_worse s p) es) ≡ Some q → is_better s p q.0 ≡ true
+  pub first-worse : (p : ℤ) (es : List Entry) (q : Price) → price_of (filter (is_worse s p) es) ≡ Some q → is_better s p q.0 ≡ true
   first-worse p [] q h = absurd (let e : None ≡ Some q = h in cc)
   first-worse p (e ∷ es) q h = elim (either (is_worse s p e)) [
     | inl worse ↦
