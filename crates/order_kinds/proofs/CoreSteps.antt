@@ -3,6 +3,7 @@ use Rattle.std.proofs.Common.{◌≡◌, refl, sym, ap, subst, ◌∙◌, List}
 use Rattle.gx_base.specs.Emits.{EmitMeanings}
 use Rattle.gx_base.specs.EmitLaws.{emits_as, emits_none}
 use Rattle.gx_base.specs.declared.event.Event.{Event}
+use Rattle.gx_base.specs.declared.trading.Trading.{Trading}
 use Rattle.product_file.specs.Products.{ProductLists}
 use Rattle.fix_request.specs.declared.request.Sender.{Sender}
 use Rattle.fix_request.specs.declared.request.Request.{Request}
@@ -10,40 +11,40 @@ use Rattle.fix_request.specs.declared.request.Request.TheVariants.{Passed}
 use Rattle.fix_request.specs.ValidRequests.{IsValidRequest}
 use Rattle.plain_book.specs.Book.{AllDiffer, live_orders}
 use Rattle.order_kinds.specs.State.{State, state_numbered}
-use Rattle.order_kinds.specs.Step.{with_message, open_step_as, request_step_as, request_step}
+use Rattle.order_kinds.specs.Step.{with_message, open_step_as, step_in, request_step_as, request_step}
 use Rattle.order_kinds.specs.Cores.{FitsProduct, AreNumbered, TakesStep, PutsStep}
 use Rattle.order_kinds.specs.Stops.{by_number}
-use Rattle.order_kinds.specs.Inner.Apart.{StayApart}
+use Rattle.order_kinds.specs.Inner.Apart.{OpenApart, ApartIn, StayApart}
 use Rattle.order_kinds.specs.Inner.Taking.{Takes}
 use Rattle.order_kinds.proofs.NumberingSteps.{step-same, step-numbered}
 use Rattle.order_kinds.proofs.Listed.{step-fits}
-use Rattle.order_kinds.proofs.SessionSteps.{step-session}
 
 module _ {E : Type 0} (m : EmitMeanings E) (product : ProductLists) (request : Request) where
   abbrev TakesIt : State → State → E → E → Type 0
-  TakesIt old new before after = Takes m (StayApart product request) (λ naming. open_step_as naming product request) old new before after
+  TakesIt old new before after = Takes m (StayApart product request) (λ naming. request_step_as naming product request) old new before after
+
+  abbrev TakesOpen : State → State → E → E → Type 0
+  TakesOpen old new before after = Takes m (OpenApart product request) (λ naming. open_step_as naming product request) old new before after
 
   -- a session message does nothing
-  pub takes-passed : (sender : Sender) (state : State) (out : E) → request ≡ Passed sender → TakesIt state state out out
+  pub takes-passed : (sender : Sender) (state : State) (out : E) → request ≡ Passed sender → TakesOpen state state out out
   takes-passed sender state out is =
-      subst (λ (r : Request). Takes m (StayApart product r) (λ naming. open_step_as naming product r) state state out out) (sym is)
+      subst (λ (r : Request). Takes m (OpenApart product r) (λ naming. open_step_as naming product r) state state out out) (sym is)
       (record { naming = by_number; apart = tt; state = refl; emits = emits_none m out })
+
+  -- the step of the session that the state is in
+  pub takes-in : (trading : Trading) (old new : State) (before after : E) → old.trading ≡ trading
+      → Takes m (ApartIn trading product request) (λ naming. step_in trading naming product request) old new before after → TakesIt old new before after
+  takes-in trading old new before after is takes =
+      let t = subst (λ (s : Trading). Takes m (ApartIn s product request) (λ naming. step_in s naming product request) old new before after) (sym is) takes in
+      record { naming = t.naming; apart = t.apart; state = t.state; emits = t.emits }
 
   module _ (old now new : State) (before after : E) (takes : TakesIt (with_message now) new before after) (same : now ≡ old) where
     abbrev counted : State
     counted = with_message old
 
-    -- in whichever session
-    taken : Takes m (StayApart product request) (λ naming. request_step_as naming product request) counted new before after
-    taken =
-        let t = subst (λ (s : State). TakesIt (with_message s) new before after) same takes in
-        let is : open_step_as t.naming product request counted ≡ request_step_as t.naming product request counted = step-session t.naming product request counted in
-        record {
-          naming = t.naming;
-          apart = t.apart;
-          state = t.state ∙ ap (λ (r : State × List Event). r.0) is;
-          emits = emits_as m before after (open_step_as t.naming product request counted).1 (request_step_as t.naming product request counted).1 (ap (λ (r : State × List Event). r.1) is) t.emits;
-        }
+    taken : TakesIt counted new before after
+    taken = subst (λ (s : State). TakesIt (with_message s) new before after) same takes
 
     -- where order numbers differ, it is the step of the engine
     pub step-taken : AllDiffer (live_orders now.book) → AreNumbered old → TakesStep m product request old new before after

@@ -1,5 +1,5 @@
 -- A core still fits its product after a request.
-use Rattle.std.proofs.Common.{◌≡◌, ℕ, Bool, true, false, cond, List, length, Option, Some, None, Result, Ok, Err, refl, subst, ◌∙◌, lit≤}
+use Rattle.std.proofs.Common.{◌≡◌, ℕ, Bool, true, false, cond, List, length, Option, Some, None, Result, Ok, Err, refl, ◌∙◌, lit≤}
 use Rattle.std.proofs.lemmas.List.{length-set}
 use Rattle.gx_base.specs.declared.price.Price.{Price}
 use Rattle.gx_base.specs.declared.order.Desk.{Desk}
@@ -7,14 +7,17 @@ use Rattle.gx_base.specs.declared.order.Order.{Order}
 use Rattle.gx_base.specs.declared.event.ChangeFault.{ChangeFault}
 use Rattle.gx_base.specs.declared.event.NewFault.{NewFault}
 use Rattle.gx_base.specs.declared.event.Event.{Event}
+use Rattle.gx_base.specs.declared.trading.Trading.{Trading}
+use Rattle.gx_base.specs.declared.trading.Trading.TheVariants.{Open, Closed}
 use Rattle.step_config.specs.declared.step.Step.{Step}
 use Rattle.product_file.specs.Products.{ProductLists}
 use Rattle.fix_request.specs.declared.request.NewOrder.{NewOrder}
 use Rattle.fix_request.specs.declared.request.CancelOrder.{CancelOrder}
 use Rattle.fix_request.specs.declared.request.ReplaceOrder.{ReplaceOrder}
 use Rattle.fix_request.specs.declared.request.Request.{Request}
-use Rattle.fix_request.specs.declared.request.Request.TheVariants.{New, Cancel, Replace, Passed, Refused}
+use Rattle.fix_request.specs.declared.request.Request.TheVariants.{New, Cancel, Replace, Session, Passed, Refused}
 use Rattle.fix_request.specs.ValidRequests.{IsValidNew, IsValidReplace, IsValidRequest}
+use Rattle.plain_book.specs.declared.entry.Entry.{Entry}
 use Rattle.plain_book.specs.Orders.{HasSlot, order_of, slot_named}
 use Rattle.plain_book.specs.Book.{live_orders}
 use Rattle.plain_book.specs.Match.{MatchState}
@@ -27,9 +30,11 @@ use Rattle.order_kinds.specs.Entering.{last_fill, last_after}
 use Rattle.order_kinds.specs.Accepting.{new_start, after_match, accepted, accepted_or_refused}
 use Rattle.order_kinds.specs.Cancels.{cancel_by}
 use Rattle.order_kinds.specs.Replaces.{replace_terms, keeps_place, least_after, replaced_in_place, replaced_start, replaced_anew, replaced, replaced_or_refused, replace_at}
-use Rattle.order_kinds.specs.Step.{open_step_as, request_step_as}
+use Rattle.order_kinds.specs.TradingSessions.{session_changed}
+use Rattle.order_kinds.specs.Step.{open_step_as, closed_step_as, request_step_as}
 use Rattle.order_kinds.specs.Cores.{IsListedOrder, FitsProduct}
-use Rattle.order_kinds.proofs.SessionSteps.{step-session}
+use Rattle.order_kinds.proofs.SessionSteps.{by-session}
+use Rattle.order_kinds.proofs.Closings.{closed-among}
 use Rattle.order_kinds.proofs.Kept.{all-left, all-changed}
 use Rattle.order_kinds.proofs.ComingIn.{StaysTrue, held-come_in}
 use Rattle.order_kinds.proofs.Numbering.{named-has}
@@ -130,15 +135,38 @@ module _ (naming : Naming) (product : ProductLists) (state : State) (fits : Fits
   cancel-fits request None = unchanged-fits _
   cancel-fits request (Some slot) = record { capacity = fits.capacity; instruments = fits.instruments; prices = fits.prices; orders = all-left IsListed slot state.book fits.orders }
 
+  -- ---- a change of the session
+
+  changed-fits : (to from : Trading) (time : List ℕ) → FitsProduct product (session_changed to from time state).0
+  changed-fits Closed Open time = record {
+    capacity = fits.capacity;
+    instruments = fits.instruments;
+    prices = fits.prices;
+    orders = closed-among (λ (e : Entry). IsListed e.order) state.book fits.orders;
+  }
+  changed-fits Open Closed time = record { capacity = fits.capacity; instruments = fits.instruments; prices = fits.prices; orders = fits.orders }
+  changed-fits Open Open time = fits
+  changed-fits Closed Closed time = fits
+
   -- ---- any request
 
   open-fits : (request : Request) → IsValidRequest product request → FitsProduct product (open_step_as naming product request state).0
   open-fits (New order) valid = new-fits order valid (terms_of product order state) refl
   open-fits (Cancel order) valid = cancel-fits order (slot_named order.sender.firm order.old (live_orders state.book))
   open-fits (Replace order) valid = replace-fits order valid (slot_named order.sender.firm order.old (live_orders state.book)) refl
+  open-fits (Session change) valid = changed-fits change.to state.trading change.time
   open-fits (Passed sender) valid = fits
   open-fits (Refused refusal) valid = unchanged-fits _
 
+  closed-fits : (request : Request) → IsValidRequest product request → FitsProduct product (closed_step_as naming product request state).0
+  closed-fits (New order) valid = unchanged-fits _
+  closed-fits (Cancel order) valid = open-fits (Cancel order) valid
+  closed-fits (Replace order) valid = unchanged-fits _
+  closed-fits (Session change) valid = open-fits (Session change) valid
+  closed-fits (Passed sender) valid = fits
+  closed-fits (Refused refusal) valid = unchanged-fits _
+
   -- the core still fits the product
   pub step-fits : (request : Request) → IsValidRequest product request → FitsProduct product (request_step_as naming product request state).0
-  step-fits request valid = subst (λ (r : State × List Event). FitsProduct product r.0) (step-session naming product request state) (open-fits request valid)
+  step-fits request valid =
+      by-session (λ (r : State × List Event). FitsProduct product r.0) naming product request state (λ is. open-fits request valid) (λ is. closed-fits request valid)

@@ -11,8 +11,8 @@ use Rattle.order_kinds.specs.Step.{open_step_as, closed_step_as, step_in, reques
 
 -- a fact of both sessions' steps
 pub by-session : (P : State × List Event → Type 0) (naming : Naming) (product : ProductLists) (request : Request) (state : State) → (state.trading ≡ Open → P (open_step_as naming product request state)) → (state.trading ≡ Closed → P (closed_step_as naming product request state)) → P (request_step_as naming product request state)
-by-session P naming product request state open closed =
+by-session P naming product request state when_open when_closed =
     let go : (trading : Trading) → state.trading ≡ trading → P (step_in trading naming product request state) = elim [
-      | Open ↦ open
-      | Closed ↦ closed
+      | Open ↦ when_open
+      | Closed ↦ when_closed
     ] in go state.trading refl

@@ -6,3 +6,4 @@ pub mod Triggering
 pub mod Replacing
 pub mod Apart
 pub mod ComingIn
+pub mod Closing

@@ -36,7 +36,7 @@ fn new_refused(new: &NewOrder) -> NewRefused
 }
 
 /// A new order is refused. Only its report is counted.
-fn refuse_new<E: Emit>(desk: &mut Desk, new: &NewOrder, fault: NewFault, out: &mut E)
+pub(crate) fn refuse_new<E: Emit>(desk: &mut Desk, new: &NewOrder, fault: NewFault, out: &mut E)
     requires firm { new.now.sender.firm < MOST_FIRMS }
     requires reports { desk.old.reports < 2 ^ 63 }
     requires lines { slice_index desk.old.lines new.now.sender.firm < 2 ^ 63 }

@@ -6,20 +6,21 @@ ghost use Rattle.gx_base.specs.declared.trading.Trading.TheVariants.{Open, Close
 ghost use Rattle.plain_book.specs.Book.{empty_book, book_cleared, live_orders};
 ghost use Rattle.order_kinds.specs.State.{empty_desk, empty_state};
 ghost use Rattle.order_kinds.specs.OrderRules.{last_of};
-ghost use Rattle.order_kinds.specs.Step.{is_passed, open_step_as};
+ghost use Rattle.order_kinds.specs.Step.{is_passed, open_step_as, closed_step_as, request_step_as};
 ghost use Rattle.order_kinds.specs.TradingSessions.{AreUntilCancelled};
 ghost use Rattle.order_kinds.specs.Cores.{AreCounters, IsInRange, FitsProduct, AreNumbered, TakesStep, PutsStep};
-ghost use Rattle.order_kinds.specs.Inner.Apart.{StayApart};
+ghost use Rattle.order_kinds.specs.Inner.Apart.{OpenApart, StayApart};
 ghost use Rattle.order_kinds.specs.Inner.Taking.{Takes, CountsRose, IsCounted};
 
-use crate::accepting::apply_new;
+use crate::accepting::{apply_new, refuse_new};
 use crate::cancels::{apply_cancel, refuse_message};
 use crate::order_rules::last_of;
-use crate::replaces::apply_replace;
+use crate::replaces::{apply_replace, refuse_replace};
 use crate::state::{EngineState, LastPrices, set_last_price};
+use crate::trading_sessions::change_session;
 use arrayvec::ArrayVec;
 use fix_request::Request;
-use gx_base::{ADDRESSEES, Desk, Emit, MOST_INSTRUMENTS, Price, Trading};
+use gx_base::{ADDRESSEES, ChangeFault, Desk, Emit, MOST_INSTRUMENTS, NewFault, Price, Trading};
 use plain_book::Book;
 use product_file::Product;
 use std::marker::Model;
@@ -95,7 +96,9 @@ impl<B: Book> Core<B> {
     /// Applies a request, which counts as a message, and puts its events. It takes no memory and never fails: a refusal is
     /// an event, and leaves all but the counters as it was. The rules are those of the specs: a new order is refused by the
     /// first rule that holds, or waits or is entered by its kind; a cancel takes its order out; a replace is refused by the
-    /// first rule that holds, or changes its order; a session message has no event.
+    /// first rule that holds, or changes its order. While the market is closed both are refused before any other rule is
+    /// tried. A change of the session opens the market or closes it, and at a close each live order that is not good till
+    /// cancelled expires, with an event of its own. A session message has no event.
     pub fn apply<E: Emit>(&mut self, product: &Product, request: &Request, out: &mut E)
         requires few { self.old.desk.messages < MOST_MESSAGES }
         requires valid { IsValidRequest product.now request.now }
@@ -199,7 +202,7 @@ impl<B: Book> Core<B> {
     }
 }
 
-/// Applies a request that was counted as a message, as in an open market.
+/// Applies a request that was counted as a message, by the session that the market is in.
 fn apply_counted<B: Book, E: Emit>(
     state: &mut EngineState<B>,
     product: &Product,
@@ -209,7 +212,29 @@ fn apply_counted<B: Book, E: Emit>(
     requires counted { IsCounted state.old.desk }
     requires valid { IsValidRequest product.now request.now }
     requires fits { FitsProduct product.now state.old }
-    ensures takes { Takes E.meanings (StayApart product.now request.now) (λ naming. open_step_as naming product.now request.now) state.old state.new
+    ensures takes { Takes E.meanings (StayApart product.now request.now) (λ naming. request_step_as naming product.now request.now) state.old state.new
+        out.old out.new }
+    ensures silent { IsTrue (is_passed request.now) → out.new ≡ out.old }
+    ensures orders { state.new.desk.orders ≤ state.old.desk.orders + 1 }
+    ensures rose { CountsRose (2 ^ 38) (record state.old.desk { orders = state.new.desk.orders }) state.new.desk }
+{
+    match state.trading {
+        Trading::Open => apply_open(state, product, request, out),
+        Trading::Closed => apply_closed(state, product, request, out),
+    }
+}
+
+/// Applies a request in an open market.
+fn apply_open<B: Book, E: Emit>(
+    state: &mut EngineState<B>,
+    product: &Product,
+    request: &Request,
+    out: &mut E,
+)
+    requires counted { IsCounted state.old.desk }
+    requires valid { IsValidRequest product.now request.now }
+    requires fits { FitsProduct product.now state.old }
+    ensures takes { Takes E.meanings (OpenApart product.now request.now) (λ naming. open_step_as naming product.now request.now) state.old state.new
         out.old out.new }
     ensures silent { IsTrue (is_passed request.now) → out.new ≡ out.old }
     ensures orders { state.new.desk.orders ≤ state.old.desk.orders + 1 }
@@ -222,5 +247,32 @@ fn apply_counted<B: Book, E: Emit>(
         Request::Refused(refusal) => refuse_message(&mut state.desk, refusal, out),
         Request::Passed(_) => {}
         Request::Replace(replace) => apply_replace(state, product, replace, out),
+        Request::Session(change) => change_session(state, change, out),
+    }
+}
+
+/// Applies a request in a closed market: a new order and a replace are refused before any other rule is tried, and all else is
+/// as in an open market.
+fn apply_closed<B: Book, E: Emit>(
+    state: &mut EngineState<B>,
+    product: &Product,
+    request: &Request,
+    out: &mut E,
+)
+    requires counted { IsCounted state.old.desk }
+    requires valid { IsValidRequest product.now request.now }
+    requires fits { FitsProduct product.now state.old }
+    ensures takes { Takes E.meanings (λ state naming. Unit {0}) (λ naming. closed_step_as naming product.now request.now) state.old state.new out.old out.new }
+    ensures silent { IsTrue (is_passed request.now) → out.new ≡ out.old }
+    ensures orders { state.new.desk.orders ≤ state.old.desk.orders + 1 }
+    ensures rose { CountsRose (2 ^ 38) (record state.old.desk { orders = state.new.desk.orders }) state.new.desk }
+{
+    product.limits();
+    match request {
+        Request::New(new) => refuse_new(&mut state.desk, new, NewFault::Closed, out),
+        Request::Replace(replace) => {
+            refuse_replace(&mut state.desk, replace, ChangeFault::Closed, out)
+        }
+        _ => apply_open(state, product, request, out),
     }
 }

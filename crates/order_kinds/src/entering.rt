@@ -15,7 +15,7 @@ use level_sweep::sweep;
 use plain_book::{Book, count_report, opposite_side};
 use step_config::Steps;
 
-/// The order as the report of its cancel shows it: nothing is open or shown any more.
+/// The order as the report of its cancel or of its end at a close shows it: nothing is open or shown any more.
 pub(crate) fn closed(order: &Order) -> Order
     ensures { result ≡ closed order.now }
 {

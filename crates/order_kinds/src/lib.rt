@@ -4,6 +4,7 @@
 
 mod accepting;
 mod cancels;
+mod closing;
 mod core_state;
 mod entering;
 mod instruments;
@@ -14,5 +15,7 @@ mod reports;
 mod state;
 mod stops;
 mod trades;
+mod trading_sessions;
 
+pub use closing::is_until_cancelled;
 pub use core_state::{Core, MOST_MESSAGES};

@@ -1,11 +1,12 @@
 //! Replaces: refused, or the order is changed, where it stands or by coming in again.
-ghost use Rattle.std.specs.Prelude.{◌≡◌, ◌≤◌, ◌<◌, ◌^◌, length, true, false, Some};
+ghost use Rattle.std.specs.Prelude.{◌≡◌, ◌≤◌, ◌<◌, ◌^◌, [], ◌∷◌, length, slice_index, true, false, Some};
 ghost use Rattle.gx_base.specs.Emits.{Emits};
 ghost use Rattle.product_file.specs.declared.limits.TheConstants.{MOST_ORDERS};
 ghost use Rattle.fix_request.specs.ValidRequests.{IsValidReplace};
 ghost use Rattle.plain_book.specs.Orders.{HasSlot, order_of, slot_named};
 ghost use Rattle.plain_book.specs.Book.{live_orders};
 ghost use Rattle.order_kinds.specs.Replaces.{is_kind, is_same_order, replace_terms, new_price, least_after, keeps_place, replaced_order, replaced_in_place, replaced_anew, replace_at, replace_step};
+ghost use Rattle.order_kinds.specs.Reports.{line_counted, change_refused};
 ghost use Rattle.order_kinds.specs.Cores.{FitsProduct};
 ghost use Rattle.order_kinds.specs.Inner.Terms.{listed_instrument, map_instrument};
 ghost use Rattle.order_kinds.specs.Inner.Replacing.{IsAllowed};
@@ -20,7 +21,9 @@ use crate::reports::RefusedChange;
 use crate::state::EngineState;
 use book_order::is_same_side;
 use fix_request::{Px, ReplaceOrder};
-use gx_base::{ChangeFault, Emit, Event, Kind, Life, Order, Price, Side, Slot, Taker};
+use gx_base::{
+    ChangeFault, Desk, Emit, Event, Kind, Life, MOST_FIRMS, Order, Price, Side, Slot, Taker,
+};
 use plain_book::{Book, count_report};
 use product_file::Product;
 
@@ -206,6 +209,22 @@ fn refused(request: &ReplaceOrder, number: u64, filled: u32) -> RefusedChange<'_
     }
 }
 
+/// A replace is refused, and names no order. Only its line is counted.
+pub(crate) fn refuse_replace<E: Emit>(
+    desk: &mut Desk,
+    request: &ReplaceOrder,
+    fault: ChangeFault,
+    out: &mut E,
+)
+    requires firm { request.now.sender.firm < MOST_FIRMS }
+    requires lines { slice_index desk.old.lines request.now.sender.firm < 2 ^ 63 }
+    ensures desk { desk.new ≡ line_counted desk.old (Some request.now.sender.firm) }
+    ensures emits { let sender = request.now.sender in
+        Emits E.meanings out.old out.new (change_refused sender request.now.id request.now.old 0 0 true fault desk.old ∷ []) }
+{
+    refused(request, 0, 0).report(fault, desk, out);
+}
+
 /// A replace of a live order: refused by the first rule that holds, or else it changes the order.
 fn replace_order<B: Book, E: Emit>(
     state: &mut EngineState<B>,
@@ -256,6 +275,6 @@ pub(crate) fn apply_replace<B: Book, E: Emit>(
     product.limits();
     match state.book.find(request.sender.firm, &request.old) {
         Some(slot) => replace_order(state, product, request, slot, out),
-        None => refused(request, 0, 0).report(ChangeFault::Unknown, &mut state.desk, out),
+        None => refuse_replace(&mut state.desk, request, ChangeFault::Unknown, out),
     }
 }

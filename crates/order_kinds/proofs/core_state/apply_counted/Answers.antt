@@ -1,11 +1,15 @@
-use Rattle.order_kinds.proofs.CoreSteps.{takes-passed}
-use Rattle.order_kinds.proofs.TakenSteps.{takes-rejected}
+use Rattle.std.proofs.Common.{sym, ap, ◌∙◌}
+use Rattle.gx_base.specs.declared.trading.Trading.TheVariants.{Open, Closed}
+use Rattle.order_kinds.specs.State.{State}
+use Rattle.order_kinds.proofs.CoreSteps.{takes-in}
 use Rattle.order_kinds.proofs.core_state.apply_counted.Goals as goal
 
-pub returns-in-Passed-clause-takes : goal.returns-in-Passed-clause-takes
-returns-in-Passed-clause-takes g c = takes-passed g.E.Emit.meanings c.args.product.now c.args.request.now c.in-Passed.field-0 c.args.state.now c.args.out.now c.in-Passed.is
+pub returns-in-Open-clause-takes : goal.returns-in-Open-clause-takes
+returns-in-Open-clause-takes g c =
+    let end = c.apply_open.new in
+    takes-in g.E.Emit.meanings c.args.product.now c.args.request.now Open c.args.state.now end.state c.args.out.now end.out (sym (ap (λ (s : State). s.trading) c.state.view_is) ∙ c.in-Open.is) c.apply_open.ensures.takes
 
-pub returns-in-Refused-clause-takes : goal.returns-in-Refused-clause-takes
-returns-in-Refused-clause-takes g c =
-    let end = c.refuse_message.new in
-    takes-rejected g.E.Emit.meanings c.args.product.now c.args.request.now c.in-Refused.refusal c.state.view_is end.desk c.args.out.now end.out c.in-Refused.is c.refuse_message.ensures.desk c.refuse_message.ensures.emits
+pub returns-in-Closed-clause-takes : goal.returns-in-Closed-clause-takes
+returns-in-Closed-clause-takes g c =
+    let end = c.apply_closed.new in
+    takes-in g.E.Emit.meanings c.args.product.now c.args.request.now Closed c.args.state.now end.state c.args.out.now end.out (sym (ap (λ (s : State). s.trading) c.state.view_is) ∙ c.in-Closed.is) c.apply_closed.ensures.takes
