@@ -23,7 +23,7 @@ struct OrderUpdate<'a> {
     id: &'a ShortId,
     /// Tag 41, if it is there.
     old: Option<&'a ShortId>,
-    /// The digit of tags 150 and 39.
+    /// The letter or digit of tags 150 and 39.
     status: u8,
 }
 
@@ -73,6 +73,12 @@ pub(crate) fn write_body(into: &mut [u8], at: usize, event: &Event, names: &Name
             let at = order_front(into, at, names, head, order, &update);
             let at = state_fields(into, at, head, order);
             let at = cause_field(into, at, *cause);
+            number(into, at, b"9003=", u64::from(*gone))
+        }
+        Event::Expired { head, order, gone } => {
+            let at = order_front(into, at, names, head, order, &own_update(order, b'C'));
+            let at = state_fields(into, at, head, order);
+            let at = word(into, at, b"58=", b"EXPIRED");
             number(into, at, b"9003=", u64::from(*gone))
         }
         Event::Replaced {

@@ -62,6 +62,7 @@ pub(crate) fn fault_text(fault: NewFault) -> &'static [u8]
     ensures short { length result.now ≤ LONGEST_VALUE }
 {
     match fault {
+        NewFault::Closed => b"CLOSED",
         NewFault::Symbol => b"SYMBOL",
         NewFault::Duplicate => b"DUPLICATE",
         NewFault::Quantity => b"QUANTITY",
@@ -81,6 +82,7 @@ pub(crate) fn reject_reason(fault: NewFault) -> &'static [u8]
     ensures short { length result.now ≤ LONGEST_VALUE }
 {
     match fault {
+        NewFault::Closed => b"2",
         NewFault::Symbol => b"1",
         NewFault::Duplicate => b"6",
         NewFault::Quantity | NewFault::BookFull => b"3",
@@ -106,6 +108,7 @@ pub(crate) fn change_text(fault: ChangeFault) -> &'static [u8]
     ensures short { length result.now ≤ LONGEST_VALUE }
 {
     match fault {
+        ChangeFault::Closed => b"CLOSED",
         ChangeFault::Unknown => b"UNKNOWN",
         ChangeFault::Mismatch => b"MISMATCH",
         ChangeFault::Duplicate => b"DUPLICATE",
@@ -126,7 +129,8 @@ pub(crate) fn change_reason(fault: ChangeFault) -> &'static [u8]
     match fault {
         ChangeFault::Unknown => b"1",
         ChangeFault::Filled => b"0",
-        ChangeFault::Mismatch
+        ChangeFault::Closed
+        | ChangeFault::Mismatch
         | ChangeFault::Duplicate
         | ChangeFault::Quantity
         | ChangeFault::Tick
@@ -136,14 +140,14 @@ pub(crate) fn change_reason(fault: ChangeFault) -> &'static [u8]
     }
 }
 
-/// The value of tag 39 in FIX 4.2 for a refused cancel or replace, of an order with so many lots filled: rejected where
-/// the order is unknown, else new or partly filled.
+/// The value of tag 39 in FIX 4.2 for a refused cancel or replace, of an order with so many lots filled: rejected if
+/// the order is unknown or the market is closed, else new or partly filled.
 pub(crate) fn change_status(fault: ChangeFault, filled: u32) -> &'static [u8]
     ensures text { result.now ≡ change_status fault filled }
     ensures short { length result.now ≤ LONGEST_VALUE }
 {
     match fault {
-        ChangeFault::Unknown => b"8",
+        ChangeFault::Closed | ChangeFault::Unknown => b"8",
         ChangeFault::Mismatch
         | ChangeFault::Duplicate
         | ChangeFault::Quantity
