@@ -77,7 +77,7 @@ pub struct Totals {
     pub entered: u64,
     /// The lots of all fills, so those of each trade twice.
     pub filled: u64,
-    /// What was open of all cancelled orders.
+    /// What was open of all orders that were cancelled, and of all that expired.
     pub cancelled: u64,
 }
 
@@ -98,12 +98,12 @@ fn entered_with(total: u64, event: &Event) -> u64
     }
 }
 
-/// What is cancelled by an event.
+/// What is cancelled by an event, or expires.
 fn cancelled_in(event: &Event) -> u64
     ensures { result ≡ cancelled_in event.now }
 {
     match event {
-        Event::Cancelled { gone, .. } => u64::from(*gone),
+        Event::Cancelled { gone, .. } | Event::Expired { gone, .. } => u64::from(*gone),
         _ => 0,
     }
 }
@@ -135,7 +135,9 @@ impl LineForm for Totals {
             | Event::Triggered { order, .. }
             | Event::Fill { order, .. }
             | Event::Replaced { order, .. } => order_line(order, 0, into),
-            Event::Cancelled { order, gone, .. } => order_line(order, *gone, into),
+            Event::Cancelled { order, gone, .. } | Event::Expired { order, gone, .. } => {
+                order_line(order, *gone, into)
+            }
             Event::RefusedNew { order, .. } => refused_line(order.quantity, into),
             Event::RefusedChange { .. } | Event::RefusedSession { .. } => 0,
         }
