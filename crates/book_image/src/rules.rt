@@ -5,6 +5,7 @@ ghost use Rattle.book_image.specs.Rules.{is_price_of, is_right_order, is_right_s
 ghost use Rattle.book_image.specs.Inner.Checking.{has_right_terms, has_right_lots};
 
 use gx_base::{Kind, Life, MOST_FIRMS, MOST_LOTS, MOST_PRICE_UNITS, Order, Price, Side, Trading};
+use order_kinds::is_until_cancelled;
 use product_file::Product;
 
 /// Whether a price is a multiple of the tick of an instrument, within the price range.
@@ -120,6 +121,6 @@ pub(crate) fn may_live(trading: Trading, order: &Order) -> bool
 {
     match trading {
         Trading::Open => true,
-        Trading::Closed => matches!(order.life, Life::Gtc),
+        Trading::Closed => is_until_cancelled(order.life),
     }
 }

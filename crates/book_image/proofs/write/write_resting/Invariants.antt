@@ -1,6 +1,6 @@
 use Rattle.std.proofs.Common.{filter}
 use Rattle.book_image.specs.Inner.Writing.{AppendsRows}
-use Rattle.book_image.proofs.WriteParts.{is_of_before}
+use Rattle.book_walks.proofs.InstrumentWalks.{is_of_before}
 use Rattle.book_image.proofs.write.write_resting.Given as goal
 
 abbrev pub invariant-loop-instrument : goal.invariant-loop-instrument

@@ -4,7 +4,8 @@ use Rattle.plain_book.specs.Orders.{is_of}
 use Rattle.book_image.specs.declared.format.TheConstants.{ROW_BYTES, COUNT_BYTES}
 use Rattle.book_image.specs.Inner.Writing.{AppendsRows}
 use Rattle.book_image.proofs.WriteWalks.{appends-none, rows-then, rows-as}
-use Rattle.book_image.proofs.WriteParts.{is_of_before, instrument-next, instrument-room, before-none, before-all, row-count, few-before, all-listed-stops}
+use Rattle.book_walks.proofs.InstrumentWalks.{is_of_before, instrument-next, before-none, before-all, all-listed-stops}
+use Rattle.book_image.proofs.WriteParts.{instrument-room, row-count, few-before}
 use Rattle.book_image.proofs.WriteGaps.{filled-rows}
 use Rattle.book_image.proofs.write.write_waiting.Goals as goal
 
