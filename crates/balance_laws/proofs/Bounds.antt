@@ -1,10 +1,11 @@
 -- How far the totals of a stream can grow, and how many events it has. No message asks for more than 999,999 lots, and what is
 -- filled, cancelled or open was asked for.
-use Rattle.std.proofs.Common.{◌≡◌, ℕ, ◌+◌, ◌*◌, ◌≤◌, Bool, true, false, cond, not, List, [], ◌∷◌, ◌++◌, length, Option, Some, None, Result, Ok, Err, refl, sym, ap, subst, ◌∙◌, arith, sum_by, length-append}
+use Rattle.std.proofs.Common.{◌≡◌, ℕ, ◌+◌, ◌*◌, ◌≤◌, Bool, true, false, cond, not, List, [], ◌∷◌, ◌++◌, length, Option, Some, None, Result, Ok, Err, refl, sym, ap, ◌∙◌, arith, sum_by, length-append}
 use Rattle.std.proofs.lemmas.List.{length-map, append-nil}
 use Rattle.std.proofs.lemmas.List.Sums.{sum_by-cons, sum_by-append}
 use Rattle.std.proofs.lemmas.Bool.Decides.{nat_tests}
 use Rattle.std.specs.Prelude.{◌^◌, ◌<◌, ◌&&◌, nat_le}
+use Rattle.std.specs.List.{AllByRecursion}
 use Rattle.gx_base.specs.declared.limits.TheConstants.{MOST_LOTS}
 use Rattle.gx_base.specs.declared.event.Event.{Event}
 use Rattle.gx_base.specs.declared.event.ChangeFault.{ChangeFault}
@@ -15,7 +16,7 @@ use Rattle.fix_request.specs.declared.request.NewOrder.{NewOrder}
 use Rattle.fix_request.specs.declared.request.CancelOrder.{CancelOrder}
 use Rattle.fix_request.specs.declared.request.ReplaceOrder.{ReplaceOrder}
 use Rattle.fix_request.specs.declared.request.Request.{Request}
-use Rattle.fix_request.specs.declared.request.Request.TheVariants.{New, Cancel, Replace, Passed, Refused}
+use Rattle.fix_request.specs.declared.request.Request.TheVariants.{New, Cancel, Replace, Session, Passed, Refused}
 use Rattle.plain_book.specs.declared.entry.Entry.{Entry}
 use Rattle.plain_book.specs.Orders.{order_of, slot_named, reordered, with_order}
 use Rattle.plain_book.specs.Book.{live_orders, changed_to}
@@ -26,19 +27,22 @@ use Rattle.order_kinds.specs.Accepting.{new_start, accepted_or_refused, new_step
 use Rattle.order_kinds.specs.Stops.{Naming, by_number}
 use Rattle.order_kinds.specs.Cancels.{cancel_by, cancel_step}
 use Rattle.order_kinds.specs.Replaces.{replace_terms, least_after, keeps_place, replaced_in_place, replaced_start, replaced_anew, replaced, replaced_or_refused, replace_at, replace_step}
-use Rattle.order_kinds.specs.Step.{with_message, open_step_as, request_step, step_of, state_after, events_from, events_of}
+use Rattle.order_kinds.specs.Step.{with_message, open_step_as, closed_step_as, request_step, step_of, state_after, events_from, events_of}
 use Rattle.order_kinds.specs.Balance.{total_entered, filled_in, cancelled_in}
 use Rattle.order_kinds.specs.declared.core_state.TheConstants.{MOST_MESSAGES}
-use Rattle.order_kinds.proofs.SessionSteps.{step-session}
+use Rattle.order_kinds.proofs.SessionSteps.{by-session}
 use Rattle.order_kinds.proofs.Refusals.{new-passes, replace-passes}
 use Rattle.balance_laws.specs.Bounds.{asked_in, AreWithin, StaysWithin}
 use Rattle.balance_laws.proofs.Growth.{entered-within, without-within, Grows, grows-none, grows-within, grows-both, grows-append, come-in-grows}
-use Rattle.balance_laws.proofs.Streams.{streams-balance}
+use Rattle.balance_laws.proofs.Trades.{Rests}
+use Rattle.balance_laws.proofs.Requests.{TellsState}
+use Rattle.balance_laws.proofs.Closings.{session-grows}
+use Rattle.balance_laws.proofs.Streams.{step-kept, starts, streams-balance}
 
 -- ---- one message
 
--- From a state with these waiting stops, a step asks for at most 999,999 lots, and has at most three events that are no fills,
--- besides two for each stop that waits no more.
+-- From a state with these waiting stops, a step asks for at most 999,999 lots, and has at most three events that are no fills and
+-- cancel nothing, besides two for each stop that waits no more.
 abbrev StepGrows : List Entry → State × List Event → Type 0
 StepGrows waiting step = Grows MOST_LOTS 3 [] step.1 waiting step.0.book.waiting
 
@@ -113,23 +117,40 @@ module _ (naming : Naming) (product : ProductLists) (request : ReplaceOrder) (st
         | Some slot ↦ by slot (replace_terms product request (order_of slot es) state) refl
       ] in go (slot_named request.sender.firm request.old es)
 
-open-grows : (product : ProductLists) (request : Request) (state : State) → StepGrows state.book.waiting (open_step_as by_number product request state)
-open-grows product (New order) state = new-grows by_number product order state
-open-grows product (Cancel order) state = cancel-grows order state
-open-grows product (Replace order) state = replace-grows by_number product order state
-open-grows product (Passed sender) state = grows-within (omega arith) (omega arith) (grows-none [] state.book.waiting)
-open-grows product (Refused refusal) state = report-grows _ state.book.waiting state.book.waiting refl (omega arith)
+-- of each order that rests at least one lot is open
+abbrev HasLots : State → Type 0
+HasLots state = AllByRecursion Rests state.book.resting
 
-request-grows : (product : ProductLists) (request : Request) (state : State) → StepGrows state.book.waiting (request_step product request state)
-request-grows product request state = subst (StepGrows state.book.waiting) (step-session by_number product request state) (open-grows product request state)
+open-grows : (product : ProductLists) (request : Request) (state : State) → HasLots state → StepGrows state.book.waiting (open_step_as by_number product request state)
+open-grows product (New order) state rest = new-grows by_number product order state
+open-grows product (Cancel order) state rest = cancel-grows order state
+open-grows product (Replace order) state rest = replace-grows by_number product order state
+open-grows product (Session change) state rest = grows-within (omega arith) (omega arith) (session-grows change state rest)
+open-grows product (Passed sender) state rest = grows-within (omega arith) (omega arith) (grows-none [] state.book.waiting)
+open-grows product (Refused refusal) state rest = report-grows _ state.book.waiting state.book.waiting refl (omega arith)
+
+closed-grows : (product : ProductLists) (request : Request) (state : State) → HasLots state → StepGrows state.book.waiting (closed_step_as by_number product request state)
+closed-grows product (New order) state rest = report-grows _ state.book.waiting state.book.waiting refl (omega arith)
+closed-grows product (Replace order) state rest = report-grows _ state.book.waiting state.book.waiting refl (omega arith)
+closed-grows product (Cancel order) state rest = open-grows product (Cancel order) state rest
+closed-grows product (Session change) state rest = open-grows product (Session change) state rest
+closed-grows product (Passed sender) state rest = open-grows product (Passed sender) state rest
+closed-grows product (Refused refusal) state rest = open-grows product (Refused refusal) state rest
+
+request-grows : (product : ProductLists) (request : Request) (state : State) → HasLots state → StepGrows state.book.waiting (request_step product request state)
+request-grows product request state rest =
+    by-session (StepGrows state.book.waiting) by_number product request state (λ in_open. open-grows product request state rest) (λ in_closed. closed-grows product request state rest)
 
 -- ---- all messages
 
-frames-grow : (product : ProductLists) (state : State) (frames : List (List ℕ)) → Grows (length frames * MOST_LOTS) (length frames * 3) [] (events_from product state frames) state.book.waiting (state_after product state frames).book.waiting
-frames-grow product state [] = grows-none [] state.book.waiting
-frames-grow product state (frame ∷ frames) =
-    let step = step_of product state frame in
-    grows-within (omega arith) (omega arith) (grows-append (request-grows product (request_of product frame) (with_message state)) (frames-grow product step.0 frames))
+module _ (product : ProductLists) (right : IsRightProduct product) where
+  frames-grow : (events : List Event) (state : State) (frames : List (List ℕ)) → TellsState events state
+      → Grows (length frames * MOST_LOTS) (length frames * 3) [] (events_from product state frames) state.book.waiting (state_after product state frames).book.waiting
+  frames-grow events state [] h = grows-none [] state.book.waiting
+  frames-grow events state (frame ∷ frames) h =
+      let step = step_of product state frame in
+      grows-within (omega arith) (omega arith)
+      (grows-append (request-grows product (request_of product frame) (with_message state) h.rest) (frames-grow (events ++ step.1) step.0 frames (step-kept product right events state frame h)))
 
 front-within : (f : Event → ℕ) (events front behind : List Event) → events ≡ front ++ behind → sum_by f front ≤ sum_by f events
 front-within f events front behind is = omega (arith, ap (sum_by f) is, sum_by-append f front behind)
@@ -138,7 +159,7 @@ front-within f events front behind is = omega (arith, ap (sum_by f) is, sum_by-a
 pub totals-within : (product : ProductLists) (frames : List (List ℕ)) (front behind : List Event) → IsRightProduct product → events_of product frames ≡ front ++ behind → AreWithin (length frames) front
 totals-within product frames front behind right is =
     let events = events_of product frames in
-    let grown = frames-grow product (empty_state product) frames in
+    let grown = frames-grow product right [] (empty_state product) frames (starts product right) in
     let balanced = streams-balance product frames right in
     let all : total_entered events ≤ length frames * MOST_LOTS = omega (arith, grown.lots, entered-within 0 events) in
     let long : length events ≡ length front + length behind = ap (λ (es : List Event). length es) is ∙ length-append front behind in

@@ -4,6 +4,7 @@ pub mod Bounds
 pub mod Sweeps
 pub mod Entered
 pub mod Requests
+pub mod Closings
 -- What the proofs of this crate alone cite.
 mod Events
 mod Growth
