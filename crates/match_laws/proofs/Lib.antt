@@ -2,6 +2,7 @@
 pub mod Done
 pub mod Uncrossed
 -- What the proofs of this crate alone cite.
+mod FirmSteps
 mod Lots
 mod StopRounds
 mod StopsLeft

@@ -9,20 +9,27 @@ use Rattle.std.proofs.lemmas.Int.{ints}
 use Rattle.gx_base.specs.declared.price.Price.{Price}
 use Rattle.gx_base.specs.declared.order.Side.{Side}
 use Rattle.gx_base.specs.declared.order.Side.TheVariants.{Buy, Sell}
+use Rattle.gx_base.specs.declared.order.Desk.{Desk}
 use Rattle.gx_base.specs.declared.order.Kind.{Kind}
 use Rattle.gx_base.specs.declared.order.Kind.TheVariants.{Limit, Market, StopLimit}
 use Rattle.gx_base.specs.declared.event.NewFault.{NewFault}
 use Rattle.gx_base.specs.declared.event.ChangeFault.{ChangeFault}
 use Rattle.gx_base.specs.declared.event.Event.{Event}
 use Rattle.gx_base.specs.declared.event.Event.TheVariants.{Fill}
+use Rattle.gx_base.specs.declared.trading.Trading.{Trading}
+use Rattle.gx_base.specs.declared.trading.Trading.TheVariants.{Open, Closed}
 use Rattle.step_config.specs.declared.step.Step.{Step}
 use Rattle.product_file.specs.Products.{ProductLists}
 use Rattle.fix_request.specs.declared.request.NewOrder.{NewOrder}
+use Rattle.fix_request.specs.declared.request.CancelOrder.{CancelOrder}
 use Rattle.fix_request.specs.declared.request.ReplaceOrder.{ReplaceOrder}
+use Rattle.fix_request.specs.declared.request.SessionChange.{SessionChange}
+use Rattle.fix_request.specs.declared.request.Request.{Request}
+use Rattle.fix_request.specs.declared.request.Request.TheVariants.{New, Cancel, Replace, Session, Passed, Refused}
 use Rattle.plain_book.specs.declared.entry.Entry.{Entry}
 use Rattle.plain_book.specs.Orders.{order_of, slot_named, is_of, stops_of}
 use Rattle.plain_book.specs.Book.{live_orders}
-use Rattle.plain_book.specs.Match.{MatchState, lengthened}
+use Rattle.plain_book.specs.Match.{MatchState, lengthened, report_counted}
 use Rattle.plain_book.proofs.Levels.{same}
 use Rattle.plain_book.proofs.Pairs.{all-filter, all-with, all-passing}
 use Rattle.order_kinds.specs.OrderRules.{is_reached}
@@ -31,8 +38,11 @@ use Rattle.order_kinds.specs.Instruments.{ListedInstrument}
 use Rattle.order_kinds.specs.NewOrders.{Terms, terms_of}
 use Rattle.order_kinds.specs.Accepting.{new_start, accepted_or_refused, new_step}
 use Rattle.order_kinds.specs.Replaces.{replace_terms, keeps_place, replaced_in_place, replaced_start, replaced_anew, replaced_or_refused, replace_at, replace_step}
+use Rattle.order_kinds.specs.Cancels.{cancel_by, cancel_step}
 use Rattle.order_kinds.specs.Entering.{entered}
 use Rattle.order_kinds.specs.Stops.{Naming, fill_range_from, fill_range, stop_end, is_reached_by, first_entry, first_reached, next_stop, stop_triggered, stop_entered, stop_rounds, stops_entered, entered_with_stops, taker_waiting, come_in_as}
+use Rattle.order_kinds.specs.TradingSessions.{expiring, expiry_reports, session_changed, session_step}
+use Rattle.order_kinds.specs.Step.{closed_step_as}
 use Rattle.order_kinds.proofs.Cascade.{entered-instrument}
 use Rattle.match_laws.specs.Stops.{IsUnreached, NoStopIsLeft, LeavesNoStop}
 use Rattle.match_laws.proofs.StopRounds.{stops-end}
@@ -204,3 +214,31 @@ replaced-left naming product request state slot is =
       | Err f ↦ tt
     ] in
     subst (λ (at : Option ℕ). LeavesNoStop before.instrument (replace_at at naming product request state)) (sym is) (go (replace_terms product request before state))
+
+-- ---- messages without fills
+
+-- orders that expire
+expiries-left : (time : List ℕ) (es : List Entry) (desk : Desk) (instrument : ℕ) (waiting : List Entry) → NoStopIsLeft instrument (expiry_reports time es desk).1 waiting
+expiries-left time [] desk instrument waiting = tt
+expiries-left time (e ∷ es) desk instrument waiting = expiries-left time es (report_counted desk e.order.firm) instrument waiting
+
+pub session-left : (change : SessionChange) (state : State) (instrument : ℕ) → LeavesNoStop instrument (session_step change state)
+session-left change state instrument =
+    let go : (to from : Trading) → LeavesNoStop instrument (session_changed to from change.time state) = elim [
+      | Open ↦ elim [ Open ↦ tt | Closed ↦ tt ]
+      | Closed ↦ elim [ Open ↦ expiries-left change.time (expiring state.book) state.desk instrument _ | Closed ↦ tt ]
+    ] in go change.to state.trading
+
+cancel-left : (request : CancelOrder) (state : State) (instrument : ℕ) → LeavesNoStop instrument (cancel_step request state)
+cancel-left request state instrument =
+    let go : (slot : Option ℕ) → LeavesNoStop instrument (cancel_by slot request state) = elim [ None ↦ tt | Some slot ↦ tt ] in
+    go (slot_named request.sender.firm request.old (live_orders state.book))
+
+-- any message while the market is closed
+pub closed-left : (naming : Naming) (product : ProductLists) (request : Request) (state : State) (instrument : ℕ) → LeavesNoStop instrument (closed_step_as naming product request state)
+closed-left naming product (New order) state instrument = tt
+closed-left naming product (Replace order) state instrument = tt
+closed-left naming product (Cancel order) state instrument = cancel-left order state instrument
+closed-left naming product (Session change) state instrument = session-left change state instrument
+closed-left naming product (Passed sender) state instrument = tt
+closed-left naming product (Refused refusal) state instrument = tt

@@ -17,6 +17,7 @@ use Rattle.plain_book.proofs.Pairs.{all-filter, all-with, all-both, differ-pairs
 use Rattle.level_sweep.specs.Sweep.{sweep}
 use Rattle.level_sweep.proofs.EachTrade.{each-sweep}
 use Rattle.level_sweep.proofs.EachOrder.{StaysTrue, AllStay, all-kept}
+use Rattle.order_kinds.specs.TradingSessions.{stays, book_closed}
 
 -- two orders of one side
 on-both : (i : ℕ) (d : Side) (x y : Entry) → is_on i d x ≡ true → is_on i d y ≡ true → is_on x.order.instrument x.order.side y ≡ true
@@ -94,11 +95,19 @@ module _ (i : ℕ) (d : Side) where
         | false ↦ λ off. ((λ _ on. not-both (is_on i d e) on off), rest)
       ] in go (is_on i d e) refl
 
--- where an order has left, TOP was TOP before
-pub top-left : (b : Book) (gone : ℕ) (i : ℕ) (d : Side) (s : ℕ) → IsRight b → top_of i d (without gone b.resting) ≡ Some s → top_of i d b.resting ≡ Some s
-top-left b gone i d s r h =
+-- where some orders have left, TOP was TOP before
+top-among : (p : Entry → Bool) (b : Book) (i : ℕ) (d : Side) (s : ℕ) → IsRight b → top_of i d (filter p b.resting) ≡ Some s → top_of i d b.resting ≡ Some s
+top-among p b i d s r h =
     let P = λ (n : ℕ). top_of i d b.resting ≡ Some n in
-    top-holds i d P s (without gone b.resting) (all-filter (Marked i d P) (λ e. not (e.slot == gone)) b.resting (marked-top i d b.resting r.tops)) h
+    top-holds i d P s (filter p b.resting) (all-filter (Marked i d P) p b.resting (marked-top i d b.resting r.tops)) h
+
+-- where one has left
+pub top-left : (b : Book) (gone : ℕ) (i : ℕ) (d : Side) (s : ℕ) → IsRight b → top_of i d (without gone b.resting) ≡ Some s → top_of i d b.resting ≡ Some s
+top-left b gone i d s r h = top-among (λ e. not (e.slot == gone)) b i d s r h
+
+-- where the market has closed
+pub top-closed : (b : Book) (i : ℕ) (d : Side) (s : ℕ) → IsRight b → top_of i d (book_closed b).resting ≡ Some s → top_of i d b.resting ≡ Some s
+top-closed b i d s r h = top-among stays b i d s r h
 
 -- ---- what a trade keeps
 

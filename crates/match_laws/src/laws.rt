@@ -6,6 +6,8 @@ ghost use Rattle.step_config.specs.declared.step.Step.{Step};
 ghost use Rattle.product_file.specs.Products.{ProductLists};
 ghost use Rattle.fix_request.specs.declared.request.NewOrder.{NewOrder};
 ghost use Rattle.fix_request.specs.declared.request.ReplaceOrder.{ReplaceOrder};
+ghost use Rattle.fix_request.specs.declared.request.SessionChange.{SessionChange};
+ghost use Rattle.fix_request.specs.declared.request.Request.{Request};
 ghost use Rattle.step_config.specs.RightSteps.{IsRightStep, AreRightSteps};
 ghost use Rattle.plain_book.specs.declared.entry.Entry.{Entry};
 ghost use Rattle.plain_book.specs.Orders.{order_of, slot_named, top_of};
@@ -18,6 +20,8 @@ ghost use Rattle.order_kinds.specs.NewOrders.{Terms, terms_of};
 ghost use Rattle.order_kinds.specs.Accepting.{new_step};
 ghost use Rattle.order_kinds.specs.Replaces.{replace_step};
 ghost use Rattle.order_kinds.specs.Stops.{Naming, next_stop, stop_entered, stops_entered, entered_with_stops};
+ghost use Rattle.order_kinds.specs.TradingSessions.{book_closed, session_step};
+ghost use Rattle.order_kinds.specs.Step.{closed_step_as};
 ghost use Rattle.match_laws.specs.Laws.{TradesFitShares, IsUncrossed};
 ghost use Rattle.match_laws.specs.Stops.{NoStopIsLeft, LeavesNoStop};
 
@@ -63,12 +67,14 @@ pub fn no_book_is_crossed()
         → IsUncrossed (book_placed slot end.taker.order top_min end.book).resting }
 {}
 
-/// No order inherits TOP: who is TOP after a sweep, or after an order has left, was TOP before.
+/// No order inherits TOP: who is TOP after a sweep, after an order has left, or after the market has closed, was TOP before.
 pub fn nobody_inherits_top()
     ensures swept { (steps : List Step) (limit : Price) (m : MatchState) (instrument : ℕ) (side : Side) (slot : ℕ) → IsRight m.book
         → top_of instrument side (sweep steps limit m).book.resting ≡ Some slot → top_of instrument side m.book.resting ≡ Some slot }
     ensures left { (b : Book) (gone : ℕ) (instrument : ℕ) (side : Side) (slot : ℕ) → IsRight b
         → top_of instrument side (book_without gone b).resting ≡ Some slot → top_of instrument side b.resting ≡ Some slot }
+    ensures closed { (b : Book) (instrument : ℕ) (side : Side) (slot : ℕ) → IsRight b
+        → top_of instrument side (book_closed b).resting ≡ Some slot → top_of instrument side b.resting ≡ Some slot }
 {}
 
 /// A cascade of stops without a count of rounds: if no waiting stop is reached, nothing is done; else the next stop is
@@ -85,8 +91,8 @@ pub fn stops_end()
 {}
 
 /// No message leaves a stop of its instrument waiting whose stop price one of its fills reaches: neither an order that is
-/// entered with the stops that follow, nor a new order that is accepted, nor a replace of a live order. Other messages have no
-/// fills.
+/// entered with the stops that follow, nor a new order that is accepted, nor a replace of a live order, nor a change of the
+/// trading session, nor any message while the market is closed. Other messages have no fills.
 pub fn no_stop_is_left()
     ensures entered { (naming : Naming) (steps : List Step) (m : MatchState)
         → let end = entered_with_stops naming steps m in NoStopIsLeft m.taker.order.instrument end.events end.book.waiting }
@@ -95,4 +101,7 @@ pub fn no_stop_is_left()
     ensures replaced { (naming : Naming) (product : ProductLists) (request : ReplaceOrder) (state : State) (slot : ℕ)
         → let live = live_orders state.book in slot_named request.sender.firm request.old live ≡ Some slot
         → LeavesNoStop (order_of slot live).instrument (replace_step naming product request state) }
+    ensures session { (change : SessionChange) (state : State) (instrument : ℕ) → LeavesNoStop instrument (session_step change state) }
+    ensures closed { (naming : Naming) (product : ProductLists) (request : Request) (state : State) (instrument : ℕ)
+        → LeavesNoStop instrument (closed_step_as naming product request state) }
 {}

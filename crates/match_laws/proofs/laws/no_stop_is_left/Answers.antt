@@ -1,4 +1,4 @@
-use Rattle.match_laws.proofs.StopsLeft.{no-stop-left, new-left, replaced-left}
+use Rattle.match_laws.proofs.StopsLeft.{no-stop-left, new-left, replaced-left, session-left, closed-left}
 use Rattle.match_laws.proofs.laws.no_stop_is_left.Goals as goal
 
 pub returns-clause-entered : goal.returns-clause-entered
@@ -9,3 +9,9 @@ returns-clause-accepted c = λ naming product new state terms is. new-left namin
 
 pub returns-clause-replaced : goal.returns-clause-replaced
 returns-clause-replaced c = λ naming product request state slot is. replaced-left naming product request state slot is
+
+pub returns-clause-session : goal.returns-clause-session
+returns-clause-session c = λ change state instrument. session-left change state instrument
+
+pub returns-clause-closed : goal.returns-clause-closed
+returns-clause-closed c = λ naming product request state instrument. closed-left naming product request state instrument
