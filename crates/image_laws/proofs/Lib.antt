@@ -12,6 +12,7 @@ mod Names
 mod Reached
 mod NewOrders
 mod Replaces
+mod Closings
 -- and of images.
 mod Places
 mod Rows

@@ -1,11 +1,12 @@
 -- Messages, whatever they are, lead to right states.
-use Rattle.std.proofs.Common.{◌≡◌, ℕ, ◌+◌, ◌*◌, ◌<◌, ◌≤◌, true, false, List, [], ◌∷◌, ◌++◌, length, replicate, Option, Some, None, refl, sym, ap, subst, ◌∙◌, arith, length-append}
+use Rattle.std.proofs.Common.{◌≡◌, ℕ, ◌+◌, ◌*◌, ◌<◌, ◌≤◌, true, false, List, [], ◌∷◌, ◌++◌, length, replicate, Option, Some, None, refl, sym, ap, subst, arith, length-append}
 use Prim.Native.Nat.{zero, suc}
 use Rattle.std.specs.Prelude.{◌^◌, IfSome, slice_index_or}
 use Rattle.std.proofs.lemmas.List.{length-replicate}
 use Rattle.gx_base.specs.declared.limits.TheConstants.{ADDRESSEES, MOST_LOTS}
 use Rattle.gx_base.specs.declared.price.Price.{Price}
-use Rattle.gx_base.specs.declared.trading.Trading.TheVariants.{Open, Closed}
+use Rattle.gx_base.specs.declared.trading.Trading.TheVariants.{Open}
+use Rattle.gx_base.specs.declared.event.NewFault.TheVariants as new_fault
 use Rattle.gx_base.specs.declared.event.ChangeFault.TheVariants as change
 use Rattle.product_file.specs.Products.{ProductLists, IsRightProduct}
 use Rattle.fix_request.specs.Requests.{request_of}
@@ -13,26 +14,31 @@ use Rattle.fix_request.specs.ValidRequests.{IsValidRequest}
 use Rattle.fix_request.specs.declared.request.CancelOrder.{CancelOrder}
 use Rattle.fix_request.specs.declared.request.Refusal.{Refusal}
 use Rattle.fix_request.specs.declared.request.Request.{Request}
-use Rattle.fix_request.specs.declared.request.Request.TheVariants.{New, Cancel, Replace, Passed, Refused}
+use Rattle.fix_request.specs.declared.request.Request.TheVariants.{New, Cancel, Replace, Session, Passed, Refused}
+use Rattle.plain_book.specs.declared.entry.Entry.{Entry}
 use Rattle.plain_book.specs.Orders.{HasSlot, slot_named}
 use Rattle.plain_book.specs.Book.{live_orders}
 use Rattle.plain_book.proofs.Found.{all-zero}
+use Rattle.plain_book.proofs.Right.{live-without}
 use Rattle.order_kinds.specs.declared.core_state.TheConstants.{MOST_MESSAGES}
 use Rattle.order_kinds.specs.State.{State, empty_state}
-use Rattle.order_kinds.specs.Cancels.{cancelled, cancel_by, cancel_step, session_step}
+use Rattle.order_kinds.specs.Cancels.{cancelled, cancel_by, cancel_step, message_refused}
 use Rattle.order_kinds.specs.Stops.{by_number}
-use Rattle.order_kinds.specs.Step.{with_message, open_step_as, request_step, step_of, state_after, events_from, events_of}
-use Rattle.order_kinds.proofs.SessionSteps.{step-session}
+use Rattle.order_kinds.specs.TradingSessions.{is_until_cancelled, AreUntilCancelled}
+use Rattle.order_kinds.specs.Step.{with_message, open_step_as, closed_step_as, request_step, step_of, state_after, events_from, events_of}
+use Rattle.order_kinds.proofs.SessionSteps.{by-session}
 use Rattle.balance_laws.proofs.Bounds.{whole-within}
 use Rattle.balance_laws.proofs.Requests.{named-has}
 use Rattle.book_image.specs.Rules.{is_price_of}
 use Rattle.image_laws.specs.Right.{IsRightState}
+use Rattle.image_laws.proofs.Orders.{all-without}
 use Rattle.image_laws.proofs.Held.{held-without}
 use Rattle.image_laws.proofs.Counted.{counted-report, counted-line, counted-within}
 use Rattle.image_laws.proofs.Names.{HasName, request-named, request-valid}
 use Rattle.image_laws.proofs.Arriving.{uncrossed-without}
-use Rattle.image_laws.proofs.Reached.{IsReached, StepReaches}
-use Rattle.image_laws.proofs.NewOrders.{new-reached}
+use Rattle.image_laws.proofs.Reached.{IsReached, StepReaches, not-closed}
+use Rattle.image_laws.proofs.NewOrders.{refused-reached, new-reached}
+use Rattle.image_laws.proofs.Closings.{nothing-reached, session-reached}
 use Rattle.image_laws.proofs.Replaces.{unchanged-reached, replace-reached}
 
 module _ (product : ProductLists) (right : IsRightProduct product) where
@@ -44,7 +50,7 @@ module _ (product : ProductLists) (right : IsRightProduct product) where
     uncrossed = uncrossed-without slot state.book.resting h.uncrossed;
     prices = h.prices;
     lasts = h.lasts;
-    is_open = h.is_open;
+    lives = λ closed. subst AreUntilCancelled (sym (live-without slot state.book)) (all-without (λ (e : Entry). is_until_cancelled e.order.life ≡ true) slot (live_orders state.book) (h.lives closed));
     counted = counted-report sent state.desk.orders bound state.desk h.counted request.sender.firm;
     few = h.few;
   }
@@ -57,36 +63,39 @@ module _ (product : ProductLists) (right : IsRightProduct product) where
         | Some slot ↦ λ is. cancelled-reached sent bound request slot state (named-has request.sender.firm request.old es slot is) h
       ] in go (slot_named request.sender.firm request.old es) refl
 
-  session-reached : (sent bound : ℕ) (refusal : Refusal) (state : State) → IsReached product sent bound state → StepReaches product sent bound (session_step refusal state)
-  session-reached sent bound refusal state h = record {
+  message-reached : (sent bound : ℕ) (refusal : Refusal) (state : State) → IsReached product sent bound state → StepReaches product sent bound (message_refused refusal state)
+  message-reached sent bound refusal state h = record {
     held = h.held;
     uncrossed = h.uncrossed;
     prices = h.prices;
     lasts = h.lasts;
-    is_open = h.is_open;
+    lives = h.lives;
     counted = counted-line sent state.desk.orders bound state.desk h.counted refusal.firm;
     few = h.few;
   }
 
   -- ---- one message
 
-  open-reached : (sent bound : ℕ) (request : Request) (state : State) → IsValidRequest product request → HasName request → IsReached product sent bound state → state.desk.orders < sent → StepReaches product sent bound (open_step_as by_number product request state)
-  open-reached sent bound (New order) state valid name h room = new-reached product right sent bound order state valid name h room
-  open-reached sent bound (Cancel order) state valid name h room = cancel-reached sent bound order state h
-  open-reached sent bound (Replace order) state valid name h room = replace-reached product right sent bound order state valid name h
-  open-reached sent bound (Passed sender) state valid name h room = record {
-    held = h.held;
-    uncrossed = h.uncrossed;
-    prices = h.prices;
-    lasts = h.lasts;
-    is_open = h.is_open;
-    counted = counted-within sent state.desk.orders bound state.desk h.counted (bound + 0) (omega arith);
-    few = h.few;
-  }
-  open-reached sent bound (Refused refusal) state valid name h room = session-reached sent bound refusal state h
+  open-reached : (sent bound : ℕ) (request : Request) (state : State) → IsValidRequest product request → HasName request → IsReached product sent bound state → state.desk.orders < sent → state.trading ≡ Open → StepReaches product sent bound (open_step_as by_number product request state)
+  open-reached sent bound (New order) state valid name h room is_open = new-reached product right sent bound order state valid name h room is_open
+  open-reached sent bound (Cancel order) state valid name h room is_open = cancel-reached sent bound order state h
+  open-reached sent bound (Replace order) state valid name h room is_open = replace-reached product right sent bound order state valid name h is_open
+  open-reached sent bound (Session change) state valid name h room is_open = session-reached product sent bound state h change
+  open-reached sent bound (Passed sender) state valid name h room is_open = nothing-reached product sent bound state h
+  open-reached sent bound (Refused refusal) state valid name h room is_open = message-reached sent bound refusal state h
+
+  closed-reached : (sent bound : ℕ) (request : Request) (state : State) → IsValidRequest product request → HasName request → IsReached product sent bound state → state.desk.orders < sent → StepReaches product sent bound (closed_step_as by_number product request state)
+  closed-reached sent bound (New order) state valid name h room = refused-reached product right sent bound order state valid name h room new_fault.Closed
+  closed-reached sent bound (Replace order) state valid name h room = unchanged-reached product sent bound order.sender order.id order.old 0 0 true change.Closed state h
+  closed-reached sent bound (Cancel order) state valid name h room = cancel-reached sent bound order state h
+  closed-reached sent bound (Session change) state valid name h room = session-reached product sent bound state h change
+  closed-reached sent bound (Passed sender) state valid name h room = nothing-reached product sent bound state h
+  closed-reached sent bound (Refused refusal) state valid name h room = message-reached sent bound refusal state h
 
   request-reached : (sent bound : ℕ) (request : Request) (state : State) → IsValidRequest product request → HasName request → IsReached product sent bound state → state.desk.orders < sent → StepReaches product sent bound (request_step product request state)
-  request-reached sent bound request state valid name h room = subst (StepReaches product sent bound) (step-session by_number product request state) (open-reached sent bound request state valid name h room)
+  request-reached sent bound request state valid name h room =
+      by-session (StepReaches product sent bound) by_number product request state
+      (λ is_open. open-reached sent bound request state valid name h room is_open) (λ is_closed. closed-reached sent bound request state valid name h room)
 
   step-reached : (sent bound : ℕ) (state : State) (frame : List ℕ) → IsReached product sent bound state → StepReaches product (sent + 1) bound (step_of product state frame)
   step-reached sent bound state frame h =
@@ -95,7 +104,7 @@ module _ (product : ProductLists) (right : IsRightProduct product) where
         uncrossed = h.uncrossed;
         prices = h.prices;
         lasts = h.lasts;
-        is_open = h.is_open;
+        lives = h.lives;
         counted = record {
           messages = ap (λ (n : ℕ). n + 1) h.counted.messages;
           orders = refl;
@@ -139,7 +148,7 @@ module _ (product : ProductLists) (right : IsRightProduct product) where
     uncrossed = tt;
     prices = length-replicate (length product.names.instruments) None;
     lasts = λ j. subst (λ (x : Option Price). IfSome x (λ price. is_price_of product j price ≡ true)) (sym (none-traded (length product.names.instruments) j)) tt;
-    is_open = refl;
+    lives = not-closed refl;
     counted = record { messages = refl; orders = refl; counts = record { trades = omega arith; reports = omega arith; lines = λ place. omega (arith, all-zero ADDRESSEES place) }; lines = refl };
     few = omega arith;
   }
@@ -165,7 +174,7 @@ module _ (product : ProductLists) (right : IsRightProduct product) where
         uncrossed = h.uncrossed;
         prices = h.prices;
         lasts = h.lasts;
-        lives = λ closed. absurd (let k : Open ≡ Closed = sym h.is_open ∙ closed in cc);
+        lives = h.lives;
         counters = record { orders = omega (arith, h.few, sent); messages = omega (arith, few, sent); counts = (counted-within (length messages) state.desk.orders (length events) state.desk h.counted (state.desk.messages * 2 ^ 38) within).counts };
         few = omega (arith, few, sent);
         lines = h.counted.lines;
