@@ -25,7 +25,7 @@ use Rattle.gx_base.specs.declared.event.ChangeFault.{ChangeFault}
 use Rattle.gx_base.specs.declared.event.ChangeFault.TheVariants as changes
 use Rattle.gx_base.specs.declared.event.Head.{Head}
 use Rattle.gx_base.specs.declared.event.Event.{Event}
-use Rattle.gx_base.specs.declared.event.Event.TheVariants.{Accepted, Triggered, Fill, Cancelled, Replaced, RefusedNew, RefusedChange, RefusedSession}
+use Rattle.gx_base.specs.declared.event.Event.TheVariants.{Accepted, Triggered, Fill, Cancelled, Expired, Replaced, RefusedNew, RefusedChange, RefusedSession}
 use Rattle.fix_request.specs.Fields.{Field}
 use Rattle.generator_laws.specs.Names.{AreNames}
 use Rattle.report_laws.specs.Texts.{HasTexts}
@@ -172,6 +172,7 @@ value-status : (leaves : ℕ) → IsValue (fill_status leaves)
 value-status leaves = value-cond (leaves == 0) _ _ (short _ refl refl) (short _ refl refl)
 
 value-fault : (fault : NewFault) → IsValue (fault_text fault)
+value-fault faults.Closed = short _ refl refl
 value-fault faults.Symbol = short _ refl refl
 value-fault faults.Duplicate = short _ refl refl
 value-fault faults.Quantity = short _ refl refl
@@ -184,6 +185,7 @@ value-fault faults.BookFull = short _ refl refl
 value-fault faults.NoMarket = short _ refl refl
 
 value-reason : (fault : NewFault) → IsValue (reject_reason fault)
+value-reason faults.Closed = short _ refl refl
 value-reason faults.Symbol = short _ refl refl
 value-reason faults.Duplicate = short _ refl refl
 value-reason faults.Quantity = short _ refl refl
@@ -196,6 +198,7 @@ value-reason faults.BookFull = short _ refl refl
 value-reason faults.NoMarket = short _ refl refl
 
 value-change : (fault : ChangeFault) → IsValue (change_text fault)
+value-change changes.Closed = short _ refl refl
 value-change changes.Unknown = short _ refl refl
 value-change changes.Mismatch = short _ refl refl
 value-change changes.Duplicate = short _ refl refl
@@ -207,6 +210,7 @@ value-change changes.StopReached = short _ refl refl
 value-change changes.Show = short _ refl refl
 
 value-change_reason : (fault : ChangeFault) → IsValue (change_reason fault)
+value-change_reason changes.Closed = short _ refl refl
 value-change_reason changes.Unknown = short _ refl refl
 value-change_reason changes.Mismatch = short _ refl refl
 value-change_reason changes.Duplicate = short _ refl refl
@@ -221,6 +225,7 @@ value-open : (filled : ℕ) → IsValue (cond (filled == 0) (codes "0") (codes "
 value-open filled = value-cond (filled == 0) _ _ (short _ refl refl) (short _ refl refl)
 
 value-change_status : (fault : ChangeFault) (filled : ℕ) → IsValue (change_status fault filled)
+value-change_status changes.Closed filled = short _ refl refl
 value-change_status changes.Unknown filled = short _ refl refl
 value-change_status changes.Mismatch filled = value-open filled
 value-change_status changes.Duplicate filled = value-open filled
@@ -317,6 +322,7 @@ told_of names (Fill head o lots price step trade) =
     ++ at 9001 (step_text step) ∷ []) ++ at 9002 (decimal trade) ∷ []) ++ at 9003 (codes "0") ∷ []
 told_of names (Cancelled head o gone by cause) =
     ((front_told names head o o.kind (cancel_id o by) (cancelled_id o by) (codes "4") ++ state_told head o) ++ if_told 58 (cause_text cause)) ++ at 9003 (decimal gone) ∷ []
+told_of names (Expired head o gone) = ((front_told names head o o.kind o.id None (codes "C") ++ state_told head o) ++ at 58 (codes "EXPIRED") ∷ []) ++ at 9003 (decimal gone) ∷ []
 told_of names (Replaced head o old before) = (front_told names head o o.kind o.id (Some old) (codes "5") ++ state_told head o) ++ at 9003 (codes "0") ∷ []
 told_of names (RefusedNew head new fault) = refused_told names head new fault
 told_of names (RefusedChange head id old number filled replace fault) = change_told names head id old number filled replace fault
@@ -448,6 +454,12 @@ module _ (names : NameLists) (are : AreNames names) where
       (state-fields head o (value-text _ texts.0)))
       (if-fields "58" 58 tag58 (cause_text cause) (cause-value cause)))
       tag9003 (value-decimal gone)
+  body-fields (Expired head o gone) texts =
+      then-field _ _ "9003" 9003 (decimal gone)
+      (then-field _ _ "58" 58 (codes "EXPIRED")
+      (more-fields _ _ _ _ (front-fields head o o.id None (codes "C") (value-text _ texts.0) (value-text _ texts.1.0) no-text (short _ refl refl)) (state-fields head o (value-text _ texts.0)))
+      tag58 (short _ refl refl))
+      tag9003 (value-decimal gone)
   body-fields (Replaced head o old before) texts =
       then-field _ _ "9003" 9003 (codes "0")
       (more-fields _ _ _ _
@@ -511,6 +523,8 @@ module _ (names : NameLists) (are : AreNames names) where
       ++ field_if "58" (cause_text cause))
       _
       (ends-field "9003" (decimal gone))
+  body-ends (Expired head o gone) =
+      ends-behind (order_front names head o o.id None (codes "C") ++ state_fields head o ++ field "58" (codes "EXPIRED")) _ (ends-field "9003" (decimal gone))
   body-ends (Replaced head o old before) =
       ends-behind (order_front names head o o.id (Some old) (codes "5") ++ state_fields head o) _ (ends-field "9003" (codes "0"))
   body-ends (RefusedNew head new fault) =

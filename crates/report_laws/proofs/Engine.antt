@@ -1,6 +1,6 @@
 -- Each text that the engine puts into a report is short and ends no field, no order has a quantity of ten digits, and there are no
 -- more order numbers than messages, whatever the requests are.
-use Rattle.std.proofs.Common.{ℕ, ◌+◌, ◌^◌, ◌<◌, min, Bool, true, false, cond, not, ◌&&◌, nat_lt, List, [], ◌∷◌, filter, length, Option, Some, None, Result, Ok, Err, refl, subst, arith, ◌≡◌, ◌≤◌}
+use Rattle.std.proofs.Common.{ℕ, ◌+◌, ◌^◌, ◌<◌, min, Bool, true, false, cond, not, ◌&&◌, nat_lt, List, [], ◌∷◌, filter, length, Option, Some, None, Result, Ok, Err, refl, arith, ◌≡◌, ◌≤◌}
 use Prim.Native.Nat.{zero, suc}
 use Rattle.std.specs.Prelude.{◌==◌, IfSome}
 use Rattle.std.specs.List.{AllByRecursion}
@@ -15,9 +15,13 @@ use Rattle.gx_base.specs.declared.event.StepName.TheVariants as name
 use Rattle.gx_base.specs.declared.event.Cause.{Cause}
 use Rattle.gx_base.specs.declared.event.Cause.TheVariants as cause
 use Rattle.gx_base.specs.declared.event.NewFault.{NewFault}
+use Rattle.gx_base.specs.declared.event.NewFault.TheVariants as new_fault
 use Rattle.gx_base.specs.declared.event.ChangeFault.{ChangeFault}
-use Rattle.gx_base.specs.declared.event.ChangeFault.TheVariants as change
+use Rattle.gx_base.specs.declared.event.ChangeFault.TheVariants as change_fault
 use Rattle.gx_base.specs.declared.event.Event.{Event}
+use Rattle.gx_base.specs.declared.trading.Trading.{Trading}
+use Rattle.gx_base.specs.declared.trading.Trading.TheVariants.{Open, Closed}
+use Rattle.gx_base.specs.declared.order.Desk.{Desk}
 use Rattle.step_config.specs.declared.step.Step.{Step}
 use Rattle.step_config.specs.declared.step.Step.TheVariants.{Top, Lmm, Split, ProRata, Leveling, Fifo}
 use Rattle.product_file.specs.Products.{ProductLists}
@@ -27,11 +31,11 @@ use Rattle.fix_request.specs.declared.request.NewOrder.{NewOrder}
 use Rattle.fix_request.specs.declared.request.CancelOrder.{CancelOrder}
 use Rattle.fix_request.specs.declared.request.ReplaceOrder.{ReplaceOrder}
 use Rattle.fix_request.specs.declared.request.Request.{Request}
-use Rattle.fix_request.specs.declared.request.Request.TheVariants.{New, Cancel, Replace, Passed, Refused}
+use Rattle.fix_request.specs.declared.request.Request.TheVariants.{New, Cancel, Replace, Session, Passed, Refused}
 use Rattle.plain_book.specs.declared.entry.Entry.{Entry}
 use Rattle.plain_book.specs.Orders.{order_of, without, with_order, placed, lined_up, with_top, settled, refreshed, filled_by, stops_of, is_of, is_at_earlier_level, is_of_earlier_instrument, is_new_best, slot_named, opposite, top_of}
 use Rattle.plain_book.specs.Book.{Book, live_orders, first_shown, makes_top, resting_placed, book_without, changed_to}
-use Rattle.plain_book.specs.Match.{MatchState, Share, trade, is_prorata, book_share_noted, share_noted, trade_share, trade_shares}
+use Rattle.plain_book.specs.Match.{MatchState, Share, report_counted, trade, is_prorata, book_share_noted, share_noted, trade_share, trade_shares}
 use Rattle.plain_book.specs.Steps.{level_now, trade_head, fifo_rounds, prorata_shares, top_shares, lmm_shares, split_shares, leveling_shares}
 use Rattle.book_order.proofs.Each.{all-filter, all-append}
 use Rattle.level_sweep.specs.Sweep.{after_step, wanted_step, level_match, next_price, match_next, sweep_rounds, sweep}
@@ -44,8 +48,9 @@ use Rattle.order_kinds.specs.Accepting.{refusal, new_start, new_of, after_match,
 use Rattle.order_kinds.specs.Cancels.{cancel_by}
 use Rattle.order_kinds.specs.Reports.{unchanged}
 use Rattle.order_kinds.specs.Replaces.{least_after, keeps_place, replaced_in_place, replaced_start, replaced_anew, replaced, replace_refused, replace_terms, replaced_or_refused, replace_at}
-use Rattle.order_kinds.specs.Step.{with_message, open_step_as, request_step, step_of as message_step, events_from, events_of}
-use Rattle.order_kinds.proofs.SessionSteps.{step-session}
+use Rattle.order_kinds.specs.TradingSessions.{stays, expires, expiring, expiry_reports, market_closed, session_changed}
+use Rattle.order_kinds.specs.Step.{with_message, open_step_as, closed_step_as, request_step, step_of as message_step, events_from, events_of}
+use Rattle.order_kinds.proofs.SessionSteps.{by-session}
 use Rattle.order_kinds.specs.Balance.{quantities_of, order_in}
 use Rattle.report_laws.specs.Texts.{IsText, HasTexts}
 
@@ -55,6 +60,7 @@ abbrev pub IsTextRequest : Request → Type 0
 IsTextRequest (New order) = IsText order.sender.time × (IsText order.id × (IsText order.symbol × (order.quantity < 10 ^ MOST_DIGITS)))
 IsTextRequest (Cancel order) = IsText order.sender.time × (IsText order.id × IsText order.old)
 IsTextRequest (Replace order) = IsText order.sender.time × (IsText order.id × (IsText order.old × (order.quantity < 10 ^ MOST_DIGITS)))
+IsTextRequest (Session change) = IsText change.time
 IsTextRequest (Passed sender) = Unit {0}
 IsTextRequest (Refused refusal) = IsText refusal.time
 
@@ -357,7 +363,7 @@ module _ (most : ℕ) where
   unchanged-text sender id old number filled replace f state time id_is old_is h = record { book = h; events = (record { texts = (time, (id_is, (old_is, tt))); small = tt; given = tt }, tt); orders = omega arith }
 
   cancel-text : (slot : Option ℕ) (request : CancelOrder) (state : State) → IsTextRequest (Cancel request) → IsTextBook state.book → IsTextStep state.desk.orders (cancel_by slot request state)
-  cancel-text None request state is h = unchanged-text request.sender request.id request.old 0 0 false change.Unknown state is.0 is.1.0 is.1.1 h
+  cancel-text None request state is h = unchanged-text request.sender request.id request.old 0 0 false change_fault.Unknown state is.0 is.1.0 is.1.1 h
   cancel-text (Some slot) request state is h =
       let o = order-text slot (live_orders state.book) (live-text state.book h) in
       record { book = left-text slot state.book h; events = (record { texts = (is.0, (o.id, (is.1.0, tt))); small = o.small; given = o.given }, tt); orders = omega arith }
@@ -397,19 +403,53 @@ module _ (most : ℕ) where
       let o = order_of slot (live_orders state.book) in refused-text f request o.number o.filled state is h
 
   replace-text : (slot : Option ℕ) (naming : Naming) (product : ProductLists) (request : ReplaceOrder) (state : State) → IsTextRequest (Replace request) → IsTextBook state.book → IsTextStep state.desk.orders (replace_at slot naming product request state)
-  replace-text None naming product request state is h = refused-text change.Unknown request 0 0 state is h
+  replace-text None naming product request state is h = refused-text change_fault.Unknown request 0 0 state is h
   replace-text (Some slot) naming product request state is h =
       by_terms-text (replace_terms product request (order_of slot (live_orders state.book)) state) naming request slot state is h
+
+  -- what expires
+  expiry-text : (time : List ℕ) (es : List Entry) (desk : Desk) → IsText time → AllText es → AllTextEvents (expiry_reports time es desk).1
+  expiry-text time [] desk is h = tt
+  expiry-text time (e ∷ es) desk is h =
+      (record { texts = (is, (h.0.id, tt)); small = h.0.small; given = h.0.given }, expiry-text time es (report_counted desk e.order.firm) is h.1)
+
+  expiry-orders : (time : List ℕ) (es : List Entry) (desk : Desk) → (expiry_reports time es desk).0.orders ≡ desk.orders
+  expiry-orders time [] desk = refl
+  expiry-orders time (e ∷ es) desk = expiry-orders time es (report_counted desk e.order.firm)
+
+  market_closed-text : (time : List ℕ) (state : State) → IsText time → IsTextBook state.book → IsTextStep state.desk.orders (market_closed time state)
+  market_closed-text time state is h =
+      let P = λ (e : Entry). IsTextOrder e.order in
+      record {
+        book = record { resting = all-filter P stays state.book.resting h.resting; waiting = all-filter P stays state.book.waiting h.waiting };
+        events = expiry-text time (expiring state.book) state.desk is (all-filter P expires (live_orders state.book) (live-text state.book h));
+        orders = omega (arith, expiry-orders time (expiring state.book) state.desk);
+      }
+
+  session-text : (to from : Trading) (time : List ℕ) (state : State) → IsText time → IsTextBook state.book → IsTextStep state.desk.orders (session_changed to from time state)
+  session-text Closed Open time state is h = market_closed-text time state is h
+  session-text Open Closed time state is h = record { book = h; events = tt; orders = omega arith }
+  session-text Open Open time state is h = record { book = h; events = tt; orders = omega arith }
+  session-text Closed Closed time state is h = record { book = h; events = tt; orders = omega arith }
 
   open-text : (product : ProductLists) (request : Request) (state : State) → HasRoom state → IsTextRequest request → IsTextBook state.book → IsTextStep state.desk.orders (open_step_as by_number product request state)
   open-text product (New order) state room is h = new-text by_number (terms_of product order state) order state room is h
   open-text product (Cancel order) state room is h = cancel-text (slot_named order.sender.firm order.old (live_orders state.book)) order state is h
   open-text product (Replace order) state room is h = replace-text (slot_named order.sender.firm order.old (live_orders state.book)) by_number product order state is h
+  open-text product (Session change) state room is h = session-text change.to state.trading change.time state is h
   open-text product (Passed sender) state room is h = record { book = h; events = tt; orders = omega arith }
   open-text product (Refused refusal) state room is h = record { book = h; events = (record { texts = (is, tt); small = tt; given = tt }, tt); orders = omega arith }
 
+  closed-text : (product : ProductLists) (request : Request) (state : State) → HasRoom state → IsTextRequest request → IsTextBook state.book → IsTextStep state.desk.orders (closed_step_as by_number product request state)
+  closed-text product (New order) state room is h = new-text by_number (Err new_fault.Closed) order state room is h
+  closed-text product (Replace order) state room is h = refused-text change_fault.Closed order 0 0 state is h
+  closed-text product (Cancel order) state room is h = open-text product (Cancel order) state room is h
+  closed-text product (Session change) state room is h = open-text product (Session change) state room is h
+  closed-text product (Passed sender) state room is h = open-text product (Passed sender) state room is h
+  closed-text product (Refused refusal) state room is h = open-text product (Refused refusal) state room is h
+
   request-text : (product : ProductLists) (request : Request) (state : State) → HasRoom state → IsTextRequest request → IsTextBook state.book → IsTextStep state.desk.orders (request_step product request state)
-  request-text product request state room is h = subst (IsTextStep state.desk.orders) (step-session by_number product request state) (open-text product request state room is h)
+  request-text product request state room is h = by-session (IsTextStep state.desk.orders) by_number product request state (λ _. open-text product request state room is h) (λ _. closed-text product request state room is h)
 
   -- ---- a stream
 

@@ -1,5 +1,5 @@
 -- What the bytes of one report say is what its event tells.
-use Rattle.std.proofs.Common.{◌≡◌, ℕ, ◌+◌, ◌^◌, ◌<◌, ◌≤◌, Bool, true, false, cond, ◌&&◌, List, [], ◌++◌, Option, Some, None, bytes_eq, codes, decimal, refl, sym, ap, subst, ◌∙◌, inl, inr, arith}
+use Rattle.std.proofs.Common.{◌≡◌, ℕ, ◌+◌, ◌^◌, ◌<◌, ◌≤◌, Bool, true, false, cond, ◌&&◌, ◌||◌, List, [], ◌++◌, Option, Some, None, bytes_eq, codes, decimal, refl, sym, ap, ap₂, subst, ◌∙◌, inl, inr, arith}
 use Rattle.std.proofs.lemmas.Bool.{cond-true, cond-false}
 use Rattle.std.proofs.lemmas.Bool.Decides.{eqb_tells}
 use Rattle.std.proofs.lemmas.Fmt.{decimal_is_IsNumeral}
@@ -14,16 +14,16 @@ use Rattle.gx_base.specs.declared.event.Cause.{Cause}
 use Rattle.gx_base.specs.declared.event.NewFault.{NewFault}
 use Rattle.gx_base.specs.declared.event.NewRefused.{NewRefused}
 use Rattle.gx_base.specs.declared.event.Event.{Event}
-use Rattle.gx_base.specs.declared.event.Event.TheVariants.{Accepted, Triggered, Fill, Cancelled, Replaced, RefusedNew, RefusedChange, RefusedSession}
+use Rattle.gx_base.specs.declared.event.Event.TheVariants.{Accepted, Triggered, Fill, Cancelled, Expired, Replaced, RefusedNew, RefusedChange, RefusedSession}
 use Rattle.fix_frame.specs.Grammar.{body_in}
 use Rattle.fix_request.specs.Fields.{Field, fields_of}
-use Rattle.order_kinds.specs.Balance.{Quantities, quantities_of, AddsUp, filled_in, cancelled_in, order_in, open_by, lots_in}
+use Rattle.order_kinds.specs.Balance.{Quantities, quantities_of, AddsUp, IsSpent, filled_in, cancelled_in, order_in, open_by, lots_in}
 use Rattle.book_print.specs.LedgerText.{report_line, ledger_line}
 use Rattle.line_parts.specs.Words.{line_feed}
 use Rattle.generator_laws.specs.Names.{AreNames}
-use Rattle.report_laws.specs.Reading.{open_by_report, lots_by_report, value_in, text_in, number_in, is_execution, is_cancel, is_refusal, ReadsAsWhole, cancelled_in_report}
+use Rattle.report_laws.specs.Reading.{open_by_report, lots_by_report, value_in, text_in, number_in, is_execution, is_cancel, is_refusal, is_expiry, ReadsAsWhole, cancelled_in_report}
 use Rattle.report_laws.specs.Texts.{HasTexts}
-use Rattle.report_laws.specs.Told.{WritesQuantities, WritesWhatIsTold, lots_text, EndsWhole, line_read, ledger_line_read}
+use Rattle.report_laws.specs.Told.{WritesQuantities, WritesWhatIsTold, lots_text, EndsWhole, LeavesNothing, line_read, ledger_line_read}
 use Rattle.report_laws.specs.Sums.{IsReadRight}
 use Rattle.report_laws.proofs.Said.{Says, IsOther, number_of, status_of, SaysWhatIsTold, said, said-refused, decimal-0}
 use Rattle.report_laws.proofs.Frames.{line-fields}
@@ -39,30 +39,36 @@ no-lots (Fill head o lots price step trade) h = absurd (let e : Some _ ≡ None 
 no-lots (Accepted head o) h = refl
 no-lots (Triggered head o) h = refl
 no-lots (Cancelled head o gone by cause) h = refl
+no-lots (Expired head o gone) h = refl
 no-lots (Replaced head o old before) h = refl
 no-lots (RefusedNew head new fault) h = refl
 no-lots (RefusedChange head id old number filled replace fault) h = refl
 no-lots (RefusedSession head seq tag reason rule) h = refl
 
--- what no cancelled order has, an event has that cancels nothing
-cancels-not : (P : Event → Type 0) → ((head : Head) (o : Order) (gone : ℕ) (by : Option (List ℕ)) (cause : Cause) → P (Cancelled head o gone by cause) → ⊥) → (event : Event) → P event → cancelled_in event ≡ 0
-cancels-not P none (Cancelled head o gone by cause) h = absurd (none head o gone by cause h)
-cancels-not P none (Accepted head o) h = refl
-cancels-not P none (Triggered head o) h = refl
-cancels-not P none (Fill head o lots price step trade) h = refl
-cancels-not P none (Replaced head o old before) h = refl
-cancels-not P none (RefusedNew head new fault) h = refl
-cancels-not P none (RefusedChange head id old number filled replace fault) h = refl
-cancels-not P none (RefusedSession head seq tag reason rule) h = refl
+-- what no order has that is cancelled or that expires, an event has that cancels nothing
+cancels-not : (P : Event → Type 0)
+    → ((head : Head) (o : Order) (gone : ℕ) (by : Option (List ℕ)) (cause : Cause) → P (Cancelled head o gone by cause) → ⊥)
+    → ((head : Head) (o : Order) (gone : ℕ) → P (Expired head o gone) → ⊥)
+    → (event : Event) → P event → cancelled_in event ≡ 0
+cancels-not P none kept (Cancelled head o gone by cause) h = absurd (none head o gone by cause h)
+cancels-not P none kept (Expired head o gone) h = absurd (kept head o gone h)
+cancels-not P none kept (Accepted head o) h = refl
+cancels-not P none kept (Triggered head o) h = refl
+cancels-not P none kept (Fill head o lots price step trade) h = refl
+cancels-not P none kept (Replaced head o old before) h = refl
+cancels-not P none kept (RefusedNew head new fault) h = refl
+cancels-not P none kept (RefusedChange head id old number filled replace fault) h = refl
+cancels-not P none kept (RefusedSession head seq tag reason rule) h = refl
 
 no-cancel : (event : Event) → quantities_of event ≡ None → cancelled_in event ≡ 0
-no-cancel event h = cancels-not (λ (e : Event). quantities_of e ≡ None) (λ head o gone by cause k. let e : Some _ ≡ None = k in cc) event h
+no-cancel event h = cancels-not (λ (e : Event). quantities_of e ≡ None) (λ head o gone by cause k. let e : Some _ ≡ None = k in cc) (λ head o gone k. let e : Some _ ≡ None = k in cc) event h
 
 no-line : (event : Event) → quantities_of event ≡ None → ledger_line event ≡ []
 no-line (Accepted head o) h = absurd (let e : Some _ ≡ None = h in cc)
 no-line (Triggered head o) h = absurd (let e : Some _ ≡ None = h in cc)
 no-line (Fill head o lots price step trade) h = absurd (let e : Some _ ≡ None = h in cc)
 no-line (Cancelled head o gone by cause) h = absurd (let e : Some _ ≡ None = h in cc)
+no-line (Expired head o gone) h = absurd (let e : Some _ ≡ None = h in cc)
 no-line (Replaced head o old before) h = absurd (let e : Some _ ≡ None = h in cc)
 no-line (RefusedNew head new fault) h = absurd (let e : Some _ ≡ None = h in cc)
 no-line (RefusedChange head id old number filled replace fault) h = refl
@@ -75,6 +81,7 @@ told-line (Accepted head o) = refl
 told-line (Triggered head o) = refl
 told-line (Fill head o lots price step trade) = refl
 told-line (Cancelled head o gone by cause) = refl
+told-line (Expired head o gone) = refl
 told-line (Replaced head o old before) = refl
 told-line (RefusedNew head new fault) = refl
 told-line (RefusedChange head id old number filled replace fault) = tt
@@ -103,21 +110,27 @@ read-number n value small h = ap (λ (v : Option (List ℕ)). digits_value 10 (u
 
 -- ---- kinds
 
-status-cancel : (event : Event) → bytes_eq (status_of event) (codes "4") ≡ true → (gone : ℕ) → IfSome (quantities_of event) (λ q. q.cancelled ≡ gone) → IfSome (quantities_of event) (λ q. cancelled_in event ≡ gone)
+-- the kinds of an order that is cancelled and of one that expires
+abbrev is_end : List ℕ → Bool
+is_end kind = bytes_eq kind (codes "4") || bytes_eq kind (codes "C")
+
+status-cancel : (event : Event) → is_end (status_of event) ≡ true → (gone : ℕ) → IfSome (quantities_of event) (λ q. q.cancelled ≡ gone) → IfSome (quantities_of event) (λ q. cancelled_in event ≡ gone)
 status-cancel (Accepted head o) h gone is = absurd (let e : false ≡ true = h in cc)
 status-cancel (Triggered head o) h gone is = absurd (let e : false ≡ true = h in cc)
 status-cancel (Fill head o lots price step trade) h gone is =
-    let go : (b : Bool) → bytes_eq (cond b (codes "2") (codes "1")) (codes "4") ≡ true → 0 ≡ gone = elim [ true ↦ λ k. absurd (let e : false ≡ true = k in cc) | false ↦ λ k. absurd (let e : false ≡ true = k in cc) ] in
+    let go : (b : Bool) → is_end (cond b (codes "2") (codes "1")) ≡ true → 0 ≡ gone = elim [ true ↦ λ k. absurd (let e : false ≡ true = k in cc) | false ↦ λ k. absurd (let e : false ≡ true = k in cc) ] in
     go (o.leaves == 0) h
 status-cancel (Cancelled head o lots by cause) h gone is = is
+status-cancel (Expired head o lots) h gone is = is
 status-cancel (Replaced head o old before) h gone is = absurd (let e : false ≡ true = h in cc)
 status-cancel (RefusedNew head new fault) h gone is = absurd (let e : false ≡ true = h in cc)
 status-cancel (RefusedChange head id old number filled replace fault) h gone is = tt
 status-cancel (RefusedSession head seq tag reason rule) h gone is = tt
 
 -- any other kind cancels nothing
-status-other : (event : Event) → bytes_eq (status_of event) (codes "4") ≡ false → cancelled_in event ≡ 0
-status-other event h = cancels-not (λ (e : Event). bytes_eq (status_of e) (codes "4") ≡ false) (λ head o gone by cause k. let e : true ≡ false = k in cc) event h
+status-other : (event : Event) → is_end (status_of event) ≡ false → cancelled_in event ≡ 0
+status-other event h =
+    cancels-not (λ (e : Event). is_end (status_of e) ≡ false) (λ head o gone by cause k. let e : true ≡ false = k in cc) (λ head o gone k. let e : true ≡ false = k in cc) event h
 
 -- the kind 8 is of an order of which nothing is filled or open, and all of it ended
 record EndsAll (q : Quantities) : Type 0 where
@@ -132,10 +145,25 @@ status-refused (Fill head o lots price step trade) h =
     let go : (b : Bool) → bytes_eq (cond b (codes "2") (codes "1")) (codes "8") ≡ true → ⊥ = elim [ true ↦ λ k. let e : false ≡ true = k in cc | false ↦ λ k. let e : false ≡ true = k in cc ] in
     absurd (go (o.leaves == 0) h)
 status-refused (Cancelled head o gone by cause) h = absurd (let e : false ≡ true = h in cc)
+status-refused (Expired head o gone) h = absurd (let e : false ≡ true = h in cc)
 status-refused (Replaced head o old before) h = absurd (let e : false ≡ true = h in cc)
 status-refused (RefusedNew head new fault) h = record { filled = refl; leaves = refl; gone = refl }
 status-refused (RefusedChange head id old number filled replace fault) h = tt
 status-refused (RefusedSession head seq tag reason rule) h = tt
+
+-- the kind C is of an order of which nothing is open any more
+status-expired : (event : Event) → bytes_eq (status_of event) (codes "C") ≡ true → IsSpent event → IfSome (quantities_of event) (λ q. q.leaves ≡ 0)
+status-expired (Accepted head o) h spent = absurd (let e : false ≡ true = h in cc)
+status-expired (Triggered head o) h spent = absurd (let e : false ≡ true = h in cc)
+status-expired (Fill head o lots price step trade) h spent =
+    let go : (b : Bool) → bytes_eq (cond b (codes "2") (codes "1")) (codes "C") ≡ true → ⊥ = elim [ true ↦ λ k. let e : false ≡ true = k in cc | false ↦ λ k. let e : false ≡ true = k in cc ] in
+    absurd (go (o.leaves == 0) h)
+status-expired (Cancelled head o gone by cause) h spent = absurd (let e : false ≡ true = h in cc)
+status-expired (Expired head o gone) h spent = spent
+status-expired (Replaced head o old before) h spent = absurd (let e : false ≡ true = h in cc)
+status-expired (RefusedNew head new fault) h spent = absurd (let e : false ≡ true = h in cc)
+status-expired (RefusedChange head id old number filled replace fault) h spent = tt
+status-expired (RefusedSession head seq tag reason rule) h spent = tt
 
 -- ---- orders
 
@@ -144,6 +172,7 @@ no-order (Accepted head o) h = absurd (let e : Some _ ≡ None = h in cc)
 no-order (Triggered head o) h = absurd (let e : Some _ ≡ None = h in cc)
 no-order (Fill head o lots price step trade) h = absurd (let e : Some _ ≡ None = h in cc)
 no-order (Cancelled head o gone by cause) h = absurd (let e : Some _ ≡ None = h in cc)
+no-order (Expired head o gone) h = absurd (let e : Some _ ≡ None = h in cc)
 no-order (Replaced head o old before) h = absurd (let e : Some _ ≡ None = h in cc)
 no-order (RefusedNew head new fault) h = refl
 no-order (RefusedChange head id old number filled replace fault) h = refl
@@ -154,6 +183,7 @@ number-below (Accepted head o) h = h
 number-below (Triggered head o) h = h
 number-below (Fill head o lots price step trade) h = h
 number-below (Cancelled head o gone by cause) h = h
+number-below (Expired head o gone) h = h
 number-below (Replaced head o old before) h = h
 number-below (RefusedNew head new fault) h = omega arith
 number-below (RefusedChange head id old number filled replace fault) h = omega arith
@@ -164,6 +194,7 @@ told-open (Accepted head o) number leaves some = refl
 told-open (Triggered head o) number leaves some = refl
 told-open (Fill head o lots price step trade) number leaves some = refl
 told-open (Cancelled head o gone by cause) number leaves some = refl
+told-open (Expired head o gone) number leaves some = refl
 told-open (Replaced head o old before) number leaves some = refl
 told-open (RefusedNew head new fault) number leaves some =
     elim (eqb_tells 0 number) [ inl t ↦ absurd (omega (arith, some, t.1)) | inr t ↦ cond-false (0 == number) 0 leaves t.0 ]
@@ -180,6 +211,7 @@ told-lots (Fill head o lots price step trade) number b is = ap (λ (x : Bool). c
 told-lots (Accepted head o) number b is = either b 0
 told-lots (Triggered head o) number b is = either b 0
 told-lots (Cancelled head o gone by cause) number b is = either b 0
+told-lots (Expired head o gone) number b is = either b 0
 told-lots (Replaced head o old before) number b is = either b 0
 told-lots (RefusedNew head new fault) number b is = either b 0
 told-lots (RefusedChange head id old own filled replace fault) number b is = either b 0
@@ -190,6 +222,7 @@ own-number (Accepted head o) number n h = ap (λ (x : ℕ). x == number) h
 own-number (Triggered head o) number n h = ap (λ (x : ℕ). x == number) h
 own-number (Fill head o lots price step trade) number n h = ap (λ (x : ℕ). x == number) h
 own-number (Cancelled head o gone by cause) number n h = ap (λ (x : ℕ). x == number) h
+own-number (Expired head o gone) number n h = ap (λ (x : ℕ). x == number) h
 own-number (Replaced head o old before) number n h = ap (λ (x : ℕ). x == number) h
 own-number (RefusedNew head new fault) number n h = tt
 own-number (RefusedChange head id old own filled replace fault) number n h = tt
@@ -200,6 +233,7 @@ told-filled (Accepted head o) lots some h = h
 told-filled (Triggered head o) lots some h = h
 told-filled (Fill head o traded price step trade) lots some h = h
 told-filled (Cancelled head o gone by cause) lots some h = h
+told-filled (Expired head o gone) lots some h = h
 told-filled (Replaced head o old before) lots some h = h
 told-filled (RefusedNew head new fault) lots some h = absurd (let none : 1 ≤ 0 = some in omega (arith, none))
 told-filled (RefusedChange head id old number filled replace fault) lots some h = tt
@@ -283,6 +317,14 @@ module _ (names : NameLists) (are : AreNames names) (event : Event) (texts : Has
       (λ q is s. ends-all q s (of-quantities EndsAll q is (status-refused event (sym (status-read q (codes "8") s) ∙ h))))
       (λ is o. absurd (false-true (is_refusal line) (no-status (codes "8") o) h))
 
+  expired-leaves : IsSpent event → is_expiry line ≡ true → LeavesNothing line
+  expired-leaves spent h =
+      by-kind (LeavesNothing line)
+      (λ q is s.
+      let none = of-quantities (λ (p : Quantities). p.leaves ≡ 0) q is (status-expired event (sym (status-read q (codes "C") s) ∙ h) spent) in
+      s.says_leaves ∙ (ap (λ (n : ℕ). Some (decimal n)) none ∙ ap Some decimal-0))
+      (λ is o. absurd (false-true (is_expiry line) (no-status (codes "C") o) h))
+
   -- ---- read as numbers, where they are small
 
   module _ (small : IfSome (quantities_of event) (λ q. q.ordered < 10 ^ MOST_DIGITS)) (adds : AddsUp event) (few : filled_in event < 10 ^ MOST_DIGITS) where
@@ -299,8 +341,8 @@ module _ (names : NameLists) (are : AreNames names) (event : Event) (texts : Has
         omega (arith, sum, one, two, three, four))
         (λ is o. absurd (false-true (is_execution line) o.type h))
 
-    pub read-right : IsReadRight line
-    read-right = record { whole = whole; refused = refused-whole }
+    pub read-right : IsSpent event → IsReadRight line
+    read-right spent = record { whole = whole; refused = refused-whole; expired = expired-leaves spent }
 
     pub read-lots : number_in 32 line ≡ filled_in event
     read-lots = lots-as event few writes-lots
@@ -310,6 +352,7 @@ module _ (names : NameLists) (are : AreNames names) (event : Event) (texts : Has
         lots-as (Accepted head o) below h = ap (λ (v : Option (List ℕ)). digits_value 10 (unwrap_or v [])) h
         lots-as (Triggered head o) below h = ap (λ (v : Option (List ℕ)). digits_value 10 (unwrap_or v [])) h
         lots-as (Cancelled head o gone by cause) below h = ap (λ (v : Option (List ℕ)). digits_value 10 (unwrap_or v [])) h
+        lots-as (Expired head o gone) below h = ap (λ (v : Option (List ℕ)). digits_value 10 (unwrap_or v [])) h
         lots-as (Replaced head o old before) below h = ap (λ (v : Option (List ℕ)). digits_value 10 (unwrap_or v [])) h
         lots-as (RefusedNew head new fault) below h = ap (λ (v : Option (List ℕ)). digits_value 10 (unwrap_or v [])) h
         lots-as (RefusedChange head id old number filled replace fault) below h = ap (λ (v : Option (List ℕ)). digits_value 10 (unwrap_or v [])) h
@@ -322,14 +365,16 @@ module _ (names : NameLists) (are : AreNames names) (event : Event) (texts : Has
         let below = of-quantities (λ (p : Quantities). p.ordered < 10 ^ MOST_DIGITS) q is small in
         let sum = of-quantities (λ (p : Quantities). p.ordered ≡ p.filled + (p.leaves + p.cancelled)) q is adds in
         let gone = read-number q.cancelled _ (omega (arith, below, sum)) s.says_gone in
-        let same = status-read q (codes "4") s in
-        let go : (b : Bool) → bytes_eq (status_of event) (codes "4") ≡ b → cancelled_in_report line ≡ cancelled_in event = elim [
+        let same = ap₂ (λ (a b : Bool). a || b) (status-read q (codes "4") s) (status-read q (codes "C") s) in
+        let go : (b : Bool) → is_end (status_of event) ≡ b → cancelled_in_report line ≡ cancelled_in event = elim [
           | true ↦ λ k.
               let here = of-quantities (λ (p : Quantities). cancelled_in event ≡ q.cancelled) q is (status-cancel event k q.cancelled (subst (λ (o : Option Quantities). IfSome o (λ p. p.cancelled ≡ q.cancelled)) (sym is) refl)) in
-              cond-true (is_cancel line) (number_in 9003 line) 0 (same ∙ k) ∙ (gone ∙ sym here)
-          | false ↦ λ k. cond-false (is_cancel line) (number_in 9003 line) 0 (same ∙ k) ∙ sym (status-other event k)
-        ] in go (bytes_eq (status_of event) (codes "4")) refl)
-        (λ is o. cond-false (is_cancel line) (number_in 9003 line) 0 (no-status (codes "4") o) ∙ sym (no-cancel event is))
+              cond-true (is_cancel line || is_expiry line) (number_in 9003 line) 0 (same ∙ k) ∙ (gone ∙ sym here)
+          | false ↦ λ k. cond-false (is_cancel line || is_expiry line) (number_in 9003 line) 0 (same ∙ k) ∙ sym (status-other event k)
+        ] in go (is_end (status_of event)) refl)
+        (λ is o.
+        let neither = ap₂ (λ (a b : Bool). a || b) (no-status (codes "4") o) (no-status (codes "C") o) in
+        cond-false (is_cancel line || is_expiry line) (number_in 9003 line) 0 neither ∙ sym (no-cancel event is))
 
     -- what it says is open of an order
     pub read-open : IfSome (order_in event) (λ o. o.number < 2 ^ 64) → (number leaves : ℕ) → 1 ≤ number → open_by_report number leaves line ≡ open_by number (order_in event) leaves

@@ -10,12 +10,12 @@ use Rattle.product_file.specs.Products.{ProductLists}
 use Rattle.fix_request.specs.Fields.{is_soh, is_equals_sign, texts_of, Field, field_of, fields_of}
 use Rattle.fix_request.specs.Asked.{text_of, asked_by}
 use Rattle.fix_request.specs.MessageTable.{Row, row_of}
-use Rattle.fix_request.specs.SessionRules.{session_fault_of}
+use Rattle.fix_request.specs.SessionRules.{session_rules, session_fault_of}
 use Rattle.fix_request.specs.Requests.{no_time, request_by, request_in, request_of}
 use Rattle.fix_request.specs.ValidRequests.{IsValidIn}
 use Rattle.fix_request.specs.declared.fault.Fault.{Fault}
 use Rattle.fix_request.specs.declared.message_type.MessageType.{MessageType}
-use Rattle.fix_request.specs.declared.message_type.MessageType.TheVariants.{Session, New, Cancel, Replace}
+use Rattle.fix_request.specs.declared.message_type.MessageType.TheVariants.{Session, New, Cancel, Replace, Trading}
 use Rattle.fix_request.specs.declared.request.Request.{Request}
 use Rattle.fix_request.specs.declared.request.Request.TheVariants as request
 use Rattle.fix_request.proofs.Agree.{body_is}
@@ -68,6 +68,7 @@ abbrev time_in : Request → List ℕ
 time_in (request.New order) = order.sender.time
 time_in (request.Cancel order) = order.sender.time
 time_in (request.Replace order) = order.sender.time
+time_in (request.Session change) = change.time
 time_in (request.Passed sender) = sender.time
 time_in (request.Refused refusal) = refusal.time
 
@@ -76,14 +77,15 @@ asked-plain names fields Session h = h
 asked-plain names fields New h = h
 asked-plain names fields Cancel h = h
 asked-plain names fields Replace h = h
+asked-plain names fields Trading h = h
 
-by-plain : (names : NameLists) (fields : List Field) (fault : Option Fault) → IsPlain (text_of 52 fields) → IsPlain (time_in (request_by names fields fault))
+by-plain : (names : NameLists) (fields : List Field) (fault : Option Fault) → IsPlain (text_of 52 fields) → IsPlain (time_in (request_by session_rules names fields fault))
 by-plain names fields (Some fault) h =
     let go : (b : Bool) → IsPlain (cond b no_time (text_of 52 fields)) = elim [ true ↦ refl | false ↦ h ] in go (nat_le fault.rule 6)
-by-plain names fields None h = asked-plain names fields (option_map_or (λ (r : Row). r.asks) (row_of fields) Session) h
+by-plain names fields None h = asked-plain names fields (option_map_or (λ (r : Row). r.asks) (row_of session_rules.table fields) Session) h
 
 in-plain : (names : NameLists) (body : List ℕ) → IsPlain (time_in (request_in names body))
-in-plain names body = by-plain names (fields_of body) (session_fault_of names body) (value-plain 52 (fields_of body) (fields-plain (texts_of body) (texts-plain body)))
+in-plain names body = by-plain names (fields_of body) (session_fault_of session_rules names body) (value-plain 52 (fields_of body) (fields-plain (texts_of body) (texts-plain body)))
 
 -- ---- all of a request
 
@@ -91,6 +93,7 @@ all-text : (names : NameLists) (asked : Request) → IsPlain (time_in asked) →
 all-text names (request.New order) plain short valid = (record { short = short.0; plain = plain }, (text-name order.id short.1.0, (text-name order.symbol short.1.1, valid.quantity)))
 all-text names (request.Cancel order) plain short valid = (record { short = short.0; plain = plain }, (text-name order.id short.1.0, text-name order.old short.1.1))
 all-text names (request.Replace order) plain short valid = (record { short = short.0; plain = plain }, (text-name order.id short.1.0, (text-name order.old short.1.1, valid.quantity)))
+all-text names (request.Session change) plain short valid = record { short = short; plain = plain }
 all-text names (request.Passed sender) plain short valid = tt
 all-text names (request.Refused refusal) plain short valid = record { short = short; plain = plain }
 

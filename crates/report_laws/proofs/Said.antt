@@ -11,7 +11,7 @@ use Rattle.gx_base.specs.declared.order.Kind.TheVariants.{Limit, Market, StopLim
 use Rattle.gx_base.specs.declared.event.StepName.{StepName}
 use Rattle.gx_base.specs.declared.event.Head.{Head}
 use Rattle.gx_base.specs.declared.event.Event.{Event}
-use Rattle.gx_base.specs.declared.event.Event.TheVariants.{Accepted, Triggered, Fill, Cancelled, Replaced, RefusedNew, RefusedChange, RefusedSession}
+use Rattle.gx_base.specs.declared.event.Event.TheVariants.{Accepted, Triggered, Fill, Cancelled, Expired, Replaced, RefusedNew, RefusedChange, RefusedSession}
 use Rattle.fix_request.specs.Fields.{Field, value_of}
 use Rattle.order_kinds.specs.Balance.{quantities_of}
 use Rattle.report_laws.specs.Told.{lots_text}
@@ -89,12 +89,14 @@ number_of (Accepted head o) = o.number
 number_of (Triggered head o) = o.number
 number_of (Fill head o lots price step trade) = o.number
 number_of (Cancelled head o gone by cause) = o.number
+number_of (Expired head o gone) = o.number
 number_of (Replaced head o old before) = o.number
 number_of _ = 0
 
 abbrev pub status_of : Event → List ℕ
 status_of (Fill head o lots price step trade) = fill_status o.leaves
 status_of (Cancelled head o gone by cause) = codes "4"
+status_of (Expired head o gone) = codes "C"
 status_of (Replaced head o old before) = codes "5"
 status_of (RefusedNew head new fault) = codes "8"
 status_of _ = codes "0"
@@ -116,6 +118,7 @@ said-refused names (Accepted head o) h = absurd (let e : Some _ ≡ None = h in 
 said-refused names (Triggered head o) h = absurd (let e : Some _ ≡ None = h in cc)
 said-refused names (Fill head o lots price step trade) h = absurd (let e : Some _ ≡ None = h in cc)
 said-refused names (Cancelled head o gone by cause) h = absurd (let e : Some _ ≡ None = h in cc)
+said-refused names (Expired head o gone) h = absurd (let e : Some _ ≡ None = h in cc)
 said-refused names (Replaced head o old before) h = absurd (let e : Some _ ≡ None = h in cc)
 said-refused names (RefusedNew head new fault) h = absurd (let e : Some _ ≡ None = h in cc)
 said-refused names (RefusedChange head id old number filled replace fault) h = record { few = lit≤ tt; type = refl; lots = refl }
@@ -130,6 +133,7 @@ said names (Accepted head o) = as-zero _ _ _ _ _ _ _ (said-plain names head o o.
 said names (Triggered head o) = as-zero _ _ _ _ _ _ _ (said-worded names head o o.id (codes "0") (codes "0") o.kind None (codes "TRIGGERED"))
 said names (Fill head o lots price step trade) = as-zero _ _ _ _ _ _ _ (said-fill names head o o.id (fill_status o.leaves) (codes "0") o.kind lots price step trade)
 said names (Cancelled head o gone by cause) = said-where names head o (cancel_id o by) (codes "4") (decimal gone) o.kind (cancelled_id o by) (cause_text cause)
+said names (Expired head o gone) = said-worded names head o o.id (codes "C") (decimal gone) o.kind None (codes "EXPIRED")
 said names (Replaced head o old before) = as-zero _ _ _ _ _ _ _ (said-plain names head o o.id (codes "5") (codes "0") o.kind (Some old))
 said names (RefusedNew head new fault) = record {
   few = lit≤ tt;
@@ -154,6 +158,7 @@ few-fields names (Accepted head o) = (said names (Accepted head o)).few
 few-fields names (Triggered head o) = (said names (Triggered head o)).few
 few-fields names (Fill head o lots price step trade) = (said names (Fill head o lots price step trade)).few
 few-fields names (Cancelled head o gone by cause) = (said names (Cancelled head o gone by cause)).few
+few-fields names (Expired head o gone) = (said names (Expired head o gone)).few
 few-fields names (Replaced head o old before) = (said names (Replaced head o old before)).few
 few-fields names (RefusedNew head new fault) = (said names (RefusedNew head new fault)).few
 few-fields names (RefusedChange head id old number filled replace fault) = (said-refused names (RefusedChange head id old number filled replace fault) refl).few

@@ -9,13 +9,13 @@ use Rattle.gx_base.specs.Line.{line_of}
 use Rattle.gx_base.specs.declared.digits.TheConstants.{MOST_DIGITS}
 use Rattle.gx_base.specs.declared.order.Order.{Order}
 use Rattle.gx_base.specs.declared.event.Event.{Event}
-use Rattle.gx_base.specs.declared.event.Event.TheVariants.{Accepted, Triggered, Fill, Cancelled, Replaced, RefusedNew, RefusedChange, RefusedSession}
+use Rattle.gx_base.specs.declared.event.Event.TheVariants.{Accepted, Triggered, Fill, Cancelled, Expired, Replaced, RefusedNew, RefusedChange, RefusedSession}
 use Rattle.book_order.proofs.Each.{all-front, all-back}
 use Rattle.fix_frame.specs.Stream.{messages_of, rest_of}
 use Rattle.fix_frame.specs.StreamLaws.{messages_of-frame-append, rest_of-frame-append}
 use Rattle.product_file.specs.Products.{ProductLists}
 use Rattle.order_kinds.specs.Step.{events_of, reports_of}
-use Rattle.order_kinds.specs.Balance.{quantities_of, order_in, open_by, last_open, last_open_from, AddsUp, FillsAddUp, lots_in, lots_of, filled_in, cancelled_in, total_filled, total_cancelled, IsBalanced}
+use Rattle.order_kinds.specs.Balance.{quantities_of, order_in, open_by, last_open, last_open_from, AddsUp, IsSpent, FillsAddUp, lots_in, lots_of, filled_in, cancelled_in, total_filled, total_cancelled, IsBalanced}
 use Rattle.book_print.specs.LedgerText.{ledger_line, total_line}
 use Rattle.generator_laws.specs.Names.{AreNames}
 use Rattle.report_laws.specs.Reading.{is_execution, lots_by_report, lots_read_of, FillsReadUp, open_by_report, last_open_read, number_in, cancelled_in_report, lots_read, cancelled_read}
@@ -42,6 +42,7 @@ filled-small before (Fill head o lots price step trade) told adds is =
 filled-small before (Accepted head o) told adds is = omega arith
 filled-small before (Triggered head o) told adds is = omega arith
 filled-small before (Cancelled head o gone by cause) told adds is = omega arith
+filled-small before (Expired head o gone) told adds is = omega arith
 filled-small before (Replaced head o old before_it) told adds is = omega arith
 filled-small before (RefusedNew head new fault) told adds is = omega arith
 filled-small before (RefusedChange head id old number filled replace fault) told adds is = omega arith
@@ -51,13 +52,14 @@ filled-small before (RefusedSession head seq tag reason rule) told adds is = ome
 record IsFit (most : ℕ) (event : Event) : Type 0 where
   text : IsTextEvent most event
   adds : AddsUp event
+  spent : IsSpent event
   few : filled_in event < 10 ^ MOST_DIGITS
 
-fit-from : (most : ℕ) (events done rest : List Event) → FillsAddUp events → events ≡ done ++ rest → AllByRecursion AddsUp rest → AllTextEvents most rest → AllByRecursion (IsFit most) rest
-fit-from most events done [] fills is adds texts = tt
-fit-from most events done (e ∷ es) fills is adds texts = (
-  record { text = texts.0; adds = adds.0; few = filled-small done e (fills done e es is) adds.0 texts.0.small },
-  fit-from most events (done ++ e ∷ []) es fills (is ∙ sym (append_assoc done (e ∷ []) es)) adds.1 texts.1,
+fit-from : (most : ℕ) (events done rest : List Event) → FillsAddUp events → events ≡ done ++ rest → AllByRecursion AddsUp rest → AllByRecursion IsSpent rest → AllTextEvents most rest → AllByRecursion (IsFit most) rest
+fit-from most events done [] fills is adds spent texts = tt
+fit-from most events done (e ∷ es) fills is adds spent texts = (
+  record { text = texts.0; adds = adds.0; spent = spent.0; few = filled-small done e (fills done e es is) adds.0 texts.0.small },
+  fit-from most events (done ++ e ∷ []) es fills (is ∙ sym (append_assoc done (e ∷ []) es)) adds.1 spent.1 texts.1,
 )
 
 -- ---- a list of which the map is taken apart
@@ -111,7 +113,7 @@ module _ (names : NameLists) (are : AreNames names) (most : ℕ) where
 
   lines-right : (events : List Event) → AllByRecursion (IsFit most) events → AllByRecursion IsReadRight (map (line_of names) events)
   lines-right [] h = tt
-  lines-right (e ∷ es) h = (read-right names are e h.0.text.texts h.0.text.small h.0.adds h.0.few, lines-right es h.1)
+  lines-right (e ∷ es) h = (read-right names are e h.0.text.texts h.0.text.small h.0.adds h.0.few h.0.spent, lines-right es h.1)
 
   lines-lots : (events : List Event) → AllByRecursion (IsFit most) events → lots_read (map (line_of names) events) ≡ total_filled events
   lines-lots [] h = refl
@@ -182,7 +184,7 @@ module _ (product : ProductLists) (are : AreNames product.names) (messages : Lis
 
   pub reports-balance : IsBalanced product messages → IsReadBalanced product messages
   reports-balance balanced =
-      let fit = fit-from (length messages) events [] events balanced.fills refl balanced.reports texts in
+      let fit = fit-from (length messages) events [] events balanced.fills refl balanced.reports balanced.expired texts in
       let filled = lines-lots product.names are (length messages) events fit in
       let cancelled = lines-cancelled product.names are (length messages) events fit in
       let open_ = open_after product messages in

@@ -1,6 +1,6 @@
 -- What the bytes of a report say, read as those of a message are: its fields are those of the body of its frame, and the first
 -- field with a tag counts. Nothing here knows how a report is written.
-use Rattle.std.specs.Prelude.{◌≡◌, ℕ, ◌+◌, Bool, ◌&&◌, ◌==◌, if◌then◌else◌, List, [], Option, unwrap_or, sum_by, fold, bytes_eq, codes, ◌≤◌, true, ◌∷◌, ◌++◌}
+use Rattle.std.specs.Prelude.{◌≡◌, ℕ, ◌+◌, Bool, ◌&&◌, ◌||◌, ◌==◌, if◌then◌else◌, List, [], Option, unwrap_or, sum_by, fold, bytes_eq, codes, ◌≤◌, true, ◌∷◌, ◌++◌}
 use Rattle.std.specs.Str.Parse.{digits_value}
 use Rattle.fix_frame.specs.Grammar.{body_in}
 use Rattle.fix_request.specs.Fields.{fields_of, value_of}
@@ -27,9 +27,12 @@ is_execution report = bytes_eq (text_in 35 report) (codes "8")
 abbrev pub is_told_as : List ℕ → List ℕ → Bool
 is_told_as kind report = is_execution report && bytes_eq (text_in 150 report) kind
 
--- of an order that is cancelled (150=4), or of a new order that is refused (150=8)
+-- of an order that is cancelled (150=4), of an order that expires (150=C), or of a new order that is refused (150=8)
 abbrev pub is_cancel : List ℕ → Bool
 is_cancel report = is_told_as (codes "4") report
+
+abbrev pub is_expiry : List ℕ → Bool
+is_expiry report = is_told_as (codes "C") report
 
 abbrev pub is_refusal : List ℕ → Bool
 is_refusal report = is_told_as (codes "8") report
@@ -52,11 +55,11 @@ last_open_read number reports = fold (open_by_report number) 0 reports
 abbrev pub lots_read : List (List ℕ) → ℕ
 lots_read reports = sum_by (number_in 32) reports
 
--- what a report says that was cancelled: that of a cancelled order its 9003, and any other nothing
+-- what a report says that was cancelled: that of an order that is cancelled or that expires its 9003, and any other nothing
 abbrev pub cancelled_in_report : List ℕ → ℕ
-cancelled_in_report report = if is_cancel report then number_in 9003 report else 0
+cancelled_in_report report = if is_cancel report || is_expiry report then number_in 9003 report else 0
 
--- the sum of the 9003 of all cancelled orders
+-- the sum of the 9003 of all orders that are cancelled, and of all that expire
 abbrev pub cancelled_read : List (List ℕ) → ℕ
 cancelled_read reports = sum_by cancelled_in_report reports
 

@@ -4,7 +4,7 @@ use Rattle.std.specs.Prelude.{◌≡◌, ℕ, ◌≤◌, false, List, [], ◌∷
 use Rattle.std.specs.List.{list_any, AllByRecursion}
 use Rattle.gx_base.specs.declared.limits.TheConstants.{LONGEST_VALUE}
 use Rattle.gx_base.specs.declared.event.Event.{Event}
-use Rattle.gx_base.specs.declared.event.Event.TheVariants.{Accepted, Triggered, Fill, Cancelled, Replaced, RefusedNew, RefusedChange, RefusedSession}
+use Rattle.gx_base.specs.declared.event.Event.TheVariants.{Accepted, Triggered, Fill, Cancelled, Expired, Replaced, RefusedNew, RefusedChange, RefusedSession}
 use Rattle.fix_request.specs.Fields.{is_soh}
 
 -- a short text, of which no byte ends a field
@@ -19,6 +19,7 @@ texts_in (Triggered head o) = head.time ∷ (o.id ∷ [])
 texts_in (Fill head o lots price step trade) = head.time ∷ (o.id ∷ [])
 texts_in (Cancelled head o gone None cause) = head.time ∷ (o.id ∷ [])
 texts_in (Cancelled head o gone (Some by) cause) = head.time ∷ (o.id ∷ (by ∷ []))
+texts_in (Expired head o gone) = head.time ∷ (o.id ∷ [])
 texts_in (Replaced head o old before) = head.time ∷ (o.id ∷ (old ∷ []))
 texts_in (RefusedNew head new fault) = head.time ∷ (new.id ∷ (new.symbol ∷ []))
 texts_in (RefusedChange head id old number filled replace fault) = head.time ∷ (id ∷ (old ∷ []))

@@ -30,6 +30,10 @@ pub record EndsWhole (report : List ℕ) : Type 0 where
   pub leaves : value_in 151 report ≡ Some (codes "0")
   pub cancelled : value_in 9003 report ≡ value_in 38 report
 
+-- nothing is open
+abbrev pub LeavesNothing : List ℕ → Type 0
+LeavesNothing report = value_in 151 report ≡ Some (codes "0")
+
 -- ---- its line in the ledger
 
 -- entered Q filled F open O cancelled C: the texts that the report has in 38, 14, 151 and 9003
