@@ -4,6 +4,7 @@ mod endings;
 mod expects;
 mod images;
 mod prefixes;
+mod trading;
 
 use expects::{expect_bytes, expect_outcome, expect_success};
 use globex_run::Outcome;

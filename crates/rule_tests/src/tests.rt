@@ -5,6 +5,7 @@ mod levels;
 mod orders;
 mod refusals;
 mod replaces;
+mod sessions;
 mod shares;
 mod stops;
 

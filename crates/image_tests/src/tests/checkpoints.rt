@@ -75,7 +75,7 @@ fn run_behind_an_image(rt: HostRuntime) {
 }
 
 /// A command: its words, the messages that it reads, and the number of messages that its outcome has.
-type Step = (&'static str, &'static [&'static str], u64);
+pub(super) type Step = (&'static str, &'static [&'static str], u64);
 
 /// Executes a command over one station, and over another if it is no checkpoint: what they sent is the same.
 fn expect_step(
@@ -94,7 +94,12 @@ fn expect_step(
 }
 
 /// Executes the commands over one station, and all but the checkpoints over another: what they send is the same, and ends so.
-fn expect_no_difference(rt: &(impl Abort + AllocGlobal), text: &str, steps: &[Step], end: &str) {
+pub(super) fn expect_no_difference(
+    rt: &(impl Abort + AllocGlobal),
+    text: &str,
+    steps: &[Step],
+    end: &str,
+) {
     let mut station = station_of(rt, b"");
     let mut plain = station_of(rt, b"");
     for step in steps {
