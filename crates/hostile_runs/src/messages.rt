@@ -32,7 +32,10 @@ lmm = [{ firm = "BBB", percent = 40 }, { firm = "CCC", percent = 10 }]
 
 const FIRMS: [&str; 3] = ["AAA", "BBB", "CCC"];
 
-const KINDS: [&str; 10] = ["D", "D", "D", "D", "D", "F", "F", "G", "G", "0"];
+const KINDS: [&str; 11] = ["D", "D", "D", "D", "D", "F", "F", "G", "G", "0", "h"];
+
+/// The market is open most of the time.
+const STATUSES: [&str; 4] = ["2", "2", "2", "3"];
 
 const LIVES: [&str; 6] = ["0", "0", "0", "1", "3", "4"];
 
@@ -50,8 +53,9 @@ const SYMBOLS_AND_PRICES: [&str; 8] = [
 ];
 
 /// Fields that count where they stand in front of those that a body has.
-const OVERRIDES: [&str; 44] = [
+const OVERRIDES: [&str; 49] = [
     "49=DDD|",
+    "49=GX|",
     "49=|",
     "56=GY|",
     "34=0|",
@@ -91,6 +95,10 @@ const OVERRIDES: [&str; 44] = [
     "110=999999|",
     "210=2|",
     "210=999999|",
+    "340=03|",
+    "340=4|",
+    "340=x|",
+    "340=0000000002|",
     "58|",
     "=x|",
     "00001=x|",
@@ -110,17 +118,25 @@ pub fn override_field(alloc: Global, draws: &mut Draws) -> Result<Vec<u8>, Alloc
     bytes_of(alloc, draws.text_of(&OVERRIDES))
 }
 
-/// The body of a message that a client may send: a new order, a cancel, a replace or a heartbeat.
+/// Who sends a message of this type: the exchange a change of the trading session, and a drawn firm any other.
+fn drawn_sender(draws: &mut Draws, kind: &str) -> &'static str {
+    let firm = draws.text_of(&FIRMS);
+    if kind == "h" { "GX" } else { firm }
+}
+
+/// The body of a message that a client or the exchange may send: a new order, a cancel, a replace, a heartbeat, or a change of the
+/// trading session.
 pub fn drawn_body(alloc: Global, draws: &mut Draws) -> Result<Vec<u8>, AllocError> {
     let kind = draws.text_of(&KINDS);
-    let firm = draws.text_of(&FIRMS);
+    let sender = drawn_sender(draws, kind);
     let (seq, id, old) = (draws.below(99), draws.below(9), draws.below(9));
     let (side, lots) = (draws.below(2), draws.below(20));
     let order_type = draws.text_of(&ORDER_TYPES);
     let symbol_and_prices = draws.text_of(&SYMBOLS_AND_PRICES);
     let life = draws.text_of(&LIVES);
+    let status = draws.text_of(&STATUSES);
     let text = format!(in alloc;
-        "35={kind}|49={firm}|56=GX|34={}|52=20240102-09:30:00|11=a{id}|41=a{old}|{symbol_and_prices}54={}|38={}|40={order_type}|59={life}|",
+        "35={kind}|49={sender}|56=GX|34={}|52=20240102-09:30:00|11=a{id}|41=a{old}|{symbol_and_prices}54={}|38={}|40={order_type}|59={life}|340={status}|",
         seq.wrapping_add(1),
         side.wrapping_add(1),
         lots.wrapping_add(1)
