@@ -274,6 +274,8 @@ TAG_NAMES = {
     151: "LeavesQty",
     204: "CustomerOrFirm",
     210: "MaxShow",
+    336: "TradingSessionID",
+    340: "TradSesStatus",
     371: "RefTagID",
     373: "SessionRejectReason",
     434: "CxlRejResponseTo",
@@ -293,6 +295,7 @@ STATES = {
     b"4": "cancelled",
     b"5": "replaced",
     b"8": "rejected",
+    b"C": "expired",
 }
 
 VALUE_NAMES = {
@@ -309,6 +312,7 @@ VALUE_NAMES = {
         b"D": "NewOrderSingle",
         b"F": "OrderCancelRequest",
         b"G": "OrderCancelReplaceRequest",
+        b"h": "TradingSessionStatus",
     },
     39: STATES,
     150: STATES,
@@ -316,7 +320,14 @@ VALUE_NAMES = {
     54: {b"1": "buy", b"2": "sell"},
     59: {b"0": "day", b"1": "until cancelled", b"3": "fill and kill", b"4": "fill or kill"},
     102: {b"0": "too late", b"1": "unknown order", b"2": "other reason"},
-    103: {b"0": "other reason", b"1": "unknown symbol", b"3": "beyond a limit", b"6": "duplicate order"},
+    103: {
+        b"0": "other reason",
+        b"1": "unknown symbol",
+        b"2": "market closed",
+        b"3": "beyond a limit",
+        b"6": "duplicate order",
+    },
+    340: {b"2": "open", b"3": "closed"},
     373: {
         b"0": "invalid tag",
         b"1": "tag missing",

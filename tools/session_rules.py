@@ -36,8 +36,12 @@ def is_price(text):
     return len(text) <= LONGEST_PRICE and re.fullmatch(rb"-?([0-9]+\.?[0-9]*|\.[0-9]+)", text) is not None
 
 
+def is_number(text):
+    return re.fullmatch(rb"[0-9]{1,9}", text) is not None
+
+
 def is_sequence_number(text):
-    return re.fullmatch(rb"[0-9]{1,9}", text) is not None and int(text) >= 1
+    return is_number(text) and int(text) >= 1
 
 
 def is_time(text):
@@ -122,15 +126,18 @@ def decimals_in(table):
 # ---- the table of messages
 
 SYMBOL = 55
-NAME, QUANTITY, PRICE = "name", "quantity", "price"
+NAME, QUANTITY, PRICE, NUMBER = "name", "quantity", "price", "number"
 FORMS = {
     NAME: (is_name, "no name of 1 to 24 printable bytes"),
     QUANTITY: (is_quantity, "no quantity of one to nine digits"),
     PRICE: (is_price, "no price of digits and a point in at most 32 bytes"),
+    NUMBER: (is_number, "no number of one to nine digits"),
 }
 # a price is needed and read if 40 is one of these
 READ_IF_40 = {44: (b"2", b"4"), 99: (b"4",)}
 ALLOWED = {54: (b"1", b"2"), 40: (b"1", b"2", b"4"), 59: (b"0", b"1", b"3", b"4")}
+# of values that are read as numbers
+ALLOWED_NUMBERS = {340: (2, 3)}
 
 Row = collections.namedtuple("Row", "needed forms values")
 
@@ -146,8 +153,11 @@ REPLACE = Row(
     [(11, NAME), (41, NAME), (SYMBOL, NAME), (38, QUANTITY), (44, PRICE), (99, PRICE)],
     [54, 40, 44, 99],
 )
+TRADING = Row([340], [(340, NUMBER)], [340])
 ROWS = {kind: SESSION for kind in (b"0", b"1", b"2", b"3", b"4", b"5", b"A")}
-ROWS.update({b"D": NEW, b"F": CANCEL, b"G": REPLACE})
+ROWS.update({b"D": NEW, b"F": CANCEL, b"G": REPLACE, b"h": TRADING})
+# the types that the exchange sends, and no firm
+OF_THE_EXCHANGE = (b"h",)
 
 
 # ---- the rules
@@ -207,7 +217,7 @@ def firm_fault(value, product):
 
 
 def exchange_fault(value, product):
-    """What is wrong with 56, or nothing."""
+    """What is wrong with 56, or with 49 of a message of the exchange, or nothing."""
     if product is not None:
         return None if value == product.exchange else f"is not the exchange {fix42.escaped(product.exchange)}"
     return None if is_name(value) else "can be the name of no exchange"
@@ -221,17 +231,19 @@ def time_fault(value, product):
     return None if is_time(value) else "is no time YYYYMMDD-HH:MM:SS or YYYYMMDD-HH:MM:SS.sss"
 
 
-HEADER = [
-    (4, "SENDER", 49, 9, firm_fault),
-    (5, "TARGET", 56, 9, exchange_fault),
-    (6, "HEADER", 34, 6, number_fault),
-    (6, "HEADER", 52, 6, time_fault),
-]
+def header_rules(kind):
+    """Rules 4 to 6 for a type of message."""
+    return [
+        (4, "SENDER", 49, 9, exchange_fault if kind in OF_THE_EXCHANGE else firm_fault),
+        (5, "TARGET", 56, 9, exchange_fault),
+        (6, "HEADER", 34, 6, number_fault),
+        (6, "HEADER", 52, 6, time_fault),
+    ]
 
 
 def hold_header(values, product):
     """Rules 4 to 6."""
-    for rule, text, tag, reason, find_fault in HEADER:
+    for rule, text, tag, reason, find_fault in header_rules(values[35]):
         if tag not in values:
             raise Refused(Fault(rule, text, tag, 1, f"{tag} is missing"))
         wrong = find_fault(values[tag], product)
@@ -259,6 +271,9 @@ def hold_content(message, product):
             continue
         if tag in ALLOWED and value not in ALLOWED[tag]:
             listed = ", ".join(text.decode() for text in ALLOWED[tag])
+            raise Refused(Fault(10, "VALUE", tag, 5, f"{tag} is none of {listed}"))
+        if tag in ALLOWED_NUMBERS and int(value) not in ALLOWED_NUMBERS[tag]:
+            listed = ", ".join(map(str, ALLOWED_NUMBERS[tag]))
             raise Refused(Fault(10, "VALUE", tag, 5, f"{tag} is none of {listed}"))
         if tag in READ_IF_40 and product is not None:
             decimals = product.decimals.get(message.value(SYMBOL))

@@ -19,6 +19,7 @@ ORDER = f"35=D|{HEAD}11=a1|55=ESZ4|54=2|38=10|40=2|44=100.00|59=0|"
 STOP = f"35=D|{HEAD}11=a1|55=ESZ4|54=2|38=10|40=4|44=100.00|99=100.00|"
 CANCEL = f"35=F|{HEAD}11=a2|41=a1|"
 REPLACE = f"35=G|{HEAD}11=a2|41=a1|55=ESZ4|54=2|38=10|40=4|44=100.00|99=100.00|"
+CLOSE = "35=h|49=GX|56=GX|34=1|52=20240102-16:00:00|340=3|"
 
 FRONTS = [
     ("8=FIX.4.2|9=4000", True),
@@ -102,6 +103,12 @@ REFUSED = [
     (ORDER.replace("59=0|", "59=2|"), "VALUE", 59, 5),
     (REPLACE.replace("54=2|", "54=02|"), "VALUE", 54, 5),
     (REPLACE.replace("40=4|", "40=P|"), "VALUE", 40, 5),
+    (CLOSE.replace("49=GX|", ""), "SENDER", 49, 1),
+    (CLOSE.replace("340=3|", ""), "MISSING", 340, 1),
+    (CLOSE.replace("340=3|", "340=+3|"), "FORMAT", 340, 6),
+    (CLOSE.replace("340=3|", "340=0000000003|"), "FORMAT", 340, 6),
+    (CLOSE.replace("340=3|", "340=0|"), "VALUE", 340, 5),
+    (CLOSE.replace("340=3|", "340=4|"), "VALUE", 340, 5),
 ]
 
 # Which of two faults is the first.
@@ -134,6 +141,11 @@ TAKEN = [
     ORDER + "99=x|",
     REPLACE + "59=9|",
     CANCEL + "54=9|",
+    CLOSE,
+    CLOSE.replace("340=3|", "340=02|"),
+    CLOSE.replace("340=3|", "336=x|340=000000003|"),
+    # The first field says the type.
+    ORDER + "35=h|",
 ]
 
 BY_PRODUCT = [
@@ -142,9 +154,12 @@ BY_PRODUCT = [
     (ORDER.replace("100.00", "10000000000.00"), "VALUE", 44, 5),
     (ORDER.replace("100.00", "-10000000000"), "VALUE", 44, 5),
     (STOP.replace("99=100.00", "99=9999999999990"), "VALUE", 99, 5),
+    (CLOSE.replace("49=GX|", "49=AAA|"), "SENDER", 49, 9),
+    (ORDER.replace("49=AAA|", "49=GX|"), "SENDER", 49, 9),
 ]
 TAKEN_BY_PRODUCT = [
     ORDER,
+    CLOSE,
     ORDER.replace("100.00", "9999999999.99"),
     ORDER.replace("100.00", "97.501"),
     ORDER.replace("100.00", "10000000000.001"),
@@ -363,6 +378,14 @@ class Text(unittest.TestCase):
             "9003 EndedLots=0",
         ):
             self.assertIn(f" | {part} | ", report)
+        closed = fix42.frame_of(soh(CLOSE)) + fix42.frame_of(soh("35=8|150=C|39=C|58=EXPIRED|"))
+        shown = call("frames", "show", "--names", given=closed)[1].decode()
+        for part in (
+            "35 MsgType=h TradingSessionStatus",
+            "340 TradSesStatus=3 closed",
+            "150 ExecType=C expired | 39 OrdStatus=C expired",
+        ):
+            self.assertIn(f" | {part} | ", shown)
         others = fix42.frame_of(soh("35=3|371=49|373=9|103=6|434=1|102=1|7777=x|y|"))
         shown = call("frames", "show", "--names", given=others)[1].decode()
         for part in (
