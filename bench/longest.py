@@ -49,6 +49,14 @@ def levels(count):
     return [entered(f"s{k}", 2, 1, MIDDLE + count - k) for k in range(count)]
 
 
+def days_behind_others(count):
+    """The same, of which the better half is until cancelled."""
+    return [entered(f"s{k}", 2, 1, MIDDLE + count - k, f"59={2 * k // count}|") for k in range(count)]
+
+
+CLOSE = streams.frame("35=h|49=GX|56=GX|34=1|52=20240102-16:00:00|340=3|")
+
+
 def stops_at(count, trigger):
     return [stop(f"w{k}", 1, 1, trigger, trigger) for k in range(count)]
 
@@ -87,6 +95,10 @@ def cases(orders):
             entered("n", 1, 1, MIDDLE),
         ),
         f"a trade that sets off {half:,} stops, each the one before it": (apart + chain, entered("n", 1, 1, MIDDLE)),
+        f"a close of {most:,} orders at one price": (one_level(most), CLOSE),
+        f"a close of {most:,} orders at as many prices": (levels(most), CLOSE),
+        f"a close of the worse half of {most:,} orders at as many prices": (days_behind_others(most), CLOSE),
+        f"a close of {most:,} stops": (two + far, CLOSE),
         "999,999 lots that are shown one by one, all bought": (shown, entered("n", 1, 999_999, MIDDLE)),
     }
 
