@@ -185,6 +185,37 @@ look_checkpoint() {
     "$globex" replay | cmp - sent >&2 || fail 'a checkpoint changes what replay sends'
 }
 
+prepare_close() {
+    cp "$top/examples/F/product.toml" product.toml
+    "$tools/frames" make --product product.toml >orders <<'END'
+35=D|49=AAA|56=GX|34=1|52=20240102-09:30:00|11=a1|55=ESZ4|54=2|38=10|40=2|44=100.00|59=0|
+35=D|49=BBB|56=GX|34=1|52=20240102-09:30:01|11=b1|55=ESZ4|54=2|38=5|40=2|44=100.00|59=1|
+35=D|49=DDD|56=GX|34=1|52=20240102-09:30:02|11=d1|55=ESZ4|54=1|38=9|40=4|44=100.20|99=100.10|59=3|
+END
+    serve
+}
+look_close() {
+    "$globex" replay | cmp - sent >&2 || fail 'sent is not what replay sends'
+    # The market is open: the order that has stayed can trade. After another close nothing can, whether a start begins with an image
+    # or not.
+    buy_one c1
+    expect "$("$globex" fills | wc -l)" 2 'fills in the open market'
+    echo '35=h|49=GX|56=GX|34=3|52=20240103-16:00:00|340=03|' | "$tools/frames" make --product product.toml >orders
+    serve
+    buy_one c2
+    "$globex" checkpoint || fail 'no checkpoint in a closed market'
+    buy_one c3
+    expect "$("$tools/frames" show sent | grep -c '|58=CLOSED|')" 2 'orders refused in the closed market'
+    expect "$("$globex" fills | wc -l)" 2 'fills in the closed market'
+}
+
+# CCC buys a lot at 100.00, under an id.
+buy_one() {
+    echo "35=D|49=CCC|56=GX|34=1|52=20240103-12:00:00|11=$1|55=ESZ4|54=1|38=1|40=2|44=100.00|59=0|" |
+        "$tools/frames" make --product product.toml >orders
+    serve
+}
+
 prepare_copy() {
     take_example F
     serve
