@@ -34,7 +34,7 @@ PARTS = {
     "making": "order_maker",
     "framing": "fix_frame",
     "requests": "fix_request",
-    "matching": "order_kinds level_sweep top_order lmm_pass split_pass prorata_pass leveling_pass plain_book book_side order_pool id_table price_level book_order step_config",
+    "matching": "order_kinds level_sweep top_order lmm_pass split_pass prorata_pass leveling_pass plain_book book_side order_pool id_table price_level price_chunks book_order step_config",
     "reports": "exec_report book_print journal_print line_parts gx_base itoa",
     "journal": "match_journal gx_station book_recovery book_image",
     "copies": "libc",

@@ -3,15 +3,15 @@ use Rattle.std.proofs.Common.{◌≡◌, ℕ, ◌<◌, ◌≤◌, Bool, true, no
 use Rattle.std.specs.List.{AllByRecursion, sum_by}
 use Rattle.std.specs.Ordering.{int_eq}
 use Rattle.std.proofs.lemmas.List.{append_assoc, length-append, length_push}
-use Rattle.std.proofs.lemmas.List.Sums.{sum_by-append}
+use Rattle.std.proofs.lemmas.List.Sums.{sum_by-append, sum_by-cons}
 use Rattle.gx_base.specs.declared.price.Price.{Price}
 use Rattle.gx_base.specs.declared.order.Side.{Side}
 use Rattle.book_order.specs.Levels.{level, is_better, is_within}
 use Rattle.price_level.specs.declared.row.LevelRow.{LevelRow}
-use Rattle.price_level.specs.declared.side.Step.{Step}
+use Rattle.price_chunks.specs.declared.place.Step.{Step}
 use Rattle.price_level.specs.Rows.{row_on, row_at, row_before, best_row, worse_row, queue_at, open_rows, price_of_row, queue_of_row, new_row, placed_row, Pairs, AreRowsApart}
-use Rattle.price_level.specs.Inner.Steps.{row_in, leaves_of_step, is_worse_step, is_step_at, is_open_step, price_of_last, queue_of_last, with_step, without_step, AreWorstFirst}
-use Rattle.price_level.specs.Inner.Sides.{side_number, rows_of, rows_of_side, row_number, list_at, AreSides, IsStep}
+use Rattle.price_chunks.specs.Steps.{is_worse_step, is_step_at, is_open_step, price_of_last, queue_of_last, with_step, without_step, AreWorstFirst, list_at, open_at}
+use Rattle.price_level.specs.Inner.Sides.{row_in, side_number, rows_of, rows_of_side, row_number, AreSides, IsStep}
 use Rattle.price_level.proofs.Lists.{all-filter, all-front, all-back, all-with, pairs-front, pairs-back, filter-all}
 use Rattle.price_level.proofs.Order.{row_is_on, row_is_off, row_at_price, row_at_off, before_later, not_before_earlier, before_better}
 use Rattle.price_level.proofs.SideRows.{rows-append, rows-filter, rows-sum, rows-price, rows-queue, rows-number, steps-all, worst_first}
@@ -20,6 +20,11 @@ use Rattle.price_level.proofs.Parts.{Around, around, filter-side, filter-rest, f
 rows-length : (table : List LevelRow) (steps : List Step) → length (rows_of_side table steps) ≡ length steps
 rows-length table [] = refl
 rows-length table (s ∷ steps) = let e = length_push (rows_of_side table steps) (row_in table s.queue) in let f = rows-length table steps in omega arith
+
+-- all levels, and their rows
+pub rows-many : (table : List LevelRow) (all : List (List Step)) → sum_by length all ≡ length (rows_of table all)
+rows-many table [] = refl
+rows-many table (l ∷ all) = omega (arith, sum_by-cons length l all, length-append (rows_of_side table l) (rows_of table all), rows-length table l, rows-many table all)
 
 -- one list in place of another, between two
 regroup : (a f b z : List LevelRow) (n : LevelRow) → a ++ (((f ++ n ∷ []) ++ b) ++ z) ≡ (a ++ f) ++ n ∷ (b ++ z)
@@ -69,25 +74,20 @@ module _ (table : List LevelRow) (all : List (List Step)) (sides : AreSides tabl
   pub queue_is : (price : Price) → queue_of_last (filter (is_step_at price) steps) ≡ queue_at (level i side price) rows
   queue_is price = sym (ap queue_of_row (at-price price) ∙ rows-queue table n (filter (is_step_at price) steps) (all-filter (IsStep table n) (is_step_at price) steps at.here))
 
-  pub open_is : (limit : Price) → sum_by (leaves_of_step table) (filter (is_open_step side limit) steps) ≡ open_rows i side limit rows
+  pub open_is : (limit : Price) → open_at (filter (is_open_step side limit) steps) ≡ open_rows i side limit rows
   open_is limit =
       sym (ap (λ (rs : List LevelRow). sum_by (λ (r : LevelRow). r.leaves) (filter (λ r. is_within side limit.0 r.price.0) rs)) side-rows
       ∙ ap (λ (rs : List LevelRow). sum_by (λ (r : LevelRow). r.leaves) rs) (by-price (λ x. is_within side limit.0 x.0))
-      ∙ rows-sum table (filter (is_open_step side limit) steps))
+      ∙ rows-sum table n (filter (is_open_step side limit) steps) (all-filter (IsStep table n) (is_open_step side limit) steps at.here))
 
   pub side-ordered : Pairs AreRowsApart rows → AreWorstFirst side steps
   side-ordered a = worst_first table n i side refl steps at.here (pairs-front AreRowsApart here at.behind (pairs-back AreRowsApart at.ahead (here ++ at.behind) (subst (Pairs AreRowsApart) at.is a)))
 
-  pub side-few : length steps ≤ length rows
-  side-few =
-      let e = ap {B = ℕ} length at.is in
-      omega (arith, e, length-append at.ahead (here ++ at.behind), length-append here at.behind, rows-length table steps)
-
-  pub side-sum : sum_by (leaves_of_step table) steps ≤ sum_by (λ (r : LevelRow). r.leaves) rows
+  pub side-sum : open_at steps ≤ sum_by (λ (r : LevelRow). r.leaves) rows
   side-sum =
       let leaves = λ (r : LevelRow). r.leaves in
       let e = ap {B = ℕ} (sum_by leaves) at.is in
-      omega (arith, e, sum_by-append leaves at.ahead (here ++ at.behind), sum_by-append leaves here at.behind, rows-sum table steps)
+      omega (arith, e, sum_by-append leaves at.ahead (here ++ at.behind), sum_by-append leaves here at.behind, rows-sum table n steps at.here)
 
   pub side-all : (P : LevelRow → Type 0) → AllByRecursion P rows → AllByRecursion (λ s. P (row_in table s.queue)) steps
   side-all P h = steps-all table P steps (all-front P here at.behind (all-back P at.ahead (here ++ at.behind) (subst (AllByRecursion P) at.is h)))
@@ -104,7 +104,7 @@ module _ (table : List LevelRow) (all : List (List Step)) (sides : AreSides tabl
     new = new_row i side price q
 
     abbrev step : Step
-    step = record { price = price; queue = q }
+    step = record { price = price; leaves = 0; queue = q }
 
     before-is : AllByRecursion (λ s. row_before new (row_in table s.queue) ≡ is_worse_step side price s) steps
     before-is = all-with (IsStep table n) (λ s. row_before new (row_in table s.queue) ≡ is_worse_step side price s) (λ s e. before_better new (row_in table s.queue) (sym e.side) ∙ ap (λ (x : Price). is_better side price.0 x.0) e.price) steps at.here

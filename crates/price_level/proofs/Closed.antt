@@ -53,7 +53,7 @@ other-level-back a b h =
     let g = is_before-irrefl a in cc)
 
 -- the row of a queue is the one at its level
-same-row : (q : ℕ) (rs : List LevelRow) → Pairs AreRowsApart rs → HasQueue q rs → AllByRecursion (λ (r : LevelRow). (r.queue == q) ≡ row_at (level_of_row (row_of q rs)) r) rs
+pub same-row : (q : ℕ) (rs : List LevelRow) → Pairs AreRowsApart rs → HasQueue q rs → AllByRecursion (λ (r : LevelRow). (r.queue == q) ≡ row_at (level_of_row (row_of q rs)) r) rs
 same-row q [] a h = absurd h
 same-row q (r ∷ rs) a h =
     elim (cases_eq r.queue q) [

@@ -1,26 +1,27 @@
 -- The fields once a level goes.
-use Rattle.std.proofs.Common.{◌≡◌, ◌≢◌, ℕ, ◌+◌, ◌<◌, List, [], ◌∷◌, ◌++◌, length, set, filter, not, refl, sym, ap, subst, ◌∙◌, arith}
+use Rattle.std.proofs.Common.{◌≡◌, ◌≢◌, ℕ, ◌+◌, ◌<◌, List, [], ◌∷◌, ◌++◌, length, set, filter, not, sym, ap, subst, ◌∙◌, arith}
 use Rattle.std.proofs.lemmas.List.{length-set, length_push}
 use Rattle.price_level.specs.declared.row.LevelRow.{LevelRow}
-use Rattle.price_level.specs.declared.side.Step.{Step}
-use Rattle.price_level.specs.Rows.{Rows, HasQueue, row_of, without_row, level_of_row, row_at, AreRowsApart}
-use Rattle.price_level.specs.Inner.Steps.{row_in, without_step}
-use Rattle.price_level.specs.Inner.Sides.{side_number, rows_of, list_at, IsStep}
+use Rattle.price_chunks.specs.declared.place.Step.{Step}
+use Rattle.price_level.specs.Rows.{Rows, HasQueue, without_row, level_of_row, row_at, AreRowsApart}
 use Rattle.price_level.specs.Inner.Kept.{rows_seen, IsKept}
+use Rattle.price_chunks.specs.Steps.{without_step, list_at}
+use Rattle.price_level.specs.Inner.Sides.{row_in, side_number, rows_of, IsStep}
 use Rattle.price_level.proofs.Lists.{all-append, all-filter, all-with, pairs-filter}
-use Rattle.price_level.proofs.RowLists.{each-row, queue-filter}
+use Rattle.price_level.proofs.RowLists.{queue-filter}
 use Rattle.price_level.proofs.Closed.{without-count, without-lacks, without-level}
 use Rattle.price_level.proofs.Asked.{side-steps, sides-set, rows-without}
 use Rattle.price_level.proofs.Unused.{apart-push}
-use Rattle.price_level.proofs.Seen.{side_in, has_queue, queue_in, row_is}
+use Rattle.price_level.proofs.Seen.{queue_in}
+use Rattle.price_level.proofs.ByQueue.{held_here, held_is, held_in}
 use Rattle.price_level.proofs.Kept.{IsBelow, kept_from}
 
-module _ {capacity instruments : ℕ} {table : List LevelRow} {all : List (List Step)} {capacities unused : List ℕ} {free_capacity : ℕ} (kept : IsKept capacity instruments table all capacities unused free_capacity) (t : Rows) (view : rows_seen capacity instruments table all ≡ t) where
+module _ {capacity instruments : ℕ} {table : List LevelRow} {all : List (List Step)} {side_capacity : ℕ} {unused : List ℕ} {free_capacity : ℕ} (kept : IsKept capacity instruments table all side_capacity unused free_capacity) (t : Rows) (view : rows_seen capacity instruments table all ≡ t) where
   abbrev rows : List LevelRow
   rows = rows_of table all
 
   module _ (q : ℕ) (has : HasQueue q t.rows) where
-    abbrev pub going : LevelRow
+    abbrev going : LevelRow
     going = row_in table q
 
     abbrev going_number : ℕ
@@ -29,32 +30,23 @@ module _ {capacity instruments : ℕ} {table : List LevelRow} {all : List (List 
     abbrev less_all : List (List Step)
     less_all = set all going_number (without_step going.price (list_at all going_number))
 
-    has_here : HasQueue q rows
-    has_here = has_queue kept t view q has
-
-    going_is : going ≡ row_of q rows
-    going_is = row_is kept (rows_seen capacity instruments table all) refl q has_here
-
-    pub going_listed : going.instrument < instruments
-    going_listed = subst (λ (r : LevelRow). r.instrument < instruments) (sym going_is) (each-row (IsBelow capacity instruments) q rows kept.rows.below has_here).0.1
-
-    pub going_in : going_number < length all
-    going_in = side_in kept going.instrument going.side going_listed
+    going_in : going_number < length all
+    going_in = held_in kept t view q has
 
     rows_less : rows_of table less_all ≡ without_row q rows
     rows_less =
         rows-without table all kept.steps going.instrument going.side going_in going.price
-        ∙ sym (without-level q rows kept.rows.apart has_here ∙ ap (λ (r : LevelRow). filter (λ x. not (row_at (level_of_row r) x)) rows) (sym going_is))
+        ∙ sym (without-level q rows kept.rows.apart (held_here kept t view q has) ∙ ap (λ (r : LevelRow). filter (λ x. not (row_at (level_of_row r) x)) rows) (sym (held_is kept t view q has)))
 
     count_less : length (without_row q rows) + 1 ≡ length rows
-    count_less = without-count q rows kept.rows.apart has_here
+    count_less = without-count q rows kept.rows.apart (held_here kept t view q has)
 
     pub free_below : length unused < capacity
     free_below = let a = count_less in omega (arith, kept.count)
 
-    pub kept_closed : (free_capacity' : ℕ) → free_capacity' ≡ capacity → IsKept capacity instruments table less_all capacities (unused ++ q ∷ []) free_capacity'
+    pub kept_closed : (free_capacity' : ℕ) → free_capacity' ≡ capacity → IsKept capacity instruments table less_all side_capacity (unused ++ q ∷ []) free_capacity'
     kept_closed free_capacity' fits =
-        kept_from capacity instruments table less_all capacities (unused ++ q ∷ []) free_capacity' (without_row q rows) rows_less
+        kept_from capacity instruments table less_all side_capacity (unused ++ q ∷ []) free_capacity' (without_row q rows) rows_less
         (pairs-filter AreRowsApart _ rows kept.rows.apart)
         (all-filter (IsBelow capacity instruments) _ rows kept.rows.below)
         kept.long (length-set all going_number (without_step going.price (list_at all going_number)) ∙ kept.sides)
@@ -63,7 +55,7 @@ module _ {capacity instruments : ℕ} {table : List LevelRow} {all : List (List 
         (all-append (λ (x : ℕ). (x < capacity) × (HasQueue x (without_row q rows) → ⊥)) unused (q ∷ [])
         (all-with (λ (x : ℕ). (x < capacity) × (HasQueue x rows → ⊥)) (λ (x : ℕ). (x < capacity) × (HasQueue x (without_row q rows) → ⊥)) (λ x h. (h.0, λ k. h.1 (queue-filter _ x rows k))) unused kept.free)
         ((let lt = queue_in kept t view q has in omega (arith, kept.long), without-lacks q rows), tt))
-        (apart-push unused q kept.free_apart (all-with (λ (x : ℕ). (x < capacity) × (HasQueue x rows → ⊥)) (λ x. q ≢ x) (λ x h e. h.1 (subst (λ (y : ℕ). HasQueue y rows) e has_here)) unused kept.free))
+        (apart-push unused q kept.free_apart (all-with (λ (x : ℕ). (x < capacity) × (HasQueue x rows → ⊥)) (λ x. q ≢ x) (λ x h e. h.1 (subst (λ (y : ℕ). HasQueue y rows) e (held_here kept t view q has))) unused kept.free))
         fits
         (let a = count_less in omega (arith, length_push unused q, kept.count))
 

@@ -1,9 +1,7 @@
 mod Lists
 mod Order
-mod Steps
 mod SideRows
 mod Parts
-mod Fields
 mod Tables
 mod Asked
 mod RowLists
@@ -12,6 +10,7 @@ mod Closed
 mod Unused
 mod Seen
 mod Kept
+mod ByQueue
 mod Summed
 mod Added
 mod Gone

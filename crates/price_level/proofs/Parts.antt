@@ -5,8 +5,9 @@ use Rattle.std.specs.List.{AllByRecursion}
 use Rattle.std.proofs.lemmas.List.{append_assoc, append-nil}
 use Rattle.std.proofs.lemmas.List.Elements.{filter-append}
 use Rattle.price_level.specs.declared.row.LevelRow.{LevelRow}
-use Rattle.price_level.specs.declared.side.Step.{Step}
-use Rattle.price_level.specs.Inner.Sides.{rows_of, rows_of_side, row_number, list_at, AreSides, IsStep}
+use Rattle.price_chunks.specs.declared.place.Step.{Step}
+use Rattle.price_chunks.specs.Steps.{list_at}
+use Rattle.price_level.specs.Inner.Sides.{rows_of, rows_of_side, row_number, AreSides, IsStep}
 use Rattle.price_level.proofs.Lists.{all-append, all-with, filter-all, filter-none}
 use Rattle.price_level.proofs.SideRows.{rows-number}
 

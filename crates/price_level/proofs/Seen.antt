@@ -1,5 +1,5 @@
 -- What calls that only read are answered from the fields.
-use Rattle.std.proofs.Common.{◌≡◌, ℕ, ◌*◌, ◌<◌, ◌^◌, List, get_or, length, filter, Vec, Global, sym, ap, subst, ◌∙◌, arith}
+use Rattle.std.proofs.Common.{◌≡◌, ℕ, ◌*◌, ◌<◌, ◌^◌, List, get_or, length, filter, sym, ap, subst, ◌∙◌, arith}
 use Rattle.std.proofs.lemmas.List.{get_or_read}
 use Rattle.std.specs.List.{sum_by}
 use Rattle.gx_base.specs.declared.price.Price.{Price}
@@ -7,25 +7,20 @@ use Rattle.gx_base.specs.declared.order.Side.{Side}
 use Rattle.gx_base.specs.declared.order.Side.TheVariants.{Buy, Sell}
 use Rattle.book_order.specs.Levels.{level}
 use Rattle.price_level.specs.declared.row.LevelRow.{LevelRow}
-use Rattle.price_level.specs.declared.side.Step.{Step}
+use Rattle.price_chunks.specs.declared.place.Step.{Step}
 use Rattle.price_level.specs.Rows.{Rows, no_row, best_row, worse_row, queue_at, open_rows, HasQueue, row_of}
-use Rattle.price_level.specs.Inner.Steps.{row_in, leaves_of_step, is_worse_step, is_step_at, is_open_step, price_of_last, queue_of_last, AreIn, AreWorstFirst}
-use Rattle.price_level.specs.Inner.Sides.{side_number, rows_of, lists, list_at, IsStep}
 use Rattle.price_level.specs.Inner.Kept.{rows_seen, IsKept}
-use Rattle.price_level.proofs.Lists.{all-both, all-with}
+use Rattle.price_chunks.specs.Steps.{is_worse_step, is_step_at, is_open_step, price_of_last, queue_of_last, AreWorstFirst, list_at, open_at}
+use Rattle.price_level.specs.Inner.Sides.{row_in, side_number, rows_of}
 use Rattle.price_level.proofs.RowLists.{each-row}
 use Rattle.price_level.proofs.Tables.{named}
-use Rattle.price_level.proofs.Asked.{best_is, worse_is, queue_is, open_is, side-ordered, side-few, side-sum, side-all, side-steps}
-
--- the steps of a side, once the lists are those of the sides
-pub steps_read : {steps : List Step} {v w : List (Vec Step Global)} (n : ℕ) → steps ≡ list_at (lists v) n → v ≡ w → steps ≡ list_at (lists w) n
-steps_read n is same = is ∙ ap (λ (v : List (Vec Step Global)). list_at (lists v) n) same
+use Rattle.price_level.proofs.Asked.{best_is, worse_is, queue_is, open_is, side-ordered, side-sum, rows-many}
 
 number-below : (i n : ℕ) (side : Side) → i < n → side_number i side < 2 * n
 number-below i n Buy lt = omega arith
 number-below i n Sell lt = omega arith
 
-module _ {capacity instruments : ℕ} {table : List LevelRow} {all : List (List Step)} {capacities unused : List ℕ} {free_capacity : ℕ} (kept : IsKept capacity instruments table all capacities unused free_capacity) where
+module _ {capacity instruments : ℕ} {table : List LevelRow} {all : List (List Step)} {side_capacity : ℕ} {unused : List ℕ} {free_capacity : ℕ} (kept : IsKept capacity instruments table all side_capacity unused free_capacity) where
   pub side_in : (i : ℕ) (side : Side) → i < instruments → side_number i side < length all
   side_in i side lt = subst (λ (x : ℕ). side_number i side < x) (sym kept.sides) (number-below i instruments side lt)
 
@@ -76,32 +71,20 @@ module _ {capacity instruments : ℕ} {table : List LevelRow} {all : List (List 
             ∙ queue_is table all kept.steps i side side_in_seen price
             ∙ ap (λ (x : Rows). queue_at (level i side price) x.rows) view
 
-        pub inside : AreIn (length table) steps
-        inside =
-            let n = side_number i side in
-            let low = side-all table all kept.steps i side side_in_seen (λ (r : LevelRow). (r.queue < capacity) × (r.instrument < instruments)) kept.rows.below in
-            let here = side-steps table all kept.steps i side side_in_seen in
-            subst (AreIn (length table)) (sym is) (
-            all-with (λ (s : Step). (((row_in table s.queue).queue < capacity) × ((row_in table s.queue).instrument < instruments)) × IsStep table n s) (λ (s : Step). s.queue < length table) (λ s h.
-            let e : (row_in table s.queue).queue ≡ s.queue = h.1.queue in
-            let lt : (row_in table s.queue).queue < capacity = h.0.0 in
-            omega (arith, kept.long)) (list_at all n)
-            (all-both (λ (s : Step). ((row_in table s.queue).queue < capacity) × ((row_in table s.queue).instrument < instruments)) (IsStep table n) (list_at all n) low here))
-
-        pub fits : sum_by (λ (r : LevelRow). r.leaves) t.rows < 2 ^ 63 → sum_by (leaves_of_step table) steps < 2 ^ 63
+        pub fits : sum_by (λ (r : LevelRow). r.leaves) t.rows < 2 ^ 63 → open_at steps < 2 ^ 63
         fits h =
             let a = subst (λ (x : Rows). sum_by (λ (r : LevelRow). r.leaves) x.rows < 2 ^ 63) (sym view) h in
-            let b = ap {B = ℕ} (sum_by (leaves_of_step table)) is in
+            let b = ap {B = ℕ} open_at is in
             omega (arith, side-sum table all kept.steps i side side_in_seen)
 
-        pub available : (limit : Price) → sum_by (leaves_of_step table) (filter (is_open_step side limit) steps) ≡ open_rows i side limit t.rows
+        pub available : (limit : Price) → open_at (filter (is_open_step side limit) steps) ≡ open_rows i side limit t.rows
         available limit =
-            ap (λ (l : List Step). sum_by (leaves_of_step table) (filter (is_open_step side limit) l)) is
+            ap (λ (l : List Step). open_at (filter (is_open_step side limit) l)) is
             ∙ open_is table all kept.steps i side side_in_seen limit
             ∙ ap (λ (x : Rows). open_rows i side limit x.rows) view
 
-      -- a side has no more levels than all sides
-      pub side_less : length t.rows < t.capacity → length (list_at all (side_number i side)) < capacity
-      side_less h =
-          let a : length (rows_of table all) < capacity = subst (λ (x : Rows). length x.rows < x.capacity) (sym view) h in
-          omega (arith, side-few table all kept.steps i side side_in_seen)
+    -- there is room for one more level
+    pub not_full : length t.rows < t.capacity → sum_by length all < side_capacity
+    not_full h =
+        let a : length (rows_of table all) < capacity = subst (λ (x : Rows). length x.rows < x.capacity) (sym view) h in
+        omega (arith, rows-many table all, kept.room)

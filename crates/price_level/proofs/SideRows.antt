@@ -9,10 +9,10 @@ use Rattle.std.proofs.lemmas.List.Sums.{sum_by_push, sum_by-cons}
 use Rattle.gx_base.specs.declared.order.Side.{Side}
 use Rattle.book_order.specs.Levels.{is_better}
 use Rattle.price_level.specs.declared.row.LevelRow.{LevelRow}
-use Rattle.price_level.specs.declared.side.Step.{Step}
+use Rattle.price_chunks.specs.declared.place.Step.{Step}
 use Rattle.price_level.specs.Rows.{Pairs, AreRowsApart, price_of_row, queue_of_row, row_before}
-use Rattle.price_level.specs.Inner.Steps.{no_step, step_at, row_in, leaves_of_step, AreWorstFirst, price_of_last, queue_of_last}
-use Rattle.price_level.specs.Inner.Sides.{rows_of_side, row_number, side_number, IsStep}
+use Rattle.price_chunks.specs.Steps.{no_step, step_at, AreWorstFirst, price_of_last, queue_of_last, open_at}
+use Rattle.price_level.specs.Inner.Sides.{row_in, rows_of_side, row_number, side_number, IsStep}
 use Rattle.price_level.proofs.Lists.{all-append, all-front, all-back, all-at, all-with, pairs-front, pairs-across}
 use Rattle.price_level.proofs.Order.{before_better, number-same}
 
@@ -53,14 +53,6 @@ module _ (table : List LevelRow) where
       ∙ (λ i. rows-filter p q steps h.1 i ++ cond (h.0 i) (row_of_step s ∷ []) [])
       ∙ add_row (q s) s (filter q steps)
 
-  pub rows-sum : (steps : List Step) → sum_by (λ (r : LevelRow). r.leaves) (rows_of_side table steps) ≡ sum_by (leaves_of_step table) steps
-  rows-sum [] = refl
-  rows-sum (s ∷ steps) =
-      let a = sum_by_push (λ (r : LevelRow). r.leaves) (rows_of_side table steps) (row_of_step s) in
-      let b = sum_by-cons (leaves_of_step table) s steps in
-      let c = rows-sum steps in
-      omega arith
-
   -- ---- steps of one side, by its number
 
   module _ (n : ℕ) where
@@ -73,6 +65,15 @@ module _ (table : List LevelRow) where
     rows-queue [] h = refl
     rows-queue (s ∷ []) h = ap Some h.0.queue
     rows-queue (s ∷ (t ∷ steps)) h = first_queue (rows_of_side table steps) (row_of_step t) (row_of_step s) ∙ rows-queue (t ∷ steps) h.1
+
+    pub rows-sum : (steps : List Step) → AllByRecursion (IsStep table n) steps → sum_by (λ (r : LevelRow). r.leaves) (rows_of_side table steps) ≡ open_at steps
+    rows-sum [] h = refl
+    rows-sum (s ∷ steps) h =
+        let a = sum_by_push (λ (r : LevelRow). r.leaves) (rows_of_side table steps) (row_of_step s) in
+        let b = sum_by-cons (λ (t : Step). t.leaves) s steps in
+        let c = rows-sum steps h.1 in
+        let e = h.0.leaves in
+        omega arith
 
     pub rows-number : (steps : List Step) → AllByRecursion (IsStep table n) steps → AllByRecursion (λ r. row_number r ≡ n) (rows_of_side table steps)
     rows-number steps h = rows-all (λ r. row_number r ≡ n) steps (all-with (IsStep table n) (λ s. row_number (row_of_step s) ≡ n) (λ s e. e.side) steps h)

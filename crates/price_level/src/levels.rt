@@ -1,28 +1,28 @@
 //! The price levels.
 ghost use Rattle.std.specs.Prelude.{◌≡◌, ◌+◌, ◌<◌, ◌^◌, None, IfOk, length, sum_by};
 ghost use Rattle.book_order.specs.Levels.{level};
+ghost use Rattle.price_level.specs.Inner.Sides.{side_number};
 ghost use Rattle.price_level.specs.Rows.{no_rows, AreRows, best_row, worse_row, queue_at, HasQueue, row_of, with_sums, new_row, placed_row, without_row, open_rows};
 
 use crate::queues::{all_queues, give_back};
 use crate::row::{LevelRow, blank_rows};
-use crate::side::{Step, best_price, open_lots, queue_at, worse_price};
-use crate::sides::{add_step, empty_sides, remove_step, steps_of};
 use gx_base::{Price, Side};
+use price_chunks::{Sides, Step};
 use std::alloc::{AllocError, Global};
 use std::marker::Model;
 
 /// The price levels of all instruments. Contracts see them as the list of their rows in book order, with the greatest
 /// number of levels and the number of instruments.
 ///
-/// The row of a queue is read and written in one step. A search by price looks at the best level of a side first, and then
-/// halves its levels, and a level that comes or goes moves the better levels of its side, so near the best price next to none.
-/// `new` takes all the memory, and no part ever grows.
+/// The row of a queue is read in one step. Each side has its levels in chunks, the worst price first. A search by price looks at
+/// the best level of a side first, and then halves its chunks and the levels of one of them. A level that comes or goes moves the
+/// better levels of its chunk alone, but where a chunk is split or two are joined. `new` takes all the memory, and no part ever grows.
 #[derive(Drop)]
 pub struct Levels {
     /// The row of each queue. That of a free queue means nothing.
     rows: Vec<LevelRow>,
     /// The levels of buy and of sell of the first instrument, then those of the next.
-    sides: Vec<Vec<Step>>,
+    sides: Sides,
     /// The queues of no level.
     free: Vec<u32>,
     capacity: u32,
@@ -31,28 +31,39 @@ pub struct Levels {
 
 impl Model for Levels {
     ghost use Rattle.price_level.specs.Rows.{Rows};
-    ghost use Rattle.price_level.specs.Inner.Sides.{lists, rooms};
     ghost use Rattle.price_level.specs.Inner.Kept.{rows_seen, IsKept};
-    ghost use Rattle.std.specs.Prelude.{◌≡◌, ◌*◌, vec_capacity};
+    ghost use Rattle.std.specs.Prelude.{◌≡◌, vec_capacity};
 
     ghost Value = { Rows };
 
-    ghost view = { λ l. rows_seen l.capacity l.instruments l.rows.items (lists l.sides.items) };
+    ghost view = { λ l. rows_seen l.capacity l.instruments l.rows.items l.sides.lists };
 
-    ghost invariant = { λ l. IsKept l.capacity l.instruments l.rows.items (lists l.sides.items) (rooms l.sides.items) l.free.items (vec_capacity l.free)
-        × ((vec_capacity l.rows ≡ l.capacity) × (vec_capacity l.sides ≡ 2 * l.instruments)) };
+    ghost invariant = { λ l. IsKept l.capacity l.instruments l.rows.items l.sides.lists l.sides.capacity l.free.items (vec_capacity l.free)
+        × (vec_capacity l.rows ≡ l.capacity) };
+}
+
+/// The number of a side among all sides.
+fn side_number(instrument: u8, side: Side) -> usize
+    ensures { result ≡ side_number instrument side }
+{
+    let first = 2 * instrument as usize;
+    match side {
+        Side::Buy => first,
+        Side::Sell => first + 1,
+    }
 }
 
 impl Levels {
-    /// No levels, with room for so many of so many instruments. An `Err` is want of memory: it takes 44 bytes for each level,
-    /// and for each instrument 32 bytes for each level and 48 more, since all levels may come to stand on one side. It takes
-    /// all the memory: no call changes how much a part has room for.
+    /// No levels, with room for so many of so many instruments. An `Err` is want of memory: it takes 44 bytes for each level, and
+    /// for each chunk 3,104 bytes and 64 more for each instrument, and 48 bytes for each instrument. There is one chunk for each 32
+    /// levels, two for each instrument, and one more: so many are always enough, whichever side the levels stand on. It takes all
+    /// the memory: no call changes how much a part has room for.
     pub fn new(alloc: Global, capacity: u32, instruments: u8) -> Result<Levels, AllocError>
         ensures { IfOk result (λ l. l ≡ no_rows capacity instruments) }
     {
         Ok(Levels {
             rows: blank_rows(alloc, capacity)?,
-            sides: empty_sides(alloc, 2 * instruments as usize, capacity)?,
+            sides: Sides::new(alloc, 2 * instruments as usize, capacity)?,
             free: all_queues(alloc, capacity)?,
             capacity,
             instruments,
@@ -71,7 +82,7 @@ impl Levels {
         requires { instrument < self.now.instruments }
         ensures { result ≡ best_row instrument side self.now.rows }
     {
-        best_price(steps_of(&self.sides, instrument, side))
+        self.sides.best(side_number(instrument, side))
     }
 
     /// The best of the prices of a side that are worse than this one. `None` exactly where the side has no worse price.
@@ -79,7 +90,7 @@ impl Levels {
         requires { instrument < self.now.instruments }
         ensures { result ≡ worse_row instrument side price self.now.rows }
     {
-        worse_price(steps_of(&self.sides, instrument, side), side, price)
+        self.sides.worse(side_number(instrument, side), side, price)
     }
 
     /// The queue of a level. `None` exactly where the side has no level at this price.
@@ -87,7 +98,7 @@ impl Levels {
         requires { instrument < self.now.instruments }
         ensures { result ≡ queue_at (level instrument side price) self.now.rows }
     {
-        queue_at(steps_of(&self.sides, instrument, side), side, price)
+        self.sides.find(side_number(instrument, side), side, price)
     }
 
     /// The row of the level with a queue.
@@ -107,6 +118,8 @@ impl Levels {
         row.count = count;
         row.shown = shown;
         row.leaves = leaves;
+        let at = side_number(row.instrument, row.side);
+        self.sides.set_lots(at, row.side, row.price, leaves);
     }
 
     /// Adds a level that is not here, with sums of 0. Returns its queue, which no level had.
@@ -134,7 +147,12 @@ impl Levels {
             shown: 0,
             leaves: 0,
         };
-        add_step(&mut self.sides, instrument, side, Step { price, queue });
+        let step = Step {
+            price,
+            leaves: 0,
+            queue,
+        };
+        self.sides.put(side_number(instrument, side), side, step);
         queue
     }
 
@@ -146,7 +164,8 @@ impl Levels {
         ensures count { length self.new.rows + 1 ≡ length self.old.rows }
     {
         let row = self.rows[queue as usize];
-        remove_step(&mut self.sides, row.instrument, row.side, row.price);
+        let at = side_number(row.instrument, row.side);
+        self.sides.take_out(at, row.side, row.price);
         give_back(&mut self.free, queue);
     }
 
@@ -156,11 +175,7 @@ impl Levels {
         requires fits { sum_by (λ r. r.leaves) self.now.rows < 2 ^ 63 }
         ensures { result ≡ open_rows instrument side limit self.now.rows }
     {
-        open_lots(
-            &self.rows,
-            steps_of(&self.sides, instrument, side),
-            side,
-            limit,
-        )
+        self.sides
+            .available(side_number(instrument, side), side, limit)
     }
 }

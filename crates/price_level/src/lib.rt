@@ -4,8 +4,6 @@
 mod levels;
 mod queues;
 mod row;
-mod side;
-mod sides;
 
 pub use levels::Levels;
 pub use row::LevelRow;

@@ -2,9 +2,9 @@
 use Rattle.std.specs.Prelude.{◌≡◌, ◌≢◌, ℕ, ◌+◌, ◌*◌, ◌<◌, List, length}
 use Rattle.std.specs.List.{AllByRecursion}
 use Rattle.price_level.specs.declared.row.LevelRow.{LevelRow}
-use Rattle.price_level.specs.declared.side.Step.{Step}
+use Rattle.price_chunks.specs.declared.place.Step.{Step}
 use Rattle.price_level.specs.Rows.{Rows, HasQueue, Pairs, AreRows}
-use Rattle.price_level.specs.Inner.Sides.{rows_of, AreSides, HaveRoom}
+use Rattle.price_level.specs.Inner.Sides.{rows_of, AreSides}
 
 -- as contracts see them
 abbrev pub rows_seen : ℕ → ℕ → List LevelRow → List (List Step) → Rows
@@ -24,12 +24,12 @@ pub record AreAll (n : ℕ) (queues : List ℕ) : Type 0 where
   pub below : AllByRecursion (λ (q : ℕ). q < n) queues
   pub apart : AreApart queues
 
-pub record IsKept (capacity instruments : ℕ) (table : List LevelRow) (all : List (List Step)) (capacities unused : List ℕ) (free_capacity : ℕ) : Type 0 where
+pub record IsKept (capacity instruments : ℕ) (table : List LevelRow) (all : List (List Step)) (side_capacity : ℕ) (unused : List ℕ) (free_capacity : ℕ) : Type 0 where
   pub rows : AreRows (rows_seen capacity instruments table all)
   pub long : length table ≡ capacity
   pub sides : length all ≡ 2 * instruments
   pub steps : AreSides table 0 all
-  pub room : HaveRoom capacity capacities
+  pub room : side_capacity ≡ capacity
   pub free : AreFree capacity (rows_of table all) unused
   pub free_apart : AreApart unused
   pub free_room : free_capacity ≡ capacity

@@ -1,39 +1,23 @@
 -- The levels of all sides: those of buy and of sell of the first instrument, then those of the next.
-use Rattle.std.specs.Prelude.{◌≡◌, ℕ, ◌+◌, ◌*◌, List, [], ◌∷◌, ◌++◌, map, length, slice_index_or, Vec, vec_capacity}
-use Rattle.std.specs.declared.alloc.Global.{Global}
+use Rattle.std.specs.Prelude.{◌≡◌, ℕ, ◌+◌, ◌*◌, List, [], ◌∷◌, ◌++◌, slice_index_or}
 use Prim.Native.Nat.{suc}
 use Rattle.std.specs.List.{AllByRecursion}
 use Rattle.gx_base.specs.declared.order.Side.{Side}
 use Rattle.gx_base.specs.declared.order.Side.TheVariants.{Buy, Sell}
 use Rattle.price_level.specs.declared.row.LevelRow.{LevelRow}
-use Rattle.price_level.specs.declared.side.Step.{Step}
-use Rattle.price_level.specs.Inner.Steps.{row_in}
+use Rattle.price_chunks.specs.declared.place.Step.{Step}
+use Rattle.price_level.specs.Rows.{no_row}
 
 -- where a side stands among all sides
 abbrev pub side_number : ℕ → Side → ℕ
 side_number instrument Buy = 2 * instrument
 side_number instrument Sell = 2 * instrument + 1
 
-abbrev pub lists : List (Vec Step Global) → List (List Step)
-lists sides = map (λ v. v.items) sides
-
-abbrev pub rooms : List (Vec Step Global) → List ℕ
-rooms sides = map vec_capacity sides
-
-abbrev pub list_at : List (List Step) → ℕ → List Step
-list_at all k = slice_index_or all k []
-
--- each of these has room for so many, and for no more
-abbrev pub HaveRoom : ℕ → List ℕ → Type 0
-HaveRoom n capacities = AllByRecursion (λ (c : ℕ). c ≡ n) capacities
-
--- so many sides without levels
-pub record AreEmpty (n capacity : ℕ) (all : List (List Step)) (capacities : List ℕ) : Type 0 where
-  pub count : length all ≡ n
-  pub empty : AllByRecursion (λ (l : List Step). l ≡ []) all
-  pub room : HaveRoom capacity capacities
-
 -- ---- their rows
+
+-- the row under this queue
+abbrev pub row_in : List LevelRow → ℕ → LevelRow
+row_in table q = slice_index_or table q no_row
 
 -- the rows of a side, the best price first
 abbrev pub rows_of_side : List LevelRow → List Step → List LevelRow
@@ -53,6 +37,7 @@ pub record IsStep (table : List LevelRow) (k : ℕ) (s : Step) : Type 0 where
   pub side : row_number (row_in table s.queue) ≡ k
   pub price : (row_in table s.queue).price ≡ s.price
   pub queue : (row_in table s.queue).queue ≡ s.queue
+  pub leaves : (row_in table s.queue).leaves ≡ s.leaves
 
 -- these are the sides from the number k on
 abbrev pub AreSides : List LevelRow → ℕ → List (List Step) → Type 0

@@ -1,11 +1,11 @@
-use Rattle.std.proofs.Common.{◌∙◌}
-use Rattle.price_level.specs.Inner.Sides.{side_number}
-use Rattle.price_level.proofs.Seen.{steps_read, ordered, queue}
+use Rattle.std.proofs.Common.{ap, ◌∙◌}
+use Rattle.price_chunks.specs.Steps.{list_at}
+use Rattle.price_level.proofs.Seen.{ordered, queue}
 use Rattle.price_level.proofs.levels.Levels.find.Goals as goal
 
-pub queue_at-requires : goal.queue_at-requires
-queue_at-requires c = ordered c.self.invariant.0 c.args.self.now c.self.view_is c.args.instrument c.args.side c.requires c.steps_of.result.now (steps_read (side_number c.args.instrument c.args.side) c.steps_of.ensures c.deref.ensures.value)
+pub find-requires-clause-ordered : goal.find-requires-clause-ordered
+find-requires-clause-ordered c = ordered c.self.invariant.0 c.args.self.now c.self.view_is c.args.instrument c.args.side c.requires (list_at c.self.inside.sides.lists c.side_number.result) (ap (list_at c.self.inside.sides.lists) c.side_number.ensures)
 
 pub returns : goal.returns
 returns c =
-    c.queue_at.ensures ∙ queue c.self.invariant.0 c.args.self.now c.self.view_is c.args.instrument c.args.side c.requires c.steps_of.result.now (steps_read (side_number c.args.instrument c.args.side) c.steps_of.ensures c.deref.ensures.value) c.args.price
+    c.find.ensures ∙ queue c.self.invariant.0 c.args.self.now c.self.view_is c.args.instrument c.args.side c.requires (list_at c.self.inside.sides.lists c.side_number.result) (ap (list_at c.self.inside.sides.lists) c.side_number.ensures) c.args.price

@@ -1,11 +1,11 @@
-use Rattle.std.proofs.Common.{◌∙◌}
-use Rattle.price_level.specs.Inner.Sides.{side_number}
-use Rattle.price_level.proofs.Seen.{steps_read, ordered, worse}
+use Rattle.std.proofs.Common.{ap, ◌∙◌}
+use Rattle.price_chunks.specs.Steps.{list_at}
+use Rattle.price_level.proofs.Seen.{ordered, worse}
 use Rattle.price_level.proofs.levels.Levels.worse.Goals as goal
 
-pub worse_price-requires : goal.worse_price-requires
-worse_price-requires c = ordered c.self.invariant.0 c.args.self.now c.self.view_is c.args.instrument c.args.side c.requires c.steps_of.result.now (steps_read (side_number c.args.instrument c.args.side) c.steps_of.ensures c.deref.ensures.value)
+pub worse-requires-clause-ordered : goal.worse-requires-clause-ordered
+worse-requires-clause-ordered c = ordered c.self.invariant.0 c.args.self.now c.self.view_is c.args.instrument c.args.side c.requires (list_at c.self.inside.sides.lists c.side_number.result) (ap (list_at c.self.inside.sides.lists) c.side_number.ensures)
 
 pub returns : goal.returns
 returns c =
-    c.worse_price.ensures ∙ worse c.self.invariant.0 c.args.self.now c.self.view_is c.args.instrument c.args.side c.requires c.steps_of.result.now (steps_read (side_number c.args.instrument c.args.side) c.steps_of.ensures c.deref.ensures.value) c.args.price
+    c.worse.ensures ∙ worse c.self.invariant.0 c.args.self.now c.self.view_is c.args.instrument c.args.side c.requires (list_at c.self.inside.sides.lists c.side_number.result) (ap (list_at c.self.inside.sides.lists) c.side_number.ensures) c.args.price

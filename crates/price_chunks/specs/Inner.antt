@@ -1,0 +1,5 @@
+-- What the private functions of this crate promise each other. A reader need not believe any of it: the calls of `Sides` speak
+-- only of the file beside this one.
+pub mod Chunks
+pub mod Sums
+pub mod Pool

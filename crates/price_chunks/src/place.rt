@@ -1,0 +1,105 @@
+//! Where a price stands among the levels of a chunk, the worst price first.
+ghost use Rattle.std.specs.Prelude.{◌≡◌, ◌<◌, ◌≤◌, ◌^◌, filter, take, length};
+ghost use Rattle.price_chunks.specs.Steps.{open_at, AreWorstFirst, is_worse_step, is_step_at, is_open_step, price_of_last, queue_of_last};
+ghost use Rattle.price_chunks.specs.Inner.Chunks.{IsPlace};
+
+use book_order::{is_better_price, is_same_price};
+use gx_base::{Price, Side};
+
+/// A level of a side.
+#[derive(Clone, Copy)]
+pub struct Step {
+    pub price: Price,
+    /// How many lots are open at it.
+    pub leaves: u64,
+    /// The number of its queue of orders.
+    pub queue: u32,
+}
+
+/// How many levels have a worse price. At the best price and at better ones, where most happens, nothing is searched.
+pub(crate) fn place_of(steps: &[Step], side: Side, price: Price) -> usize
+    requires { AreWorstFirst side steps.now }
+    ensures { IsPlace side price steps.now result }
+{
+    let count = steps.len();
+    if count == 0 {
+        return 0;
+    }
+    let best = steps[count - 1].price;
+    if is_better_price(side, price, best) {
+        return count;
+    }
+    if is_same_price(price, best) {
+        return count - 1;
+    }
+    place_by_halves(steps, side, price)
+}
+
+/// How many levels have a worse price, by halving them.
+fn place_by_halves(steps: &[Step], side: Side, price: Price) -> usize
+    requires { AreWorstFirst side steps.now }
+    ensures { IsPlace side price steps.now result }
+{
+    let mut low = 0;
+    let mut high = steps.len();
+    while low < high {
+        let middle = low + (high - low) / 2;
+        if is_better_price(side, price, steps[middle].price) {
+            low = middle + 1;
+        } else {
+            high = middle;
+        }
+    }
+    low
+}
+
+/// The price of the level before a place. `None` exactly where the place is the first.
+fn price_before(steps: &[Step], place: usize) -> Option<Price>
+    requires { place ≤ length steps.now }
+    ensures { result ≡ price_of_last (take place steps.now) }
+{
+    if place == 0 {
+        return None;
+    }
+    Some(steps[place - 1].price)
+}
+
+/// The best price. `None` exactly where there is no level.
+pub(crate) fn best_price(steps: &[Step]) -> Option<Price>
+    ensures { result ≡ price_of_last steps.now }
+{
+    price_before(steps, steps.len())
+}
+
+/// The best of the prices that are worse than this one. `None` exactly where no price is.
+pub(crate) fn worse_price(steps: &[Step], side: Side, price: Price) -> Option<Price>
+    requires { AreWorstFirst side steps.now }
+    ensures { result ≡ price_of_last (filter (is_worse_step side price) steps.now) }
+{
+    price_before(steps, place_of(steps, side, price))
+}
+
+/// The queue of the level at a price. `None` exactly where there is none.
+pub(crate) fn queue_at(steps: &[Step], side: Side, price: Price) -> Option<u32>
+    requires { AreWorstFirst side steps.now }
+    ensures { result ≡ queue_of_last (filter (is_step_at price) steps.now) }
+{
+    let place = place_of(steps, side, price);
+    if place < steps.len() && is_same_price(steps[place].price, price) {
+        return Some(steps[place].queue);
+    }
+    None
+}
+
+/// How many lots are open at a limit and at better prices.
+pub(crate) fn open_lots(steps: &[Step], side: Side, limit: Price) -> u64
+    requires ordered { AreWorstFirst side steps.now }
+    requires fits { open_at steps.now < 2 ^ 63 }
+    ensures { result ≡ open_at (filter (is_open_step side limit) steps.now) }
+{
+    let mut total = 0;
+    for i in place_of(steps, side, limit)..steps.len() {
+        total += steps[i].leaves;
+    }
+    total
+}
