@@ -1,4 +1,4 @@
-//! Both books over one long list of drawn calls, which have to give the same answers.
+//! Both books over long lists of drawn calls, to which they have to give the same answers.
 ghost use Rattle.std.specs.Prelude.{◌≡◌, ◌<◌, ◌≤◌, length, true, false, IfSome, option_map};
 ghost use Rattle.plain_book.specs.Orders.{HasSlot, is_live};
 ghost use Rattle.plain_book.specs.Book.{CanBeTop, live_orders, slot_number};
@@ -7,7 +7,7 @@ mod draws;
 mod reads;
 
 use book_side::LinkedBook;
-use draws::{INSTRUMENTS, Random};
+use draws::{INSTRUMENTS, Market, Random};
 use gx_base::{Kind, Order, ShortId, Side, Slot};
 use plain_book::{Book, PlainBook};
 use reads::{
@@ -16,13 +16,16 @@ use reads::{
 };
 use std::process::Abort;
 
-/// So few that the books are full at times.
-const CAPACITY: u32 = 64;
+/// For how many orders the books have room: so few that they are full at times.
+const NARROW_CAPACITY: u32 = 64;
+
+/// So many that a side can have the levels of several chunks.
+const WIDE_CAPACITY: u32 = 1_000;
 
 /// Each step makes one drawn call, and then reads the book.
 const STEPS: u32 = 20_000;
 
-/// How often a run makes each call at least.
+/// How often a run over a narrow market makes each call at least.
 const LEAST: [(Call, usize); 31] = [
     (Call::Capacity, 1_000),
     (Call::Live, 1_000),
@@ -264,7 +267,7 @@ fn make_call<B: Book>(book: &mut B, random: &mut Random, log: &mut Log)
     requires { (B.book book.old).instruments ≡ INSTRUMENTS }
     ensures { (B.book book.new).instruments ≡ INSTRUMENTS }
 {
-    match random.below(32) {
+    match random.call() {
         0..=9 => place(book, random, log),
         10..=12 => wait(book, random, log),
         13..=17 => trade(book, random, log),
@@ -274,7 +277,7 @@ fn make_call<B: Book>(book: &mut B, random: &mut Random, log: &mut Log)
         26..=27 => set_shown(book, random, log),
         28..=30 => set_top(book, random, log),
         _ => {
-            if random.is_one_in(8) {
+            if random.is_clear() {
                 clear(book, log);
             }
         }
@@ -282,15 +285,15 @@ fn make_call<B: Book>(book: &mut B, random: &mut Random, log: &mut Log)
 }
 
 /// The calls of a run on this book, and what it answers.
-fn run<B: Book>(rt: &(impl Abort + AllocGlobal), book: &mut B) -> Log
+fn run<B: Book>(rt: &(impl Abort + AllocGlobal), book: &mut B, market: Market) -> Log
     requires { (B.book book.old).instruments ≡ INSTRUMENTS }
 {
-    let mut random = Random::new();
+    let mut random = Random::new(market);
     let mut log = Log::new(rt);
     for _step in 0..STEPS {
         make_call(book, &mut random, &mut log);
         read_numbers(book, &mut random, &mut log);
-        if random.is_one_in(8) {
+        if random.is_read() {
             read_orders(book, &mut log);
         }
     }
@@ -298,15 +301,15 @@ fn run<B: Book>(rt: &(impl Abort + AllocGlobal), book: &mut B) -> Log
 }
 
 /// What a book in two lists answers.
-fn log_of_lists(rt: &(impl Abort + AllocGlobal)) -> Log {
-    let mut book = PlainBook::new(rt.alloc(), CAPACITY, INSTRUMENTS).expect(rt, "memory");
-    run(rt, &mut book)
+fn log_of_lists(rt: &(impl Abort + AllocGlobal), capacity: u32, market: Market) -> Log {
+    let mut book = PlainBook::new(rt.alloc(), capacity, INSTRUMENTS).expect(rt, "memory");
+    run(rt, &mut book, market)
 }
 
 /// What a book of a run answers.
-fn log_of_queues(rt: &(impl Abort + AllocGlobal)) -> Log {
-    let mut book = LinkedBook::new(rt.alloc(), CAPACITY, INSTRUMENTS).expect(rt, "memory");
-    run(rt, &mut book)
+fn log_of_queues(rt: &(impl Abort + AllocGlobal), capacity: u32, market: Market) -> Log {
+    let mut book = LinkedBook::new(rt.alloc(), capacity, INSTRUMENTS).expect(rt, "memory");
+    run(rt, &mut book, market)
 }
 
 /// Looks for the same line at a place.
@@ -331,10 +334,17 @@ fn expect_each_call(rt: &impl Abort, log: &Log) {
     }
 }
 
+/// What both books answer, which is the same.
+fn compared_log(rt: &(impl Abort + AllocGlobal), capacity: u32, market: Market) -> Log {
+    let log = log_of_lists(rt, capacity, market);
+    let other = log_of_queues(rt, capacity, market);
+    expect_same_lines(rt, log.lines(), other.lines());
+    log
+}
+
 #[test]
 fn both_books_give_the_same_answers(rt: HostRuntime) {
-    let log = log_of_lists(&rt);
-    let other = log_of_queues(&rt);
-    expect_same_lines(&rt, log.lines(), other.lines());
-    expect_each_call(&rt, &log);
+    let narrow = compared_log(&rt, NARROW_CAPACITY, Market::Narrow);
+    expect_each_call(&rt, &narrow);
+    compared_log(&rt, WIDE_CAPACITY, Market::Wide);
 }

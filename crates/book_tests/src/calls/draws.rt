@@ -1,5 +1,5 @@
-//! Draws of pseudo random numbers, and of what a book is called with. Few firms, names, prices and instruments are drawn, so
-//! that orders meet.
+//! Draws of pseudo random numbers, and of what a book is called with. Few firms, names and instruments are drawn, and in one of
+//! the markets few prices, so that orders meet.
 ghost use Rattle.std.specs.Prelude.{◌≡◌, ◌+◌, ◌<◌, ◌≤◌, ◌⊎◌};
 ghost use Rattle.gx_base.specs.declared.order.Kind.TheVariants.{Limit};
 ghost use Rattle.gx_base.specs.declared.order.Life.TheVariants.{Day, Gtc};
@@ -11,20 +11,83 @@ pub(crate) const INSTRUMENTS: u8 = 2;
 
 const FIRMS: u32 = 4;
 
-const PRICES: u32 = 6;
-
-/// An id is a beginning of this text.
+/// An id is a part of this text.
 const LONGEST_ID: &[u8] = b"ABCDEFGHIJKLMNOPQRSTUVWX";
+
+/// At how many letters of the text an id may begin.
+const STARTS: u32 = 24;
+
+/// How many calls a wide market makes in which orders come, and then as many in which none comes to rest.
+const TIDE: u32 = 5_000;
+
+/// What is drawn.
+#[derive(Clone, Copy)]
+pub(crate) enum Market {
+    /// Few prices and few names.
+    Narrow,
+    /// Many prices, more names, and more sells than buys; orders only come for a while, and then only go. So a side has more levels
+    /// than a chunk of them has room for, and then next to none: chunks are split, joined, emptied and filled again.
+    Wide,
+}
+
+impl Market {
+    /// Among how many prices is drawn.
+    fn prices(self) -> u32
+        ensures { 1 ≤ result }
+    {
+        match self {
+            Market::Narrow => 6,
+            Market::Wide => 1_000,
+        }
+    }
+
+    /// One order in so many is a buy.
+    fn buys(self) -> u32
+        ensures { 1 ≤ result }
+    {
+        match self {
+            Market::Narrow => 2,
+            Market::Wide => 4,
+        }
+    }
+
+    /// One in so many draws of it clears the book.
+    fn clears(self) -> u32
+        ensures { 1 ≤ result }
+    {
+        match self {
+            Market::Narrow => 8,
+            Market::Wide => 200,
+        }
+    }
+
+    /// After one in so many calls all orders are read. In two lists that takes the square of their number.
+    fn reads(self) -> u32
+        ensures { 1 ≤ result }
+    {
+        match self {
+            Market::Narrow => 8,
+            Market::Wide => 256,
+        }
+    }
+}
 
 /// A generator of pseudo random numbers.
 #[derive(Drop)]
 pub(crate) struct Random {
     state: u64,
+    market: Market,
+    /// How many calls were drawn.
+    calls: u32,
 }
 
 impl Random {
-    pub(crate) fn new() -> Random {
-        Random { state: 1 }
+    pub(crate) fn new(market: Market) -> Random {
+        Random {
+            state: 1,
+            market,
+            calls: 0,
+        }
     }
 
     /// A number below the limit. The high bits of a state are the better ones.
@@ -52,8 +115,37 @@ impl Random {
         self.below(u32::from(INSTRUMENTS)) as u8
     }
 
-    pub(crate) fn side(&mut self) -> Side {
+    /// The number of a call, below 32. At an ebb of a wide market no order comes to rest, and half of the calls take one out.
+    pub(crate) fn call(&mut self) -> u32 {
+        self.calls = self.calls.wrapping_add(1);
+        match self.market {
+            Market::Wide if self.calls / TIDE % 2 == 1 => self.call_at_ebb(),
+            _ => self.below(32),
+        }
+    }
+
+    fn call_at_ebb(&mut self) -> u32 {
         if self.is_one_in(2) {
+            return 18;
+        }
+        18 + self.below(14)
+    }
+
+    /// Whether the book is cleared.
+    pub(crate) fn is_clear(&mut self) -> bool {
+        let clears = self.market.clears();
+        self.is_one_in(clears)
+    }
+
+    /// Whether all orders are read.
+    pub(crate) fn is_read(&mut self) -> bool {
+        let reads = self.market.reads();
+        self.is_one_in(reads)
+    }
+
+    pub(crate) fn side(&mut self) -> Side {
+        let buys = self.market.buys();
+        if self.is_one_in(buys) {
             Side::Buy
         } else {
             Side::Sell
@@ -62,7 +154,8 @@ impl Random {
 
     /// A price about 0.
     pub(crate) fn price(&mut self) -> Price {
-        Price(i64::from(self.below(PRICES)) - 3)
+        let prices = self.market.prices();
+        Price(i64::from(self.below(prices)) - 3)
     }
 
     pub(crate) fn firm(&mut self) -> u8
@@ -71,9 +164,21 @@ impl Random {
         self.below(FIRMS) as u8
     }
 
+    /// At which letter of the text an id begins.
+    fn id_start(&mut self) -> usize
+        ensures { result < STARTS }
+    {
+        match self.market {
+            Market::Narrow => 0,
+            Market::Wide => self.below(STARTS) as usize,
+        }
+    }
+
     pub(crate) fn id(&mut self) -> ShortId {
-        let length = 1 + self.below(LONGEST_ID.len() as u32) as usize;
-        ShortId::new(&LONGEST_ID[..length]).unwrap_or_default()
+        let start = self.id_start();
+        let letters = (LONGEST_ID.len() - start) as u32;
+        let length = 1 + self.below(letters) as usize;
+        ShortId::new(&LONGEST_ID[start..start + length]).unwrap_or_default()
     }
 
     /// What of an order is shown at a time: in half of the draws all.
