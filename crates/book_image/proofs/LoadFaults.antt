@@ -16,7 +16,7 @@ use Rattle.gx_base.specs.declared.order.Life.{Life}
 use Rattle.gx_base.specs.declared.order.Life.TheVariants.{Day, Gtc, Fak, Fok}
 use Rattle.gx_base.specs.declared.order.Order.{Order}
 use Rattle.gx_base.specs.declared.trading.Trading.{Trading}
-use Rattle.product_file.specs.Products.{ProductLists, IsRightProduct}
+use Rattle.product_file.specs.Products.{ProductLists, IsRightProduct, has_top_by}
 use Rattle.product_file.specs.declared.product.InstrumentRule.{InstrumentRule}
 use Rattle.plain_book.specs.declared.entry.Entry.{Entry}
 use Rattle.plain_book.specs.Orders.{level_of, is_before, is_named}
@@ -30,7 +30,7 @@ use Rattle.order_kinds.specs.Replaces.{is_kind}
 use Rattle.book_image.specs.declared.format.TheConstants.{DESK_BYTES, INSTRUMENT_BYTES, ROW_BYTES}
 use Rattle.book_image.specs.Rows.{row_at, has_forms, number_at, price_at, byte_at}
 use Rattle.book_image.specs.Rules.{is_price_by, is_price_of, is_right_order, is_right_resting, is_right_waiting, is_right_resting_row, is_right_waiting_row, is_new_name, is_in_book_order, is_in_line, is_right_shown, is_zero, has_same_name, may_live}
-use Rattle.book_image.specs.Faults.{part_place, resting_place, resting_rows, resting_count, waiting_place, waiting_rows, waiting_count, rows_end, orders_at, length_fault, wrong_place, desk_fault, is_right_last, has_right_tops, is_right_top, top_at, has_top_by, is_at_best, parts_fault, tops_fault}
+use Rattle.book_image.specs.Faults.{part_place, resting_place, resting_rows, resting_count, waiting_place, waiting_rows, waiting_count, rows_end, orders_at, length_fault, wrong_place, desk_fault, is_right_last, has_right_tops, is_right_top, top_at, is_at_best, parts_fault, tops_fault}
 use Rattle.book_image.specs.Reading.{entry_of, numbers_at, last_at, desk_of_image}
 use Rattle.book_image.specs.Inner.Loading.{order_in, orders_from, AreRightResting, AreRightWaiting, AreRightTops, AreRightLasts, IsRightBook}
 use Rattle.book_image.proofs.LoadLists.{rows-as, all-from}

@@ -1,7 +1,7 @@
 -- The place of the first thing that is wrong with an image: our own rule. Its length is tried first, then each counter, part and
 -- row in the order of their places, then the byte of the session, and the TOP orders last. Each fault has the place where that
 -- counter, part, row or byte begins.
-use Rattle.std.specs.Prelude.{ℕ, zero, suc, ◌+◌, ◌*◌, ◌^◌, Bool, false, ◌&&◌, ◌||◌, ◌==◌, nat_lt, nat_le, if◌then◌else◌, List, [], ◌∷◌, length, Option, Some, None, is_some}
+use Rattle.std.specs.Prelude.{ℕ, zero, suc, ◌+◌, ◌*◌, ◌^◌, Bool, false, ◌&&◌, ◌||◌, ◌==◌, nat_lt, nat_le, if◌then◌else◌, List, [], ◌∷◌, length, Option, Some, None}
 use Rattle.std.specs.Ordering.{int_eq}
 use Rattle.std.specs.List.{list_any}
 use Rattle.gx_base.specs.FirstFault.{fault_if, first_fault}
@@ -11,9 +11,7 @@ use Rattle.gx_base.specs.declared.order.Side.{Side}
 use Rattle.gx_base.specs.declared.order.Side.TheVariants.{Buy, Sell}
 use Rattle.gx_base.specs.declared.order.Order.{Order}
 use Rattle.gx_base.specs.declared.trading.Trading.{Trading}
-use Rattle.step_config.specs.Rules.{top_rule_of}
-use Rattle.product_file.specs.Products.{ProductLists}
-use Rattle.product_file.specs.declared.product.InstrumentRule.{InstrumentRule}
+use Rattle.product_file.specs.Products.{ProductLists, has_top_by}
 use Rattle.plain_book.specs.Orders.{is_side}
 use Rattle.order_kinds.specs.declared.core_state.TheConstants.{MOST_MESSAGES}
 use Rattle.match_journal.specs.declared.entry.EntryKind.{EntryKind}
@@ -101,10 +99,6 @@ is_right_last product payload i =
 abbrev pub top_at : List ℕ → ℕ → Side → ℕ
 top_at payload i Buy = number_at payload (part_place i + 9)
 top_at payload i Sell = number_at payload (part_place i + 17)
-
-abbrev pub has_top_by : Option InstrumentRule → Bool
-has_top_by None = false
-has_top_by (Some rule) = is_some (top_rule_of rule.steps)
 
 -- an order of a side
 abbrev pub is_order_on : ℕ → Side → Order → Bool

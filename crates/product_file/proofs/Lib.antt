@@ -1,3 +1,6 @@
+-- Offered to the crates above: what they may cite.
+pub mod RightTexts
+-- What the proofs of this crate alone cite.
 mod Mapped
 mod Numbered
 mod Given
@@ -19,3 +22,4 @@ mod RowRules
 mod RowInstruments
 mod RowProduct
 mod ReadTexts
+mod SameLists

@@ -8,4 +8,5 @@ pub mod Letters
 pub mod ProductValues
 pub mod ProductRows
 pub mod ProductTexts
+pub mod Amendments
 pub mod Inner

@@ -1,5 +1,5 @@
 -- A product as plain lists and numbers, and what holds of each one.
-use Rattle.std.specs.Prelude.{◌≡◌, ℕ, ◌<◌, ◌≤◌, pos, ◌≤ℤ◌, List, length}
+use Rattle.std.specs.Prelude.{◌≡◌, ℕ, ◌<◌, ◌≤◌, pos, ◌≤ℤ◌, Bool, false, List, length, Option, Some, None, is_some}
 use Rattle.std.specs.List.{AllByRecursion}
 use Rattle.gx_base.specs.NameLists.{NameLists}
 use Rattle.gx_base.specs.declared.order.LmmShare.{LmmShare}
@@ -7,6 +7,7 @@ use Rattle.step_config.specs.declared.step.Step.{Step}
 use Rattle.step_config.specs.declared.step.Step.TheVariants.{Top, Lmm, Split, ProRata, Leveling, Fifo}
 use Rattle.gx_base.specs.declared.limits.TheConstants.{MOST_FIRMS, MOST_INSTRUMENTS}
 use Rattle.step_config.specs.RightSteps.{AreRightSteps}
+use Rattle.step_config.specs.Rules.{top_rule_of}
 use Rattle.product_file.specs.declared.limits.TheConstants.{MOST_ORDERS, LEAST_JOURNAL, MOST_JOURNAL, MOST_TICK, MOST_PROTECTION}
 use Rattle.product_file.specs.declared.product.InstrumentRule.{InstrumentRule}
 
@@ -18,6 +19,11 @@ pub record ProductLists : Type 0 where
   pub journal_limit : ℕ
   -- by instrument, in the order of the names
   pub rules : List InstrumentRule
+
+-- the steps of an instrument favor a TOP order
+abbrev pub has_top_by : Option InstrumentRule → Bool
+has_top_by None = false
+has_top_by (Some rule) = is_some (top_rule_of rule.steps)
 
 -- each firm of an LMM step is one of so many
 abbrev pub HasListedFirms : ℕ → Step → Type 0
