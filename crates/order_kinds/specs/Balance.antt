@@ -4,12 +4,10 @@ use Rattle.std.specs.List.{AllByRecursion}
 use Rattle.gx_base.specs.declared.order.Order.{Order}
 use Rattle.gx_base.specs.declared.event.Event.{Event}
 use Rattle.gx_base.specs.declared.event.Event.TheVariants.{Accepted, Triggered, Fill, Cancelled, Expired, Replaced, RefusedNew, RefusedChange, RefusedSession}
-use Rattle.product_file.specs.Products.{ProductLists}
 use Rattle.plain_book.specs.declared.entry.Entry.{Entry}
 use Rattle.plain_book.specs.Orders.{opposite, order_of}
 use Rattle.plain_book.specs.Book.{Book, live_orders}
-use Rattle.order_kinds.specs.State.{State, empty_state}
-use Rattle.order_kinds.specs.Step.{state_after, events_of}
+use Rattle.order_kinds.specs.State.{State}
 
 -- ---- what an execution report tells
 
@@ -161,7 +159,3 @@ pub record AreBalanced (events : List Event) (state : State) : Type 0 where
   pub trades : ArePaired 1 state.desk.trades events
   -- in total: entered = filled + open + cancelled
   pub total : total_entered events ≡ total_filled events + (total_open state.book + total_cancelled events)
-
--- the messages of a stream from its beginning on
-abbrev pub IsBalanced : ProductLists → List (List ℕ) → Type 0
-IsBalanced product frames = AreBalanced (events_of product frames) (state_after product (empty_state product) frames)

@@ -7,3 +7,4 @@ pub mod Replacing
 pub mod Apart
 pub mod ComingIn
 pub mod Closing
+pub mod Amending

@@ -11,5 +11,7 @@ pub mod Accepting
 pub mod Replaces
 pub mod Step
 pub mod Balance
+pub mod Amendments
+pub mod Histories
 pub mod Cores
 pub mod Inner

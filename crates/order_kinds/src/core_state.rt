@@ -6,6 +6,7 @@ ghost use Rattle.gx_base.specs.declared.trading.Trading.TheVariants.{Open, Close
 ghost use Rattle.plain_book.specs.Book.{empty_book, book_cleared, live_orders};
 ghost use Rattle.order_kinds.specs.State.{empty_desk, empty_state};
 ghost use Rattle.order_kinds.specs.OrderRules.{last_of};
+ghost use Rattle.order_kinds.specs.Amendments.{amended_state};
 ghost use Rattle.order_kinds.specs.Step.{is_passed, open_step_as, closed_step_as, request_step_as};
 ghost use Rattle.order_kinds.specs.TradingSessions.{AreUntilCancelled};
 ghost use Rattle.order_kinds.specs.Cores.{AreCounters, IsInRange, FitsProduct, AreNumbered, TakesStep, PutsStep};
@@ -13,6 +14,7 @@ ghost use Rattle.order_kinds.specs.Inner.Apart.{OpenApart, StayApart};
 ghost use Rattle.order_kinds.specs.Inner.Taking.{Takes, CountsRose, IsCounted};
 
 use crate::accepting::{apply_new, refuse_new};
+use crate::amending::end_tops;
 use crate::cancels::{apply_cancel, refuse_message};
 use crate::order_rules::last_of;
 use crate::replaces::{apply_replace, refuse_replace};
@@ -172,6 +174,17 @@ impl<B: Book> Core<B> {
         ensures { self.new ≡ record self.old { trading = to } }
     {
         self.state.trading = to;
+    }
+
+    /// Goes over to a product that may follow the one before: TOP ends on both sides of each instrument that has no TOP step in
+    /// it (our own rule). All else stays, and there is no event. Takes no memory.
+    pub fn amend(&mut self, product: &Product)
+        requires { FitsProduct product.now self.old }
+        ensures amends { self.new ≡ amended_state product.now self.old }
+        ensures fits { FitsProduct product.now self.new }
+        ensures numbered { AreNumbered self.old → AreNumbered self.new }
+    {
+        end_tops(&mut self.state.book, product);
     }
 
     /// Sets the counters, and nothing else.

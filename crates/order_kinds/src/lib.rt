@@ -3,10 +3,12 @@
 #![tactic(auto)]
 
 mod accepting;
+mod amending;
 mod cancels;
 mod closing;
 mod core_state;
 mod entering;
+mod histories;
 mod instruments;
 mod new_orders;
 mod order_rules;
@@ -19,3 +21,4 @@ mod trading_sessions;
 
 pub use closing::is_until_cancelled;
 pub use core_state::{Core, MOST_MESSAGES};
+pub use histories::{further_messages, histories_of_one_product};
