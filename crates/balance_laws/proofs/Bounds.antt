@@ -1,4 +1,4 @@
--- How far the totals of a stream can grow, and how many events it has. No message asks for more than 999,999 lots, and what is
+-- How far the totals of a history can grow, and how many events it has. No message asks for more than 999,999 lots, and what is
 -- filled, cancelled or open was asked for.
 use Rattle.std.proofs.Common.{◌≡◌, ℕ, ◌+◌, ◌*◌, ◌≤◌, Bool, true, false, cond, not, List, [], ◌∷◌, ◌++◌, length, Option, Some, None, Result, Ok, Err, refl, sym, ap, ◌∙◌, arith, sum_by, length-append}
 use Rattle.std.proofs.lemmas.List.{length-map, append-nil}
@@ -21,6 +21,8 @@ use Rattle.plain_book.specs.declared.entry.Entry.{Entry}
 use Rattle.plain_book.specs.Orders.{order_of, slot_named, reordered, with_order}
 use Rattle.plain_book.specs.Book.{live_orders, changed_to}
 use Rattle.order_kinds.specs.State.{State, empty_state}
+use Rattle.order_kinds.specs.Amendments.{amended_state}
+use Rattle.order_kinds.specs.Histories.{History, of_product, amended, AreRightProducts, length_kept, state_kept, events_kept}
 use Rattle.order_kinds.specs.Instruments.{ListedInstrument}
 use Rattle.order_kinds.specs.NewOrders.{Terms, terms_of}
 use Rattle.order_kinds.specs.Accepting.{new_start, accepted_or_refused, new_step}
@@ -37,7 +39,8 @@ use Rattle.balance_laws.proofs.Growth.{entered-within, without-within, Grows, gr
 use Rattle.balance_laws.proofs.Trades.{Rests}
 use Rattle.balance_laws.proofs.Requests.{TellsState}
 use Rattle.balance_laws.proofs.Closings.{session-grows}
-use Rattle.balance_laws.proofs.Streams.{step-kept, starts, streams-balance}
+use Rattle.balance_laws.proofs.Streams.{step-kept, starts}
+use Rattle.balance_laws.proofs.Histories.{amended-kept, history-kept, histories-balance}
 
 -- ---- one message
 
@@ -155,13 +158,22 @@ module _ (product : ProductLists) (right : IsRightProduct product) where
 front-within : (f : Event → ℕ) (events front behind : List Event) → events ≡ front ++ behind → sum_by f front ≤ sum_by f events
 front-within f events front behind is = omega (arith, ap (sum_by f) is, sum_by-append f front behind)
 
--- After each event of a stream its totals, and how many events it has, are within what its messages can bring about.
-pub totals-within : (product : ProductLists) (frames : List (List ℕ)) (front behind : List Event) → IsRightProduct product → events_of product frames ≡ front ++ behind → AreWithin (length frames) front
-totals-within product frames front behind right is =
-    let events = events_of product frames in
-    let grown = frames-grow product right [] (empty_state product) frames (starts product right) in
-    let balanced = streams-balance product frames right in
-    let all : total_entered events ≤ length frames * MOST_LOTS = omega (arith, grown.lots, entered-within 0 events) in
+-- ---- a history
+
+history-grows : (history : History) → AreRightProducts history → Grows (length_kept history * MOST_LOTS) (length_kept history * 3) [] (events_kept history) [] (state_kept history).book.waiting
+history-grows (of_product product messages) right = frames-grow product right [] (empty_state product) messages (starts product right)
+history-grows (amended before product messages) right =
+    let start = amended_state product (state_kept before) in
+    grows-within (omega arith) (omega arith)
+    (grows-append (history-grows before right.0) (frames-grow product right.1 (events_kept before) start messages (amended-kept product (events_kept before) (state_kept before) (history-kept before right.0))))
+
+-- After each event of a history its totals, and how many events it has, are within what its messages can bring about.
+pub history-within : (history : History) (front behind : List Event) → AreRightProducts history → events_kept history ≡ front ++ behind → AreWithin (length_kept history) front
+history-within history front behind right is =
+    let events = events_kept history in
+    let grown = history-grows history right in
+    let balanced = histories-balance history right in
+    let all : total_entered events ≤ length_kept history * MOST_LOTS = omega (arith, grown.lots, entered-within 0 events) in
     let long : length events ≡ length front + length behind = ap (λ (es : List Event). length es) is ∙ length-append front behind in
     let asked = front-within asked_in events front behind is in
     record {
@@ -173,8 +185,12 @@ totals-within product frames front behind right is =
     }
 
 -- And so it is at the end.
-pub whole-within : (product : ProductLists) (frames : List (List ℕ)) → IsRightProduct product → AreWithin (length frames) (events_of product frames)
-whole-within product frames right = totals-within product frames (events_of product frames) [] right (sym (append-nil (events_of product frames)))
+pub whole-history-within : (history : History) → AreRightProducts history → AreWithin (length_kept history) (events_kept history)
+whole-history-within history right = history-within history (events_kept history) [] right (sym (append-nil (events_kept history)))
+
+-- So it is after each event of the messages of one product.
+pub totals-within : (product : ProductLists) (frames : List (List ℕ)) (front behind : List Event) → IsRightProduct product → events_of product frames ≡ front ++ behind → AreWithin (length frames) front
+totals-within product frames front behind right is = history-within (of_product product frames) front behind right is
 
 -- ---- counters of 64 bits
 
@@ -184,5 +200,5 @@ total-below messages total few within = omega (arith, few, within)
 
 -- ---- the law
 
-pub streams-stay-within : (product : ProductLists) (frames : List (List ℕ)) → IsRightProduct product → StaysWithin product frames
-streams-stay-within product frames right = λ front behind is. totals-within product frames front behind right is
+pub histories-stay-within : (history : History) → AreRightProducts history → StaysWithin history
+histories-stay-within history right = λ front behind is. history-within history front behind right is

@@ -1,5 +1,6 @@
 -- Offered to the crates above: what they may cite.
 pub mod Streams
+pub mod Histories
 pub mod Bounds
 pub mod Sweeps
 pub mod Entered

@@ -12,7 +12,8 @@ use Rattle.plain_book.specs.Book.{live_orders}
 use Rattle.order_kinds.specs.State.{State, empty_state}
 use Rattle.order_kinds.specs.Stops.{by_number}
 use Rattle.order_kinds.specs.Step.{with_message, open_step_as, closed_step_as, request_step, step_of, state_after, events_from}
-use Rattle.order_kinds.specs.Balance.{AreBalanced, IsBalanced}
+use Rattle.order_kinds.specs.Balance.{AreBalanced}
+use Rattle.order_kinds.specs.Histories.{of_product, IsBalanced}
 use Rattle.order_kinds.proofs.SessionSteps.{by-session}
 use Rattle.balance_laws.proofs.Events.{fills-add-up}
 use Rattle.balance_laws.proofs.Books.{numbered-leaves, total-leaves}
@@ -46,7 +47,7 @@ module _ (product : ProductLists) (right : IsRightProduct product) where
   step-kept events state frame h =
       request-kept events (request_of product frame) (with_message state) (record { told = h.told; paired = h.paired; rest = h.rest; wait = h.wait })
 
-  frames-kept : (events : List Event) (state : State) (frames : List (List ℕ)) → TellsState events state → TellsState (events ++ events_from product state frames) (state_after product state frames)
+  pub frames-kept : (events : List Event) (state : State) (frames : List (List ℕ)) → TellsState events state → TellsState (events ++ events_from product state frames) (state_after product state frames)
   frames-kept events state [] h = subst (λ (l : List Event). TellsState l state) (sym (append-nil events)) h
   frames-kept events state (frame ∷ frames) h =
       let step = step_of product state frame in
@@ -72,7 +73,7 @@ module _ (product : ProductLists) (right : IsRightProduct product) where
     wait = tt;
   }
 
-sound-balances : (events : List Event) (state : State) → TellsState events state → AreBalanced events state
+pub sound-balances : (events : List Event) (state : State) → TellsState events state → AreBalanced events state
 sound-balances events state h =
     let es = live_orders state.book in
     let differ = rest-differ events state.book state.desk.orders state.desk.trades h in
@@ -85,6 +86,6 @@ sound-balances events state h =
       total = omega (arith, h.told.total, total-leaves es);
     }
 
-pub streams-balance : (product : ProductLists) (frames : List (List ℕ)) → IsRightProduct product → IsBalanced product frames
+pub streams-balance : (product : ProductLists) (frames : List (List ℕ)) → IsRightProduct product → IsBalanced (of_product product frames)
 streams-balance product frames right =
     sound-balances (events_from product (empty_state product) frames) (state_after product (empty_state product) frames) (frames-kept product right [] (empty_state product) frames (starts product right))

@@ -1,6 +1,9 @@
--- Offered to the crates above: that messages lead to right states, and that these have right images, which are read back.
+-- Offered to the crates above: that messages and histories lead to right states, that these have right images, which are read back,
+-- and what a product has in common with one that may follow it.
 pub mod States
+pub mod Histories
 pub mod Images
+pub mod Following
 -- What the proofs of this crate alone cite: of the states that messages lead to,
 mod Orders
 mod Held
@@ -13,6 +16,7 @@ mod Reached
 mod NewOrders
 mod Replaces
 mod Closings
+mod Amended
 -- and of images.
 mod Places
 mod Rows

@@ -26,8 +26,9 @@ use Rattle.order_kinds.specs.Cancels.{cancelled, cancel_by, cancel_step, message
 use Rattle.order_kinds.specs.Stops.{by_number}
 use Rattle.order_kinds.specs.TradingSessions.{is_until_cancelled, AreUntilCancelled}
 use Rattle.order_kinds.specs.Step.{with_message, open_step_as, closed_step_as, request_step, step_of, state_after, events_from, events_of}
+use Rattle.order_kinds.specs.Histories.{of_product}
 use Rattle.order_kinds.proofs.SessionSteps.{by-session}
-use Rattle.balance_laws.proofs.Bounds.{whole-within}
+use Rattle.balance_laws.proofs.Bounds.{whole-history-within}
 use Rattle.balance_laws.proofs.Requests.{named-has}
 use Rattle.book_image.specs.Rules.{is_price_of}
 use Rattle.image_laws.specs.Right.{IsRightState}
@@ -116,10 +117,10 @@ module _ (product : ProductLists) (right : IsRightProduct product) where
 
   -- ---- all messages
 
-  reached-as : (sent bound sent' bound' : ℕ) (state : State) → sent ≡ sent' → bound ≡ bound' → IsReached product sent bound state → IsReached product sent' bound' state
+  pub reached-as : (sent bound sent' bound' : ℕ) (state : State) → sent ≡ sent' → bound ≡ bound' → IsReached product sent bound state → IsReached product sent' bound' state
   reached-as sent bound sent' bound' state s b h = subst (λ (n : ℕ). IsReached product n bound' state) s (subst (λ (n : ℕ). IsReached product sent n state) b h)
 
-  frames-reached : (sent bound : ℕ) (state : State) (frames : List (List ℕ)) → IsReached product sent bound state → IsReached product (sent + length frames) (bound + length (events_from product state frames)) (state_after product state frames)
+  pub frames-reached : (sent bound : ℕ) (state : State) (frames : List (List ℕ)) → IsReached product sent bound state → IsReached product (sent + length frames) (bound + length (events_from product state frames)) (state_after product state frames)
   frames-reached sent bound state [] h = reached-as sent bound (sent + 0) (bound + 0) state (omega arith) (omega arith) h
   frames-reached sent bound state (frame ∷ frames) h =
       let step = step_of product state frame in
@@ -135,7 +136,7 @@ module _ (product : ProductLists) (right : IsRightProduct product) where
   none-traded (suc n) zero = refl
   none-traded (suc n) (suc j) = none-traded n j
 
-  starts : IsReached product 0 0 (empty_state product)
+  pub starts : IsReached product 0 0 (empty_state product)
   starts = record {
     held = record {
       capacity = refl;
@@ -153,35 +154,42 @@ module _ (product : ProductLists) (right : IsRightProduct product) where
     few = omega arith;
   }
 
-  -- ---- the law
+-- ---- what has so few messages is right
 
-  pub states-right : (messages : List (List ℕ)) → length messages < MOST_MESSAGES → IsRightState product (state_after product (empty_state product) messages)
-  states-right messages few =
-      let state = state_after product (empty_state product) messages in
-      let events = events_of product messages in
-      let h : IsReached product (length messages) (length events) state =
-      reached-as (0 + length messages) (0 + length events) (length messages) (length events) state (omega arith) (omega arith) (frames-reached 0 0 (empty_state product) messages starts) in
-      let most : length events ≤ length messages * (MOST_LOTS + 3) = (whole-within product messages right).many in
-      let sent = h.counted.messages in
-      let within : length events ≤ state.desk.messages * 2 ^ 38 = omega (arith, most, sent) in
-      record {
-        capacity = h.held.capacity;
-        instruments = h.held.instruments;
-        book = h.held.book;
-        entries = h.held.entries;
-        tops = h.held.tops;
-        stops = h.held.stops;
-        uncrossed = h.uncrossed;
-        prices = h.prices;
-        lasts = h.lasts;
-        lives = h.lives;
-        counters = record { orders = omega (arith, h.few, sent); messages = omega (arith, few, sent); counts = (counted-within (length messages) state.desk.orders (length events) state.desk h.counted (state.desk.messages * 2 ^ 38) within).counts };
-        few = omega (arith, few, sent);
-        lines = h.counted.lines;
-      }
+pub reached-right : (product : ProductLists) (sent bound : ℕ) (state : State) → sent < MOST_MESSAGES → bound ≤ sent * (MOST_LOTS + 3) → IsReached product sent bound state → IsRightState product state
+reached-right product sent bound state few most h =
+    let same = h.counted.messages in
+    let within : bound ≤ state.desk.messages * 2 ^ 38 = omega (arith, most, same) in
+    record {
+      capacity = h.held.capacity;
+      instruments = h.held.instruments;
+      book = h.held.book;
+      entries = h.held.entries;
+      tops = h.held.tops;
+      stops = h.held.stops;
+      uncrossed = h.uncrossed;
+      prices = h.prices;
+      lasts = h.lasts;
+      lives = h.lives;
+      counters = record { orders = omega (arith, h.few, same); messages = omega (arith, few, same); counts = (counted-within sent state.desk.orders bound state.desk h.counted (state.desk.messages * 2 ^ 38) within).counts };
+      few = omega (arith, few, same);
+      lines = h.counted.lines;
+    }
+
+-- ---- the messages of one product
+
+module _ (product : ProductLists) (right : IsRightProduct product) (messages : List (List ℕ)) where
+  pub messages-reached : IsReached product (length messages) (length (events_of product messages)) (state_after product (empty_state product) messages)
+  messages-reached =
+      let many = length (events_of product messages) in
+      reached-as product right (0 + length messages) (0 + many) (length messages) many (state_after product (empty_state product) messages) (omega arith) (omega arith)
+      (frames-reached product right 0 0 (empty_state product) messages (starts product right))
+
+  pub states-right : length messages < MOST_MESSAGES → IsRightState product (state_after product (empty_state product) messages)
+  states-right few =
+      reached-right product (length messages) (length (events_of product messages)) (state_after product (empty_state product) messages) few (whole-history-within (of_product product messages) right).many
+      messages-reached
 
   -- each message counts
-  pub states-counted : (messages : List (List ℕ)) → (state_after product (empty_state product) messages).desk.messages ≡ length messages
-  states-counted messages =
-      let sent = (frames-reached 0 0 (empty_state product) messages starts).counted.messages in
-      omega (arith, sent)
+  pub states-counted : (state_after product (empty_state product) messages).desk.messages ≡ length messages
+  states-counted = messages-reached.counted.messages

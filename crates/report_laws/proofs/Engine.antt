@@ -39,7 +39,7 @@ use Rattle.plain_book.specs.Match.{MatchState, Share, report_counted, trade, is_
 use Rattle.plain_book.specs.Steps.{level_now, trade_head, fifo_rounds, prorata_shares, top_shares, lmm_shares, split_shares, leveling_shares}
 use Rattle.book_order.proofs.Each.{all-filter, all-append}
 use Rattle.level_sweep.specs.Sweep.{after_step, wanted_step, level_match, next_price, match_next, sweep_rounds, sweep}
-use Rattle.order_kinds.specs.State.{State, empty_state}
+use Rattle.order_kinds.specs.State.{State}
 use Rattle.order_kinds.specs.Instruments.{ListedInstrument}
 use Rattle.order_kinds.specs.NewOrders.{Terms, terms_of, may_rest}
 use Rattle.order_kinds.specs.Entering.{taker_cancelled, top_min_of, as_limit, taker_rested, finished, open_for, entered}
@@ -49,7 +49,7 @@ use Rattle.order_kinds.specs.Cancels.{cancel_by}
 use Rattle.order_kinds.specs.Reports.{unchanged}
 use Rattle.order_kinds.specs.Replaces.{least_after, keeps_place, replaced_in_place, replaced_start, replaced_anew, replaced, replace_refused, replace_terms, replaced_or_refused, replace_at}
 use Rattle.order_kinds.specs.TradingSessions.{stays, expires, expiring, expiry_reports, market_closed, session_changed}
-use Rattle.order_kinds.specs.Step.{with_message, open_step_as, closed_step_as, request_step, step_of as message_step, events_from, events_of}
+use Rattle.order_kinds.specs.Step.{with_message, open_step_as, closed_step_as, request_step, step_of as message_step, state_after, events_from}
 use Rattle.order_kinds.proofs.SessionSteps.{by-session}
 use Rattle.order_kinds.specs.Balance.{quantities_of, order_in}
 use Rattle.report_laws.specs.Texts.{IsText, HasTexts}
@@ -453,14 +453,19 @@ module _ (most : ℕ) where
 
   -- ---- a stream
 
+  -- what messages lead to: these events, and this state, in which at most so many orders have been given a number
+  pub record IsTextStream (top : ℕ) (events : List Event) (state : State) : Type 0 where
+    pub book : IsTextBook state.book
+    pub told : AllTextEvents events
+    pub orders : state.desk.orders ≤ top
+
   module _ (product : ProductLists) (each : (frame : List ℕ) → IsTextRequest (request_of product frame)) where
-    from-text : (state : State) (frames : List (List ℕ)) → state.desk.orders + length frames ≤ most → IsTextBook state.book → AllTextEvents (events_from product state frames)
-    from-text state [] room h = tt
-    from-text state (frame ∷ frames) room h =
+    pub stream-text : (state : State) (frames : List (List ℕ)) → state.desk.orders + length frames ≤ most → IsTextBook state.book
+        → IsTextStream (state.desk.orders + length frames) (events_from product state frames) (state_after product state frames)
+    stream-text state [] room h = record { book = h; told = tt; orders = omega arith }
+    stream-text state (frame ∷ frames) room h =
         let step = message_step product state frame in
         let long : length (frame ∷ frames) ≡ 1 + length frames = omega arith in
         let here = request-text product (request_of product frame) (with_message state) (omega (arith, room, long)) (each frame) h in
-        all-append IsTextEvent step.1 (events_from product step.0 frames) here.events (from-text step.0 frames (omega (arith, room, long, here.orders)) here.book)
-
-    pub events-text : (frames : List (List ℕ)) → length frames ≤ most → AllTextEvents (events_of product frames)
-    events-text frames few = from-text (empty_state product) frames (omega (arith, few)) (record { resting = tt; waiting = tt })
+        let rest = stream-text step.0 frames (omega (arith, room, long, here.orders)) here.book in
+        record { book = rest.book; told = all-append IsTextEvent step.1 (events_from product step.0 frames) here.events rest.told; orders = omega (arith, rest.orders, here.orders, long) }

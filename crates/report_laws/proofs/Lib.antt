@@ -1,5 +1,5 @@
 -- Offered to the crates above: what they may cite.
-pub mod Streams
+pub mod Histories
 pub mod Products
 -- What the proofs of this crate alone cite.
 mod Values
@@ -10,3 +10,4 @@ mod Frames
 mod Engine
 mod Requests
 mod Reports
+mod Streams

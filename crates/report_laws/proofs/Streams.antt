@@ -1,6 +1,7 @@
--- What the bytes of the reports of a stream say adds up, and the ledger writes the same.
-use Rattle.std.proofs.Common.{◌≡◌, ℕ, ◌+◌, ◌^◌, ◌<◌, Bool, cond, List, [], ◌∷◌, ◌++◌, map, refl, sym, ap, ap₂, subst, ◌∙◌, inl, inr, arith, append_assoc, length, fold, Option, Some, None, ◌≤◌, true}
+-- What the bytes of the reports of some events say adds up, and the ledger writes the same.
+use Rattle.std.proofs.Common.{◌≡◌, ℕ, ◌+◌, ◌^◌, ◌<◌, Bool, cond, List, [], ◌∷◌, ◌++◌, map, refl, sym, ap, ap₂, subst, ◌∙◌, inl, inr, arith, append_assoc, fold, Option, Some, None, ◌≤◌, true}
 use Rattle.std.proofs.lemmas.Bool.Decides.{eqb_tells}
+use Rattle.std.proofs.lemmas.List.{map-append}
 use Rattle.std.proofs.lemmas.List.Sums.{sum_by-cons, sum_by_push}
 use Rattle.std.specs.Prelude.{◌==◌, IfSome, flat_map}
 use Rattle.std.specs.List.{AllByRecursion}
@@ -13,16 +14,14 @@ use Rattle.gx_base.specs.declared.event.Event.TheVariants.{Accepted, Triggered, 
 use Rattle.book_order.proofs.Each.{all-front, all-back}
 use Rattle.fix_frame.specs.Stream.{messages_of, rest_of}
 use Rattle.fix_frame.specs.StreamLaws.{messages_of-frame-append, rest_of-frame-append}
-use Rattle.product_file.specs.Products.{ProductLists}
-use Rattle.order_kinds.specs.Step.{events_of, reports_of}
-use Rattle.order_kinds.specs.Balance.{quantities_of, order_in, open_by, last_open, last_open_from, AddsUp, IsSpent, FillsAddUp, lots_in, lots_of, filled_in, cancelled_in, total_filled, total_cancelled, IsBalanced}
+use Rattle.order_kinds.specs.State.{State}
+use Rattle.order_kinds.specs.Balance.{quantities_of, order_in, open_by, last_open, last_open_from, AddsUp, IsSpent, FillsAddUp, lots_in, lots_of, filled_in, cancelled_in, total_entered, total_filled, total_open, total_cancelled, AreBalanced}
 use Rattle.book_print.specs.LedgerText.{ledger_line, total_line}
 use Rattle.generator_laws.specs.Names.{AreNames}
 use Rattle.report_laws.specs.Reading.{is_execution, lots_by_report, lots_read_of, FillsReadUp, open_by_report, last_open_read, number_in, cancelled_in_report, lots_read, cancelled_read}
 use Rattle.report_laws.specs.Told.{ledger_line_read}
-use Rattle.report_laws.specs.Sums.{open_after, entered_by, IsReadRight, AreReadBalanced, IsReadBalanced}
-use Rattle.report_laws.proofs.Engine.{IsTextEvent, AllTextEvents, events-text}
-use Rattle.report_laws.proofs.Requests.{request-is-text}
+use Rattle.report_laws.specs.Sums.{IsReadRight, AreReadBalanced}
+use Rattle.report_laws.proofs.Engine.{IsTextEvent, AllTextEvents}
 use Rattle.report_laws.proofs.Frames.{line-frame}
 use Rattle.report_laws.proofs.Reports.{read-lots-of, read-filled, read-open, read-right, read-lots, read-cancelled, writes-line}
 
@@ -48,19 +47,42 @@ filled-small before (RefusedNew head new fault) told adds is = omega arith
 filled-small before (RefusedChange head id old number filled replace fault) told adds is = omega arith
 filled-small before (RefusedSession head seq tag reason rule) told adds is = omega arith
 
--- an event that is told right, of which all numbers are small
-record IsFit (most : ℕ) (event : Event) : Type 0 where
-  text : IsTextEvent most event
-  adds : AddsUp event
-  spent : IsSpent event
-  few : filled_in event < 10 ^ MOST_DIGITS
+-- ---- an event with the names of its report
 
-fit-from : (most : ℕ) (events done rest : List Event) → FillsAddUp events → events ≡ done ++ rest → AllByRecursion AddsUp rest → AllByRecursion IsSpent rest → AllTextEvents most rest → AllByRecursion (IsFit most) rest
-fit-from most events done [] fills is adds spent texts = tt
-fit-from most events done (e ∷ es) fills is adds spent texts = (
-  record { text = texts.0; adds = adds.0; spent = spent.0; few = filled-small done e (fills done e es is) adds.0 texts.0.small },
-  fit-from most events (done ++ e ∷ []) es fills (is ∙ sym (append_assoc done (e ∷ []) es)) adds.1 spent.1 texts.1,
-)
+pub record Written : Type 0 where
+  pub names : NameLists
+  pub event : Event
+
+abbrev pub report : Written → List ℕ
+report w = line_of w.names w.event
+
+abbrev pub reports_in : List Written → List (List ℕ)
+reports_in ws = map report ws
+
+abbrev pub events_in : List Written → List Event
+events_in ws = map (λ (w : Written). w.event) ws
+
+-- the names are right
+abbrev pub IsNamed : Written → Type 0
+IsNamed w = AreNames w.names
+
+-- an event that is told right, of which all numbers are small, under right names
+record IsFit (most : ℕ) (w : Written) : Type 0 where
+  are : IsNamed w
+  text : IsTextEvent most w.event
+  adds : AddsUp w.event
+  spent : IsSpent w.event
+  few : filled_in w.event < 10 ^ MOST_DIGITS
+
+fit-from : (most : ℕ) (events done : List Event) (rest : List Written) → FillsAddUp events → events ≡ done ++ events_in rest → AllByRecursion AddsUp (events_in rest) → AllByRecursion IsSpent (events_in rest)
+    → AllTextEvents most (events_in rest) → AllByRecursion IsNamed rest → AllByRecursion (IsFit most) rest
+fit-from most events done [] fills is adds spent texts named = tt
+fit-from most events done (w ∷ ws) fills is adds spent texts named =
+    let e = w.event in
+    let es = events_in ws in (
+      record { are = named.0; text = texts.0; adds = adds.0; spent = spent.0; few = filled-small done e (fills done e es is) adds.0 texts.0.small },
+      fit-from most events (done ++ e ∷ []) ws fills (is ∙ sym (append_assoc done (e ∷ []) es)) adds.1 spent.1 texts.1 named.1,
+    )
 
 -- ---- a list of which the map is taken apart
 
@@ -100,101 +122,86 @@ small-number most (Some x) below h = omega (arith, below, h)
 
 -- ---- the reports of some events
 
-module _ (names : NameLists) (are : AreNames names) (most : ℕ) where
-  pub lines-messages : (events : List Event) → AllTextEvents most events → messages_of (flat_map (line_of names) events) ≡ map (line_of names) events
-  lines-messages [] h = refl
-  lines-messages (e ∷ es) h =
-      let line = line_of names e in
-      messages_of-frame-append line (flat_map (line_of names) es) (line-frame names are e h.0.texts) ∙ ap (λ (x : List (List ℕ)). line ∷ x) (lines-messages es h.1)
+module _ (most : ℕ) where
+  pub lines-messages : (ws : List Written) → AllTextEvents most (events_in ws) → AllByRecursion IsNamed ws → messages_of (flat_map report ws) ≡ reports_in ws
+  lines-messages [] h named = refl
+  lines-messages (w ∷ ws) h named =
+      messages_of-frame-append (report w) (flat_map report ws) (line-frame w.names named.0 w.event h.0.texts) ∙ ap (λ (x : List (List ℕ)). report w ∷ x) (lines-messages ws h.1 named.1)
 
-  pub lines-rest : (events : List Event) → AllTextEvents most events → rest_of (flat_map (line_of names) events) ≡ []
-  lines-rest [] h = refl
-  lines-rest (e ∷ es) h = rest_of-frame-append (line_of names e) (flat_map (line_of names) es) (line-frame names are e h.0.texts) ∙ lines-rest es h.1
+  pub lines-rest : (ws : List Written) → AllTextEvents most (events_in ws) → AllByRecursion IsNamed ws → rest_of (flat_map report ws) ≡ []
+  lines-rest [] h named = refl
+  lines-rest (w ∷ ws) h named = rest_of-frame-append (report w) (flat_map report ws) (line-frame w.names named.0 w.event h.0.texts) ∙ lines-rest ws h.1 named.1
 
-  lines-right : (events : List Event) → AllByRecursion (IsFit most) events → AllByRecursion IsReadRight (map (line_of names) events)
+  lines-right : (ws : List Written) → AllByRecursion (IsFit most) ws → AllByRecursion IsReadRight (reports_in ws)
   lines-right [] h = tt
-  lines-right (e ∷ es) h = (read-right names are e h.0.text.texts h.0.text.small h.0.adds h.0.few h.0.spent, lines-right es h.1)
+  lines-right (w ∷ ws) h = (read-right w.names h.0.are w.event h.0.text.texts h.0.text.small h.0.adds h.0.few h.0.spent, lines-right ws h.1)
 
-  lines-lots : (events : List Event) → AllByRecursion (IsFit most) events → lots_read (map (line_of names) events) ≡ total_filled events
+  lines-lots : (ws : List Written) → AllByRecursion (IsFit most) ws → lots_read (reports_in ws) ≡ total_filled (events_in ws)
   lines-lots [] h = refl
-  lines-lots (e ∷ es) h =
-      omega (arith, sum_by-cons (number_in 32) (line_of names e) (map (line_of names) es), sum_by-cons filled_in e es, read-lots names are e h.0.text.texts h.0.text.small h.0.adds h.0.few, lines-lots es h.1)
+  lines-lots (w ∷ ws) h =
+      omega (arith, sum_by-cons (number_in 32) (report w) (reports_in ws), sum_by-cons filled_in w.event (events_in ws), read-lots w.names h.0.are w.event h.0.text.texts h.0.text.small h.0.adds h.0.few, lines-lots ws h.1)
 
-  lines-cancelled : (events : List Event) → AllByRecursion (IsFit most) events → cancelled_read (map (line_of names) events) ≡ total_cancelled events
+  lines-cancelled : (ws : List Written) → AllByRecursion (IsFit most) ws → cancelled_read (reports_in ws) ≡ total_cancelled (events_in ws)
   lines-cancelled [] h = refl
-  lines-cancelled (e ∷ es) h =
-      omega (arith, sum_by-cons cancelled_in_report (line_of names e) (map (line_of names) es), sum_by-cons cancelled_in e es, read-cancelled names are e h.0.text.texts h.0.text.small h.0.adds h.0.few, lines-cancelled es h.1)
+  lines-cancelled (w ∷ ws) h =
+      omega (arith, sum_by-cons cancelled_in_report (report w) (reports_in ws), sum_by-cons cancelled_in w.event (events_in ws), read-cancelled w.names h.0.are w.event h.0.text.texts h.0.text.small h.0.adds h.0.few, lines-cancelled ws h.1)
 
-  lines-ledger : (events : List Event) → AllTextEvents most events → flat_map ledger_line events ≡ flat_map ledger_line_read (map (line_of names) events)
+  lines-ledger : (ws : List Written) → AllByRecursion (IsFit most) ws → flat_map ledger_line (events_in ws) ≡ flat_map ledger_line_read (reports_in ws)
   lines-ledger [] h = refl
-  lines-ledger (e ∷ es) h = ap₂ (λ (x y : List ℕ). x ++ y) (writes-line names are e h.0.texts) (lines-ledger es h.1)
+  lines-ledger (w ∷ ws) h = ap₂ (λ (x y : List ℕ). x ++ y) (writes-line w.names h.0.are w.event h.0.text.texts) (lines-ledger ws h.1)
 
   -- what is open by the last report of an order
-  lines-open-from : most < 2 ^ 64 → (number leaves : ℕ) → 1 ≤ number → (events : List Event) → AllByRecursion (IsFit most) events → fold (open_by_report number) leaves (map (line_of names) events) ≡ last_open_from number leaves events
+  lines-open-from : most < 2 ^ 64 → (number leaves : ℕ) → 1 ≤ number → (ws : List Written) → AllByRecursion (IsFit most) ws → fold (open_by_report number) leaves (reports_in ws) ≡ last_open_from number leaves (events_in ws)
   lines-open-from below number leaves some [] h = refl
-  lines-open-from below number leaves some (e ∷ es) h =
+  lines-open-from below number leaves some (w ∷ ws) h =
+      let e = w.event in
       let given = small-number most (order_in e) below h.0.text.given in
-      ap (λ (n : ℕ). fold (open_by_report number) n (map (line_of names) es)) (read-open names are e h.0.text.texts h.0.text.small h.0.adds h.0.few given number leaves some)
-      ∙ lines-open-from below number (open_by number (order_in e) leaves) some es h.1
+      ap (λ (n : ℕ). fold (open_by_report number) n (reports_in ws)) (read-open w.names h.0.are e h.0.text.texts h.0.text.small h.0.adds h.0.few given number leaves some)
+      ∙ lines-open-from below number (open_by number (order_in e) leaves) some ws h.1
 
-  lines-open : most < 2 ^ 64 → (number : ℕ) → 1 ≤ number → (events : List Event) → AllByRecursion (IsFit most) events → last_open_read number (map (line_of names) events) ≡ last_open number events
-  lines-open below number some events h = lines-open-from below number 0 some events h
+  lines-open : most < 2 ^ 64 → (number : ℕ) → 1 ≤ number → (ws : List Written) → AllByRecursion (IsFit most) ws → last_open_read number (reports_in ws) ≡ last_open number (events_in ws)
+  lines-open below number some ws h = lines-open-from below number 0 some ws h
 
   -- what the reports say was traded of an order
-  lines-lots-of : most < 2 ^ 64 → (number : ℕ) (events : List Event) → AllByRecursion (IsFit most) events → lots_read_of number (map (line_of names) events) ≡ lots_of number events
+  lines-lots-of : most < 2 ^ 64 → (number : ℕ) (ws : List Written) → AllByRecursion (IsFit most) ws → lots_read_of number (reports_in ws) ≡ lots_of number (events_in ws)
   lines-lots-of below number [] h = refl
-  lines-lots-of below number (e ∷ es) h =
+  lines-lots-of below number (w ∷ ws) h =
+      let e = w.event in
       let given = small-number most (order_in e) below h.0.text.given in
-      omega (arith, sum_by-cons (lots_by_report number) (line_of names e) (map (line_of names) es), sum_by-cons (lots_in number) e es, read-lots-of names are e h.0.text.texts h.0.text.small h.0.adds h.0.few given number, lines-lots-of below number es h.1)
+      omega (arith, sum_by-cons (lots_by_report number) (report w) (reports_in ws), sum_by-cons (lots_in number) e (events_in ws), read-lots-of w.names h.0.are e h.0.text.texts h.0.text.small h.0.adds h.0.few given number, lines-lots-of below number ws h.1)
 
-  lines-fills : most < 2 ^ 64 → (events : List Event) → AllByRecursion (IsFit most) events → FillsAddUp events → FillsReadUp (map (line_of names) events)
-  lines-fills below events fit fills before report behind is =
-      let line = line_of names in
-      let at_e = map-split line events before report behind is in
-      let e = at_e.element in
-      let parts = subst (AllByRecursion (IsFit most)) at_e.whole fit in
-      let front = all-front (IsFit most) at_e.front (e ∷ at_e.back) parts in
-      let own = (all-back (IsFit most) at_e.front (e ∷ at_e.back) parts).0 in
+  lines-fills : most < 2 ^ 64 → (ws : List Written) → AllByRecursion (IsFit most) ws → FillsAddUp (events_in ws) → FillsReadUp (reports_in ws)
+  lines-fills below ws fit fills before line behind is =
+      let at_w = map-split report ws before line behind is in
+      let w = at_w.element in
+      let e = w.event in
+      let front = at_w.front in
+      let parts = subst (AllByRecursion (IsFit most)) at_w.whole fit in
+      let front_fit = all-front (IsFit most) front (w ∷ at_w.back) parts in
+      let own = (all-back (IsFit most) front (w ∷ at_w.back) parts).0 in
       let given = small-number most (order_in e) below own.text.given in
-      let each : (number : ℕ) → lots_read_of number (map line at_e.front ++ line e ∷ []) ≡ lots_of number (at_e.front ++ e ∷ []) = λ number.
-      omega (arith, sum_by_push (lots_by_report number) (map line at_e.front) (line e), sum_by_push (lots_in number) at_e.front e, lines-lots-of below number at_e.front front, read-lots-of names are e own.text.texts own.text.small own.adds own.few given number) in
+      let each : (number : ℕ) → lots_read_of number (reports_in front ++ report w ∷ []) ≡ lots_of number (events_in front ++ e ∷ []) = λ number.
+      omega (arith, sum_by_push (lots_by_report number) (reports_in front) (report w), sum_by_push (lots_in number) (events_in front) e, lines-lots-of below number front front_fit, read-lots-of w.names own.are e own.text.texts own.text.small own.adds own.few given number) in
+      let whole : events_in ws ≡ events_in front ++ e ∷ events_in at_w.back = ap events_in at_w.whole ∙ map-append (λ (x : Written). x.event) front (w ∷ at_w.back) in
       let Goal : List (List ℕ) → List ℕ → Type 0 = λ b r. is_execution r ≡ true → 1 ≤ number_in 37 r → number_in 14 r ≡ lots_read_of (number_in 37 r) (b ++ r ∷ []) in
-      let here : Goal (map line at_e.front) (line e) = λ execution some.
-      read-filled names are e own.text.texts own.text.small own.adds own.few given (λ number. lots_of number (at_e.front ++ e ∷ [])) (fills at_e.front e at_e.back at_e.whole) execution some
-      ∙ sym (each (number_in 37 (line e))) in
-      subst (λ (b : List (List ℕ)). Goal b report) (sym at_e.before_is) (subst (λ (r : List ℕ). Goal (map line at_e.front) r) (sym at_e.here_is) here)
+      let here : Goal (reports_in front) (report w) = λ execution some.
+      read-filled w.names own.are e own.text.texts own.text.small own.adds own.few given (λ number. lots_of number (events_in front ++ e ∷ [])) (fills (events_in front) e (events_in at_w.back) whole) execution some
+      ∙ sym (each (number_in 37 (report w))) in
+      subst (λ (b : List (List ℕ)). Goal b line) (sym at_w.before_is) (subst (λ (r : List ℕ). Goal (reports_in front) r) (sym at_w.here_is) here)
 
--- ---- a stream
-
-module _ (product : ProductLists) (are : AreNames product.names) (messages : List (List ℕ)) where
-  abbrev events : List Event
-  events = events_of product messages
-
-  abbrev lines : List (List ℕ)
-  lines = map (line_of product.names) events
-
-  texts : AllTextEvents (length messages) events
-  texts = events-text (length messages) product (request-is-text product) messages (omega arith)
-
-  pub reports-each : messages_of (reports_of product messages) ≡ lines
-  reports-each = lines-messages product.names are (length messages) events texts
-
-  pub reports-whole : rest_of (reports_of product messages) ≡ []
-  reports-whole = lines-rest product.names are (length messages) events texts
-
-  pub reports-balance : IsBalanced product messages → IsReadBalanced product messages
-  reports-balance balanced =
-      let fit = fit-from (length messages) events [] events balanced.fills refl balanced.reports balanced.expired texts in
-      let filled = lines-lots product.names are (length messages) events fit in
-      let cancelled = lines-cancelled product.names are (length messages) events fit in
-      let open_ = open_after product messages in
-      let entered = entered_by product messages in
-      let all : AreReadBalanced product messages lines = record {
-        each = lines-right product.names are (length messages) events fit;
+  -- What the reports of events say adds up, if what the events tell does.
+  pub lines-balance : (ws : List Written) (state : State) → AreBalanced (events_in ws) state → AllTextEvents most (events_in ws) → AllByRecursion IsNamed ws → AreReadBalanced most (events_in ws) state (reports_in ws)
+  lines-balance ws state balanced texts named =
+      let events = events_in ws in
+      let fit = fit-from most events [] ws balanced.fills refl balanced.reports balanced.expired texts named in
+      let filled = lines-lots ws fit in
+      let cancelled = lines-cancelled ws fit in
+      record {
+        each = lines-right ws fit;
         filled = filled;
         cancelled = cancelled;
-        fills = λ small. lines-fills product.names are (length messages) small events fit balanced.fills;
-        leaves = λ small number some. lines-open product.names are (length messages) small number some events fit ∙ balanced.leaves number;
+        fills = λ small. lines-fills small ws fit balanced.fills;
+        leaves = λ small number some. lines-open small number some ws fit ∙ balanced.leaves number;
         total = omega (arith, balanced.total, filled, cancelled);
-        ledger = ap₂ (λ (x y : List ℕ). x ++ y) (lines-ledger product.names are (length messages) events texts) (ap₂ (λ (f c : ℕ). total_line entered f open_ c) (sym filled) (sym cancelled));
-      } in subst (AreReadBalanced product messages) (sym reports-each) all
+        ledger = ap₂ (λ (x y : List ℕ). x ++ y) (lines-ledger ws fit) (ap₂ (λ (f c : ℕ). total_line (total_entered events) f (total_open state.book) c) (sym filled) (sym cancelled));
+      }

@@ -1,5 +1,5 @@
 //! Laws of reports. Their functions do nothing: what is proved is what their contracts say.
-ghost use Rattle.std.specs.Prelude.{◌≡◌, ℕ, List, [], map, is_some, Ok};
+ghost use Rattle.std.specs.Prelude.{◌≡◌, ℕ, List, [], is_some, Ok};
 ghost use Rattle.gx_base.specs.Line.{line_of};
 ghost use Rattle.gx_base.specs.NameLists.{NameLists};
 ghost use Rattle.gx_base.specs.declared.event.Event.{Event};
@@ -9,15 +9,16 @@ ghost use Rattle.gx_base.specs.declared.event.NewFault.{NewFault};
 ghost use Rattle.gx_base.specs.declared.event.NewRefused.{NewRefused};
 ghost use Rattle.fix_frame.specs.Grammar.{IsFrame};
 ghost use Rattle.fix_frame.specs.Stream.{messages_of, rest_of};
-ghost use Rattle.product_file.specs.Products.{ProductLists, IsRightProduct};
+ghost use Rattle.product_file.specs.Products.{ProductLists};
 ghost use Rattle.product_file.specs.ProductTexts.{product_of};
-ghost use Rattle.order_kinds.specs.Step.{events_of, reports_of};
 ghost use Rattle.order_kinds.specs.Balance.{quantities_of};
+ghost use Rattle.order_kinds.specs.Histories.{History, AreRightProducts, reports_kept};
 ghost use Rattle.book_print.specs.LedgerText.{ledger_line};
 ghost use Rattle.generator_laws.specs.Names.{AreNames};
 ghost use Rattle.report_laws.specs.Reading.{value_in, is_execution};
 ghost use Rattle.report_laws.specs.Texts.{HasTexts};
 ghost use Rattle.report_laws.specs.Told.{WritesWhatIsTold, lots_text, EndsWhole, ledger_line_read};
+ghost use Rattle.report_laws.specs.Histories.{HaveNames, each_report};
 ghost use Rattle.report_laws.specs.Sums.{IsReadBalanced};
 
 /// The report of an event is a frame. Where the event tells quantities it is an execution report, which writes them in 38, 14, 151
@@ -46,14 +47,13 @@ pub fn products_have_names()
     ensures { (text : List ℕ) (product : ProductLists) → product_of text ≡ Ok product → AreNames product.names }
 {}
 
-/// The reports of a stream are whole messages themselves: one for each event, with no byte behind them.
+/// The reports of a history are whole messages themselves: one for each event, with no byte after them.
 pub fn reports_are_messages()
-    ensures each { (product : ProductLists) (messages : List (List ℕ)) → AreNames product.names
-        → messages_of (reports_of product messages) ≡ map (line_of product.names) (events_of product messages) }
-    ensures whole { (product : ProductLists) (messages : List (List ℕ)) → AreNames product.names → rest_of (reports_of product messages) ≡ [] }
+    ensures each { (history : History) → HaveNames history → messages_of (reports_kept history) ≡ each_report history }
+    ensures whole { (history : History) → HaveNames history → rest_of (reports_kept history) ≡ [] }
 {}
 
-/// What the bytes of the reports of every stream say adds up, each by itself and in total, and the ledger writes the same.
+/// What the bytes of the reports of every history say adds up, each by itself and in total, and the ledger writes the same.
 pub fn reports_balance()
-    ensures { (product : ProductLists) (messages : List (List ℕ)) → IsRightProduct product → AreNames product.names → IsReadBalanced product messages }
+    ensures { (history : History) → AreRightProducts history → HaveNames history → IsReadBalanced history }
 {}
