@@ -6,7 +6,7 @@ use Rattle.std.proofs.lemmas.List.{take-append-drop, take_at, drop_at, drop_more
 use Rattle.std.proofs.lemmas.Grind.{flat_map-append}
 use Rattle.std.proofs.lemmas.Bool.{cases_eq}
 use Rattle.gx_station.specs.Disk.{Torn, written}
-use Rattle.match_journal.specs.Journal.{IsJournal, IsRecord, Record, kind_byte, journal_front, header, open_record}
+use Rattle.match_journal.specs.Journal.{Header, IsJournal, IsRecord, Record, kind_byte, journal_front, header, open_record}
 use Rattle.match_journal.specs.Inner.Stores.{staged}
 use Rattle.match_journal.proofs.Torn.{torn_front, torn_back}
 
@@ -56,10 +56,10 @@ written_gate front gate tail byte =
 pub length-size : (n : ℕ) → length (to_be_bytes w32 n) ≡ 4
 length-size n = refl
 
-pub journal_front-push : (text : List ℕ) (records : List Record) (r : Record) → journal_front text (records ++ r ∷ []) ≡ journal_front text records ++ open_record r
-journal_front-push text records r =
-    ap (λ (l : List ℕ). 1 ∷ (header text ++ l)) (flat_map-append open_record records (r ∷ []) ∙ ap (λ (l : List ℕ). flat_map open_record records ++ l) (append-nil (open_record r)))
-    ∙ sym (append_assoc (1 ∷ header text) (flat_map open_record records) (open_record r))
+pub journal_front-push : (head : Header) (records : List Record) (r : Record) → journal_front head (records ++ r ∷ []) ≡ journal_front head records ++ open_record r
+journal_front-push head records r =
+    ap (λ (l : List ℕ). 1 ∷ (header head ++ l)) (flat_map-append open_record records (r ∷ []) ∙ ap (λ (l : List ℕ). flat_map open_record records ++ l) (append-nil (open_record r)))
+    ∙ sym (append_assoc (1 ∷ header head) (flat_map open_record records) (open_record r))
 
 pub length-record : (r : Record) → length (open_record r) ≡ length r.payload + 6
 length-record r = omega (arith, length-append (to_be_bytes w32 (length r.payload)) r.payload, length-size (length r.payload))
@@ -71,20 +71,20 @@ pub all-push : (P : Record → Type 0) (xs : List Record) (x : Record) → AllBy
 all-push P [] x all px = (px, tt)
 all-push P (y ∷ ys) x all px = (all.0, all-push P ys x all.1 px)
 
-module _ (text : List ℕ) (limit : ℕ) (records : List Record) (r : Record) where
+module _ (head : Header) (limit : ℕ) (records : List Record) (r : Record) where
   abbrev front : List ℕ
-  front = journal_front text records
+  front = journal_front head records
 
-  pub opened : (rest : List ℕ) → front ++ 1 ∷ (staged r ++ rest) ≡ journal_front text (records ++ r ∷ []) ++ 0 ∷ rest
+  pub opened : (rest : List ℕ) → front ++ 1 ∷ (staged r ++ rest) ≡ journal_front head (records ++ r ∷ []) ++ 0 ∷ rest
   opened rest =
       let size = to_be_bytes w32 (length r.payload) in
       ap (λ (l : List ℕ). front ++ 1 ∷ kind_byte r.kind ∷ l) (append_assoc size (r.payload ++ 0 ∷ []) rest ∙ ap (λ (l : List ℕ). size ++ l) (append_assoc r.payload (0 ∷ []) rest) ∙ sym (append_assoc size r.payload (0 ∷ rest)))
       ∙ sym (append_assoc front (open_record r) (0 ∷ rest))
-      ∙ ap (λ (l : List ℕ). l ++ 0 ∷ rest) (sym (journal_front-push text records r))
+      ∙ ap (λ (l : List ℕ). l ++ 0 ∷ rest) (sym (journal_front-push head records r))
 
   -- the record stands whole behind a gate
   pub whole_record : AllByRecursion IsRecord records → IsRecord r → length front + 7 + length r.payload ≤ limit → (gate : ℕ) (rest : List ℕ)
-      → IsJournal text limit records (front ++ gate ∷ (staged r ++ rest)) ⊎ IsJournal text limit (records ++ r ∷ []) (front ++ gate ∷ (staged r ++ rest))
+      → IsJournal head limit records (front ++ gate ∷ (staged r ++ rest)) ⊎ IsJournal head limit (records ++ r ∷ []) (front ++ gate ∷ (staged r ++ rest))
   whole_record sized right fits gate rest = elim (cases_eq gate 1) [
     | inl is_open ↦ inr record {
       gate = 0;
@@ -92,7 +92,7 @@ module _ (text : List ℕ) (limit : ℕ) (records : List Record) (r : Record) wh
       is = ap (λ g. front ++ g ∷ (staged r ++ rest)) is_open ∙ opened rest;
       closed = omega arith;
       sized = all-push IsRecord records r sized right;
-      in_limit = omega (arith, fits, ap length (journal_front-push text records r), length-append front (open_record r), length-record r);
+      in_limit = omega (arith, fits, ap length (journal_front-push head records r), length-append front (open_record r), length-record r);
     }
     | inr shut ↦ inl record {
       gate = gate;

@@ -3,9 +3,11 @@ use Rattle.std.proofs.Common.{◌≡◌, ◌≢◌, ◌⊎◌, inl, inr, ⊎_eli
 use Rattle.std.specs.Int.{w32, to_be_bytes}
 use Rattle.std.specs.List.{flat_map, AllByRecursion}
 use Rattle.std.proofs.lemmas.List.{take_at, drop_at, append_cancel_left, append-nil, length-take, get_or-take, get_or-drop}
-use Rattle.match_journal.specs.Journal.{IsJournal, IsRecord, Record, kind_byte, journal_front, header, open_record}
-use Rattle.match_journal.specs.Classes.{HasHeader, HasOpenGate, IsBlank, IsSealed, IsUnfinished, IsForeignAt, HasOtherText, Keeps, first_difference}
-use Rattle.match_journal.specs.Opening.{IsOpened, IsStartFault, Looks}
+use Rattle.match_journal.specs.Journal.{Header, IsJournal, IsRecord, Record, kind_byte, journal_front, header, open_record, in_version}
+use Rattle.match_journal.specs.HeaderLaws.{same_head, length-magic, one_header, header_magic, header_version, journal_version}
+use Rattle.match_journal.specs.Classes.{HasHeader, HasOpenGate, IsBlank, IsSealed, IsSealedOf, IsUnfinished, IsForeignAt, HasOtherText, Keeps, KeepsOf, first_difference}
+use Rattle.match_journal.specs.Opening.{IsOpened, IsOpenedOf, IsStartFault, Looks}
+use Rattle.match_journal.specs.Standing.{at_first}
 use Rattle.match_journal.specs.Walking.{IsHead, Walks}
 use Rattle.gx_station.specs.Disk.{Torn}
 use Rattle.match_journal.specs.declared.entry.Entry.{Entry}
@@ -16,8 +18,8 @@ use Rattle.match_journal.specs.declared.faults.StartFault.{StartFault}
 use Rattle.match_journal.specs.declared.faults.StartFault.TheVariants as fault
 use Rattle.match_journal.proofs.Walked.{one_size, one_kind, below}
 use Rattle.match_journal.specs.declared.limits.TheConstants.{MOST_TEXT}
-use Rattle.match_journal.proofs.Fronts.{header_front, header_magic}
-use Rattle.match_journal.proofs.Created.{empty_keeps, closed_keeps, none_kept, has_header}
+use Rattle.match_journal.specs.declared.version.Version.{Version}
+use Rattle.match_journal.proofs.Created.{journal_length, empty_keeps, closed_keeps, none_kept, has_header}
 
 -- ---- one list of records
 
@@ -44,67 +46,106 @@ one_list (p ∷ ps) (q ∷ qs) g h x y sized sized' shut shut' e =
     let same : p ≡ q = one_record p q (one_kind p.kind q.kind (ap (λ (l : List ℕ). get_or l 1 0) e)) both.0 in
     cc (same, one_list ps qs g h x y sized.1 sized'.1 shut shut' both.1)
 
-one_journal : (text : List ℕ) (limit : ℕ) (image : List ℕ) (ps qs : List Record) → IsJournal text limit ps image → IsJournal text limit qs image → ps ≡ qs
-one_journal text limit image ps qs a b =
-    one_list ps qs a.gate b.gate a.behind b.behind a.sized b.sized a.closed b.closed (append_cancel_left (1 ∷ header text) _ _
-    (sym (append_assoc (1 ∷ header text) (flat_map open_record ps) (a.gate ∷ a.behind)) ∙ sym a.is ∙ b.is ∙ append_assoc (1 ∷ header text) (flat_map open_record qs) (b.gate ∷ b.behind)))
+one_journal : (head : Header) (limit : ℕ) (image : List ℕ) (ps qs : List Record) → IsJournal head limit ps image → IsJournal head limit qs image → ps ≡ qs
+one_journal head limit image ps qs a b =
+    one_list ps qs a.gate b.gate a.behind b.behind a.sized b.sized a.closed b.closed (append_cancel_left (1 ∷ header head) _ _
+    (sym (append_assoc (1 ∷ header head) (flat_map open_record ps) (a.gate ∷ a.behind)) ∙ sym a.is ∙ b.is ∙ append_assoc (1 ∷ header head) (flat_map open_record qs) (b.gate ∷ b.behind)))
 
-unfinished_keeps : (text : List ℕ) (limit : ℕ) (image : List ℕ) (ps : List Record) → Keeps text limit ps image → IsUnfinished text image → ps ≡ []
-unfinished_keeps text limit image ps keeps u = elim u.unfinished [
-  | inl blank ↦ elim blank [
-    | inl short ↦ empty_keeps text limit image ps keeps short
-    | inr closed ↦ closed_keeps text limit image ps keeps closed.0
+unfinished_keeps : (a b : Header) (limit : ℕ) (image : List ℕ) (ps : List Record) → Keeps a limit ps image → IsUnfinished b image → ps ≡ []
+unfinished_keeps a b limit image ps keeps u = elim u.unfinished [
+  | inl blank ↦ elim blank.0 [
+    | inl short ↦ empty_keeps a limit image ps keeps short
+    | inr closed ↦ closed_keeps a limit image ps keeps closed.0
   ]
-  | inr sealed ↦ (none_kept text limit image ps keeps sealed.not_open).0
+  | inr sealed ↦ (none_kept a limit image ps keeps sealed.not_open).0
 ]
 
-pub one_keeping : (text : List ℕ) (limit : ℕ) (image : List ℕ) (ps qs : List Record) → Keeps text limit ps image → Keeps text limit qs image → ps ≡ qs
-one_keeping text limit image ps qs (inl a) (inl b) = one_journal text limit image ps qs a b
-one_keeping text limit image ps qs (inl a) (inr b) = unfinished_keeps text limit image ps (inl a) b.1 ∙ sym b.0
-one_keeping text limit image ps qs (inr a) (inl b) = a.0 ∙ sym (unfinished_keeps text limit image qs (inl b) a.1)
-one_keeping text limit image ps qs (inr a) (inr b) = a.0 ∙ sym b.0
+-- ---- one header
+
+blank_not_sealed : (head : Header) (image : List ℕ) → IsBlank image → IsSealed head image → ⊥
+blank_not_sealed head image (inl short) s = omega (arith, short, s.header.inside)
+blank_not_sealed head image (inr closed) s = s.not_closed closed.0
+
+journal_not_unfinished : (a b : Header) (limit : ℕ) (image : List ℕ) (ps : List Record) → IsJournal a limit ps image → IsUnfinished b image → ⊥
+journal_not_unfinished a b limit image ps j u =
+    let first : get_or image 0 0 ≡ 1 = ap (λ (l : List ℕ). get_or l 0 0) j.is in
+    elim u.unfinished [
+      | inl blank ↦ elim blank.0 [
+        | inl short ↦ omega (arith, short, journal_length a limit image ps j)
+        | inr closed ↦ omega (arith, first, closed.0)
+      ]
+      | inr sealed ↦ sealed.not_open first
+    ]
+
+-- the versions of two headers that an image keeps
+one_version : (a b : Header) (limit : ℕ) (image : List ℕ) (ps qs : List Record) → Keeps a limit ps image → Keeps b limit qs image → a.version ≡ b.version
+one_version a b limit image ps qs (inl x) (inl y) = sym (journal_version a limit ps image x) ∙ journal_version b limit qs image y
+one_version a b limit image ps qs (inl x) (inr y) = absurd (journal_not_unfinished a b limit image ps x y.1)
+one_version a b limit image ps qs (inr x) (inl y) = absurd (journal_not_unfinished b a limit image qs y x.1)
+one_version a b limit image ps qs (inr x) (inr y) = elim x.1.unfinished [
+  | inl blank ↦ elim y.1.unfinished [
+    | inl blank' ↦ blank.1 ∙ sym blank'.1
+    | inr sealed' ↦ absurd (blank_not_sealed b image blank.0 sealed')
+  ]
+  | inr sealed ↦ elim y.1.unfinished [
+    | inl blank' ↦ absurd (blank_not_sealed a image blank'.0 sealed)
+    | inr sealed' ↦ sym (header_version a image sealed.header) ∙ header_version b image sealed'.header
+  ]
+]
+
+-- two headers with one text that an image keeps are one
+pub one_head : (a b : Header) (limit : ℕ) (image : List ℕ) (ps qs : List Record) → a.text ≡ b.text → Keeps a limit ps image → Keeps b limit qs image → a ≡ b
+one_head a b limit image ps qs text x y = same_head a b (one_version a b limit image ps qs x y) text
+
+-- an image keeps one list of records with one header
+pub one_list_of : (head : Header) (limit : ℕ) (image : List ℕ) (ps qs : List Record) → Keeps head limit ps image → Keeps head limit qs image → ps ≡ qs
+one_list_of head limit image ps qs (inl a) (inl b) = one_journal head limit image ps qs a b
+one_list_of head limit image ps qs (inl a) (inr b) = unfinished_keeps head head limit image ps (inl a) b.1 ∙ sym b.0
+one_list_of head limit image ps qs (inr a) (inl b) = a.0 ∙ sym (unfinished_keeps head head limit image qs (inl b) a.1)
+one_list_of head limit image ps qs (inr a) (inr b) = a.0 ∙ sym b.0
+
+pub one_keeping : (a b : Header) (limit : ℕ) (image : List ℕ) (ps qs : List Record) → a.text ≡ b.text → Keeps a limit ps image → Keeps b limit qs image → ps ≡ qs
+one_keeping a b limit image ps qs text x y = one_list_of b limit image ps qs (subst (λ (h : Header). Keeps h limit ps image) (one_head a b limit image ps qs text x y) x) y
+
+-- the same where the version is not known
+pub one_keeping_of : (text : List ℕ) (limit : ℕ) (image : List ℕ) (ps qs : List Record) → KeepsOf text limit ps image → KeepsOf text limit qs image → ps ≡ qs
+one_keeping_of text limit image ps qs x y = one_keeping (in_version x.0 text) (in_version y.0 text) limit image ps qs refl x.1 y.1
 
 -- ---- one answer of an opening
 
--- one image has one header
-one_header : (image a b : List ℕ) → HasHeader a image → HasHeader b image → a ≡ b
-one_header image a b x y =
-    let size : length a ≡ length b = one_size (length a) (length b) (omega (arith, x.few)) (omega (arith, y.few)) (ap (drop 8) (sym (header_front a image x) ∙ header_front b image y)) in
-    ap (drop 12) (sym x.stands ∙ ap (λ n. take (12 + n) (drop 1 image)) size ∙ y.stands)
+-- two headers of one image have one text
+one_text : (image : List ℕ) (a b : Header) → HasHeader a image → HasHeader b image → a.text ≡ b.text
+one_text image a b x y = ap (λ (h : Header). h.text) (one_header image a b x y)
 
 open_long : (image : List ℕ) → HasOpenGate image → 8 < length image
-open_long image j = omega (arith, ap length j.magic, length-take 8 (drop 1 image), length-drop 1 image)
+open_long image j = omega (arith, ap length j.magic, length-magic j.version, length-take 8 (drop 1 image), length-drop 1 image)
 
 blank_not_open : (image : List ℕ) → IsBlank image → HasOpenGate image → ⊥
 blank_not_open image (inl short) j = omega (arith, short, open_long image j)
 blank_not_open image (inr closed) j = omega (arith, closed.0, j.opened)
 
-blank_not_sealed : (text image : List ℕ) → IsBlank image → IsSealed text image → ⊥
-blank_not_sealed text image (inl short) s = omega (arith, short, s.header.inside)
-blank_not_sealed text image (inr closed) s = s.not_closed closed.0
-
 module _ (product image : List ℕ) where
-  pub unfinished_not_opened : IsBlank image ⊎ IsSealed product image → IsOpened product image → ⊥
-  unfinished_not_opened (inl blank) opened = blank_not_open image blank opened.0
-  unfinished_not_opened (inr sealed) opened = sealed.not_open opened.0.opened
+  pub unfinished_not_opened : IsBlank image ⊎ IsSealedOf product image → IsOpenedOf product image → ⊥
+  unfinished_not_opened (inl blank) opened = blank_not_open image blank opened.1.0
+  unfinished_not_opened (inr sealed) opened = sealed.1.not_open opened.1.0.opened
 
-  none_err : (e : StartFault) → IsBlank image ⊎ IsSealed product image → IsStartFault product image e → (e ≡ fault.Store → ⊥) → ⊥
+  none_err : (e : StartFault) → IsBlank image ⊎ IsSealedOf product image → IsStartFault product image e → (e ≡ fault.Store → ⊥) → ⊥
   none_err fault.Store none is told = told refl
   none_err (fault.NotAJournal at) (inl blank) is told = is.foreign.not_blank blank
-  none_err (fault.NotAJournal at) (inr sealed) is told = is.foreign.not_sealed product sealed
+  none_err (fault.NotAJournal at) (inr sealed) is told = is.foreign.not_sealed (in_version sealed.0 product) sealed.1
   none_err (fault.Bad at) (inl blank) is told = blank_not_open image blank is.journal
-  none_err (fault.Bad at) (inr sealed) is told = sealed.not_open is.journal.opened
-  none_err (fault.ProductDiffers at) (inl blank) is told = ⊎_elim (λ j. blank_not_open image blank j) (λ s. blank_not_sealed is.text image blank s) is.journal_or_sealed
-  none_err (fault.ProductDiffers at) (inr sealed) is told = is.other (one_header image is.text product is.header sealed.header)
+  none_err (fault.Bad at) (inr sealed) is told = sealed.1.not_open is.journal.opened
+  none_err (fault.ProductDiffers at) (inl blank) is told = ⊎_elim (λ j. blank_not_open image blank j) (λ s. blank_not_sealed is.head image blank s) is.journal_or_sealed
+  none_err (fault.ProductDiffers at) (inr sealed) is told = is.other (one_text image is.head (in_version sealed.0 product) is.header sealed.1.header)
 
-  some_err : (e : StartFault) → IsOpened product image → IsStartFault product image e → (e ≡ fault.Store → ⊥) → ⊥
+  some_err : (e : StartFault) → IsOpenedOf product image → IsStartFault product image e → (e ≡ fault.Store → ⊥) → ⊥
   some_err fault.Store opened is told = told refl
-  some_err (fault.NotAJournal at) opened is told = is.foreign.not_journal opened.0
-  some_err (fault.Bad at) opened is told = is.no_header product opened.1
-  some_err (fault.ProductDiffers at) opened is told = is.other (one_header image is.text product is.header opened.1)
+  some_err (fault.NotAJournal at) opened is told = is.foreign.not_journal opened.1.0
+  some_err (fault.Bad at) opened is told = is.no_header (in_version opened.0 product) opened.1.1
+  some_err (fault.ProductDiffers at) opened is told = is.other (one_text image is.head (in_version opened.0 product) is.header opened.1.1)
 
   foreign_differs : (at at' : ℕ) → IsForeignAt image at → HasOtherText product image at' → ⊥
-  foreign_differs at at' x y = ⊎_elim (λ j. x.foreign.not_journal j) (λ s. x.foreign.not_sealed y.text s) y.journal_or_sealed
+  foreign_differs at at' x y = ⊎_elim (λ j. x.foreign.not_journal j) (λ s. x.foreign.not_sealed y.head s) y.journal_or_sealed
 
   one_place : (at at' : ℕ) → IsForeignAt image at → IsForeignAt image at' → at ≡ at'
   one_place at at' x y = ⊎_elim
@@ -121,12 +162,12 @@ module _ (product image : List ℕ) where
   err_err (fault.Bad at) fault.Store x y told told' = absurd (told' refl)
   err_err (fault.Bad at) (fault.NotAJournal at') x y told told' = absurd (y.foreign.not_journal x.journal)
   err_err (fault.Bad at) (fault.Bad at') x y told told' = ap fault.Bad (x.place ∙ sym y.place)
-  err_err (fault.Bad at) (fault.ProductDiffers at') x y told told' = absurd (x.no_header y.text y.header)
+  err_err (fault.Bad at) (fault.ProductDiffers at') x y told told' = absurd (x.no_header y.head y.header)
   err_err (fault.ProductDiffers at) fault.Store x y told told' = absurd (told' refl)
   err_err (fault.ProductDiffers at) (fault.NotAJournal at') x y told told' = absurd (foreign_differs at' at y x)
-  err_err (fault.ProductDiffers at) (fault.Bad at') x y told told' = absurd (y.no_header x.text x.header)
+  err_err (fault.ProductDiffers at) (fault.Bad at') x y told told' = absurd (y.no_header x.head x.header)
   err_err (fault.ProductDiffers at) (fault.ProductDiffers at') x y told told' =
-      ap fault.ProductDiffers (x.place ∙ ap (λ (l : List ℕ). 13 + first_difference l product) (one_header image x.text y.text x.header y.header) ∙ sym y.place)
+      ap fault.ProductDiffers (x.place ∙ ap (λ (l : List ℕ). 13 + first_difference l product) (one_text image x.head y.head x.header y.header) ∙ sym y.place)
 
   abbrev refusal : StartFault → Result (Option Standing) StartFault
   refusal e = Err e
@@ -134,12 +175,15 @@ module _ (product image : List ℕ) where
   not_store : (e : StartFault) → (refusal e ≡ refusal fault.Store → ⊥) → e ≡ fault.Store → ⊥
   not_store e told is = told (ap refusal is)
 
+  opened_version : (x y : IsOpenedOf product image) → x.0 ≡ y.0
+  opened_version x y = sym (header_version (in_version x.0 product) image x.1.1) ∙ header_version (in_version y.0 product) image y.1.1
+
   pub one_answer : (limit : ℕ) (a b : Result (Option Standing) StartFault) → Looks product limit image a → Looks product limit image b → (a ≡ Err fault.Store → ⊥) → (b ≡ Err fault.Store → ⊥) → a ≡ b
   one_answer limit (Ok None) (Ok None) x y told told' = refl
   one_answer limit (Ok None) (Ok (Some s)) x y told told' = absurd (unfinished_not_opened x y.0)
   one_answer limit (Ok None) (Err e) x y told told' = absurd (none_err e x y (not_store e told'))
   one_answer limit (Ok (Some s)) (Ok None) x y told told' = absurd (unfinished_not_opened y x.0)
-  one_answer limit (Ok (Some s)) (Ok (Some s')) x y told told' = ap (λ (s : Standing). Ok (Some s)) (x.1 ∙ sym y.1)
+  one_answer limit (Ok (Some s)) (Ok (Some s')) x y told told' = ap (λ (s : Standing). Ok (Some s)) (x.1 ∙ ap (λ (v : Version). at_first v (13 + length product) (length image) limit) (opened_version x.0 y.0) ∙ sym y.1)
   one_answer limit (Ok (Some s)) (Err e) x y told told' = absurd (some_err e x.0 y (not_store e told'))
   one_answer limit (Err e) (Ok None) x y told told' = absurd (none_err e y x (not_store e told))
   one_answer limit (Err e) (Ok (Some s)) x y told told' = absurd (some_err e y.0 x (not_store e told))
@@ -147,24 +191,27 @@ module _ (product image : List ℕ) where
 
 -- ---- what keeps records is opened
 
-headed_opened : (text image behind : List ℕ) (last : ℕ) → length text ≤ MOST_TEXT → image ≡ 1 ∷ (header text ++ last ∷ behind) → IsOpened text image
-headed_opened text image behind last few is =
-    let h : HasHeader text image = subst (HasHeader text) (sym is) (has_header text behind 1 last few) in
-    (record { opened = ap (λ (l : List ℕ). get_or l 0 0) is; magic = header_magic text image h }, h)
+headed_opened : (head : Header) (image behind : List ℕ) (last : ℕ) → length head.text ≤ MOST_TEXT → image ≡ 1 ∷ (header head ++ last ∷ behind) → IsOpened head image
+headed_opened head image behind last few is =
+    let h : HasHeader head image = subst (HasHeader head) (sym is) (has_header head behind 1 last few) in
+    (record { opened = ap (λ (l : List ℕ). get_or l 0 0) is; version = head.version; magic = header_magic head image h }, h)
 
 -- so is what goes on behind some records
-pub front_opened : (text image : List ℕ) (records : List Record) (gate : ℕ) (behind : List ℕ) → length text ≤ MOST_TEXT → image ≡ journal_front text records ++ gate ∷ behind → IsOpened text image
-front_opened text image [] gate behind few is = headed_opened text image behind gate few (is ∙ ap (λ (l : List ℕ). 1 ∷ (l ++ gate ∷ behind)) (append-nil (header text)))
-front_opened text image (p ∷ ps) gate behind few is =
-    headed_opened text image (kind_byte p.kind ∷ (((to_be_bytes w32 (length p.payload) ++ p.payload) ++ flat_map open_record ps) ++ gate ∷ behind)) 1 few
-    (is ∙ ap (λ (l : List ℕ). 1 ∷ l) (append_assoc (header text) (open_record p ++ flat_map open_record ps) (gate ∷ behind)))
+pub front_opened : (head : Header) (image : List ℕ) (records : List Record) (gate : ℕ) (behind : List ℕ) → length head.text ≤ MOST_TEXT → image ≡ journal_front head records ++ gate ∷ behind → IsOpened head image
+front_opened head image [] gate behind few is = headed_opened head image behind gate few (is ∙ ap (λ (l : List ℕ). 1 ∷ (l ++ gate ∷ behind)) (append-nil (header head)))
+front_opened head image (p ∷ ps) gate behind few is =
+    headed_opened head image (kind_byte p.kind ∷ (((to_be_bytes w32 (length p.payload) ++ p.payload) ++ flat_map open_record ps) ++ gate ∷ behind)) 1 few
+    (is ∙ ap (λ (l : List ℕ). 1 ∷ l) (append_assoc (header head) (open_record p ++ flat_map open_record ps) (gate ∷ behind)))
 
-pub journal_opened : (text : List ℕ) (limit : ℕ) (image : List ℕ) (records : List Record) → length text ≤ MOST_TEXT → IsJournal text limit records image → IsOpened text image
-journal_opened text limit image records few j = front_opened text image records j.gate j.behind few j.is
+pub journal_opened : (head : Header) (limit : ℕ) (image : List ℕ) (records : List Record) → length head.text ≤ MOST_TEXT → IsJournal head limit records image → IsOpened head image
+journal_opened head limit image records few j = front_opened head image records j.gate j.behind few j.is
 
-pub not_refused : (product image : List ℕ) (limit : ℕ) (records : List Record) (e : StartFault) → length product ≤ MOST_TEXT → Keeps product limit records image → IsStartFault product image e → (e ≡ fault.Store → ⊥) → ⊥
-not_refused product image limit records e few (inl journal) is told = some_err product image e (journal_opened product limit image records few journal) is told
-not_refused product image limit records e few (inr unfinished) is told = none_err product image e unfinished.1.unfinished is told
+pub not_refused : (head : Header) (image : List ℕ) (limit : ℕ) (records : List Record) (e : StartFault) → length head.text ≤ MOST_TEXT → Keeps head limit records image → IsStartFault head.text image e → (e ≡ fault.Store → ⊥) → ⊥
+not_refused head image limit records e few (inl journal) is told = some_err head.text image e (head.version, journal_opened head limit image records few journal) is told
+not_refused head image limit records e few (inr unfinished) is told = elim unfinished.1.unfinished [
+  | inl blank ↦ none_err head.text image e (inl blank.0) is told
+  | inr sealed ↦ none_err head.text image e (inr (head.version, sealed)) is told
+]
 
 -- ---- one answer at a gate
 
@@ -200,10 +247,10 @@ one_walk image limit gate (Err (walk.Bad at)) (Err (walk.Bad at')) x y told told
 -- ---- gate and header in one write
 
 -- this image keeps nothing
-none_200 : (text : List ℕ) (limit : ℕ) (ps : List Record) → Keeps text limit ps (200 ∷ 200 ∷ []) → ⊥
-none_200 text limit ps (inl journal) = omega (arith, ap (λ (l : List ℕ). get_or l 0 0) journal.is)
-none_200 text limit ps (inr (none, u)) = elim u.unfinished [
-  | inl blank ↦ elim blank [
+none_200 : (head : Header) (limit : ℕ) (ps : List Record) → Keeps head limit ps (200 ∷ 200 ∷ []) → ⊥
+none_200 head limit ps (inl journal) = omega (arith, ap (λ (l : List ℕ). get_or l 0 0) journal.is)
+none_200 head limit ps (inr (none, u)) = elim u.unfinished [
+  | inl blank ↦ elim blank.0 [
     | inl short ↦ absurd (omega (arith, short))
     | inr closed ↦ absurd (omega (arith, closed.0))
   ]
@@ -217,5 +264,5 @@ torn_200 n two = record {
   no_longer = omega (arith, two);
 }
 
-pub at_once_refuted : (text : List ℕ) (limit n : ℕ) → 2 ≤ n → ((left : List ℕ) → Torn 0 n (0 ∷ []) left → Keeps text limit [] left) → ⊥
-at_once_refuted text limit n two all = none_200 text limit [] (all (200 ∷ 200 ∷ []) (torn_200 n two))
+pub at_once_refuted : (head : Header) (limit n : ℕ) → 2 ≤ n → ((left : List ℕ) → Torn 0 n (0 ∷ []) left → Keeps head limit [] left) → ⊥
+at_once_refuted head limit n two all = none_200 head limit [] (all (200 ∷ 200 ∷ []) (torn_200 n two))

@@ -1,23 +1,41 @@
 -- What a journal's image is, and which records it keeps.
 --
--- Byte 0 is the first gate. Then the eight bytes GXJOURN1, the length of the product text in four bytes, the highest first,
--- the text, and a gate. A record is a gate, its kind (M for frames, C for a book image without the session, D for a book image),
+-- Byte 0 is the first gate. Then comes the header: the eight bytes GXJOURN1 or GXJOURN2, the length of the product text in four
+-- bytes, the highest first, and the text; and then a gate. A record is a gate, its kind (M for frames, C for a book image without the session, D for a book image),
 -- the length of its payload in four bytes, the payload; and then comes the next gate. A gate is open where its byte is 1, and closed otherwise. The records are those
 -- behind open gates, up to the first closed one. Bytes behind that gate mean nothing.
-use Rattle.std.specs.Prelude.{◌≡◌, ◌≢◌, ℕ, ◌<◌, ◌≤◌, List, [], ◌∷◌, ◌++◌, length}
+use Rattle.std.specs.Prelude.{◌≡◌, ◌≢◌, ℕ, ◌<◌, ◌≤◌, ◌==◌, if◌then◌else◌, List, [], ◌∷◌, ◌++◌, length, get_or}
 use Rattle.std.specs.Int.{w32, to_be_bytes}
 use Rattle.std.specs.List.{flat_map, AllByRecursion}
 use Rattle.match_journal.specs.declared.limits.TheConstants.{MOST_PAYLOAD, MOST_IMAGE}
+use Rattle.match_journal.specs.declared.version.Version.{Version}
+use Rattle.match_journal.specs.declared.version.Version.TheVariants.{First, Second}
 use Rattle.match_journal.specs.declared.entry.EntryKind.{EntryKind}
 use Rattle.match_journal.specs.declared.entry.EntryKind.TheVariants.{Frames, OldImage, Image}
 
--- GXJOURN1
-abbrev pub magic : List ℕ
-magic = 71 ∷ 88 ∷ 74 ∷ 79 ∷ 85 ∷ 82 ∷ 78 ∷ 49 ∷ []
+-- ---- headers
+
+-- what a header says: the version of the journal, and a product text
+pub record Header : Type 0 where
+  pub version : Version
+  pub text : List ℕ
+
+-- a header of this text, in a version
+abbrev pub in_version : Version → List ℕ → Header
+in_version version text = record { version = version; text = text }
+
+-- GXJOURN1 or GXJOURN2
+abbrev pub magic : Version → List ℕ
+magic First = 71 ∷ 88 ∷ 74 ∷ 79 ∷ 85 ∷ 82 ∷ 78 ∷ 49 ∷ []
+magic Second = 71 ∷ 88 ∷ 74 ∷ 79 ∷ 85 ∷ 82 ∷ 78 ∷ 50 ∷ []
 
 -- what stands between the first gate and the gate of the first record
-abbrev pub header : List ℕ → List ℕ
-header text = magic ++ (to_be_bytes w32 (length text) ++ text)
+abbrev pub header : Header → List ℕ
+header head = magic head.version ++ (to_be_bytes w32 (length head.text) ++ head.text)
+
+-- the version that an image with a header tells, by its ninth byte
+abbrev pub version_of : List ℕ → Version
+version_of image = if get_or image 8 0 == 50 then Second else First
 
 -- ---- records
 
@@ -57,15 +75,15 @@ pub record IsRecord (r : Record) : Type 0 where
 -- ---- journals
 
 -- all up to the first closed gate
-abbrev pub journal_front : List ℕ → List Record → List ℕ
-journal_front text records = 1 ∷ (header text ++ flat_map open_record records)
+abbrev pub journal_front : Header → List Record → List ℕ
+journal_front head records = 1 ∷ (header head ++ flat_map open_record records)
 
--- A journal of this text that keeps these records: its gates are open, and then one is closed. No record has a bad head, and the
+-- A journal with this header that keeps these records: its gates are open, and then one is closed. No record has a bad head, and the
 -- last one ends within the limit.
-pub record IsJournal (text : List ℕ) (limit : ℕ) (records : List Record) (image : List ℕ) : Type 0 where
+pub record IsJournal (head : Header) (limit : ℕ) (records : List Record) (image : List ℕ) : Type 0 where
   pub gate : ℕ
   pub behind : List ℕ
-  pub is : image ≡ journal_front text records ++ gate ∷ behind
+  pub is : image ≡ journal_front head records ++ gate ∷ behind
   pub closed : gate ≢ 1
   pub sized : AllByRecursion IsRecord records
-  pub in_limit : length (journal_front text records) < limit
+  pub in_limit : length (journal_front head records) < limit

@@ -5,6 +5,7 @@ pub mod Causes
 pub mod Steps
 pub mod StepLaws
 pub mod LookLaws
+pub mod HeaderLaws
 pub mod Opening
 pub mod Walking
 pub mod Appending

@@ -1,7 +1,9 @@
 -- Where a journal stands in the image of a station.
-use Rattle.std.specs.Prelude.{ℕ, ◌+◌, ◌<◌, ◌≤◌, max, Bool, true, false}
+use Rattle.std.specs.Prelude.{◌≡◌, ℕ, ◌+◌, ◌<◌, ◌≤◌, max, Bool, true, false, List, length}
 use Rattle.match_journal.specs.declared.limits.TheConstants.{MOST_LIMIT}
-use Rattle.match_journal.specs.Journal.{least_payload, most_payload}
+use Rattle.match_journal.specs.Journal.{least_payload, most_payload, version_of}
+use Rattle.match_journal.specs.declared.version.Version.{Version}
+use Rattle.match_journal.specs.declared.version.Version.TheVariants.{First, Second}
 use Rattle.match_journal.specs.declared.entry.Entry.{Entry}
 use Rattle.match_journal.specs.declared.standing.Standing.{Standing}
 
@@ -11,21 +13,32 @@ pub record IsStanding (s : Standing) : Type 0 where
   pub gate : s.gate < s.known
   pub in_limit : s.limit ≤ MOST_LIMIT
 
+-- what a journal that stands so knows of an image: its length, and the version that its header tells
+pub record StandsIn (s : Standing) (image : List ℕ) : Type 0 where
+  pub known : length image ≡ s.known
+  pub version : version_of image ≡ s.version
+
+-- the number of a version
+abbrev pub version_number : Version → ℕ
+version_number First = 1
+version_number Second = 2
+
 -- just opened: the next entry is the first
-abbrev pub at_first : ℕ → ℕ → ℕ → Standing
-at_first first known limit = record { first = first; gate = first; known = known; limit = limit; is_at_end = false; is_lost = false }
+abbrev pub at_first : Version → ℕ → ℕ → ℕ → Standing
+at_first version first known limit =
+    record { version = version; first = first; gate = first; known = known; limit = limit; is_at_end = false; is_lost = false }
 
 -- at this gate, and at the end or not
 abbrev pub moved : Standing → ℕ → Bool → Standing
-moved s gate is_at_end = record { first = s.first; gate = gate; known = s.known; limit = s.limit; is_at_end = is_at_end; is_lost = s.is_lost }
+moved s gate is_at_end = record s { gate = gate; is_at_end = is_at_end }
 
 -- a record was added in front of this gate
 abbrev pub grown : Standing → ℕ → Standing
-grown s gate = record { first = s.first; gate = gate; known = max s.known (gate + 1); limit = s.limit; is_at_end = true; is_lost = s.is_lost }
+grown s gate = record s { gate = gate; known = max s.known (gate + 1); is_at_end = true }
 
 -- an append has failed: the journal is never at its end again
 abbrev pub lost : Standing → Standing
-lost s = record { first = s.first; gate = s.gate; known = s.known; limit = s.limit; is_at_end = false; is_lost = true }
+lost s = record s { is_at_end = false; is_lost = true }
 
 -- the record of the entry has a payload of a right length, and ends, with its next gate, inside an image of this length and
 -- within the limit

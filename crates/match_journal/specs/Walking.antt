@@ -1,7 +1,7 @@
 -- Going over the records of a journal.
 use Rattle.std.specs.Prelude.{◌≡◌, ◌≢◌, ℕ, ◌+◌, List, [], ◌∷◌, ◌++◌, length, take, drop, get_or, not, false, Option, Some, None, Result, Ok, Err}
 use Rattle.std.specs.Int.{w32, to_be_bytes}
-use Rattle.match_journal.specs.Journal.{Record, kind_byte, journal_front}
+use Rattle.match_journal.specs.Journal.{Header, Record, kind_byte, journal_front}
 use Rattle.match_journal.specs.Standing.{Fits, moved}
 use Rattle.match_journal.specs.declared.standing.Standing.{Standing}
 use Rattle.match_journal.specs.declared.entry.Entry.{Entry}
@@ -41,19 +41,19 @@ stands_then s (Err e) = s
 -- ---- the records in their order
 
 -- the first of the records left is that of the entry, and the next gate is the one behind it
-pub record IsNext (text image : List ℕ) (before after : List Record) (gate : ℕ) (entry : Entry) : Type 0 where
+pub record IsNext (head : Header) (image : List ℕ) (before after : List Record) (gate : ℕ) (entry : Entry) : Type 0 where
   pub found : Record
   pub more : List Record
   pub is : after ≡ found ∷ more
   pub kind : entry.kind ≡ found.kind
   pub count : entry.length ≡ length found.payload
   pub stands : take (length found.payload) (drop (entry.at + 6) image) ≡ found.payload
-  pub at_is : entry.at ≡ length (journal_front text before)
-  pub gate_is : gate ≡ length (journal_front text (before ++ found ∷ []))
+  pub at_is : entry.at ≡ length (journal_front head before)
+  pub gate_is : gate ≡ length (journal_front head (before ++ found ∷ []))
 
 -- what is answered at the gate behind some records, where others are left
-abbrev pub InOrder : List ℕ → List ℕ → List Record → List Record → ℕ → Result (Option Entry) WalkFault → Type 0
-InOrder text image before after gate (Ok None) = after ≡ []
-InOrder text image before after gate (Ok (Some entry)) = IsNext text image before after gate entry
-InOrder text image before after gate (Err fault.Store) = Unit {0}
-InOrder text image before after gate (Err (fault.Bad at)) = ⊥
+abbrev pub InOrder : Header → List ℕ → List Record → List Record → ℕ → Result (Option Entry) WalkFault → Type 0
+InOrder head image before after gate (Ok None) = after ≡ []
+InOrder head image before after gate (Ok (Some entry)) = IsNext head image before after gate entry
+InOrder head image before after gate (Err fault.Store) = Unit {0}
+InOrder head image before after gate (Err (fault.Bad at)) = ⊥

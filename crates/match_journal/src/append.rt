@@ -7,7 +7,7 @@ ghost use Rattle.match_journal.specs.Causes.{SendsNothing};
 ghost use Rattle.match_journal.specs.Steps.{Steps};
 ghost use Rattle.match_journal.specs.Standing.{IsStanding, grown, lost};
 ghost use Rattle.match_journal.specs.Appending.{IsJournalTo, IsBeforeOrAfter, IsAdded};
-ghost use Rattle.match_journal.specs.Journal.{Record, IsRecord, kind_byte, least_payload, most_payload};
+ghost use Rattle.match_journal.specs.Journal.{Header, Record, IsRecord, kind_byte, least_payload, most_payload};
 ghost use Rattle.match_journal.specs.Inner.Stores.{staged, Puts, Stored};
 ghost use Rattle.gx_station.specs.Honest.{IsSettled};
 
@@ -91,11 +91,11 @@ fn put_record<S: Station>(
     ensures puts { Puts S.meanings station.old station.new result }
     ensures settled { OnOk result (S.meanings.is_honest station.old → IsSettled S.meanings station.new) }
     ensures reach_ok { OnOk result (gate + 7 + length payload.now ≤ S.meanings.reach station.new) }
-    ensures appends { (text image : List ℕ) (limit : ℕ) (records : List Record) → IsRecord (record { kind = kind; payload = payload.now })
-        → gate + 7 + length payload.now ≤ limit → IsJournalTo text limit records gate image
+    ensures appends { (head : Header) (image : List ℕ) (limit : ℕ) (records : List Record) → IsRecord (record { kind = kind; payload = payload.now })
+        → gate + 7 + length payload.now ≤ limit → IsJournalTo head limit records gate image
         → let added : Record = record { kind = kind; payload = payload.now } in
         let next = gate + 6 + length payload.now in
-        Steps S.meanings station.old station.new image (IsBeforeOrAfter text limit records added image next) (IsAdded text limit records added image next)
+        Steps S.meanings station.old station.new image (IsBeforeOrAfter head limit records added image next) (IsAdded head limit records added image next)
         result }
 {
     store_record(station, gate, kind, payload, buffer)?;
@@ -130,11 +130,11 @@ impl Journal {
         ensures settles { OnOk result (S.meanings.is_honest station.old → IsSettled S.meanings station.new) }
         // From a journal that ends here, by images that keep the records before, or those and the new one, to a journal that
         // keeps all of them.
-        ensures appends { (text image : List ℕ) (records : List Record) → IsJournalTo text self.old.limit records self.old.gate image
+        ensures appends { (head : Header) (image : List ℕ) (records : List Record) → IsJournalTo head self.old.limit records self.old.gate image
             → let added : Record = record { kind = kind; payload = payload.now } in
             let next = self.old.gate + 6 + length payload.now in
-            Steps S.meanings station.old station.new image (IsBeforeOrAfter text self.old.limit records added image next)
-            (IsAdded text self.old.limit records added image next) result }
+            Steps S.meanings station.old station.new image (IsBeforeOrAfter head self.old.limit records added image next)
+            (IsAdded head self.old.limit records added image next) result }
     {
         let gate = self.standing.gate;
         let count = payload.len();

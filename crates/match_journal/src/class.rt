@@ -1,13 +1,15 @@
 //! What an image is, by its first bytes.
 ghost use Rattle.std.specs.Prelude.{◌≡◌, ℕ, ◌+◌, ◌<◌, ◌≤◌, List, length, take, min, IfOk, IsErrOf};
+ghost use Rattle.match_journal.specs.Journal.{magic};
 ghost use Rattle.match_journal.specs.Classes.{first_difference};
-ghost use Rattle.match_journal.specs.Inner.Fronts.{SizeAnswers, FrontAnswers, least_length};
+ghost use Rattle.match_journal.specs.Inner.Fronts.{MagicAnswers, SizeAnswers, FrontAnswers, least_length, version_or};
 ghost use Rattle.match_journal.specs.declared.limits.TheConstants.{MOST_UNFINISHED};
 
 use crate::faults::StartFault;
 use crate::limits::{MOST_TEXT, MOST_UNFINISHED};
+use crate::version::Version;
 
-/// What an image is before it is opened, with how many bytes the product text in it has.
+/// What an image is before it is opened, with the version that its header tells, and how many bytes the product text in it has.
 #[derive(Clone, Copy, Debug, PartialEq, Eq)]
 pub(crate) enum Class {
     /// No gate yet, or one alone.
@@ -15,13 +17,27 @@ pub(crate) enum Class {
     /// A closed gate, and behind it a header or a part of it, or anything.
     Blank,
     /// All but the first gate.
-    Sealed(u32),
+    Sealed(Version, u32),
     /// A journal.
-    Open(u32),
+    Open(Version, u32),
 }
 
-/// What stands behind the first gate.
-pub(crate) const MAGIC: [u8; 8] = *b"GXJOURN1";
+impl Class {
+    /// The version of the journal, or where there is none yet, this one.
+    pub(crate) fn version_or(self, new: Version) -> Version
+        ensures { result ≡ version_or self new }
+    {
+        match self {
+            Class::Empty | Class::Blank => new,
+            Class::Sealed(version, _) | Class::Open(version, _) => version,
+        }
+    }
+}
+
+/// What stands after the first gate of a journal.
+const FIRST_MAGIC: [u8; 8] = *b"GXJOURN1";
+
+const SECOND_MAGIC: [u8; 8] = *b"GXJOURN2";
 
 /// How many bytes stand before the product text.
 pub(crate) const TEXT_AT: usize = 13;
@@ -37,6 +53,31 @@ pub(crate) fn common_front(a: &[u8], b: &[u8]) -> usize
         }
     }
     most
+}
+
+/// The magic of a version.
+pub(crate) fn magic_of(version: Version) -> [u8; 8]
+    ensures { result ≡ magic version }
+{
+    match version {
+        Version::First => FIRST_MAGIC,
+        Version::Second => SECOND_MAGIC,
+    }
+}
+
+/// The version whose magic a text begins with, or the first place that fits the magic of neither version.
+fn version_at(text: &[u8]) -> Result<Version, usize>
+    ensures { MagicAnswers text.now result }
+{
+    let first = common_front(&FIRST_MAGIC, text);
+    if first == FIRST_MAGIC.len() {
+        return Ok(Version::First);
+    }
+    let second = common_front(&SECOND_MAGIC, text);
+    if second == SECOND_MAGIC.len() {
+        return Ok(Version::Second);
+    }
+    Err(first.max(second))
 }
 
 /// The length of the product text, where a text of that length and a gate have room in an image of `len` bytes.
@@ -69,21 +110,30 @@ pub(crate) fn class_of(head: &[u8], len: u64) -> Result<Class, StartFault>
             Err(StartFault::NotAJournal(0))
         };
     }
-    let same = common_front(&MAGIC, &head[1..]);
-    if head[0] != 1 {
-        if same < MAGIC.len() {
-            return Err(StartFault::NotAJournal(0));
+    let version = match version_at(&head[1..]) {
+        Ok(version) => version,
+        Err(same) => {
+            return if head[0] == 1 {
+                Err(StartFault::NotAJournal(1 + same as u64))
+            } else {
+                Err(StartFault::NotAJournal(0))
+            };
         }
-        return match size_of(head, len) {
-            Some(size) => Ok(Class::Sealed(size)),
-            None => Err(StartFault::NotAJournal(0)),
-        };
-    }
-    if same < MAGIC.len() {
-        return Err(StartFault::NotAJournal(1 + same as u64));
-    }
+    };
     match size_of(head, len) {
-        Some(size) => Ok(Class::Open(size)),
-        None => Err(StartFault::Bad(9)),
+        Some(size) => {
+            if head[0] == 1 {
+                Ok(Class::Open(version, size))
+            } else {
+                Ok(Class::Sealed(version, size))
+            }
+        }
+        None => {
+            if head[0] == 1 {
+                Err(StartFault::Bad(9))
+            } else {
+                Err(StartFault::NotAJournal(0))
+            }
+        }
     }
 }

@@ -1,12 +1,13 @@
 //! A journal, and its places.
 ghost use Rattle.std.specs.Prelude.{◌≡◌, ◌+◌, ◌-◌, ◌<◌, ◌≤◌, length, false};
-ghost use Rattle.match_journal.specs.Standing.{IsStanding, moved, at_first};
+ghost use Rattle.match_journal.specs.Standing.{IsStanding, moved, at_first, version_number};
 ghost use Rattle.match_journal.specs.declared.limits.TheConstants.{MOST_LIMIT};
 
 use crate::class::TEXT_AT;
 use crate::entry::{AROUND, Entry, HEAD};
 use crate::limits::MOST_PAYLOAD;
 use crate::standing::Standing;
+use crate::version::Version;
 use std::marker::Model;
 
 /// How many bytes a record has at most, from its kind to the gate behind it.
@@ -33,15 +34,16 @@ impl Model for Journal {
 }
 
 impl Journal {
-    /// A journal that was just opened in an image of `known` bytes, at its first gate.
-    pub(crate) fn opened(product: &[u8], known: u64, limit: u64) -> Journal
+    /// A journal of a version that was just opened in an image of `known` bytes, at its first gate.
+    pub(crate) fn opened(version: Version, product: &[u8], known: u64, limit: u64) -> Journal
         requires known { 13 + length product.now < known }
         requires most { limit ≤ MOST_LIMIT }
-        ensures { result ≡ at_first (13 + length product.now) known limit }
+        ensures { result ≡ at_first version (13 + length product.now) known limit }
     {
         let first = TEXT_AT as u64 + product.len() as u64;
         Journal {
             standing: Standing {
+                version,
                 first,
                 gate: first,
                 known,
@@ -50,6 +52,16 @@ impl Journal {
                 is_lost: false,
             },
             record: [0; RECORD],
+        }
+    }
+
+    /// The version of the journal: 1 or 2.
+    pub fn version(&self) -> u8
+        ensures { result ≡ version_number self.now.version }
+    {
+        match self.standing.version {
+            Version::First => 1,
+            Version::Second => 2,
         }
     }
 

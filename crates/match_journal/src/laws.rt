@@ -1,7 +1,7 @@
 //! Laws of the definitions. The functions do nothing; what their contracts say is proved.
 ghost use Rattle.std.specs.Prelude.{◌≡◌, ℕ, ◌≤◌, List, [], ◌∷◌, length, Option, Result, Err};
 ghost use Rattle.gx_station.specs.Disk.{Torn};
-ghost use Rattle.match_journal.specs.Journal.{Record};
+ghost use Rattle.match_journal.specs.Journal.{Header, Record};
 ghost use Rattle.match_journal.specs.Classes.{Keeps};
 ghost use Rattle.match_journal.specs.Opening.{Looks, IsStartFault};
 ghost use Rattle.match_journal.specs.Walking.{Walks};
@@ -13,10 +13,12 @@ ghost use Rattle.match_journal.specs.declared.faults.StartFault.TheVariants as s
 ghost use Rattle.match_journal.specs.declared.faults.WalkFault.{WalkFault};
 ghost use Rattle.match_journal.specs.declared.faults.WalkFault.TheVariants as walk;
 
-/// An image keeps one list of records of a product, and no other.
+/// An image keeps one list of records of a product text, and no other, and has one header.
 pub fn an_image_keeps_one_list()
-    ensures { (product image : List ℕ) (limit : ℕ) (first second : List Record) → Keeps product limit first image → Keeps product limit second image
+    ensures list { (a b : Header) (image : List ℕ) (limit : ℕ) (first second : List Record) → a.text ≡ b.text → Keeps a limit first image → Keeps b limit second image
         → first ≡ second }
+    ensures header { (a b : Header) (image : List ℕ) (limit : ℕ) (first second : List Record) → a.text ≡ b.text → Keeps a limit first image → Keeps b limit second image
+        → a ≡ b }
 {}
 
 /// One answer of an opening fits an image, besides a fault of the store. So each comes exactly where it fits.
@@ -28,8 +30,8 @@ pub fn an_image_has_one_answer()
 
 /// An image that keeps some records of a product, or none, is never refused.
 pub fn a_kept_image_is_not_refused()
-    ensures { (product image : List ℕ) (limit : ℕ) (records : List Record) (fault : StartFault) → length product ≤ MOST_TEXT
-        → Keeps product limit records image → IsStartFault product image fault
+    ensures { (head : Header) (image : List ℕ) (limit : ℕ) (records : List Record) (fault : StartFault) → length head.text ≤ MOST_TEXT
+        → Keeps head limit records image → IsStartFault head.text image fault
         → (fault ≡ start.Store → ⊥) → ⊥ }
 {}
 
@@ -42,5 +44,5 @@ pub fn a_gate_has_one_answer()
 /// Were the first gate written together with what stands behind it, over an image of one closed gate: not each image that a
 /// crash then leaves is one that a journal opens. So a creation takes a write and a sync for the gate alone.
 pub fn the_first_gate_is_written_alone()
-    ensures { (product : List ℕ) (limit n : ℕ) → 2 ≤ n → ((left : List ℕ) → Torn 0 n (0 ∷ []) left → Keeps product limit [] left) → ⊥ }
+    ensures { (head : Header) (limit n : ℕ) → 2 ≤ n → ((left : List ℕ) → Torn 0 n (0 ∷ []) left → Keeps head limit [] left) → ⊥ }
 {}

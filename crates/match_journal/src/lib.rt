@@ -14,6 +14,7 @@ mod parts;
 mod standing;
 mod start;
 mod text;
+mod version;
 mod walk;
 
 pub use entry::{Entry, EntryKind, HEAD};
@@ -24,3 +25,4 @@ pub use laws::{
     an_image_keeps_one_list, the_first_gate_is_written_alone,
 };
 pub use limits::{LEAST_LIMIT, MOST_IMAGE, MOST_LIMIT, MOST_PAYLOAD, MOST_TEXT, MOST_UNFINISHED};
+pub use version::Version;

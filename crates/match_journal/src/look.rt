@@ -2,7 +2,7 @@
 ghost use Rattle.std.specs.Prelude.{◌≡◌, ℕ, ◌+◌, ◌<◌, ◌≤◌, List, length, take, drop, Some, IfOk, OnOk, IfSome, IsErrOf};
 ghost use Rattle.gx_station.specs.Counts.{Rose};
 ghost use Rattle.match_journal.specs.Causes.{LooksOnly};
-ghost use Rattle.match_journal.specs.Standing.{at_first, IsStanding};
+ghost use Rattle.match_journal.specs.Standing.{at_first, IsStanding, StandsIn};
 ghost use Rattle.match_journal.specs.Opening.{Looks};
 ghost use Rattle.match_journal.specs.Inner.Fronts.{IsFront, FrontAnswers, EndAnswers, HoldAnswers, SameAnswers, FoundAnswers, has_closed_end, least_length, least_of_class};
 ghost use Rattle.match_journal.specs.declared.limits.TheConstants.{MOST_TEXT, MOST_LIMIT, LEAST_LIMIT, MOST_UNFINISHED};
@@ -52,7 +52,7 @@ fn read_end<S: Station>(station: &mut S, class: Class) -> Result<(), StartFault>
     ensures end { (image : List ℕ) → S.meanings.holds station.old ≡ Some image → IsFront image class → EndAnswers image class result }
 {
     match class {
-        Class::Sealed(size) => {
+        Class::Sealed(_, size) => {
             let mut gate = [0; 1];
             if station
                 .read(TEXT_AT as u64 + size as u64, &mut gate)
@@ -68,7 +68,7 @@ fn read_end<S: Station>(station: &mut S, class: Class) -> Result<(), StartFault>
         }
         Class::Empty => Ok(()),
         Class::Blank => Ok(()),
-        Class::Open(_) => Ok(()),
+        Class::Open(_, _) => Ok(()),
     }
 }
 
@@ -104,8 +104,8 @@ fn hold_text<S: Station>(station: &mut S, class: Class, product: &[u8]) -> Resul
         → HoldAnswers product.now image class result }
 {
     match class {
-        Class::Sealed(size) => same_text(station, size, product),
-        Class::Open(size) => same_text(station, size, product),
+        Class::Sealed(_, size) => same_text(station, size, product),
+        Class::Open(_, size) => same_text(station, size, product),
         Class::Empty => Ok(()),
         Class::Blank => Ok(()),
     }
@@ -138,7 +138,7 @@ pub(crate) fn look_at<S: Station>(station: &mut S, product: &[u8]) -> Result<Fou
 }
 
 impl Journal {
-    /// Opens for reading: `None` exactly for an unfinished creation of this product. It writes nothing and does not sync, and
+    /// Opens for reading a journal of either version: `None` exactly for an unfinished creation of this product. It writes nothing and does not sync, and
     /// reads no byte twice.
     pub fn look<S: Station>(
         station: &mut S,
@@ -152,7 +152,8 @@ impl Journal {
         ensures store { IsErrOf result StartFault.Store → Rose (S.meanings.store_faults station.old) (S.meanings.store_faults station.new) }
         ensures none { (IsErrOf result StartFault.Store → ⊥) → S.meanings.store_faults station.new ≡ S.meanings.store_faults station.old }
         ensures place { IfOk result
-            (λ found. IfSome found (λ journal. (journal ≡ at_first (13 + length product.now) journal.known limit) × IsStanding journal)) }
+            (λ found. IfSome found (λ journal. (journal ≡ at_first journal.version (13 + length product.now) journal.known limit) × IsStanding journal)) }
+        ensures stands_in { (image : List ℕ) → S.meanings.holds station.old ≡ Some image → IfOk result (λ found. IfSome found (λ journal. StandsIn journal image)) }
         ensures reach { IfOk result (λ found. IfSome found (λ journal. journal.known ≤ S.meanings.reach station.new)) }
         ensures answers { (image : List ℕ) → S.meanings.holds station.old ≡ Some image → Looks product.now limit image result }
     {
@@ -161,8 +162,12 @@ impl Journal {
             Err(fault) => return Err(fault),
         };
         match found.class {
-            Class::Open(_) => Ok(Some(Journal::opened(product, found.len, limit))),
-            _ => Ok(None),
+            Class::Open(version, _) => Ok(Some(Journal::opened(
+                version, product, found.len, limit,
+            ))),
+            Class::Empty => Ok(None),
+            Class::Blank => Ok(None),
+            Class::Sealed(_, _) => Ok(None),
         }
     }
 }

@@ -1,8 +1,12 @@
 //! Where a journal stands.
 
+use crate::version::Version;
+
 /// What contracts see of a journal: where it stands in the image of a station.
 #[derive(Clone, Copy, Debug, PartialEq, Eq)]
 pub struct Standing {
+    /// The version that the header tells.
+    pub version: Version,
     /// The gate behind the product text.
     pub first: u64,
     /// The last gate met, which is that of the next entry.

@@ -1,52 +1,66 @@
-//! Opening for writing: a blank image, and a sealed one of the product, is made a journal, one step after the other.
+//! Opening for writing: a blank image is made a journal of the second version, and a sealed one of the product a journal of its
+//! own, one step after the other.
 ghost use Rattle.std.specs.Prelude.{◌≡◌, ◌⊎◌, ℕ, ◌+◌, ◌<◌, ◌≤◌, max, List, [], ◌++◌, length, Some, true, OnOk, IfOk, IfErr, IsErrOf};
 ghost use Rattle.gx_station.specs.Counts.{Rose};
 ghost use Rattle.gx_station.specs.Honest.{KeepsImage, IsSettled};
 ghost use Rattle.match_journal.specs.Causes.{SendsNothing, ReadsAtMost};
 ghost use Rattle.match_journal.specs.Steps.{Steps, StepsFrom, HoldsOne};
-ghost use Rattle.match_journal.specs.Standing.{IsStanding, at_first};
+ghost use Rattle.match_journal.specs.Standing.{IsStanding, StandsIn, at_first};
 ghost use Rattle.std.specs.Int.{w32, to_be_bytes};
-ghost use Rattle.match_journal.specs.Journal.{Record, IsJournal, magic};
+ghost use Rattle.match_journal.specs.Journal.{Header, Record, IsJournal, in_version, magic, version_of};
 ghost use Rattle.match_journal.specs.Classes.{HasOpenGate, IsBlank, IsSealed, Keeps};
 ghost use Rattle.match_journal.specs.Opening.{Starts, IsOpening, IsRefusal};
 ghost use Rattle.match_journal.specs.Inner.Stores.{Puts};
-ghost use Rattle.match_journal.specs.Inner.Fronts.{IsFound, IsClosed, IsMade, least_of_class, is_open, is_sealed};
+ghost use Rattle.match_journal.specs.Inner.Fronts.{IsFound, IsClosed, IsMade, least_of_class, is_open, is_sealed, version_or};
 ghost use Rattle.match_journal.specs.declared.limits.TheConstants.{MOST_TEXT, MOST_LIMIT, LEAST_LIMIT, MOST_UNFINISHED};
+ghost use Rattle.match_journal.specs.declared.version.Version.TheVariants.{Second};
 
-use crate::class::{Class, MAGIC};
+use crate::class::{Class, magic_of};
 use crate::faults::StartFault;
 use crate::journal::Journal;
 use crate::look::{Found, look_at};
 use crate::parts::{store, store_parts};
+use crate::version::Version;
 use gx_station::{Failed, Station};
 
-/// The magic and the length of the text.
-fn head_of(size: u32) -> [u8; 12]
-    ensures { result ≡ magic ++ to_be_bytes w32 size }
+/// The magic of a version, and the length of the text.
+fn head_of(version: Version, size: u32) -> [u8; 12]
+    ensures { result ≡ magic version ++ to_be_bytes w32 size }
 {
     let mut head = [0; 12];
-    head[..8].copy_from_slice(&MAGIC);
+    head[..8].copy_from_slice(&magic_of(version));
     head[8..].copy_from_slice(&size.to_be_bytes());
     head
 }
 
-/// Writes the header behind the first gate, which is closed, and a closed gate behind it; and then opens the first.
-fn create<S: Station>(station: &mut S, product: &[u8]) -> Result<(), Failed>
+/// Writes the header of a version after the first gate, which is closed, and a closed gate after it; and then opens the first.
+fn create<S: Station>(station: &mut S, version: Version, product: &[u8]) -> Result<(), Failed>
     requires reach { 1 ≤ S.meanings.reach station.old }
     requires short { length product.now ≤ MOST_TEXT }
     ensures puts { Puts S.meanings station.old station.new result }
     ensures reach { OnOk result (14 + length product.now ≤ S.meanings.reach station.new) }
     ensures settled { OnOk result (S.meanings.is_honest station.old → IsSettled S.meanings station.new) }
     ensures steps { (image : List ℕ) (limit : ℕ) → LEAST_LIMIT ≤ limit → IsClosed image
-        → Steps S.meanings station.old station.new image (IsOpening product.now limit [] image)
-        (IsMade product.now limit (max (length image) (14 + length product.now))) result }
+        → let head = in_version version product.now in
+        Steps S.meanings station.old station.new image (IsOpening product.now limit [] image) (IsMade head limit (max (length image) (14 + length product.now))) result }
 {
-    store_parts(station, 1, &head_of(product.len() as u32), product, &[0])?;
+    store_parts(
+        station,
+        1,
+        &head_of(version, product.len() as u32),
+        product,
+        &[0],
+    )?;
     store(station, 0, &[1])
 }
 
-/// Makes a journal of what was found.
-fn finish<S: Station>(station: &mut S, found: &Found, product: &[u8]) -> Result<(), Failed>
+/// Makes a journal of what was found, where there is none yet one of this version.
+fn finish<S: Station>(
+    station: &mut S,
+    found: &Found,
+    version: Version,
+    product: &[u8],
+) -> Result<(), Failed>
     requires short { length product.now ≤ MOST_TEXT }
     requires reach { found.now.len ≤ S.meanings.reach station.old }
     requires least { least_of_class (length product.now) found.now.class ≤ found.now.len }
@@ -55,22 +69,24 @@ fn finish<S: Station>(station: &mut S, found: &Found, product: &[u8]) -> Result<
     ensures settled { OnOk result (S.meanings.is_honest station.old → IsSettled S.meanings station.old → IsSettled S.meanings station.new) }
     ensures opened { is_open found.now.class ≡ true → station.new ≡ station.old }
     ensures known { (image : List ℕ) → IsFound product.now image found.now → S.meanings.holds station.old ≡ Some image
-        → OnOk result (HoldsOne S.meanings (λ last. length last ≡ max found.now.len (14 + length product.now)) station.new) }
-    ensures makes { (image : List ℕ) (limit : ℕ) → LEAST_LIMIT ≤ limit → is_sealed found.now.class ≡ true → IsSealed product.now image
+        → version ≡ version_or found.now.class Second
+        → OnOk result (HoldsOne S.meanings (λ last. (length last ≡ max found.now.len (14 + length product.now)) × (version_of last ≡ version)) station.new) }
+    ensures makes { (image : List ℕ) (limit : ℕ) → LEAST_LIMIT ≤ limit → is_sealed found.now.class ≡ true → IsSealed (in_version version product.now) image
         → S.meanings.holds station.old ≡ Some image
-        → OnOk result (HoldsOne S.meanings (IsJournal product.now limit []) station.new) }
+        → OnOk result (HoldsOne S.meanings (IsJournal (in_version version product.now) limit []) station.new) }
     ensures steps { (image : List ℕ) (limit : ℕ) (records : List Record) → LEAST_LIMIT ≤ limit → IsFound product.now image found.now
-        → Keeps product.now limit records image
-        → Steps S.meanings station.old station.new image (IsOpening product.now limit records image) (IsJournal product.now limit records) result }
+        → version ≡ version_or found.now.class Second → Keeps (in_version version product.now) limit records image
+        → let head = in_version version product.now in
+        Steps S.meanings station.old station.new image (IsOpening product.now limit records image) (IsJournal head limit records) result }
 {
     match found.class {
         Class::Empty => {
             store(station, 0, &[0])?;
-            create(station, product)
+            create(station, version, product)
         }
-        Class::Blank => create(station, product),
-        Class::Sealed(_) => store(station, 0, &[1]),
-        Class::Open(_) => Ok(()),
+        Class::Blank => create(station, version, product),
+        Class::Sealed(_, _) => store(station, 0, &[1]),
+        Class::Open(_, _) => Ok(()),
     }
 }
 
@@ -83,8 +99,9 @@ fn length_then(found: &Found, product: &[u8]) -> u64
 }
 
 impl Journal {
-    /// Opens for writing, which begins with a sync: a blank image, and a sealed one of this product, becomes a journal that
-    /// keeps nothing. A journal stays as it is, and so does what is refused.
+    /// Opens for writing, which begins with a sync: a blank image becomes a journal of the second version that keeps nothing, and
+    /// a sealed one of this product such a journal of its own version. A journal of either version stays as it is, and so does
+    /// what is refused.
     pub fn start<S: Station>(
         station: &mut S,
         product: &[u8],
@@ -97,21 +114,23 @@ impl Journal {
         ensures store { IsErrOf result StartFault.Store → Rose (S.meanings.store_faults station.old) (S.meanings.store_faults station.new) }
         ensures none { (IsErrOf result StartFault.Store → ⊥) → S.meanings.store_faults station.new ≡ S.meanings.store_faults station.old }
         ensures bytes_read { ReadsAtMost MOST_UNFINISHED (S.meanings.bytes_read station.old) (S.meanings.bytes_read station.new) }
-        ensures place { IfOk result (λ journal. (journal ≡ at_first (13 + length product.now) journal.known limit) × IsStanding journal) }
+        ensures place { IfOk result (λ journal. (journal ≡ at_first journal.version (13 + length product.now) journal.known limit) × IsStanding journal) }
         ensures reach { IfOk result (λ journal. journal.known ≤ S.meanings.reach station.new) }
-        ensures known { IfOk result (λ journal. (before after : List ℕ) → S.meanings.holds station.old ≡ Some before
-            → S.meanings.holds station.new ≡ Some after → length after ≡ journal.known) }
+        ensures stands_in { IfOk result (λ journal. (before after : List ℕ) → S.meanings.holds station.old ≡ Some before
+            → S.meanings.holds station.new ≡ Some after → StandsIn journal after) }
         // Which images are opened, and which fault comes with the others, at which place.
         ensures answers { (image : List ℕ) → S.meanings.holds station.old ≡ Some image → Starts product.now image result }
         // An image that keeps some records is opened by images that keep the same.
-        ensures starts { (image : List ℕ) (records : List Record) → Keeps product.now limit records image
-            → StepsFrom S.meanings station.old station.new image (IsOpening product.now limit records image) (IsJournal product.now limit records) result }
-        // A blank image, and a sealed one of this product, are made a journal that keeps nothing.
-        ensures makes { (image : List ℕ) → S.meanings.holds station.old ≡ Some image → IsBlank image ⊎ IsSealed product.now image
-            → OnOk result (HoldsOne S.meanings (IsJournal product.now limit []) station.new) }
+        ensures starts { (image : List ℕ) (head : Header) (records : List Record) → head.text ≡ product.now → Keeps head limit records image
+            → StepsFrom S.meanings station.old station.new image (IsOpening product.now limit records image) (IsJournal head limit records) result }
+        // A blank image is made a journal of the second version that keeps nothing, and a sealed one of this text such a journal of its own.
+        ensures creates { (image : List ℕ) → S.meanings.holds station.old ≡ Some image → IsBlank image
+            → OnOk result (HoldsOne S.meanings (IsJournal (in_version Second product.now) limit []) station.new) }
+        ensures makes { (image : List ℕ) (head : Header) → S.meanings.holds station.old ≡ Some image → head.text ≡ product.now → IsSealed head image
+            → OnOk result (HoldsOne S.meanings (IsJournal head limit []) station.new) }
         // Whatever the answer, a read gives an image that keeps the same then.
-        ensures keeps { (image : List ℕ) (records : List Record) → S.meanings.is_honest station.old → S.meanings.holds station.old ≡ Some image
-            → Keeps product.now limit records image
+        ensures keeps { (image : List ℕ) (head : Header) (records : List Record) → S.meanings.is_honest station.old → S.meanings.holds station.old ≡ Some image
+            → head.text ≡ product.now → Keeps head limit records image
             → HoldsOne S.meanings (IsOpening product.now limit records image) station.new }
         // Whatever the image was, nothing is pending at the end.
         ensures settles { OnOk result (S.meanings.is_honest station.old → IsSettled S.meanings station.new) }
@@ -126,9 +145,11 @@ impl Journal {
             Ok(found) => found,
             Err(fault) => return Err(fault),
         };
-        if finish(station, &found, product).is_err() {
+        let version = found.class.version_or(Version::Second);
+        if finish(station, &found, version, product).is_err() {
             return Err(StartFault::Store);
         }
-        Ok(Journal::opened(product, length_then(&found, product), limit))
+        let known = length_then(&found, product);
+        Ok(Journal::opened(version, product, known, limit))
     }
 }

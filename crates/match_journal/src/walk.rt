@@ -3,8 +3,8 @@ ghost use Rattle.std.specs.Prelude.{◌≡◌, ℕ, ◌+◌, ◌<◌, ◌≤◌,
 ghost use Rattle.gx_station.specs.Counts.{Rose};
 ghost use Rattle.gx_station.specs.StoreCalls.{OnStore};
 ghost use Rattle.match_journal.specs.Causes.{LooksOnly};
-ghost use Rattle.match_journal.specs.Journal.{IsJournal, Record, kind_byte, least_payload, most_payload, journal_front};
-ghost use Rattle.match_journal.specs.Standing.{IsStanding, Fits};
+ghost use Rattle.match_journal.specs.Journal.{Header, IsJournal, Record, kind_byte, least_payload, most_payload, journal_front};
+ghost use Rattle.match_journal.specs.Standing.{IsStanding, StandsIn, Fits};
 ghost use Rattle.match_journal.specs.Walking.{Walks, InOrder, IsNext, stands_then};
 ghost use Rattle.match_journal.specs.Inner.Heads.{HeadAnswers};
 ghost use Rattle.match_journal.specs.declared.entry.EntryKind.{EntryKind};
@@ -67,7 +67,7 @@ fn read_head<S: Station>(station: &mut S, standing: &Standing) -> Result<Option<
     ensures store { IsErrOf result WalkFault.Store → Rose (S.meanings.store_faults station.old) (S.meanings.store_faults station.new) }
     ensures none { (IsErrOf result WalkFault.Store → ⊥) → S.meanings.store_faults station.new ≡ S.meanings.store_faults station.old }
     ensures entry { IfOk result (λ found. IfSome found (λ entry. (entry.at ≡ standing.now.gate) × Fits standing.now.known standing.now.limit entry)) }
-    ensures walks { (image : List ℕ) → S.meanings.holds station.old ≡ Some image → length image ≡ standing.now.known
+    ensures walks { (image : List ℕ) → S.meanings.holds station.old ≡ Some image → StandsIn standing.now image
         → Walks image standing.now.limit standing.now.gate result }
 {
     let gate = standing.gate;
@@ -98,11 +98,11 @@ impl Journal {
         ensures stands { IsStanding self.new }
         ensures moves { self.new ≡ stands_then self.old result }
         ensures entry { IfOk result (λ found. IfSome found (λ entry. (entry.at ≡ self.old.gate) × Fits self.old.known self.old.limit entry)) }
-        ensures walks { (image : List ℕ) → S.meanings.holds station.old ≡ Some image → length image ≡ self.old.known
+        ensures walks { (image : List ℕ) → S.meanings.holds station.old ≡ Some image → StandsIn self.old image
             → Walks image self.old.limit self.old.gate result }
-        ensures in_order { (text image : List ℕ) (before after : List Record) → S.meanings.holds station.old ≡ Some image → length image ≡ self.old.known
-            → IsJournal text self.old.limit (before ++ after) image → self.old.gate ≡ length (journal_front text before)
-            → InOrder text image before after self.new.gate result }
+        ensures in_order { (head : Header) (image : List ℕ) (before after : List Record) → S.meanings.holds station.old ≡ Some image → StandsIn self.old image
+            → IsJournal head self.old.limit (before ++ after) image → self.old.gate ≡ length (journal_front head before)
+            → InOrder head image before after self.new.gate result }
     {
         match read_head(station, &self.standing) {
             Ok(Some(entry)) => {
@@ -135,8 +135,8 @@ impl Journal {
         ensures size { length into.new ≡ length into.old }
         ensures bytes { OnOk result ((image : List ℕ) → S.meanings.holds station.old ≡ Some image
             → into.new ≡ take entry.now.length (drop (entry.now.at + 6) image)) }
-        ensures payload { OnOk result ((text image : List ℕ) (before after : List Record) (gate : ℕ) → S.meanings.holds station.old ≡ Some image
-            → (next : IsNext text image before after gate entry.now) → into.new ≡ next.found.payload) }
+        ensures payload { OnOk result ((head : Header) (image : List ℕ) (before after : List Record) (gate : ℕ) → S.meanings.holds station.old ≡ Some image
+            → (next : IsNext head image before after gate entry.now) → into.new ≡ next.found.payload) }
     {
         prove!(entry.at < self.standing.known);
         match station.read(entry.at + HEAD as u64, into) {

@@ -1,10 +1,11 @@
 -- What is found in an image before it is opened, step by step.
 use Rattle.std.specs.Prelude.{◌≡◌, ◌≢◌, ℕ, ◌+◌, ◌<◌, ◌≤◌, List, [], ◌∷◌, ◌++◌, length, take, drop, get_or, Bool, true, false, Option, Some, None, Result, Ok, Err}
 use Rattle.std.specs.Int.{w32, to_be_bytes}
-use Rattle.match_journal.specs.Journal.{IsJournal, magic}
-use Rattle.match_journal.specs.Classes.{HasOpenGate, IsForeignAt, HasBadHeader, IsSealed, first_difference}
+use Rattle.match_journal.specs.Journal.{Header, IsJournal, in_version, magic}
+use Rattle.match_journal.specs.Classes.{HasOpenGate, IsForeignAt, HasBadHeader, IsSealed, first_difference, magic_difference}
 use Rattle.match_journal.specs.Opening.{IsOpened, IsStartFault}
 use Rattle.match_journal.specs.declared.limits.TheConstants.{MOST_TEXT, MOST_UNFINISHED}
+use Rattle.match_journal.specs.declared.version.Version.{Version}
 use Rattle.match_journal.specs.declared.class.Class.{Class}
 use Rattle.match_journal.specs.declared.class.Class.TheVariants as class
 use Rattle.match_journal.specs.declared.look.Found.{Found}
@@ -12,6 +13,11 @@ use Rattle.match_journal.specs.declared.faults.StartFault.{StartFault}
 use Rattle.match_journal.specs.declared.faults.StartFault.TheVariants as fault
 
 -- ---- the first bytes
+
+-- the version whose magic stands at the front of a text, or the place of the first byte that fits none
+abbrev pub MagicAnswers : List ℕ → Result Version ℕ → Type 0
+MagicAnswers text (Ok version) = take 8 text ≡ magic version
+MagicAnswers text (Err at) = (at < 8) × (at ≡ magic_difference text)
 
 -- the length of a text that has room, in four bytes
 pub record IsSize (head : List ℕ) (len size : ℕ) : Type 0 where
@@ -23,24 +29,31 @@ abbrev pub SizeAnswers : List ℕ → ℕ → Option ℕ → Type 0
 SizeAnswers head len None = (size : ℕ) → IsSize head len size → ⊥
 SizeAnswers head len (Some size) = IsSize head len size
 
--- the magic, the length of a text, and room for such a text and a gate
-pub record HasSize (size : ℕ) (image : List ℕ) : Type 0 where
+-- the magic of a version, the length of a text, and room for such a text and a gate
+pub record HasSize (version : Version) (size : ℕ) (image : List ℕ) : Type 0 where
   pub few : size ≤ MOST_TEXT
-  pub stands : take 12 (drop 1 image) ≡ magic ++ to_be_bytes w32 size
+  pub stands : take 12 (drop 1 image) ≡ magic version ++ to_be_bytes w32 size
   pub inside : 13 + size < length image
 
 abbrev pub IsFront : List ℕ → Class → Type 0
 IsFront image class.Empty = length image ≤ 1
 IsFront image class.Blank = (get_or image 0 0 ≡ 0) × (length image ≤ MOST_UNFINISHED)
-IsFront image (class.Sealed size) = (get_or image 0 0 ≢ 0) × (get_or image 0 0 ≢ 1) × HasSize size image
-IsFront image (class.Open size) = HasOpenGate image × HasSize size image
+IsFront image (class.Sealed version size) = (get_or image 0 0 ≢ 0) × (get_or image 0 0 ≢ 1) × HasSize version size image
+IsFront image (class.Open version size) = HasOpenGate image × HasSize version size image
 
 -- how many bytes an image of a class has at least
 abbrev pub least_length : Class → ℕ
 least_length class.Empty = 0
 least_length class.Blank = 1
-least_length (class.Sealed size) = 14 + size
-least_length (class.Open size) = 14 + size
+least_length (class.Sealed version size) = 14 + size
+least_length (class.Open version size) = 14 + size
+
+-- the version that an image of a class has, or this one where it has none yet
+abbrev pub version_or : Class → Version → Version
+version_or class.Empty new = new
+version_or class.Blank new = new
+version_or (class.Sealed version size) new = version
+version_or (class.Open version size) new = version
 
 abbrev pub IsFrontFault : List ℕ → StartFault → Type 0
 IsFrontFault image fault.Store = Unit {0}
@@ -57,8 +70,8 @@ FrontAnswers image (Err e) = IsFrontFault image e
 abbrev pub has_closed_end : List ℕ → Class → Type 0
 has_closed_end image class.Empty = Unit {0}
 has_closed_end image class.Blank = Unit {0}
-has_closed_end image (class.Sealed size) = get_or image (13 + size) 0 ≡ 0
-has_closed_end image (class.Open size) = Unit {0}
+has_closed_end image (class.Sealed version size) = get_or image (13 + size) 0 ≡ 0
+has_closed_end image (class.Open version size) = Unit {0}
 
 abbrev pub EndAnswers : List ℕ → Class → Result (Unit {0}) StartFault → Type 0
 EndAnswers image c (Ok t) = has_closed_end image c
@@ -82,15 +95,15 @@ SameAnswers text product (Err (fault.ProductDiffers at)) = (text ≢ product) ×
 abbrev pub IsOfClass : List ℕ → List ℕ → Class → Type 0
 IsOfClass product image class.Empty = length image ≤ 1
 IsOfClass product image class.Blank = (get_or image 0 0 ≡ 0) × (length image ≤ MOST_UNFINISHED)
-IsOfClass product image (class.Sealed size) = IsSealed product image
-IsOfClass product image (class.Open size) = IsOpened product image
+IsOfClass product image (class.Sealed version size) = IsSealed (in_version version product) image
+IsOfClass product image (class.Open version size) = IsOpened (in_version version product) image
 
 -- how many bytes it has at least, with a product text of so many bytes
 abbrev pub least_of_class : ℕ → Class → ℕ
 least_of_class count class.Empty = 0
 least_of_class count class.Blank = 1
-least_of_class count (class.Sealed size) = 14 + count
-least_of_class count (class.Open size) = 14 + count
+least_of_class count (class.Sealed version size) = 14 + count
+least_of_class count (class.Open version size) = 14 + count
 
 abbrev pub HoldAnswers : List ℕ → List ℕ → Class → Result (Unit {0}) StartFault → Type 0
 HoldAnswers product image c (Ok t) = IsOfClass product image c
@@ -107,14 +120,14 @@ FoundAnswers product image (Err e) = IsStartFault product image e
 abbrev pub is_open : Class → Bool
 is_open class.Empty = false
 is_open class.Blank = false
-is_open (class.Sealed size) = false
-is_open (class.Open size) = true
+is_open (class.Sealed version size) = false
+is_open (class.Open version size) = true
 
 abbrev pub is_sealed : Class → Bool
 is_sealed class.Empty = false
 is_sealed class.Blank = false
-is_sealed (class.Sealed size) = true
-is_sealed (class.Open size) = false
+is_sealed (class.Sealed version size) = true
+is_sealed (class.Open version size) = false
 
 -- ---- a creation
 
@@ -125,6 +138,6 @@ pub record IsClosed (image : List ℕ) : Type 0 where
   pub few : length image ≤ MOST_UNFINISHED
 
 -- a journal that keeps nothing was made, in an image of this length
-pub record IsMade (product : List ℕ) (limit known : ℕ) (image : List ℕ) : Type 0 where
-  pub journal : IsJournal product limit [] image
+pub record IsMade (head : Header) (limit known : ℕ) (image : List ℕ) : Type 0 where
+  pub journal : IsJournal head limit [] image
   pub length_is : length image ≡ known

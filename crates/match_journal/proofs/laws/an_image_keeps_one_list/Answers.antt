@@ -1,5 +1,8 @@
-use Rattle.match_journal.proofs.Unique.{one_keeping}
+use Rattle.match_journal.proofs.Unique.{one_keeping, one_head}
 use Rattle.match_journal.proofs.laws.an_image_keeps_one_list.Goals as goal
 
-pub returns : goal.returns
-returns c = λ product image limit first second a b. one_keeping product limit image first second a b
+pub returns-clause-list : goal.returns-clause-list
+returns-clause-list c = λ a b image limit first second text x y. one_keeping a b limit image first second text x y
+
+pub returns-clause-header : goal.returns-clause-header
+returns-clause-header c = λ a b image limit first second text x y. one_head a b limit image first second text x y

@@ -10,7 +10,7 @@ returns-else-gate-eq0-clause-end g c = λ image read front.
     let into = c.read.new.into in
     let told = on_ok c.read.result (sym c.is_err.ensures.value ∙ c.if-is_err.false) c.read.ensures.reads.bytes in
     let bytes : into ≡ take (length into) (drop (13 + c.in-Sealed.size) image) = subst (λ h. IfSome h (λ image. into ≡ take (length into) (drop (13 + c.in-Sealed.size) image))) read told in
-    held_end image c.args.class c.in-Sealed.size c.in-Sealed.is front (λ zero. c.if-gate-eq0.false (byte_read image into _ bytes (omega arith) ∙ zero))
+    held_end image c.args.class _ c.in-Sealed.size c.in-Sealed.is front (λ zero. c.if-gate-eq0.false (byte_read image into _ bytes (omega arith) ∙ zero))
 
 pub returns-then-is_err-clause-looks : goal.returns-then-is_err-clause-looks
 returns-then-is_err-clause-looks g c = looks_read g.S.Station.meanings _ _ (13 + c.in-Sealed.size) 1 c.read.new.into c.read.result (omega arith) c.read.ensures.reads
