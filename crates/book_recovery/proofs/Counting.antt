@@ -1,7 +1,7 @@
 -- Going over the heads of all records.
 use Rattle.std.proofs.Common.{◌≡◌, ◌≢◌, ℕ, ◌+◌, List, [], ◌∷◌, ◌++◌, length, get_or, true, false, Option, Some, None, Ok, Err, refl, sym, subst, ◌∙◌, ap, arith, length-append}
 use Rattle.std.specs.Option.{option_or}
-use Rattle.match_journal.specs.Journal.{Record, journal_front}
+use Rattle.match_journal.specs.Journal.{Record, journal_front, Header}
 use Rattle.match_journal.specs.Walking.{IsHead, IsBadHead, Walks}
 use Rattle.match_journal.specs.declared.entry.Entry.{Entry}
 use Rattle.match_journal.specs.declared.entry.EntryKind.{EntryKind}
@@ -16,37 +16,37 @@ use Rattle.book_recovery.proofs.LastImages.{before-image-more, gate-image-more, 
 use Rattle.book_recovery.proofs.Images.{length-first, length-push, record_there, payload_size, begins_more, begins_closed}
 
 -- The second pass begins with the head of the last image, or else with the first head; where there is none yet, no record was met.
-abbrev pub IsStart : List ℕ → List ℕ → ℕ → List Record → Option Entry → Type 0
-IsStart text image limit before None = before ≡ []
-IsStart text image limit before (Some entry) = IsHead image limit (length (journal_front text (before_last_image before))) entry
+abbrev pub IsStart : Header → List ℕ → ℕ → List Record → Option Entry → Type 0
+IsStart head image limit before None = before ≡ []
+IsStart head image limit before (Some entry) = IsHead image limit (length (journal_front head (before_last_image before))) entry
 
 -- so many good heads were met, and this is the next gate
-pub record IsCounting (text : List ℕ) (limit : ℕ) (image : List ℕ) (gate : ℕ) (heads : Heads) : Type 0 where
+pub record IsCounting (head : Header) (limit : ℕ) (image : List ℕ) (gate : ℕ) (heads : Heads) : Type 0 where
   pub before : List Record
-  pub begins : BeginsWithRecords text limit before image
-  pub gate_is : gate ≡ length (journal_front text before)
+  pub begins : BeginsWithRecords head limit before image
+  pub gate_is : gate ≡ length (journal_front head before)
   pub count_is : heads.entries ≡ length before
-  pub image_is : heads.image_at ≡ image_gate text before
-  pub start : IsStart text image limit before heads.start
+  pub image_is : heads.image_at ≡ image_gate head before
+  pub start : IsStart head image limit before heads.start
 
-pub counting_first : (text : List ℕ) (limit : ℕ) (image : List ℕ) (gate : ℕ) → BeginsWithRecords text limit [] image → gate ≡ 13 + length text
-    → IsCounting text limit image gate (record { entries = 0; image_at = None; start = None })
-counting_first text limit image gate begins place = record { before = []; begins = begins; gate_is = place ∙ sym (length-first text); count_is = refl; image_is = refl; start = refl }
+pub counting_first : (head : Header) (limit : ℕ) (image : List ℕ) (gate : ℕ) → BeginsWithRecords head limit [] image → gate ≡ 13 + length head.text
+    → IsCounting head limit image gate (record { entries = 0; image_at = None; start = None })
+counting_first head limit image gate begins place = record { before = []; begins = begins; gate_is = place ∙ sym (length-first head); count_is = refl; image_is = refl; start = refl }
 
-module _ (text : List ℕ) (limit : ℕ) (image : List ℕ) (gate : ℕ) (before : List Record) (r : Record) where
+module _ (head : Header) (limit : ℕ) (image : List ℕ) (gate : ℕ) (before : List Record) (r : Record) where
   -- the place of the start, where frames come behind
-  start-frames : is_image r ≡ false → (start : Option Entry) (entry : Entry) → gate ≡ length (journal_front text before) → IsHead image limit gate entry
-      → IsStart text image limit before start → IsStart text image limit (before ++ r ∷ []) (option_or start (Some entry))
-  start-frames frames None entry place head is =
+  start-frames : is_image r ≡ false → (start : Option Entry) (entry : Entry) → gate ≡ length (journal_front head before) → IsHead image limit gate entry
+      → IsStart head image limit before start → IsStart head image limit (before ++ r ∷ []) (option_or start (Some entry))
+  start-frames frames None entry place at_head is =
       let same : before ≡ before_last_image (before ++ r ∷ []) = is ∙ ap before_last_image (sym is) ∙ sym (before-frames-more r frames before) in
-      subst (λ k. IsHead image limit k entry) (place ∙ ap (λ (l : List Record). length (journal_front text l)) same) head
-  start-frames frames (Some e) entry place head is =
-      subst (λ (l : List Record). IsHead image limit (length (journal_front text l)) e) (sym (before-frames-more r frames before)) is
+      subst (λ k. IsHead image limit k entry) (place ∙ ap (λ (l : List Record). length (journal_front head l)) same) at_head
+  start-frames frames (Some e) entry place at_head is =
+      subst (λ (l : List Record). IsHead image limit (length (journal_front head l)) e) (sym (before-frames-more r frames before)) is
 
   -- and where an image does
-  start-image : is_image r ≡ true → (entry : Entry) → gate ≡ length (journal_front text before) → IsHead image limit gate entry → IsStart text image limit (before ++ r ∷ []) (Some entry)
-  start-image is entry place head =
-      subst (λ k. IsHead image limit k entry) (place ∙ ap (λ (l : List Record). length (journal_front text l)) (sym (before-image-more r is before))) head
+  start-image : is_image r ≡ true → (entry : Entry) → gate ≡ length (journal_front head before) → IsHead image limit gate entry → IsStart head image limit (before ++ r ∷ []) (Some entry)
+  start-image is entry place at_head =
+      subst (λ k. IsHead image limit k entry) (place ∙ ap (λ (l : List Record). length (journal_front head l)) (sym (before-image-more r is before))) at_head
 
 -- one head more is counted
 kind_entries : (heads : Heads) (kind : EntryKind) (entry : Entry) → (with_head_of heads kind entry).entries ≡ heads.entries + 1
@@ -58,65 +58,65 @@ pub entries_more : (heads then : Heads) (entry : Entry) → then ≡ with_head h
 entries_more heads then entry is = ap (λ (h : Heads). h.entries) is ∙ kind_entries heads entry.kind entry
 
 -- what the heads then tell, by the kind of the one that was met
-record TellsMore (text : List ℕ) (limit : ℕ) (image : List ℕ) (before : List Record) (heads : Heads) : Type 0 where
+record TellsMore (head : Header) (limit : ℕ) (image : List ℕ) (before : List Record) (heads : Heads) : Type 0 where
   pub count_is : heads.entries ≡ length before
-  pub image_is : heads.image_at ≡ image_gate text before
-  pub start : IsStart text image limit before heads.start
+  pub image_is : heads.image_at ≡ image_gate head before
+  pub start : IsStart head image limit before heads.start
 
-module _ (text : List ℕ) (limit : ℕ) (image : List ℕ) (gate : ℕ) (heads : Heads) (at : IsCounting text limit image gate heads) where
-  head_behind : (entry : Entry) → IsHead image limit gate entry → IsHead image limit (length (journal_front text at.before)) entry
-  head_behind entry head = subst (λ k. IsHead image limit k entry) at.gate_is head
+module _ (head : Header) (limit : ℕ) (image : List ℕ) (gate : ℕ) (heads : Heads) (at : IsCounting head limit image gate heads) where
+  head_behind : (entry : Entry) → IsHead image limit gate entry → IsHead image limit (length (journal_front head at.before)) entry
+  head_behind entry at_head = subst (λ k. IsHead image limit k entry) at.gate_is at_head
 
   tells-image : (entry : Entry) (r : Record) → is_image r ≡ true → IsHead image limit gate entry
-      → TellsMore text limit image (at.before ++ r ∷ []) (record { entries = heads.entries + 1; image_at = Some entry.at; start = Some entry })
-  tells-image entry r is head = record {
+      → TellsMore head limit image (at.before ++ r ∷ []) (record { entries = heads.entries + 1; image_at = Some entry.at; start = Some entry })
+  tells-image entry r is at_head = record {
     count_is = omega (arith, at.count_is, length-append at.before (r ∷ []));
-    image_is = ap Some (head.at_is ∙ at.gate_is) ∙ sym (gate-image-more r is text at.before);
-    start = start-image text limit image gate at.before r is entry at.gate_is head;
+    image_is = ap Some (at_head.at_is ∙ at.gate_is) ∙ sym (gate-image-more r is head at.before);
+    start = start-image head limit image gate at.before r is entry at.gate_is at_head;
   }
 
-  tells-more : (entry : Entry) (r : Record) (kind : EntryKind) → r.kind ≡ kind → IsHead image limit gate entry → TellsMore text limit image (at.before ++ r ∷ []) (with_head_of heads kind entry)
-  tells-more entry r Frames is head =
+  tells-more : (entry : Entry) (r : Record) (kind : EntryKind) → r.kind ≡ kind → IsHead image limit gate entry → TellsMore head limit image (at.before ++ r ∷ []) (with_head_of heads kind entry)
+  tells-more entry r Frames is at_head =
       let frames : is_image r ≡ false = ap is_image_kind is in
       record {
         count_is = omega (arith, at.count_is, length-append at.before (r ∷ []));
-        image_is = at.image_is ∙ sym (gate-frames-more r frames text at.before);
-        start = start-frames text limit image gate at.before r frames heads.start entry at.gate_is head at.start;
+        image_is = at.image_is ∙ sym (gate-frames-more r frames head at.before);
+        start = start-frames head limit image gate at.before r frames heads.start entry at.gate_is at_head at.start;
       }
-  tells-more entry r OldImage is head = tells-image entry r (ap is_image_kind is) head
-  tells-more entry r Image is head = tells-image entry r (ap is_image_kind is) head
+  tells-more entry r OldImage is at_head = tells-image entry r (ap is_image_kind is) at_head
+  tells-more entry r Image is at_head = tells-image entry r (ap is_image_kind is) at_head
 
-  pub counting_more : (entry : Entry) (next : ℕ) (then : Heads) → IsHead image limit gate entry → next ≡ gate + 6 + entry.length → then ≡ with_head heads entry → IsCounting text limit image next then
-  counting_more entry next then head is then_is =
-      let more = begins_more text limit at.before image at.begins entry (head_behind entry head) in
-      let there = record_there text limit at.before image at.begins entry (head_behind entry head) in
-      let tells = tells-more entry there entry.kind refl head in
-      subst (IsCounting text limit image next) (sym then_is) (record {
+  pub counting_more : (entry : Entry) (next : ℕ) (then : Heads) → IsHead image limit gate entry → next ≡ gate + 6 + entry.length → then ≡ with_head heads entry → IsCounting head limit image next then
+  counting_more entry next then at_head is then_is =
+      let more = begins_more head limit at.before image at.begins entry (head_behind entry at_head) in
+      let there = record_there head limit at.before image at.begins entry (head_behind entry at_head) in
+      let tells = tells-more entry there entry.kind refl at_head in
+      subst (IsCounting head limit image next) (sym then_is) (record {
         before = at.before ++ there ∷ [];
         begins = more;
-        gate_is = omega (arith, is, at.gate_is, length-push text at.before there, payload_size text limit at.before image at.begins entry (head_behind entry head));
+        gate_is = omega (arith, is, at.gate_is, length-push head at.before there, payload_size head limit at.before image at.begins entry (head_behind entry at_head));
         count_is = tells.count_is;
         image_is = tells.image_is;
         start = tells.start;
       })
 
   -- what a walk answers where the second pass begins
-  start_done : (start : Option Entry) → IsStart text image limit at.before start → get_or image gate 0 ≢ 1 → Walks image limit (length (journal_front text (before_last_image at.before))) (Ok start)
+  start_done : (start : Option Entry) → IsStart head image limit at.before start → get_or image gate 0 ≢ 1 → Walks image limit (length (journal_front head (before_last_image at.before))) (Ok start)
   start_done None is shut =
       let same : at.before ≡ before_last_image at.before = is ∙ ap before_last_image (sym is) in
-      subst (λ k. get_or image k 0 ≢ 1) (at.gate_is ∙ ap (λ (l : List Record). length (journal_front text l)) same) shut
+      subst (λ k. get_or image k 0 ≢ 1) (at.gate_is ∙ ap (λ (l : List Record). length (journal_front head l)) same) shut
   start_done (Some entry) is shut = is
 
-  pub counting_done : get_or image gate 0 ≢ 1 → AreRecords text limit image gate heads
+  pub counting_done : get_or image gate 0 ≢ 1 → AreRecords head limit image gate heads
   counting_done shut = record {
     records = at.before;
-    journal = record { journal = begins_closed text limit at.before image at.begins (subst (λ k. get_or image k 0 ≢ 1) at.gate_is shut); gate_is = at.gate_is };
+    journal = record { journal = begins_closed head limit at.before image at.begins (subst (λ k. get_or image k 0 ≢ 1) at.gate_is shut); gate_is = at.gate_is };
     count_is = at.count_is;
     image_is = at.image_is;
     start = start_done heads.start at.start shut;
   }
 
-  pub counting_bad : (place : ℕ) → IsBadHead image limit gate place → HasBadHeadAt text limit image place
+  pub counting_bad : (place : ℕ) → IsBadHead image limit gate place → HasBadHeadAt head limit image place
   counting_bad place bad = record { before = at.before; begins = at.begins; bad = subst (λ k. IsBadHead image limit k place) at.gate_is bad }
 
 -- ---- what a walk answers at a gate

@@ -4,7 +4,7 @@ use Rattle.std.specs.List.{flat_map}
 use Rattle.std.proofs.lemmas.Grind.{flat_map-append}
 use Rattle.gx_base.proofs.Tests.{not-both}
 use Rattle.product_file.specs.Products.{ProductLists}
-use Rattle.match_journal.specs.Journal.{Record, journal_front, header, open_record}
+use Rattle.match_journal.specs.Journal.{Record, journal_front, header, open_record, Header}
 use Rattle.match_journal.specs.declared.entry.EntryKind.{EntryKind}
 use Rattle.match_journal.specs.declared.entry.EntryKind.TheVariants.{Frames, OldImage, Image}
 use Rattle.book_recovery.specs.Records.{is_image_kind, has_image, from_last_image, before_last_image, image_gate, count_as, count_behind, IsGoodAs, AreGoodRecords}
@@ -39,27 +39,27 @@ good-from-last product records good = good-behind product 0 records (λ none. re
 
 -- ---- their bytes
 
-front-length : (text : List ℕ) (records : List Record) → length (journal_front text records) ≡ length (journal_front text []) + length (flat_map open_record records)
-front-length text records =
-    omega (arith, length-append (header text) (flat_map open_record records), length-append (header text) (flat_map open_record (let none : List Record = [] in none)))
+front-length : (head : Header) (records : List Record) → length (journal_front head records) ≡ length (journal_front head []) + length (flat_map open_record records)
+front-length head records =
+    omega (arith, length-append (header head) (flat_map open_record records), length-append (header head) (flat_map open_record (let none : List Record = [] in none)))
 
 -- the journal ends so many bytes behind the place from which on all of it is read
-pub front-from-last : (text : List ℕ) (records : List Record)
-    → length (journal_front text records) ≡ first_read (image_gate text records) (length (journal_front text [])) + length (flat_map open_record (from_last_image records))
-front-from-last text records =
+pub front-from-last : (head : Header) (records : List Record)
+    → length (journal_front head records) ≡ first_read (image_gate head records) (length (journal_front head [])) + length (flat_map open_record (from_last_image records))
+front-from-last head records =
     let before = before_last_image records in
     let from = from_last_image records in
-    let both : length (journal_front text records) ≡ length (journal_front text before) + length (flat_map open_record from) =
+    let both : length (journal_front head records) ≡ length (journal_front head before) + length (flat_map open_record from) =
     omega (
       arith,
-      front-length text records,
-      front-length text before,
+      front-length head records,
+      front-length head before,
       length-append (flat_map open_record before) (flat_map open_record from),
       ap (λ (l : List Record). length (flat_map open_record l)) (sym (last_split records)),
       ap length (flat_map-append open_record before from),
     ) in
     let go : (b : Bool) → has_image records ≡ b
-    → length (journal_front text records) ≡ first_read (cond b (Some (length (journal_front text before))) None) (length (journal_front text [])) + length (flat_map open_record from) = elim [
+    → length (journal_front head records) ≡ first_read (cond b (Some (length (journal_front head before))) None) (length (journal_front head [])) + length (flat_map open_record from) = elim [
       | true ↦ λ some. both
-      | false ↦ λ none. both ∙ ap (λ (l : List Record). length (journal_front text l) + length (flat_map open_record from)) (none-before records none)
+      | false ↦ λ none. both ∙ ap (λ (l : List Record). length (journal_front head l) + length (flat_map open_record from)) (none-before records none)
     ] in go (has_image records) refl

@@ -7,7 +7,7 @@ use Rattle.fix_frame.specs.StreamLaws.{messages_of-are_frames, concat-messages_o
 use Rattle.fix_frame.specs.FramingLaws.{frames_least}
 use Rattle.product_file.specs.Products.{ProductLists}
 use Rattle.order_kinds.specs.declared.core_state.TheConstants.{MOST_MESSAGES}
-use Rattle.match_journal.specs.Journal.{IsJournal, Record, open_record, header}
+use Rattle.match_journal.specs.Journal.{IsJournal, Record, open_record, header, Header}
 use Rattle.match_journal.specs.declared.entry.EntryKind.{EntryKind}
 use Rattle.match_journal.specs.declared.entry.EntryKind.TheVariants.{Frames, OldImage, Image}
 use Rattle.match_journal.specs.declared.limits.TheConstants.{MOST_LIMIT}
@@ -63,7 +63,7 @@ records-messages (r ∷ records) =
     )
 
 -- a journal has room for fewer than a core takes
-pub journal-messages : (text : List ℕ) (limit : ℕ) (records : List Record) (image : List ℕ) → IsJournal text limit records image → limit ≤ MOST_LIMIT
+pub journal-messages : (head : Header) (limit : ℕ) (records : List Record) (image : List ℕ) → IsJournal head limit records image → limit ≤ MOST_LIMIT
     → length (messages_in records) < MOST_MESSAGES
-journal-messages text limit records image journal few =
-    omega (arith, records-messages records, journal.in_limit, few, length-append (header text) (flat_map open_record records))
+journal-messages head limit records image journal few =
+    omega (arith, records-messages records, journal.in_limit, few, length-append (header head) (flat_map open_record records))

@@ -1,7 +1,7 @@
 -- The records before the last image, and those from it on: what becomes of both where one record more comes.
-use Rattle.std.proofs.Common.{◌≡◌, ℕ, Bool, true, false, cond, ◌||◌, List, [], ◌∷◌, ◌++◌, length, Some, None, refl, sym, ◌∙◌, ap, ap₂}
+use Rattle.std.proofs.Common.{◌≡◌, Bool, true, false, cond, ◌||◌, List, [], ◌∷◌, ◌++◌, length, Some, None, refl, sym, ◌∙◌, ap, ap₂}
 use Rattle.gx_base.proofs.Tests.{not-both}
-use Rattle.match_journal.specs.Journal.{Record, journal_front}
+use Rattle.match_journal.specs.Journal.{Record, journal_front, Header}
 use Rattle.book_recovery.specs.Records.{is_image, has_image, from_last_image, before_last_image, image_gate}
 
 -- ---- the first record
@@ -52,9 +52,9 @@ module _ (r : Record) (is : is_image r ≡ true) where
   from-image-more [] = refl
   from-image-more (x ∷ xs) = last-behind x (xs ++ r ∷ []) (has-image-more xs) ∙ from-image-more xs
 
-  pub gate-image-more : (text : List ℕ) (xs : List Record) → image_gate text (xs ++ r ∷ []) ≡ Some (length (journal_front text xs))
-  gate-image-more text xs =
-      ap₂ (λ (b : Bool) (l : List Record). cond b (Some (length (journal_front text l))) None) (has-image-more xs) (before-image-more xs)
+  pub gate-image-more : (head : Header) (xs : List Record) → image_gate head (xs ++ r ∷ []) ≡ Some (length (journal_front head xs))
+  gate-image-more head xs =
+      ap₂ (λ (b : Bool) (l : List Record). cond b (Some (length (journal_front head l))) None) (has-image-more xs) (before-image-more xs)
 
 -- ---- frames more
 
@@ -77,9 +77,9 @@ module _ (r : Record) (is : is_image r ≡ false) where
       ap₂ (λ (b : Bool) (l : List Record). cond b l (x ∷ (xs ++ r ∷ []))) (has-frames-more xs) (from-frames-more xs)
       ∙ push-by (has_image xs) (from_last_image xs) (x ∷ xs)
 
-  pub gate-frames-more : (text : List ℕ) (xs : List Record) → image_gate text (xs ++ r ∷ []) ≡ image_gate text xs
-  gate-frames-more text xs =
-      ap₂ (λ (b : Bool) (l : List Record). cond b (Some (length (journal_front text l))) None) (has-frames-more xs) (before-frames-more xs)
+  pub gate-frames-more : (head : Header) (xs : List Record) → image_gate head (xs ++ r ∷ []) ≡ image_gate head xs
+  gate-frames-more head xs =
+      ap₂ (λ (b : Bool) (l : List Record). cond b (Some (length (journal_front head l))) None) (has-frames-more xs) (before-frames-more xs)
 
 -- ---- no image
 

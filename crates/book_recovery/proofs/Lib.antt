@@ -3,6 +3,7 @@ pub mod FromLastImage
 pub mod GoodRecords
 pub mod OneWay
 pub mod Images
+pub mod KeptHistories
 pub mod Standings
 pub mod StatesBehind
 pub mod TrueImages

@@ -2,8 +2,8 @@
 use Rattle.std.proofs.Common.{◌≡◌, inl, inr, ℕ, ◌+◌, List, length, Option, Result, Ok, Err, sym, subst, ◌∙◌, ap}
 use Rattle.product_file.specs.Products.{ProductLists}
 use Rattle.order_kinds.specs.State.{State}
-use Rattle.match_journal.specs.Journal.{IsJournal, Record}
-use Rattle.match_journal.specs.Standing.{moved}
+use Rattle.match_journal.specs.Journal.{IsJournal, Record, Header}
+use Rattle.match_journal.specs.Standing.{StandsIn, moved}
 use Rattle.match_journal.specs.Walking.{IsNext, Walks}
 use Rattle.match_journal.specs.declared.entry.Entry.{Entry}
 use Rattle.match_journal.specs.declared.standing.Standing.{Standing}
@@ -14,26 +14,27 @@ use Rattle.book_recovery.specs.declared.recovery.Heads.{Heads}
 use Rattle.book_recovery.specs.declared.recovery.RecoverFault.{RecoverFault}
 use Rattle.book_recovery.specs.declared.recovery.RecoverFault.TheVariants as fault
 use Rattle.book_recovery.proofs.Replaying.{IsReplaying, before, replaying_bad}
+use Rattle.book_recovery.proofs.Standings.{stands_moved}
 
-module _ (product : ProductLists) (text image : List ℕ) (limit : ℕ) where
+module _ (product : ProductLists) (head : Header) (image : List ℕ) (limit : ℕ) where
   -- the first pass has ended at a bad head
-  pub stopped_counting : (gate gate' : ℕ) (state : State) (why : RecoverFault) → Counts text limit image gate (Err why) → Recovers product text limit image gate' state (Err why)
+  pub stopped_counting : (gate gate' : ℕ) (state : State) (why : RecoverFault) → Counts head limit image gate (Err why) → Recovers product head limit image gate' state (Err why)
   stopped_counting gate gate' state fault.Store told = tt
   stopped_counting gate gate' state (fault.Bad at) told = inl told
 
   -- the second one has ended at a bad payload
-  pub stopped_replaying : (records : List Record) (gate gate' : ℕ) (new state : State) (why : RecoverFault) → ReplaysAll product text limit image records gate new (Err why) → Recovers product text limit image gate' state (Err why)
+  pub stopped_replaying : (records : List Record) (gate gate' : ℕ) (new state : State) (why : RecoverFault) → ReplaysAll product head limit image records gate new (Err why) → Recovers product head limit image gate' state (Err why)
   stopped_replaying records gate gate' new state fault.Store told = tt
   stopped_replaying records gate gate' new state (fault.Bad at) told = inr told
 
-  pub stopped_one : (records : List Record) (gate next last : ℕ) (old new then : State) (entry : Entry) (at : IsReplaying product text records gate old) → IsNext text image (before product text image limit records gate old at) at.left next entry
-      → (why : RecoverFault) → IsJournal text limit records image → ReplaysOne product old new entry.at (record_at image entry) (Err why) → ReplaysAll product text limit image records last then (Err why)
+  pub stopped_one : (records : List Record) (gate next last : ℕ) (old new then : State) (entry : Entry) (at : IsReplaying product head records gate old) → IsNext head image (before product head image limit records gate old at) at.left next entry
+      → (why : RecoverFault) → IsJournal head limit records image → ReplaysOne product old new entry.at (record_at image entry) (Err why) → ReplaysAll product head limit image records last then (Err why)
   stopped_one records gate next last old new then entry at next_one fault.Store journal told = tt
-  stopped_one records gate next last old new then entry at next_one (fault.Bad place) journal told = replaying_bad product text image limit records gate old at next entry next_one place journal told.0 told.1
+  stopped_one records gate next last old new then entry at next_one (fault.Bad place) journal told = replaying_bad product head image limit records gate old at next entry next_one place journal told.0 told.1
 
   -- both passes have met each record
-  pub recovered : (gate gate' messages : ℕ) (heads : Heads) (new : State) (counted : AreRecords text limit image gate heads) → AreReplayed product text limit image counted.records gate' new → messages ≡ new.desk.messages
-      → IsRecovered product text limit image gate' new (record { messages = messages; entries = heads.entries; image_at = heads.image_at })
+  pub recovered : (gate gate' messages : ℕ) (heads : Heads) (new : State) (counted : AreRecords head limit image gate heads) → AreReplayed product head limit image counted.records gate' new → messages ≡ new.desk.messages
+      → IsRecovered product head limit image gate' new (record { messages = messages; entries = heads.entries; image_at = heads.image_at })
   recovered gate gate' messages heads new counted replayed is = record {
     records = counted.records;
     journal = replayed.journal;
@@ -46,10 +47,10 @@ module _ (product : ProductLists) (text image : List ℕ) (limit : ℕ) where
 
   -- the second pass begins where the first has ended, with the entry that it has met
   pub replays_after : (old mid : Standing) (records : List Record) (place gate : ℕ) (new : State) (start : Option Entry) (r : Result (Unit {0}) RecoverFault) → old.limit ≡ limit → mid ≡ moved old mid.gate mid.is_at_end
-      → (length image ≡ mid.known → IsJournal text mid.limit records image → mid.first ≡ 13 + length text → Walks image mid.limit place (Ok start) → ReplaysAll product text mid.limit image records gate new r)
-      → length image ≡ old.known → IsJournal text limit records image → old.first ≡ 13 + length text → Walks image limit place (Ok start) → ReplaysAll product text limit image records gate new r
+      → (StandsIn mid image → IsJournal head mid.limit records image → mid.first ≡ 13 + length head.text → Walks image mid.limit place (Ok start) → ReplaysAll product head mid.limit image records gate new r)
+      → StandsIn old image → IsJournal head limit records image → old.first ≡ 13 + length head.text → Walks image limit place (Ok start) → ReplaysAll product head limit image records gate new r
   replays_after old mid records place gate new start r limit_is same then known journal first walks =
       let limits : mid.limit ≡ limit = ap (λ (s : Standing). s.limit) same ∙ limit_is in
-      subst (λ k. ReplaysAll product text k image records gate new r) limits
-      (then (known ∙ sym (ap (λ (s : Standing). s.known) same)) (subst (λ k. IsJournal text k records image) (sym limits) journal) (ap (λ (s : Standing). s.first) same ∙ first)
+      subst (λ k. ReplaysAll product head k image records gate new r) limits
+      (then (stands_moved old mid mid.gate mid.is_at_end image same known) (subst (λ k. IsJournal head k records image) (sym limits) journal) (ap (λ (s : Standing). s.first) same ∙ first)
       (subst (λ k. Walks image k place (Ok start)) (sym limits) walks))

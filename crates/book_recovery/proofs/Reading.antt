@@ -5,7 +5,7 @@ use Rattle.fix_frame.specs.Stream.{messages_of, rest_of}
 use Rattle.fix_frame.specs.StreamLaws.{concat-messages_of-whole}
 use Rattle.product_file.specs.Products.{ProductLists}
 use Rattle.order_kinds.specs.State.{State}
-use Rattle.match_journal.specs.Journal.{IsJournal, Record, journal_front}
+use Rattle.match_journal.specs.Journal.{IsJournal, Record, journal_front, Header}
 use Rattle.match_journal.specs.declared.entry.EntryKind.TheVariants.{Frames}
 use Rattle.match_journal.specs.Walking.{IsHead, IsBadHead}
 use Rattle.match_journal.specs.declared.entry.Entry.{Entry}
@@ -38,48 +38,48 @@ module _ (payload : List ℕ) (given behind : List (List ℕ)) (none_before : gi
 
 -- ---- the record behind some good ones
 
-module _ (product : ProductLists) (text : List ℕ) (limit : ℕ) (image : List ℕ) (before : List Record) (first : AreFirstRecords product text limit before image) (gate : ℕ) (place : gate ≡ length (journal_front text before)) where
-  pub closed_behind : get_or image gate 0 ≢ 1 → IsJournal text limit before image
-  closed_behind shut = begins_closed text limit before image first.begins (subst (λ k. get_or image k 0 ≢ 1) place shut)
+module _ (product : ProductLists) (head : Header) (limit : ℕ) (image : List ℕ) (before : List Record) (first : AreFirstRecords product head limit before image) (gate : ℕ) (place : gate ≡ length (journal_front head before)) where
+  pub closed_behind : get_or image gate 0 ≢ 1 → IsJournal head limit before image
+  closed_behind shut = begins_closed head limit before image first.begins (subst (λ k. get_or image k 0 ≢ 1) place shut)
 
-  pub bad_head_behind : (at : ℕ) → IsBadHead image limit gate at → IsBadBehind product text limit image before at
+  pub bad_head_behind : (at : ℕ) → IsBadHead image limit gate at → IsBadBehind product head limit image before at
   bad_head_behind at bad = record {
     bad = record { before = before; first = first; place = bad.at_is ∙ place; bad = inl (subst (λ k. IsBadHead image limit k at) (sym bad.at_is) bad) };
     behind = refl;
   }
 
-  module _ (entry : Entry) (head : IsHead image limit gate entry) where
-    head_behind : IsHead image limit (length (journal_front text before)) entry
-    head_behind = subst (λ k. IsHead image limit k entry) place head
+  module _ (entry : Entry) (at_head : IsHead image limit gate entry) where
+    head_behind : IsHead image limit (length (journal_front head before)) entry
+    head_behind = subst (λ k. IsHead image limit k entry) place at_head
 
-    at_gate : length (journal_front text before) ≡ entry.at
-    at_gate = sym (head.at_is ∙ place)
+    at_gate : length (journal_front head before) ≡ entry.at
+    at_gate = sym (at_head.at_is ∙ place)
 
-    more : BeginsWithRecords text limit (before ++ record_at image entry ∷ []) image
-    more = subst (λ (k : ℕ). BeginsWithRecords text limit (before ++ (record { kind = entry.kind; payload = take entry.length (drop (k + 6) image) }) ∷ []) image) at_gate (begins_more text limit before image first.begins entry head_behind)
+    more : BeginsWithRecords head limit (before ++ record_at image entry ∷ []) image
+    more = subst (λ (k : ℕ). BeginsWithRecords head limit (before ++ (record { kind = entry.kind; payload = take entry.length (drop (k + 6) image) }) ∷ []) image) at_gate (begins_more head limit before image first.begins entry head_behind)
 
     size : length (payload_at image entry) ≡ entry.length
-    size = subst (λ (k : ℕ). length (take entry.length (drop (k + 6) image)) ≡ entry.length) at_gate (payload_size text limit before image first.begins entry head_behind)
+    size = subst (λ (k : ℕ). length (take entry.length (drop (k + 6) image)) ≡ entry.length) at_gate (payload_size head limit before image first.begins entry head_behind)
 
     one_more : (next count : ℕ) (messages : List (List ℕ)) → IsGoodRecord product (count_behind_all 0 before) (record_at image entry) → next ≡ gate + 6 + entry.length → messages ≡ record_messages (record_at image entry)
-        → count ≡ count_behind (count_behind_all 0 before) (record_at image entry) → IsOneMore product text limit image before next messages count
+        → count ≡ count_behind (count_behind_all 0 before) (record_at image entry) → IsOneMore product head limit image before next messages count
     one_more next count messages good next_is messages_are count_is = record {
       found = record_at image entry;
       first = record { begins = more; good = good_push product 0 before (record_at image entry) first.good good };
-      gate_is = omega (arith, next_is, place, size, length-push text before (record_at image entry));
+      gate_is = omega (arith, next_is, place, size, length-push head before (record_at image entry));
       messages_are = messages_are;
       count_is = count_is ∙ sym (count_push 0 before (record_at image entry));
     }
 
-    bad_there : (IsGoodRecord product (count_behind_all 0 before) (record_at image entry) → ⊥) → IsBadBehind product text limit image before entry.at
+    bad_there : (IsGoodRecord product (count_behind_all 0 before) (record_at image entry) → ⊥) → IsBadBehind product head limit image before entry.at
     bad_there not_good = record {
-      bad = record { before = before; first = first; place = head.at_is ∙ place; bad = inr (record { bad = record_at image entry; begins = more; not_good = not_good }) };
+      bad = record { before = before; first = first; place = at_head.at_is ∙ place; bad = inr (record { bad = record_at image entry; begins = more; not_good = not_good }) };
       behind = refl;
     }
 
     -- what the record holds was read, and so many messages are counted before it
     module _ (count : ℕ) (counted : count ≡ count_behind_all 0 before) (given : List (List ℕ)) (core : State) where
-      pub content_more : (next behind : ℕ) → next ≡ gate + 6 + entry.length → IsContent product count entry.kind (payload_at image entry) given core behind → IsOneMore product text limit image before next given behind
+      pub content_more : (next behind : ℕ) → next ≡ gate + 6 + entry.length → IsContent product count entry.kind (payload_at image entry) given core behind → IsOneMore product head limit image before next given behind
       content_more next behind next_is content =
           one_more next behind given
           (subst (λ (n : ℕ). IsGoodAs product n entry.kind (payload_at image entry)) counted content.good)
@@ -87,8 +87,8 @@ module _ (product : ProductLists) (text : List ℕ) (limit : ℕ) (image : List 
           content.given_are
           (content.behind_is ∙ ap (λ (n : ℕ). count_as n entry.kind (payload_at image entry)) counted)
 
-      pub content_unread : (next : ℕ) (why : RecoverFault) → ReadsContent product count entry.kind (payload_at image entry) entry.at given core (Err why) → ReadsRecord product text limit image before next given (Err why)
+      pub content_unread : (next : ℕ) (why : RecoverFault) → ReadsContent product count entry.kind (payload_at image entry) entry.at given core (Err why) → ReadsRecord product head limit image before next given (Err why)
       content_unread next fault.Store told = tt
       content_unread next (fault.Bad at) told =
-          subst (IsBadBehind product text limit image before) (sym told.1)
+          subst (IsBadBehind product head limit image before) (sym told.1)
           (bad_there (λ good. told.0 (subst (λ (n : ℕ). IsGoodAs product n entry.kind (payload_at image entry)) (sym counted) good)))

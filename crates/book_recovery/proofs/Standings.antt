@@ -1,7 +1,7 @@
 -- A journal that has moved, and moves again.
-use Rattle.std.proofs.Common.{◌≡◌, ℕ, ◌+◌, Bool, false, Option, Some, None, Ok, not, sym, ◌∙◌, ap, ap₂, subst}
+use Rattle.std.proofs.Common.{◌≡◌, ℕ, ◌+◌, List, Bool, false, Option, Some, None, Ok, not, sym, ◌∙◌, ap, ap₂, subst}
 use Rattle.std.specs.Prelude.{IfSome}
-use Rattle.match_journal.specs.Standing.{moved}
+use Rattle.match_journal.specs.Standing.{StandsIn, moved}
 use Rattle.match_journal.specs.Walking.{stands_then}
 use Rattle.match_journal.specs.declared.entry.Entry.{Entry}
 use Rattle.match_journal.specs.declared.standing.Standing.{Standing}
@@ -11,6 +11,10 @@ moved_itself s x gate ends is = is ∙ ap₂ (moved s) (sym (ap (λ (t : Standin
 
 pub moved_then : (s x y : Standing) (gate : ℕ) (ends : Bool) → x ≡ moved s x.gate x.is_at_end → y ≡ moved x gate ends → y ≡ moved s y.gate y.is_at_end
 moved_then s x y gate ends same is = moved_itself s y gate ends (is ∙ ap (λ (t : Standing). moved t gate ends) same)
+
+-- it knows of an image what it knew
+pub stands_moved : (s x : Standing) (gate : ℕ) (ends : Bool) (image : List ℕ) → x ≡ moved s gate ends → StandsIn s image → StandsIn x image
+stands_moved s x gate ends image is stands = subst (λ (t : Standing). StandsIn t image) (sym is) (record { known = stands.known; version = stands.version })
 
 -- the head of a record was passed
 pub some_moved : (x y : Standing) (found : Option Entry) (entry : Entry) → found ≡ Some entry → y ≡ stands_then x (Ok found) → y ≡ moved x (x.gate + 6 + entry.length) false

@@ -3,7 +3,7 @@ use Rattle.std.proofs.Common.{◌≡◌, ℕ, ◌+◌, List, [], ◌++◌, lengt
 use Rattle.std.specs.Option.{option_or}
 use Rattle.product_file.specs.Products.{ProductLists}
 use Rattle.order_kinds.specs.State.{State, empty_state}
-use Rattle.match_journal.specs.Journal.{IsJournal, Record, journal_front}
+use Rattle.match_journal.specs.Journal.{IsJournal, Record, journal_front, Header}
 use Rattle.match_journal.specs.Standing.{Fits, moved}
 use Rattle.match_journal.specs.Walking.{IsHead, Walks, IsNext}
 use Rattle.match_journal.specs.declared.entry.Entry.{Entry}
@@ -62,30 +62,30 @@ first_at s image_at (Some entry) can at = at
 pub begins_first : (s : Standing) (heads : Heads) → BeginsAt s heads → begins_from s heads.start ≡ first_read heads.image_at s.first
 begins_first s heads begins = first_at s heads.image_at heads.start begins.can begins.at_image
 
-module _ (text image : List ℕ) (limit : ℕ) (records : List Record) (start : Option Entry) (journal : IsJournal text limit records image)
-    (walks : Walks image limit (length (journal_front text (before_last_image records))) (Ok start)) where
+module _ (head : Header) (image : List ℕ) (limit : ℕ) (records : List Record) (start : Option Entry) (journal : IsJournal head limit records image)
+    (walks : Walks image limit (length (journal_front head (before_last_image records))) (Ok start)) where
   abbrev place : ℕ
-  place = length (journal_front text (before_last_image records))
+  place = length (journal_front head (before_last_image records))
 
-  split : IsJournal text limit (before_last_image records ++ from_last_image records) image
-  split = subst (λ (l : List Record). IsJournal text limit l image) (sym (last_split records)) journal
+  split : IsJournal head limit (before_last_image records ++ from_last_image records) image
+  split = subst (λ (l : List Record). IsJournal head limit l image) (sym (last_split records)) journal
 
   pub start_head : (entry : Entry) → start ≡ Some entry → IsHead image limit place entry
   start_head entry is = subst (λ (o : Option Entry). Walks image limit place (Ok o)) is walks
 
   -- without an entry nothing is left to do
-  pub none_replayed : (product : ProductLists) (first gate : ℕ) (new : State) → start ≡ None → first ≡ 13 + length text → gate ≡ first → new ≡ empty_state product
-      → AreReplayed product text limit image records gate new
+  pub none_replayed : (product : ProductLists) (first gate : ℕ) (new : State) → start ≡ None → first ≡ 13 + length head.text → gate ≡ first → new ≡ empty_state product
+      → AreReplayed product head limit image records gate new
   none_replayed product first gate new is first_is still empty =
-      let left : from_last_image records ≡ [] = none_left text image limit (before_last_image records) (from_last_image records) split place refl (subst (λ (o : Option Entry). Walks image limit place (Ok o)) is walks) in
+      let left : from_last_image records ≡ [] = none_left head image limit (before_last_image records) (from_last_image records) split place refl (subst (λ (o : Option Entry). Walks image limit place (Ok o)) is walks) in
       let none = none-kept records left in
-      let at : gate ≡ place = still ∙ first_is ∙ sym (length-first text) ∙ ap (λ (l : List Record). length (journal_front text (before_last_image l))) (sym none) in
-      replaying_done product text image limit records gate new (replaying_first product text records gate new at empty) journal left
+      let at : gate ≡ place = still ∙ first_is ∙ sym (length-first head) ∙ ap (λ (l : List Record). length (journal_front head (before_last_image l))) (sym none) in
+      replaying_done product head image limit records gate new (replaying_first product head records gate new at empty) journal left
 
   -- the first of the records from the last image on is that of the entry
   pub first_next : (next : ℕ) (entry : Entry) → start ≡ Some entry → next ≡ entry.at + 6 + entry.length
-      → IsNext text image (before_last_image records ++ []) (from_last_image records) next entry
+      → IsNext head image (before_last_image records ++ []) (from_last_image records) next entry
   first_next next entry is next_is =
-      let head = start_head entry is in
-      subst (λ (l : List Record). IsNext text image l (from_last_image records) next entry) (sym (append-nil (before_last_image records)))
-      (record_left text image limit (before_last_image records) (from_last_image records) split place next entry refl head (omega (arith, next_is, head.at_is)))
+      let at_head = start_head entry is in
+      subst (λ (l : List Record). IsNext head image l (from_last_image records) next entry) (sym (append-nil (before_last_image records)))
+      (record_left head image limit (before_last_image records) (from_last_image records) split place next entry refl at_head (omega (arith, next_is, at_head.at_is)))

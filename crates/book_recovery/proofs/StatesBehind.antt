@@ -8,6 +8,7 @@ use Rattle.plain_book.specs.declared.entry.Entry.{Entry}
 use Rattle.plain_book.specs.Book.{AllDiffer, live_orders}
 use Rattle.plain_book.specs.Numbers.{numbered}
 use Rattle.plain_book.proofs.Pairs.{all-front, all-back, all-append, all-with}
+use Rattle.order_kinds.specs.Histories.{of_product, state_kept}
 use Rattle.order_kinds.specs.declared.core_state.TheConstants.{MOST_MESSAGES}
 use Rattle.order_kinds.specs.State.{State, empty_state, state_numbered}
 use Rattle.order_kinds.specs.Step.{state_after, step_of, events_from}
@@ -17,7 +18,7 @@ use Rattle.match_journal.specs.declared.entry.EntryKind.TheVariants.{Frames, Old
 use Rattle.image_laws.specs.Right.{IsRightEntry, IsRightState}
 use Rattle.image_laws.proofs.States.{states-right, states-counted}
 use Rattle.image_laws.proofs.Images.{image-read, old-image-read}
-use Rattle.book_recovery.specs.Records.{state_kept, is_image_kind, messages_as, IsTrueAs}
+use Rattle.book_recovery.specs.Records.{is_image_kind, messages_as, IsTrueAs}
 use Rattle.book_recovery.specs.Recovering.{IsStateAfter}
 use Rattle.book_recovery.specs.Inner.Replays.{IsReplayed}
 
@@ -62,20 +63,20 @@ right-numbered product right s is_right same =
 
 module _ (product : ProductLists) (right : IsRightProduct product) where
   -- an image brings no messages
-  image-behind : (messages : List (List ℕ)) (new : State) → length messages < MOST_MESSAGES → state_numbered new ≡ state_kept product messages → IsStateAfter product (messages ++ []) new
+  image-behind : (messages : List (List ℕ)) (new : State) → length messages < MOST_MESSAGES → state_numbered new ≡ state_kept (of_product product messages) → IsStateAfter (of_product product (messages ++ [])) new
   image-behind messages new few is =
       let same : messages ≡ messages ++ [] = sym (append-nil messages) in
       record {
-        state_is = is ∙ ap (state_kept product) same;
-        numbered = right-numbered product (state_kept product messages) new (states-right product right messages few) is;
+        state_is = is ∙ ap (λ (l : List (List ℕ)). state_kept (of_product product l)) same;
+        numbered = right-numbered product (state_kept (of_product product messages)) new (states-right product right messages few) is;
         count_is = ap (λ (s : State). s.desk.messages) is ∙ states-counted product right messages ∙ ap length same;
       }
 
   -- frames are applied to the state before, and a true image is that state
   pub state-behind : (kind : EntryKind) (payload : List ℕ) (messages : List (List ℕ)) (old new : State)
       → IsReplayed product old new (record { kind = kind; payload = payload }) → IsTrueAs product messages kind payload
-      → length messages < MOST_MESSAGES → (is_image_kind kind ≡ false → IsStateAfter product messages old)
-      → IsStateAfter product (messages ++ messages_as kind payload) new
+      → length messages < MOST_MESSAGES → (is_image_kind kind ≡ false → IsStateAfter (of_product product messages) old)
+      → IsStateAfter (of_product product (messages ++ messages_as kind payload)) new
   state-behind Frames payload messages old new did is_true few stands =
       let before = stands refl in
       record {
@@ -88,7 +89,7 @@ module _ (product : ProductLists) (right : IsRightProduct product) where
       }
   state-behind OldImage payload messages old new did is_true few stands =
       let before = states-right product right messages few in
-      image-behind messages new few (did.state (λ frames. absurd (cc frames)) ∙ old-image-read product (state_kept product messages) before payload is_true.0 is_true.1)
+      image-behind messages new few (did.state (λ frames. absurd (cc frames)) ∙ old-image-read product (state_kept (of_product product messages)) before payload is_true.0 is_true.1)
   state-behind Image payload messages old new did is_true few stands =
       let before = states-right product right messages few in
-      image-behind messages new few (did.state (λ frames. absurd (cc frames)) ∙ image-read product (state_kept product messages) before payload is_true)
+      image-behind messages new few (did.state (λ frames. absurd (cc frames)) ∙ image-read product (state_kept (of_product product messages)) before payload is_true)

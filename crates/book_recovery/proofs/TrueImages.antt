@@ -3,6 +3,7 @@ use Rattle.std.proofs.Common.{◌≡◌, ℕ, ◌+◌, ◌<◌, Bool, true, fals
 use Rattle.gx_base.proofs.Tests.{not-both}
 use Rattle.fix_frame.specs.Stream.{messages_of, rest_of}
 use Rattle.product_file.specs.Products.{ProductLists, IsRightProduct}
+use Rattle.order_kinds.specs.Histories.{of_product, state_kept}
 use Rattle.order_kinds.specs.declared.core_state.TheConstants.{MOST_MESSAGES}
 use Rattle.order_kinds.specs.State.{State, empty_state}
 use Rattle.match_journal.specs.Journal.{Record}
@@ -12,14 +13,14 @@ use Rattle.book_image.specs.Faults.{image_fault}
 use Rattle.book_image.specs.Reading.{state_of_image}
 use Rattle.image_laws.proofs.States.{states-right, states-counted}
 use Rattle.image_laws.proofs.Images.{image-right, image-read, old-image-right, old-image-read}
-use Rattle.book_recovery.specs.Records.{state_kept, is_image_kind, has_image, from_last_image, messages_as, record_messages, messages_in, count_as, count_behind, count_behind_all, IsGoodAs, AreGoodRecords, IsTrueAs, AreTrueRecords, HaveWholeFrames, state_as, state_behind, state_behind_all}
+use Rattle.book_recovery.specs.Records.{is_image_kind, has_image, from_last_image, messages_as, record_messages, messages_in, count_as, count_behind, count_behind_all, IsGoodAs, AreGoodRecords, IsTrueAs, AreTrueRecords, HaveWholeFrames, state_as, state_behind, state_behind_all}
 use Rattle.book_recovery.proofs.LastImages.{last-behind, last-here}
 use Rattle.book_recovery.proofs.StatesBehind.{state-append}
 use Rattle.book_recovery.proofs.ImageKinds.{image-messages, image-count, image-state}
 
 -- the state and the count are those of these messages
 record StandsBehind (product : ProductLists) (messages : List (List ℕ)) (state : State) (count : ℕ) : Type 0 where
-  pub state_is : state ≡ state_kept product messages
+  pub state_is : state ≡ state_kept (of_product product messages)
   pub count_is : count ≡ length messages
 
 -- with the messages of these records they are fewer than a core takes
@@ -40,13 +41,13 @@ module _ (product : ProductLists) (right : IsRightProduct product) where
   -- a true image has no fault, and is read as the state that it is of
   true-right : (before : List (List ℕ)) (kind : EntryKind) (payload : List ℕ) → is_image_kind kind ≡ true → IsTrueAs product before kind payload → length before < MOST_MESSAGES → image_fault kind product payload ≡ None
   true-right before Frames payload image is_true few = absurd (cc image)
-  true-right before OldImage payload image is_true few = old-image-right product (state_kept product before) (states-right product right before few) payload is_true.0 is_true.1
-  true-right before Image payload image is_true few = image-right product (state_kept product before) (states-right product right before few) payload is_true
+  true-right before OldImage payload image is_true few = old-image-right product (state_kept (of_product product before)) (states-right product right before few) payload is_true.0 is_true.1
+  true-right before Image payload image is_true few = image-right product (state_kept (of_product product before)) (states-right product right before few) payload is_true
 
-  true-read : (before : List (List ℕ)) (kind : EntryKind) (payload : List ℕ) → is_image_kind kind ≡ true → IsTrueAs product before kind payload → length before < MOST_MESSAGES → state_of_image kind product payload ≡ state_kept product before
+  true-read : (before : List (List ℕ)) (kind : EntryKind) (payload : List ℕ) → is_image_kind kind ≡ true → IsTrueAs product before kind payload → length before < MOST_MESSAGES → state_of_image kind product payload ≡ state_kept (of_product product before)
   true-read before Frames payload image is_true few = absurd (cc image)
-  true-read before OldImage payload image is_true few = old-image-read product (state_kept product before) (states-right product right before few) payload is_true.0 is_true.1
-  true-read before Image payload image is_true few = image-read product (state_kept product before) (states-right product right before few) payload is_true
+  true-read before OldImage payload image is_true few = old-image-read product (state_kept (of_product product before)) (states-right product right before few) payload is_true.0 is_true.1
+  true-read before Image payload image is_true few = image-read product (state_kept (of_product product before)) (states-right product right before few) payload is_true
 
   -- so does it stand, whatever was before
   image-stands : (before : List (List ℕ)) (kind : EntryKind) (payload : List ℕ) (state : State) (count : ℕ) → is_image_kind kind ≡ true → IsTrueAs product before kind payload
@@ -57,7 +58,7 @@ module _ (product : ProductLists) (right : IsRightProduct product) where
       let same : before ≡ before ++ messages_as kind payload =
       sym (ap (λ (l : List (List ℕ)). before ++ l) (image-messages kind payload image) ∙ append-nil before) in
       record {
-        state_is = image-state product state kind payload image ∙ read ∙ ap (state_kept product) same;
+        state_is = image-state product state kind payload image ∙ read ∙ ap (λ (l : List (List ℕ)). state_kept (of_product product l)) same;
         count_is =
             image-count product count kind payload image (true-right before kind payload image is_true few)
             ∙ ap (λ (s : State). s.desk.messages) read
@@ -165,7 +166,7 @@ module _ (product : ProductLists) (right : IsRightProduct product) where
     from-last : StandBehind [] records (empty_state product) 0 (from_last_image records)
     from-last = last-stands [] records (empty_state product) 0 (λ none. starts) are_true few-all
 
-    pub full-state : state_behind_all product (empty_state product) (from_last_image records) ≡ state_kept product (messages_in records)
+    pub full-state : state_behind_all product (empty_state product) (from_last_image records) ≡ state_kept (of_product product (messages_in records))
     full-state = from-last.state_is
 
     pub full-count : count_behind_all 0 (from_last_image records) ≡ length (messages_in records)

@@ -6,19 +6,16 @@ use Rattle.gx_base.specs.declared.trading.Trading.TheVariants.{Open}
 use Rattle.fix_frame.specs.Stream.{messages_of, rest_of}
 use Rattle.product_file.specs.Products.{ProductLists}
 use Rattle.order_kinds.specs.declared.core_state.TheConstants.{MOST_MESSAGES}
-use Rattle.order_kinds.specs.State.{State, empty_state}
+use Rattle.order_kinds.specs.State.{State}
 use Rattle.order_kinds.specs.Step.{state_after}
+use Rattle.order_kinds.specs.Histories.{of_product, state_kept}
 use Rattle.book_image.specs.Rows.{number_at}
 use Rattle.book_image.specs.Image.{old_image_of, image_of}
 use Rattle.book_image.specs.Faults.{image_fault}
 use Rattle.book_image.specs.Reading.{state_of_image}
-use Rattle.match_journal.specs.Journal.{Record, journal_front}
+use Rattle.match_journal.specs.Journal.{Header, Record, journal_front}
 use Rattle.match_journal.specs.declared.entry.EntryKind.{EntryKind}
 use Rattle.match_journal.specs.declared.entry.EntryKind.TheVariants.{Frames, OldImage, Image}
-
--- the state of the engine after these messages
-abbrev pub state_kept : ProductLists → List (List ℕ) → State
-state_kept product messages = state_after product (empty_state product) messages
 
 -- ---- kinds
 
@@ -44,9 +41,9 @@ abbrev pub before_last_image : List Record → List Record
 before_last_image [] = []
 before_last_image (r ∷ records) = if has_image records then r ∷ before_last_image records else []
 
--- the gate of the last image in a journal of this text, where there is one
-abbrev pub image_gate : List ℕ → List Record → Option ℕ
-image_gate text records = if has_image records then Some (length (journal_front text (before_last_image records))) else None
+-- the gate of the last image in a journal with this header, if there is one
+abbrev pub image_gate : Header → List Record → Option ℕ
+image_gate head records = if has_image records then Some (length (journal_front head (before_last_image records))) else None
 
 -- ---- messages
 
@@ -114,8 +111,8 @@ AreGoodRecords product count (r ∷ records) = IsGoodRecord product count r × A
 -- image does not say the session: the market is open then.
 abbrev pub IsTrueAs : ProductLists → List (List ℕ) → EntryKind → List ℕ → Type 0
 IsTrueAs product before Frames payload = Unit {0}
-IsTrueAs product before OldImage payload = (payload ≡ old_image_of (state_kept product before)) × ((state_kept product before).trading ≡ Open)
-IsTrueAs product before Image payload = payload ≡ image_of (state_kept product before)
+IsTrueAs product before OldImage payload = (payload ≡ old_image_of (state_kept (of_product product before))) × ((state_kept (of_product product before)).trading ≡ Open)
+IsTrueAs product before Image payload = payload ≡ image_of (state_kept (of_product product before))
 
 abbrev pub IsTrueRecord : ProductLists → List (List ℕ) → Record → Type 0
 IsTrueRecord product before r = IsTrueAs product before r.kind r.payload

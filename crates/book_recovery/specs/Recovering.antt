@@ -5,11 +5,12 @@ use Rattle.gx_station.specs.Stations.{StationMeanings}
 use Rattle.product_file.specs.Products.{ProductLists}
 use Rattle.order_kinds.specs.State.{State, state_numbered}
 use Rattle.order_kinds.specs.Cores.{AreNumbered}
+use Rattle.order_kinds.specs.Histories.{History, of_product, length_kept, state_kept}
 use Rattle.book_image.specs.Image.{image_len}
-use Rattle.match_journal.specs.Journal.{Record, open_record}
+use Rattle.match_journal.specs.Journal.{Header, Record, open_record}
 use Rattle.match_journal.specs.Appending.{IsJournalTo}
 use Rattle.match_journal.specs.Causes.{LooksOnly}
-use Rattle.book_recovery.specs.Records.{state_kept, from_last_image, image_gate, messages_in, count_behind_all, AreGoodRecords, AreTrueRecords}
+use Rattle.book_recovery.specs.Records.{from_last_image, image_gate, messages_in, count_behind_all, AreGoodRecords, AreTrueRecords}
 use Rattle.book_recovery.specs.BadPlaces.{IsBadPlace}
 use Rattle.book_recovery.specs.declared.recovery.Recovered.{Recovered}
 use Rattle.book_recovery.specs.declared.recovery.RecoverFault.{RecoverFault}
@@ -25,11 +26,11 @@ pub record ReadsOnly {S : Type 0} (m : StationMeanings S) (old new : S) : Type 0
 abbrev pub HasRoomFor : ProductLists → Scratch → Type 0
 HasRoomFor product scratch = image_len (length product.names.instruments) product.max_orders ≤ boxed_slice_len scratch.payload
 
--- the state is that of the engine after these messages, but for the slots of the orders, and order numbers differ
-pub record IsStateAfter (product : ProductLists) (messages : List (List ℕ)) (state : State) : Type 0 where
-  pub state_is : state_numbered state ≡ state_kept product messages
+-- the state is that of the engine after a history, but for the slots of the orders, and order numbers differ
+pub record IsStateAfter (history : History) (state : State) : Type 0 where
+  pub state_is : state_numbered state ≡ state_kept history
   pub numbered : AreNumbered state
-  pub count_is : state.desk.messages ≡ length messages
+  pub count_is : state.desk.messages ≡ length_kept history
 
 -- the place from which on all is read: the gate of the last book image, or the first gate
 abbrev pub first_read : Option ℕ → ℕ → ℕ
@@ -43,18 +44,18 @@ most_to_recover records = 6 * (length records + 1) + length (flat_map open_recor
 
 -- The image is a journal up to this gate, no record of which is bad from the last book image on, and these were replayed. Where
 -- each book image in it is that of the state after the messages before it, this is the state after all messages.
-pub record IsRecovered (product : ProductLists) (text : List ℕ) (limit : ℕ) (image : List ℕ) (gate : ℕ) (state : State) (recovered : Recovered) : Type 0 where
+pub record IsRecovered (product : ProductLists) (head : Header) (limit : ℕ) (image : List ℕ) (gate : ℕ) (state : State) (recovered : Recovered) : Type 0 where
   pub records : List Record
-  pub journal : IsJournalTo text limit records gate image
+  pub journal : IsJournalTo head limit records gate image
   pub good : AreGoodRecords product 0 (from_last_image records)
   pub messages : recovered.messages ≡ count_behind_all 0 (from_last_image records)
   pub entries : recovered.entries ≡ length records
-  pub image_at : recovered.image_at ≡ image_gate text records
-  pub kept : AreTrueRecords product [] records → IsStateAfter product (messages_in records) state
+  pub image_at : recovered.image_at ≡ image_gate head records
+  pub kept : AreTrueRecords product [] records → IsStateAfter (of_product product (messages_in records)) state
 
 -- What is answered over an image whose first gate and header are good. Ok and Bad do not hold together, nor does Bad at two
 -- places (`an_image_is_recovered_one_way`), so each comes exactly where it holds.
-abbrev pub Recovers : ProductLists → List ℕ → ℕ → List ℕ → ℕ → State → Result Recovered RecoverFault → Type 0
-Recovers product text limit image gate state (Ok recovered) = IsRecovered product text limit image gate state recovered
-Recovers product text limit image gate state (Err fault.Store) = Unit {0}
-Recovers product text limit image gate state (Err (fault.Bad at)) = IsBadPlace product text limit image at
+abbrev pub Recovers : ProductLists → Header → ℕ → List ℕ → ℕ → State → Result Recovered RecoverFault → Type 0
+Recovers product head limit image gate state (Ok recovered) = IsRecovered product head limit image gate state recovered
+Recovers product head limit image gate state (Err fault.Store) = Unit {0}
+Recovers product head limit image gate state (Err (fault.Bad at)) = IsBadPlace product head limit image at

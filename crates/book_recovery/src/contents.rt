@@ -7,7 +7,7 @@ ghost use Rattle.gx_station.specs.StoreCalls.{OnStore};
 ghost use Rattle.fix_frame.specs.Stream.{messages_of, rest_of};
 ghost use Rattle.book_image.specs.Image.{image_len};
 ghost use Rattle.match_journal.specs.Causes.{LooksOnly};
-ghost use Rattle.match_journal.specs.Standing.{Fits};
+ghost use Rattle.match_journal.specs.Standing.{Fits, StandsIn};
 ghost use Rattle.match_journal.specs.declared.entry.EntryKind.TheVariants.{Frames};
 ghost use Rattle.match_journal.specs.declared.limits.TheConstants.{MOST_PAYLOAD};
 ghost use Rattle.order_kinds.specs.State.{empty_state};
@@ -87,7 +87,7 @@ fn read_image_record<S: Station, B: Book>(
     ensures few { OnOk result (core.new.desk.messages < MOST_MESSAGES) }
     ensures fits { FitsProduct product.now core.new }
     ensures new { IsErr result → core.new ≡ core.old }
-    ensures reads { (image : List ℕ) → S.meanings.holds station.old ≡ Some image → length image ≡ journal.old.known
+    ensures reads { (image : List ℕ) → S.meanings.holds station.old ≡ Some image → StandsIn journal.old image
         → ReadsImage entry.now.kind product.now (payload_at image entry.now) core.new entry.now.at result }
 {
     let length = entry.length as usize;
@@ -196,7 +196,7 @@ pub(crate) fn read_record<S: Station, B: Book>(
     ensures counts { IfOk result (CountsBehind met.count met.entry.kind scratch.new.framer.given core.new) }
     ensures given { OnOk result (scratch.new.framer.given ≡ messages_of (concat scratch.new.framer.given)) }
     ensures size { OnOk result (length (concat scratch.new.framer.given) ≤ met.entry.length) }
-    ensures reads { (image : List ℕ) → S.meanings.holds station.old ≡ Some image → length image ≡ journal.old.known
+    ensures reads { (image : List ℕ) → S.meanings.holds station.old ≡ Some image → StandsIn journal.old image
         → ReadsContent product.now met.count met.entry.kind (payload_at image met.entry) met.entry.at scratch.new.framer.given core.new result }
 {
     match met.entry.kind {

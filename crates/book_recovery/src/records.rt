@@ -3,8 +3,8 @@ ghost use Rattle.std.specs.Prelude.{◌≡◌, ℕ, ◌+◌, ◌<◌, ◌≤◌,
 ghost use Rattle.std.specs.List.{concat};
 ghost use Rattle.gx_station.specs.Counts.{Rose};
 ghost use Rattle.fix_frame.specs.Stream.{messages_of};
-ghost use Rattle.match_journal.specs.Journal.{Record, journal_front};
-ghost use Rattle.match_journal.specs.Standing.{IsStanding, moved};
+ghost use Rattle.match_journal.specs.Journal.{Record, journal_front, Header};
+ghost use Rattle.match_journal.specs.Standing.{IsStanding, moved, StandsIn};
 ghost use Rattle.match_journal.specs.declared.entry.EntryKind.{EntryKind};
 ghost use Rattle.match_journal.specs.declared.entry.EntryKind.TheVariants.{Frames};
 ghost use Rattle.order_kinds.specs.State.{empty_state};
@@ -66,10 +66,10 @@ pub fn next_record<S: Station, B: Book>(
     ensures rises { IfOk result (λ found. IfSome found (λ behind. journal.old.gate + 6 + length (concat scratch.new.framer.given) ≤ journal.new.gate)) }
     ensures frames { IfOk result (λ found. IfSome found (λ behind. scratch.new.framer.given ≡ messages_of (concat scratch.new.framer.given))) }
     ensures in_limit { IfOk result (λ found. IfSome found (λ behind. journal.new.gate < journal.new.limit)) }
-    ensures records { (text image : List ℕ) (before : List Record) → S.meanings.holds station.old ≡ Some image → length image ≡ journal.old.known
-        → AreFirstRecords product.now text journal.old.limit before image → journal.old.gate ≡ length (journal_front text before)
+    ensures records { (head : Header) (image : List ℕ) (before : List Record) → S.meanings.holds station.old ≡ Some image → StandsIn journal.old image
+        → AreFirstRecords product.now head journal.old.limit before image → journal.old.gate ≡ length (journal_front head before)
         → count ≡ count_behind_all 0 before
-        → ReadsRecord product.now text journal.old.limit image before journal.new.gate scratch.new.framer.given result }
+        → ReadsRecord product.now head journal.old.limit image before journal.new.gate scratch.new.framer.given result }
 {
     let entry = match journal.next_entry(station) {
         Ok(Some(entry)) => entry,

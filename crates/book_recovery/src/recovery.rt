@@ -2,9 +2,9 @@
 ghost use Rattle.std.specs.Prelude.{◌≡◌, ℕ, ◌+◌, ◌-◌, ◌*◌, ◌^◌, ◌<◌, ◌≤◌, List, [], false, true, length, Some, OnOk, IfOk, IsErrOf};
 ghost use Rattle.gx_station.specs.Counts.{Rose};
 ghost use Rattle.match_journal.specs.Causes.{ReadsAtMost};
-ghost use Rattle.match_journal.specs.Journal.{IsJournal, Record};
+ghost use Rattle.match_journal.specs.Journal.{IsJournal, Record, Header};
 ghost use Rattle.match_journal.specs.Opening.{IsOpened};
-ghost use Rattle.match_journal.specs.Standing.{IsStanding, moved};
+ghost use Rattle.match_journal.specs.Standing.{IsStanding, moved, StandsIn};
 ghost use Rattle.match_journal.specs.declared.limits.TheConstants.{LEAST_LIMIT};
 ghost use Rattle.order_kinds.specs.State.{empty_state};
 ghost use Rattle.order_kinds.specs.Cores.{FitsProduct};
@@ -78,8 +78,8 @@ fn read_heads<S: Station>(station: &mut S, journal: &mut Journal) -> Result<Head
     ensures reads { ReadsOnly S.meanings station.old station.new }
     ensures bytes { IfOk result (λ heads. ReadsAtMost (6 * (heads.entries + 1)) (S.meanings.bytes_read station.old) (S.meanings.bytes_read station.new)) }
     // Six for each head that is met, also the one at which a call fails.
-    ensures few_bytes { (text image : List ℕ) (records : List Record) → S.meanings.holds station.old ≡ Some image → length image ≡ journal.old.known
-        → IsJournal text journal.old.limit records image → journal.old.first ≡ 13 + length text
+    ensures few_bytes { (head : Header) (image : List ℕ) (records : List Record) → S.meanings.holds station.old ≡ Some image → StandsIn journal.old image
+        → IsJournal head journal.old.limit records image → journal.old.first ≡ 13 + length head.text
         → ReadsAtMost (6 * (length records + 1)) (S.meanings.bytes_read station.old) (S.meanings.bytes_read station.new) }
     ensures reach { S.meanings.reach station.new ≡ S.meanings.reach station.old }
     ensures store { IsErrOf result RecoverFault.Store → Rose (S.meanings.store_faults station.old) (S.meanings.store_faults station.new) }
@@ -88,9 +88,9 @@ fn read_heads<S: Station>(station: &mut S, journal: &mut Journal) -> Result<Head
     ensures same { journal.new ≡ moved journal.old journal.new.gate journal.new.is_at_end }
     ensures at_end { OnOk result (journal.new.is_at_end ≡ true) }
     ensures start { IfOk result (λ heads. BeginsAt journal.new heads) }
-    ensures counts { (text image : List ℕ) → S.meanings.holds station.old ≡ Some image → length image ≡ journal.old.known
-        → BeginsWithRecords text journal.old.limit [] image → journal.old.first ≡ 13 + length text
-        → Counts text journal.old.limit image journal.new.gate result }
+    ensures counts { (head : Header) (image : List ℕ) → S.meanings.holds station.old ≡ Some image → StandsIn journal.old image
+        → BeginsWithRecords head journal.old.limit [] image → journal.old.first ≡ 13 + length head.text
+        → Counts head journal.old.limit image journal.new.gate result }
 {
     journal.rewind();
     let mut heads = Heads {
@@ -134,7 +134,7 @@ pub fn recover<S: Station, B: Book>(
     ensures store { IsErrOf result RecoverFault.Store → Rose (S.meanings.store_faults station.old) (S.meanings.store_faults station.new) }
     ensures none { (IsErrOf result RecoverFault.Store → ⊥) → S.meanings.store_faults station.new ≡ S.meanings.store_faults station.old }
     ensures stands { IsStanding journal.new }
-    ensures same { (journal.new.first ≡ journal.old.first) × (journal.new.known ≡ journal.old.known) × (journal.new.limit ≡ journal.old.limit) }
+    ensures same { journal.new ≡ moved journal.old journal.new.gate journal.new.is_at_end }
     ensures reach { journal.new.known ≤ S.meanings.reach station.new }
     ensures at_end { OnOk result (journal.new.is_at_end ≡ true) }
     ensures in_limit { OnOk result (journal.new.gate < journal.new.limit) }
@@ -147,12 +147,12 @@ pub fn recover<S: Station, B: Book>(
         (λ recovered. ReadsAtMost (6 * (recovered.entries + 1) + (journal.new.gate - first_read recovered.image_at journal.old.first))
         (S.meanings.bytes_read station.old) (S.meanings.bytes_read station.new)) }
     // No more of a journal with these records, whatever is answered.
-    ensures few_bytes { (text image : List ℕ) (records : List Record) → S.meanings.holds station.old ≡ Some image → length image ≡ journal.old.known
-        → IsJournal text journal.old.limit records image → journal.old.first ≡ 13 + length text
+    ensures few_bytes { (head : Header) (image : List ℕ) (records : List Record) → S.meanings.holds station.old ≡ Some image → StandsIn journal.old image
+        → IsJournal head journal.old.limit records image → journal.old.first ≡ 13 + length head.text
         → ReadsAtMost (most_to_recover records) (S.meanings.bytes_read station.old) (S.meanings.bytes_read station.new) }
-    ensures recovers { (text image : List ℕ) → S.meanings.holds station.old ≡ Some image → length image ≡ journal.old.known → LEAST_LIMIT ≤ journal.old.limit
-        → IsOpened text image → journal.old.first ≡ 13 + length text
-        → Recovers product.now text journal.old.limit image journal.new.gate core.new result }
+    ensures recovers { (head : Header) (image : List ℕ) → S.meanings.holds station.old ≡ Some image → StandsIn journal.old image → LEAST_LIMIT ≤ journal.old.limit
+        → IsOpened head image → journal.old.first ≡ 13 + length head.text
+        → Recovers product.now head journal.old.limit image journal.new.gate core.new result }
 {
     let heads = read_heads(station, journal)?;
     replay_records(station, journal, product, scratch, core, heads.start)?;

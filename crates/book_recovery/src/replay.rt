@@ -2,8 +2,8 @@
 ghost use Rattle.std.specs.Prelude.{◌≡◌, ℕ, ◌+◌, ◌-◌, ◌<◌, ◌≤◌, List, length, flat_map, false, true, Some, Ok, OnOk, IsErrOf};
 ghost use Rattle.gx_station.specs.Counts.{Rose};
 ghost use Rattle.match_journal.specs.Causes.{ReadsAtMost, LooksOnly};
-ghost use Rattle.match_journal.specs.Journal.{IsJournal, Record, journal_front, open_record};
-ghost use Rattle.match_journal.specs.Standing.{IsStanding, Fits, moved};
+ghost use Rattle.match_journal.specs.Journal.{IsJournal, Record, journal_front, open_record, Header};
+ghost use Rattle.match_journal.specs.Standing.{IsStanding, Fits, moved, StandsIn};
 ghost use Rattle.match_journal.specs.Walking.{Walks};
 ghost use Rattle.order_kinds.specs.State.{empty_state};
 ghost use Rattle.order_kinds.specs.Cores.{FitsProduct};
@@ -46,7 +46,7 @@ fn replay_entry<S: Station, B: Book>(
     ensures room { HasRoomFor product.now scratch.new }
     ensures few { OnOk result (core.new.desk.messages < MOST_MESSAGES) }
     ensures fits { FitsProduct product.now core.new }
-    ensures replays { (image : List ℕ) → S.meanings.holds station.old ≡ Some image → length image ≡ journal.old.known
+    ensures replays { (image : List ℕ) → S.meanings.holds station.old ≡ Some image → StandsIn journal.old image
         → ReplaysOne product.now core.old core.new entry.now.at (record_at image entry.now) result }
 {
     match entry.kind {
@@ -100,8 +100,8 @@ pub(crate) fn replay_records<S: Station, B: Book>(
     ensures bytes { OnOk result
         (ReadsAtMost (journal.new.gate - begins_from journal.old start) (S.meanings.bytes_read station.old) (S.meanings.bytes_read station.new)) }
     // Never beyond the last gate, whatever is answered.
-    ensures few_bytes { (text image : List ℕ) (records : List Record) → S.meanings.holds station.old ≡ Some image → length image ≡ journal.old.known
-        → IsJournal text journal.old.limit records image → Walks image journal.old.limit (length (journal_front text (before_last_image records))) (Ok start)
+    ensures few_bytes { (head : Header) (image : List ℕ) (records : List Record) → S.meanings.holds station.old ≡ Some image → StandsIn journal.old image
+        → IsJournal head journal.old.limit records image → Walks image journal.old.limit (length (journal_front head (before_last_image records))) (Ok start)
         → ReadsAtMost (length (flat_map open_record (from_last_image records))) (S.meanings.bytes_read station.old) (S.meanings.bytes_read station.new) }
     ensures reach { S.meanings.reach station.new ≡ S.meanings.reach station.old }
     ensures store { IsErrOf result RecoverFault.Store → Rose (S.meanings.store_faults station.old) (S.meanings.store_faults station.new) }
@@ -113,10 +113,10 @@ pub(crate) fn replay_records<S: Station, B: Book>(
     ensures room { HasRoomFor product.now scratch.new }
     ensures fits { FitsProduct product.now core.new }
     ensures few { OnOk result (core.new.desk.messages < MOST_MESSAGES) }
-    ensures replays { (text image : List ℕ) (records : List Record) → S.meanings.holds station.old ≡ Some image → length image ≡ journal.old.known
-        → IsJournal text journal.old.limit records image → journal.old.first ≡ 13 + length text
-        → Walks image journal.old.limit (length (journal_front text (before_last_image records))) (Ok start)
-        → ReplaysAll product.now text journal.old.limit image records journal.new.gate core.new result }
+    ensures replays { (head : Header) (image : List ℕ) (records : List Record) → S.meanings.holds station.old ≡ Some image → StandsIn journal.old image
+        → IsJournal head journal.old.limit records image → journal.old.first ≡ 13 + length head.text
+        → Walks image journal.old.limit (length (journal_front head (before_last_image records))) (Ok start)
+        → ReplaysAll product.now head journal.old.limit image records journal.new.gate core.new result }
 {
     product.limits();
     let Some(first) = start else {

@@ -5,11 +5,13 @@ use Rattle.gx_base.specs.KnownBytes.{IsKnownPrefix}
 use Rattle.gx_station.specs.Stations.{StationMeanings, sent_and}
 use Rattle.gx_station.specs.SendLaws.{sent_and_none, sent_and-append}
 use Rattle.product_file.specs.Products.{ProductLists}
-use Rattle.match_journal.specs.Classes.{IsBlank, IsSealed}
-use Rattle.match_journal.specs.Opening.{IsOpened}
+use Rattle.match_journal.specs.Journal.{in_version}
+use Rattle.match_journal.specs.Classes.{IsBlank, IsSealedOf}
+use Rattle.match_journal.specs.Opening.{IsOpenedOf}
 use Rattle.order_kinds.specs.Balance.{total_open}
 use Rattle.order_kinds.specs.State.{State, state_numbered, empty_state}
-use Rattle.book_recovery.specs.Records.{state_kept, messages_in}
+use Rattle.order_kinds.specs.Histories.{History, of_product, state_kept}
+use Rattle.book_recovery.specs.Records.{messages_in}
 use Rattle.book_print.specs.BookLaws.{total_open-numbered}
 use Rattle.journal_print.specs.Works.{WorkMeanings, work_text, work_after, work_whole}
 use Rattle.journal_print.specs.Printed.{SentPart, PrintsMessages}
@@ -32,10 +34,10 @@ module _ {S W : Type 0} (m : StationMeanings S) (w : WorkMeanings W) (product : 
   unopened old new work then state (unprinted.ProductDiffers at) told sent = (told, sent)
 
   -- an unfinished creation keeps nothing
-  pub none_kept : (old new : S) (work : W) (state : State) → IsBlank image ⊎ IsSealed text image → m.sent new ≡ m.sent old → state ≡ empty_state product → KeptPublished m w product text image old new work work state 0
+  pub none_kept : (old new : S) (work : W) (state : State) → IsBlank image ⊎ IsSealedOf text image → m.sent new ≡ m.sent old → state ≡ empty_state product → KeptPublished m w product text image old new work work state 0
   none_kept old new work state unfinished sent is = record {
-    messages = [];
-    kept = inl (unfinished, refl);
+    kept = of_product product [];
+    has = inl (unfinished, refl);
     published = record {
       sent = sent ∙ sym (ap (sent_and (m.sent old)) (w.text_none work product (empty_state product)) ∙ sent_and_none (m.sent old));
       work_is = sym (w.after_none work product (empty_state product));
@@ -46,22 +48,22 @@ module _ {S W : Type 0} (m : StationMeanings S) (w : WorkMeanings W) (product : 
   }
 
   module _ (old mid new : S) (looked : m.sent mid ≡ m.sent old) (work then : W) (state : State) where
-    from_start : (text_of : List (List ℕ) → List ℕ) → SentPart m product text image mid new text_of → SentPart m product text image old new text_of
-    from_start text_of part = record { records = part.records; first = part.first; sent = subst (λ s. IsKnownPrefix (m.sent new) (sent_and s (text_of (messages_in part.records)))) looked part.sent }
+    from_start : (text_of : History → List ℕ) → SentPart m product text image mid new text_of → SentPart m product text image old new text_of
+    from_start text_of part = record { head = part.head; of_text = part.of_text; records = part.records; first = part.first; sent = subst (λ s. IsKnownPrefix (m.sent new) (sent_and s (text_of (of_product product (messages_in part.records))))) looked part.sent }
 
-    pub stopped : (why : Unprinted) → IsOpened text image → Publishes m w product text image mid new work then state (Err why) → PublishesKept m w product text image old new work then state (Err why)
-    stopped unprinted.Store opened told = inr (from_start (work_text w work product) told)
-    stopped unprinted.Send opened told = from_start (work_text w work product) told
+    pub stopped : (why : Unprinted) (opened : IsOpenedOf text image) → Publishes m w product (in_version opened.0 text) image mid new work then state (Err why) → PublishesKept m w product text image old new work then state (Err why)
+    stopped unprinted.Store opened told = inr (from_start (work_text w work) told)
+    stopped unprinted.Send opened told = from_start (work_text w work) told
     stopped (unprinted.NotAJournal at) opened told = absurd told
-    stopped (unprinted.Bad at) opened told = inr record { opened = opened; bad = told.bad; sent = told.sent ∙ ap (λ s. sent_and s (work_text w work product (messages_in told.bad.before))) looked }
+    stopped (unprinted.Bad at) opened told = inr record { opened = opened; bad = told.bad; sent = told.sent ∙ ap (λ s. sent_and s (work_text w work (of_product product (messages_in told.bad.before)))) looked }
     stopped (unprinted.ProductDiffers at) opened told = absurd told
 
-    pub all_kept : (count : ℕ) → AllPublished m w product text product.journal_limit image mid new work then state → count ≡ state.desk.messages → KeptPublished m w product text image old new work then state count
-    all_kept count all is = record {
-      messages = messages_in all.records;
-      kept = inr (record { records = all.records; journal = all.journal; good = all.good }, refl);
+    pub all_kept : (count : ℕ) (opened : IsOpenedOf text image) → AllPublished m w product (in_version opened.0 text) product.journal_limit image mid new work then state → count ≡ state.desk.messages → KeptPublished m w product text image old new work then state count
+    all_kept count opened all is = record {
+      kept = of_product product (messages_in all.records);
+      has = inr (record { head = in_version opened.0 text; of_text = refl; records = all.records; journal = all.journal; good = all.good }, refl);
       published = record {
-        sent = all.published.sent ∙ ap (λ s. sent_and s (work_text w work product (messages_in all.records))) looked;
+        sent = all.published.sent ∙ ap (λ s. sent_and s (work_text w work (of_product product (messages_in all.records)))) looked;
         work_is = all.published.work_is;
         state_is = all.published.state_is;
         count_is = all.published.count_is;
@@ -70,7 +72,7 @@ module _ {S W : Type 0} (m : StationMeanings S) (w : WorkMeanings W) (product : 
     }
 
   -- not all messages were gone through
-  pub not_printed : (old new : S) (work then : W) (state : State) (whole : List (List ℕ) → List ℕ) (why : Unprinted) → PublishesKept m w product text image old new work then state (Err why) → PrintsMessages m product text image old new (work_text w work product) whole (Err why)
+  pub not_printed : (old new : S) (work then : W) (state : State) (whole : History → List ℕ) (why : Unprinted) → PublishesKept m w product text image old new work then state (Err why) → PrintsMessages m product text image old new (work_text w work) whole (Err why)
   not_printed old new work then state whole unprinted.Store told = told
   not_printed old new work then state whole unprinted.Send told = inl told
   not_printed old new work then state whole (unprinted.NotAJournal at) told = told
@@ -78,12 +80,12 @@ module _ {S W : Type 0} (m : StationMeanings S) (w : WorkMeanings W) (product : 
   not_printed old new work then state whole (unprinted.ProductDiffers at) told = told
 
   -- what is sent of the messages, and then what comes after them, are all
-  pub with_ending : (old mid : S) (work then : W) (state : State) (messages : List (List ℕ)) → ArePublished m w product text old mid work then state messages → (live : ℕ) → live ≡ total_open state.book
-      → sent_and (m.sent mid) (w.ending then live) ≡ sent_and (m.sent old) (work_whole w work product messages)
-  with_ending old mid work then state messages published live live_is =
-      let sent : List ℕ = work_text w work product messages in
-      let last : W = work_after w work product messages in
-      let lots : ℕ = total_open (state_kept product messages).book in
+  pub with_ending : (old mid : S) (work then : W) (state : State) (kept : History) → ArePublished m w old mid work then state kept → (live : ℕ) → live ≡ total_open state.book
+      → sent_and (m.sent mid) (w.ending then live) ≡ sent_and (m.sent old) (work_whole w work kept)
+  with_ending old mid work then state kept published live live_is =
+      let sent : List ℕ = work_text w work kept in
+      let last : W = work_after w work kept in
+      let lots : ℕ = total_open (state_kept kept).book in
       let same : live ≡ lots = live_is ∙ sym (total_open-numbered state.book) ∙ ap (λ (s : State). total_open s.book) published.state_is in
       ap (λ s. sent_and s (w.ending then live)) published.sent
       ∙ ap (λ (l : List ℕ). sent_and (sent_and (m.sent old) sent) l) (ap (λ (g : W). w.ending g live) published.work_is ∙ ap (w.ending last) same)

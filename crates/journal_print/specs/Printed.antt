@@ -1,15 +1,17 @@
 -- What was printed of the journal in an image, by the answer.
-use Rattle.std.specs.Prelude.{◌≡◌, ◌⊎◌, ℕ, ◌≤◌, List, ◌++◌, length, flat_map, Result, Ok, Err}
+use Rattle.std.specs.Prelude.{◌≡◌, ◌⊎◌, ℕ, ◌≤◌, List, ◌++◌, Result, Ok, Err}
 use Rattle.gx_base.specs.KnownBytes.{IsKnownPrefix}
 use Rattle.gx_station.specs.Stations.{StationMeanings, sent_and}
 use Rattle.product_file.specs.Products.{ProductLists}
-use Rattle.match_journal.specs.Journal.{Record}
+use Rattle.match_journal.specs.Journal.{Header, Record, in_version}
 use Rattle.match_journal.specs.Classes.{IsForeignAt, HasBadHeader, HasOtherText}
-use Rattle.match_journal.specs.Opening.{IsOpened}
+use Rattle.match_journal.specs.Opening.{IsOpenedOf}
 use Rattle.order_kinds.specs.declared.core_state.TheConstants.{MOST_MESSAGES}
 use Rattle.order_kinds.specs.Balance.{total_open}
-use Rattle.order_kinds.specs.Step.{events_of}
-use Rattle.book_recovery.specs.Records.{state_kept, messages_in}
+use Rattle.order_kinds.specs.Amendments.{amended_state}
+use Rattle.order_kinds.specs.Step.{events_of, events_from}
+use Rattle.order_kinds.specs.Histories.{History, of_product, amended, length_kept, state_kept, lines_kept}
+use Rattle.book_recovery.specs.Records.{messages_in}
 use Rattle.book_recovery.specs.Kept.{HasKept, IsTrueImage, CanBeRecovered}
 use Rattle.book_recovery.specs.BadPlaces.{AreFirstRecords, HasBadRecordAt, IsBadPlace}
 use Rattle.book_print.specs.BookText.{book_text}
@@ -17,52 +19,54 @@ use Rattle.exec_report.specs.Forms.{LineText, FormMeanings, behind}
 use Rattle.journal_print.specs.declared.unprinted.Unprinted.{Unprinted}
 use Rattle.journal_print.specs.declared.unprinted.Unprinted.TheVariants as unprinted
 
--- the lines of the events of these messages
-abbrev pub lines_in : LineText → ProductLists → List (List ℕ) → List ℕ
-lines_in line product messages = flat_map (line product.names) (events_of product messages)
-
 module _ {F : Type 0} (f : FormMeanings F) where
-  -- all that a form prints of these messages: the lines of their events, and its ending after them
-  abbrev pub printed_whole : F → ProductLists → List (List ℕ) → List ℕ
-  printed_whole form product messages =
-      lines_in (f.text form) product messages
-      ++ f.ending (behind f form product messages (events_of product messages)) (total_open (state_kept product messages).book)
+  -- the form after the messages of a history and their events
+  abbrev pub form_after : F → History → F
+  form_after form (of_product product messages) = behind f form product messages (events_of product messages)
+  form_after form (amended before product messages) =
+      behind f (form_after form before) product messages (events_from product (amended_state product (state_kept before)) messages)
+
+  -- all that a form prints of a history: the lines of its events, and its ending after them
+  abbrev pub printed_whole : F → History → List ℕ
+  printed_whole form history = lines_kept (f.text form) history ++ f.ending (form_after form history) (total_open (state_kept history).book)
 
 module _ {S : Type 0} (m : StationMeanings S) (product : ProductLists) (text image : List ℕ) (old new : S) where
   -- nothing was sent
   abbrev pub SentNothing : Type 0
   SentNothing = m.sent new ≡ m.sent old
 
-  -- a part was sent of what is sent of the messages in the first records, none of them bad
-  pub record SentPart (text_of : List (List ℕ) → List ℕ) : Type 0 where
+  -- a part was sent of what is sent of the messages in the first records of a journal of this text, none of them bad
+  pub record SentPart (text_of : History → List ℕ) : Type 0 where
+    pub head : Header
+    pub of_text : head.text ≡ text
     pub records : List Record
-    pub first : AreFirstRecords product text product.journal_limit records image
-    pub sent : IsKnownPrefix (m.sent new) (sent_and (m.sent old) (text_of (messages_in records)))
+    pub first : AreFirstRecords product head product.journal_limit records image
+    pub sent : IsKnownPrefix (m.sent new) (sent_and (m.sent old) (text_of (of_product product (messages_in records))))
 
-  -- a part was sent of what is printed of the messages kept, which are no more than a core takes
-  pub record SentPartOfAll (whole : List (List ℕ) → List ℕ) : Type 0 where
-    pub messages : List (List ℕ)
-    pub kept : HasKept product text messages image
-    pub few : length messages ≤ MOST_MESSAGES
-    pub sent : IsKnownPrefix (m.sent new) (sent_and (m.sent old) (whole messages))
+  -- a part was sent of what is printed of the history kept, whose messages are no more than a core takes
+  pub record SentPartOfAll (whole : History → List ℕ) : Type 0 where
+    pub kept : History
+    pub has : HasKept product text kept image
+    pub few : length_kept kept ≤ MOST_MESSAGES
+    pub sent : IsKnownPrefix (m.sent new) (sent_and (m.sent old) (whole kept))
 
-  -- all was sent that is printed of the messages kept, and these were counted; they are no more than a core takes
-  pub record SentAll (whole : List (List ℕ) → List ℕ) (count : ℕ) : Type 0 where
-    pub messages : List (List ℕ)
-    pub kept : HasKept product text messages image
-    pub few : length messages ≤ MOST_MESSAGES
-    pub sent : m.sent new ≡ sent_and (m.sent old) (whole messages)
-    pub count_is : count ≡ length messages
+  -- all was sent that is printed of the history kept, and its messages were counted; they are no more than a core takes
+  pub record SentAll (whole : History → List ℕ) (count : ℕ) : Type 0 where
+    pub kept : History
+    pub has : HasKept product text kept image
+    pub few : length_kept kept ≤ MOST_MESSAGES
+    pub sent : m.sent new ≡ sent_and (m.sent old) (whole kept)
+    pub count_is : count ≡ length_kept kept
 
   -- a record is bad, and what is sent of the messages in all records before it was sent
-  pub record SentToBadRecord (text_of : List (List ℕ) → List ℕ) (at : ℕ) : Type 0 where
-    pub opened : IsOpened text image
-    pub bad : HasBadRecordAt product text product.journal_limit image at
-    pub sent : m.sent new ≡ sent_and (m.sent old) (text_of (messages_in bad.before))
+  pub record SentToBadRecord (text_of : History → List ℕ) (at : ℕ) : Type 0 where
+    pub opened : IsOpenedOf text image
+    pub bad : HasBadRecordAt product (in_version opened.0 text) product.journal_limit image at
+    pub sent : m.sent new ≡ sent_and (m.sent old) (text_of (of_product product (messages_in bad.before)))
 
   -- What was sent of all messages, record by record, and what is sent of them as a whole. No two of these answers but for a fault of
   -- the outside fit one image, so each comes exactly where it fits.
-  abbrev pub PrintsMessages : (List (List ℕ) → List ℕ) → (List (List ℕ) → List ℕ) → Result ℕ Unprinted → Type 0
+  abbrev pub PrintsMessages : (History → List ℕ) → (History → List ℕ) → Result ℕ Unprinted → Type 0
   PrintsMessages text_of whole (Ok count) = SentAll whole count
   PrintsMessages text_of whole (Err unprinted.Store) = SentNothing ⊎ SentPart text_of
   PrintsMessages text_of whole (Err unprinted.Send) = SentPart text_of ⊎ SentPartOfAll whole
@@ -71,25 +75,25 @@ module _ {S : Type 0} (m : StationMeanings S) (product : ProductLists) (text ima
   PrintsMessages text_of whole (Err (unprinted.ProductDiffers at)) = HasOtherText text image at × SentNothing
 
   -- what was printed of the events of all messages, line by line
-  abbrev pub PrintsEvents : LineText → (List (List ℕ) → List ℕ) → Result ℕ Unprinted → Type 0
-  PrintsEvents line whole result = PrintsMessages (lines_in line product) whole result
+  abbrev pub PrintsEvents : LineText → (History → List ℕ) → Result ℕ Unprinted → Type 0
+  PrintsEvents line whole result = PrintsMessages (lines_kept line) whole result
 
-  -- the book of the state that the messages kept leave
-  abbrev pub book_kept : List (List ℕ) → List ℕ
-  book_kept messages = book_text product (state_kept product messages)
+  -- the book of the state after the history kept
+  abbrev pub book_kept : History → List ℕ
+  book_kept kept = book_text product (state_kept kept)
 
   -- The image is an unfinished creation, or a journal with no bad head and no bad record from the last book image on. What is sent
-  -- and counted then, by the messages kept, is said where each book image is that of the state after the messages before it.
-  pub record SentBook (Sends : List (List ℕ) → Type 0) : Type 0 where
+  -- and counted then, by the history kept, is said where each book image is that of the state after the messages before it.
+  pub record SentBook (Sends : History → Type 0) : Type 0 where
     pub recovered : CanBeRecovered product text product.journal_limit image
-    pub sends : (messages : List (List ℕ)) → IsTrueImage product text messages image → Sends messages
+    pub sends : (kept : History) → IsTrueImage product text kept image → Sends kept
 
-  -- the book of the state after these messages was sent, and they were counted
-  abbrev pub SentAllOfBook : ℕ → List (List ℕ) → Type 0
-  SentAllOfBook count messages = (m.sent new ≡ sent_and (m.sent old) (book_kept messages)) × (count ≡ length messages)
+  -- the book of the state after this history was sent, and its messages were counted
+  abbrev pub SentAllOfBook : ℕ → History → Type 0
+  SentAllOfBook count kept = (m.sent new ≡ sent_and (m.sent old) (book_kept kept)) × (count ≡ length_kept kept)
 
-  abbrev pub SentPartOfBook : List (List ℕ) → Type 0
-  SentPartOfBook messages = IsKnownPrefix (m.sent new) (sent_and (m.sent old) (book_kept messages))
+  abbrev pub SentPartOfBook : History → Type 0
+  SentPartOfBook kept = IsKnownPrefix (m.sent new) (sent_and (m.sent old) (book_kept kept))
 
   -- What was printed of the book: nothing, unless a state was recovered.
   abbrev pub PrintsBook : Result ℕ Unprinted → Type 0
@@ -97,5 +101,5 @@ module _ {S : Type 0} (m : StationMeanings S) (product : ProductLists) (text ima
   PrintsBook (Err unprinted.Store) = SentNothing
   PrintsBook (Err unprinted.Send) = SentBook SentPartOfBook
   PrintsBook (Err (unprinted.NotAJournal at)) = IsForeignAt image at × SentNothing
-  PrintsBook (Err (unprinted.Bad at)) = (HasBadHeader image at ⊎ (IsOpened text image × IsBadPlace product text product.journal_limit image at)) × SentNothing
+  PrintsBook (Err (unprinted.Bad at)) = (HasBadHeader image at ⊎ ((opened : IsOpenedOf text image) × IsBadPlace product (in_version opened.0 text) product.journal_limit image at)) × SentNothing
   PrintsBook (Err (unprinted.ProductDiffers at)) = HasOtherText text image at × SentNothing

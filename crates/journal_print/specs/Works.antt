@@ -4,7 +4,8 @@ use Rattle.product_file.specs.Products.{ProductLists}
 use Rattle.order_kinds.specs.Balance.{total_open}
 use Rattle.order_kinds.specs.State.{State, empty_state}
 use Rattle.order_kinds.specs.Step.{state_after}
-use Rattle.book_recovery.specs.Records.{state_kept}
+use Rattle.order_kinds.specs.Amendments.{amended_state}
+use Rattle.order_kinds.specs.Histories.{History, of_product, amended, state_kept}
 
 pub record WorkMeanings (W : Type 0) : Type 0 where
   -- what is sent of messages of a product, by the state before them
@@ -22,14 +23,17 @@ pub record WorkMeanings (W : Type 0) : Type 0 where
       → after w product state (messages ++ more) ≡ after (after w product state messages) product (state_after product state messages) more
 
 module _ {W : Type 0} (w : WorkMeanings W) where
-  -- what is sent of these messages, which are the first
-  abbrev pub work_text : W → ProductLists → List (List ℕ) → List ℕ
-  work_text work product messages = w.text work product (empty_state product) messages
+  -- the work after the messages of a history
+  abbrev pub work_after : W → History → W
+  work_after work (of_product product messages) = w.after work product (empty_state product) messages
+  work_after work (amended before product messages) = w.after (work_after work before) product (amended_state product (state_kept before)) messages
 
-  -- the work after them
-  abbrev pub work_after : W → ProductLists → List (List ℕ) → W
-  work_after work product messages = w.after work product (empty_state product) messages
+  -- what is sent of them
+  abbrev pub work_text : W → History → List ℕ
+  work_text work (of_product product messages) = w.text work product (empty_state product) messages
+  work_text work (amended before product messages) =
+      work_text work before ++ w.text (work_after work before) product (amended_state product (state_kept before)) messages
 
   -- what is sent of them and then after all messages
-  abbrev pub work_whole : W → ProductLists → List (List ℕ) → List ℕ
-  work_whole work product messages = work_text work product messages ++ w.ending (work_after work product messages) (total_open (state_kept product messages).book)
+  abbrev pub work_whole : W → History → List ℕ
+  work_whole work history = work_text work history ++ w.ending (work_after work history) (total_open (state_kept history).book)

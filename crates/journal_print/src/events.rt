@@ -75,7 +75,7 @@ pub fn print_events<W: RecordWork, B: Book, S: Station>(
     ensures send { IsErrOf result Unprinted.Send → Rose (S.meanings.send_faults station.old) (S.meanings.send_faults station.new) }
     ensures no_send { (IsErrOf result Unprinted.Send → ⊥) → S.meanings.send_faults station.new ≡ S.meanings.send_faults station.old }
     ensures prints { (image : List ℕ) → S.meanings.holds station.old ≡ Some image → PrintsMessages S.meanings product.now text.now image station.old station.new
-        (work_text W.meanings work.old product.now) (work_whole W.meanings work.old product.now) result }
+        (work_text W.meanings work.old) (work_whole W.meanings work.old) result }
 {
     let count = match publish_kept(work, product, text, reader, station) {
         Ok(count) => count,

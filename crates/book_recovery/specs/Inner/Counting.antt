@@ -1,7 +1,7 @@
 -- Going over the heads of all records.
 use Rattle.std.specs.Prelude.{◌≡◌, ℕ, ◌+◌, List, length, Some, Result, Ok, Err}
 use Rattle.std.specs.Option.{option_or}
-use Rattle.match_journal.specs.Journal.{Record, journal_front}
+use Rattle.match_journal.specs.Journal.{Record, journal_front, Header}
 use Rattle.match_journal.specs.Appending.{IsJournalTo}
 use Rattle.match_journal.specs.Walking.{Walks}
 use Rattle.match_journal.specs.declared.entry.Entry.{Entry}
@@ -24,15 +24,15 @@ with_head heads entry = with_head_of heads entry.kind entry
 
 -- The image is a journal of so many records up to this gate, with the gate of its last book image, and the second pass begins with
 -- what a walk answers there, or at the first gate.
-pub record AreRecords (text : List ℕ) (limit : ℕ) (image : List ℕ) (gate : ℕ) (heads : Heads) : Type 0 where
+pub record AreRecords (head : Header) (limit : ℕ) (image : List ℕ) (gate : ℕ) (heads : Heads) : Type 0 where
   pub records : List Record
-  pub journal : IsJournalTo text limit records gate image
+  pub journal : IsJournalTo head limit records gate image
   pub count_is : heads.entries ≡ length records
-  pub image_is : heads.image_at ≡ image_gate text records
-  pub start : Walks image limit (length (journal_front text (before_last_image records))) (Ok heads.start)
+  pub image_is : heads.image_at ≡ image_gate head records
+  pub start : Walks image limit (length (journal_front head (before_last_image records))) (Ok heads.start)
 
 -- what is answered over an image whose first gate and header are good
-abbrev pub Counts : List ℕ → ℕ → List ℕ → ℕ → Result Heads RecoverFault → Type 0
-Counts text limit image gate (Ok heads) = AreRecords text limit image gate heads
-Counts text limit image gate (Err fault.Store) = Unit {0}
-Counts text limit image gate (Err (fault.Bad at)) = HasBadHeadAt text limit image at
+abbrev pub Counts : Header → ℕ → List ℕ → ℕ → Result Heads RecoverFault → Type 0
+Counts head limit image gate (Ok heads) = AreRecords head limit image gate heads
+Counts head limit image gate (Err fault.Store) = Unit {0}
+Counts head limit image gate (Err (fault.Bad at)) = HasBadHeadAt head limit image at

@@ -1,11 +1,12 @@
 -- Replaying records: their messages are applied, and an image takes the place of the state.
 use Rattle.std.specs.Prelude.{◌≡◌, ℕ, ◌+◌, false, List, [], take, drop, None, Result, Ok, Err}
 use Rattle.product_file.specs.Products.{ProductLists}
+use Rattle.order_kinds.specs.Histories.{of_product}
 use Rattle.order_kinds.specs.State.{State, state_numbered}
 use Rattle.order_kinds.specs.Cores.{AreNumbered}
 use Rattle.book_image.specs.Faults.{image_fault}
 use Rattle.book_image.specs.Reading.{state_of_image}
-use Rattle.match_journal.specs.Journal.{Record}
+use Rattle.match_journal.specs.Journal.{Record, Header}
 use Rattle.match_journal.specs.Appending.{IsJournalTo}
 use Rattle.match_journal.specs.declared.entry.Entry.{Entry}
 use Rattle.match_journal.specs.declared.entry.EntryKind.{EntryKind}
@@ -47,14 +48,14 @@ ReplaysOne product old new gate r (Err fault.Store) = Unit {0}
 ReplaysOne product old new gate r (Err (fault.Bad at)) = (IsGoodRecord product old.desk.messages r → ⊥) × (at ≡ gate)
 
 -- all records from the last image on are good, and were replayed
-pub record AreReplayed (product : ProductLists) (text : List ℕ) (limit : ℕ) (image : List ℕ) (records : List Record) (gate : ℕ) (new : State) : Type 0 where
-  pub journal : IsJournalTo text limit records gate image
+pub record AreReplayed (product : ProductLists) (head : Header) (limit : ℕ) (image : List ℕ) (records : List Record) (gate : ℕ) (new : State) : Type 0 where
+  pub journal : IsJournalTo head limit records gate image
   pub good : AreGoodRecords product 0 (from_last_image records)
   pub messages : new.desk.messages ≡ count_behind_all 0 (from_last_image records)
-  pub kept : AreTrueRecords product [] records → IsStateAfter product (messages_in records) new
+  pub kept : AreTrueRecords product [] records → IsStateAfter (of_product product (messages_in records)) new
 
 -- what is answered over a journal with these records
-abbrev pub ReplaysAll : ProductLists → List ℕ → ℕ → List ℕ → List Record → ℕ → State → Result (Unit {0}) RecoverFault → Type 0
-ReplaysAll product text limit image records gate new (Ok t) = AreReplayed product text limit image records gate new
-ReplaysAll product text limit image records gate new (Err fault.Store) = Unit {0}
-ReplaysAll product text limit image records gate new (Err (fault.Bad at)) = HasBadPayloadAt product text limit image at
+abbrev pub ReplaysAll : ProductLists → Header → ℕ → List ℕ → List Record → ℕ → State → Result (Unit {0}) RecoverFault → Type 0
+ReplaysAll product head limit image records gate new (Ok t) = AreReplayed product head limit image records gate new
+ReplaysAll product head limit image records gate new (Err fault.Store) = Unit {0}
+ReplaysAll product head limit image records gate new (Err (fault.Bad at)) = HasBadPayloadAt product head limit image at

@@ -12,7 +12,7 @@ read_image-requires-clause-image g c = not-frames c.args.entry.now.kind c.requir
 pub returns-then-length-payload-clause-reads : goal.returns-then-length-payload-clause-reads
 returns-then-length-payload-clause-reads g c = λ image read known.
     let payload = payload_at image c.args.entry.now in
-    let size = payload-length image c.args.journal.now.known c.args.journal.now.limit c.args.entry.now c.requires.entry known in
+    let size = payload-length image c.args.journal.now.known c.args.journal.now.limit c.args.entry.now c.requires.entry known.known in
     (λ right. omega (arith, right-length c.args.entry.now.kind c.args.product.now payload right, size, c.if-length-payload.true, c.requires.room), refl)
 
 pub returns-in-Ok-clause-none : goal.returns-in-Ok-clause-none
@@ -24,7 +24,7 @@ returns-in-Ok-clause-few g c = few-read _ c.args.entry.now.kind c.args.product.n
 pub returns-in-Ok-clause-reads : goal.returns-in-Ok-clause-reads
 returns-in-Ok-clause-reads g c = λ image read known.
     let bytes = on_ok c.read_entry-read.result (sym c.is_err.ensures.value ∙ c.if-is_err.false) c.read_entry-read.ensures.bytes image read in
-    let size = ap length bytes ∙ payload-length image c.args.journal.now.known c.args.journal.now.limit c.args.entry.now c.requires.entry known in
+    let size = ap length bytes ∙ payload-length image c.args.journal.now.known c.args.journal.now.limit c.args.entry.now c.requires.entry known.known in
     let same = front_of c.read_entry-read.new.into _ _ size ∙ bytes in
     image-read _ c.args.entry.now.kind c.args.product.now _ (payload_at image c.args.entry.now) c.read_image.new.core same c.in-Ok.ensures.reads c.in-Ok.ensures.state
 
@@ -34,6 +34,6 @@ returns-in-Err-clause-none g c = λ fine. on_ok c.read_entry-read.result (sym c.
 pub returns-in-Err-clause-reads : goal.returns-in-Err-clause-reads
 returns-in-Err-clause-reads g c = λ image read known.
     let bytes = on_ok c.read_entry-read.result (sym c.is_err.ensures.value ∙ c.if-is_err.false) c.read_entry-read.ensures.bytes image read in
-    let size = ap length bytes ∙ payload-length image c.args.journal.now.known c.args.journal.now.limit c.args.entry.now c.requires.entry known in
+    let size = ap length bytes ∙ payload-length image c.args.journal.now.known c.args.journal.now.limit c.args.entry.now c.requires.entry known.known in
     let same = front_of c.read_entry-read.new.into _ _ size ∙ bytes in
     (image-wrong _ c.args.entry.now.kind c.args.product.now _ (payload_at image c.args.entry.now) c.in-Err.field-0 same c.in-Err.ensures.reads, refl)

@@ -2,4 +2,4 @@ use Rattle.book_recovery.proofs.OneWay.{one_bad_record}
 use Rattle.book_recovery.proofs.laws.one_record_is_the_first_bad_one.Goals as goal
 
 pub returns : goal.returns
-returns c = λ product text image limit at at' first second. one_bad_record product text limit image at at' first second
+returns c = λ product head image limit at at' first second. one_bad_record product head limit image at at' first second

@@ -6,16 +6,16 @@ use Rattle.order_kinds.proofs.EmptyStates.{fits-empty}
 use Rattle.book_recovery.proofs.Counting.{head_found, gate_found, bad_found}
 use Rattle.book_recovery.proofs.Looks.{reads_itself, reads_then}
 use Rattle.book_recovery.proofs.Reading.{closed_behind, bad_head_behind, content_more, content_unread}
-use Rattle.book_recovery.proofs.Standings.{some_moved}
+use Rattle.book_recovery.proofs.Standings.{stands_moved, some_moved}
 use Rattle.book_recovery.proofs.records.next_record.Goals as goal
 
 pub returns-in-Ok-None-clause-records : goal.returns-in-Ok-None-clause-records
-returns-in-Ok-None-clause-records g c = λ text image before read known first place counted.
-    closed_behind c.args.product.now text _ image before first _ place (gate_found image _ _ c.in-Ok-None.field-0 c.in-Ok-None.field-0-is (c.in-Ok-None.ensures.walks image read known))
+returns-in-Ok-None-clause-records g c = λ head image before read known first place counted.
+    closed_behind c.args.product.now head _ image before first _ place (gate_found image _ _ c.in-Ok-None.field-0 c.in-Ok-None.field-0-is (c.in-Ok-None.ensures.walks image read known))
 
 pub returns-in-Err-Bad-clause-records : goal.returns-in-Err-Bad-clause-records
-returns-in-Err-Bad-clause-records g c = λ text image before read known first place counted.
-    bad_head_behind c.args.product.now text _ image before first _ place c.in-Err-Bad.at (bad_found image _ _ c.in-Err-Bad.field-0 c.in-Err-Bad.at c.in-Err-Bad.field-0-is (c.in-Err-Bad.ensures.walks image read known))
+returns-in-Err-Bad-clause-records g c = λ head image before read known first place counted.
+    bad_head_behind c.args.product.now head _ image before first _ place c.in-Err-Bad.at (bad_found image _ _ c.in-Err-Bad.field-0 c.in-Err-Bad.at c.in-Err-Bad.field-0-is (c.in-Err-Bad.ensures.walks image read known))
 
 pub read_record-requires-clause-fits : goal.read_record-requires-clause-fits
 read_record-requires-clause-fits g c = subst (λ (s : State). FitsProduct c.args.product.now s) (sym c.requires.spare) (fits-empty c.args.product.now)
@@ -38,12 +38,12 @@ returns-in-Ok-clause-rises g c =
     omega (arith, ap (λ (s : Standing). s.gate) step, c.in-Ok.ensures.size)
 
 pub returns-in-Ok-clause-records : goal.returns-in-Ok-clause-records
-returns-in-Ok-clause-records g c = λ text image before read known first place counted.
-    let head = head_found image _ _ c.in-Ok-Some.field-0 c.in-Ok-Some.entry c.in-Ok-Some.field-0-is (c.in-Ok-Some.ensures.walks image read known) in
+returns-in-Ok-clause-records g c = λ head image before read known first place counted.
+    let at_head = head_found image _ _ c.in-Ok-Some.field-0 c.in-Ok-Some.entry c.in-Ok-Some.field-0-is (c.in-Ok-Some.ensures.walks image read known) in
     let met = some_moved c.args.journal.now c.next_entry.new.self c.in-Ok-Some.field-0 c.in-Ok-Some.entry c.in-Ok-Some.field-0-is c.in-Ok-Some.ensures.moves in
     let step = c.read_record.ensures.stays ∙ met in
-    content_more c.args.product.now text _ image before first _ place c.in-Ok-Some.entry head c.args.count counted c.read_record.new.scratch.framer.given c.read_record.new.core _ c.in-Ok.behind (ap (λ (s : Standing). s.gate) step)
-    (c.in-Ok.ensures.reads image (c.next_entry.ensures.looks.keeps.holds ∙ read) (known ∙ sym (ap (λ (s : Standing). s.known) met)))
+    content_more c.args.product.now head _ image before first _ place c.in-Ok-Some.entry at_head c.args.count counted c.read_record.new.scratch.framer.given c.read_record.new.core _ c.in-Ok.behind (ap (λ (s : Standing). s.gate) step)
+    (c.in-Ok.ensures.reads image (c.next_entry.ensures.looks.keeps.holds ∙ read) (stands_moved c.args.journal.now c.next_entry.new.self _ _ image met known))
 
 pub returns-in-Err-clause-reads : goal.returns-in-Err-clause-reads
 returns-in-Err-clause-reads g c =
@@ -54,8 +54,8 @@ pub returns-in-Err-clause-spare : goal.returns-in-Err-clause-spare
 returns-in-Err-clause-spare g c = c.in-Err.ensures.unread refl ∙ c.requires.spare
 
 pub returns-in-Err-clause-records : goal.returns-in-Err-clause-records
-returns-in-Err-clause-records g c = λ text image before read known first place counted.
-    let head = head_found image _ _ c.in-Ok-Some.field-0 c.in-Ok-Some.entry c.in-Ok-Some.field-0-is (c.in-Ok-Some.ensures.walks image read known) in
+returns-in-Err-clause-records g c = λ head image before read known first place counted.
+    let at_head = head_found image _ _ c.in-Ok-Some.field-0 c.in-Ok-Some.entry c.in-Ok-Some.field-0-is (c.in-Ok-Some.ensures.walks image read known) in
     let met = some_moved c.args.journal.now c.next_entry.new.self c.in-Ok-Some.field-0 c.in-Ok-Some.entry c.in-Ok-Some.field-0-is c.in-Ok-Some.ensures.moves in
-    content_unread c.args.product.now text _ image before first _ place c.in-Ok-Some.entry head c.args.count counted c.read_record.new.scratch.framer.given c.read_record.new.core c.read_record.new.journal.gate c.in-Err.why
-    (c.in-Err.ensures.reads image (c.next_entry.ensures.looks.keeps.holds ∙ read) (known ∙ sym (ap (λ (s : Standing). s.known) met)))
+    content_unread c.args.product.now head _ image before first _ place c.in-Ok-Some.entry at_head c.args.count counted c.read_record.new.scratch.framer.given c.read_record.new.core c.read_record.new.journal.gate c.in-Err.why
+    (c.in-Err.ensures.reads image (c.next_entry.ensures.looks.keeps.holds ∙ read) (stands_moved c.args.journal.now c.next_entry.new.self _ _ image met known))

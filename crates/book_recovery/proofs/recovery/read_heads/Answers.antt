@@ -9,7 +9,7 @@ use Rattle.book_recovery.proofs.Looks.{looks_by, reads_of}
 use Rattle.book_recovery.proofs.Images.{journal_begins_none}
 use Rattle.book_recovery.proofs.FewBytes.{heads_read}
 use Rattle.book_recovery.proofs.Starting.{begins_then}
-use Rattle.book_recovery.proofs.Standings.{moved_then, some_moved, none_moved, entry_found}
+use Rattle.book_recovery.proofs.Standings.{stands_moved, moved_then, some_moved, none_moved, entry_found}
 use Rattle.book_recovery.proofs.Counting.{entries_more, counting_more, counting_done, counting_bad, head_found, gate_found, bad_found}
 use Rattle.book_recovery.proofs.recovery.read_heads.Goals as goal
 
@@ -28,24 +28,24 @@ heads-preserved g c =
       same = moved_then c.args.journal.now c.heads.journal c.next_entry.new.self _ _ before.same step;
       few = omega (arith, before.few, gate, more);
       start = begins_then c.heads.journal c.next_entry.new.self c.heads.heads c.pass.new.self c.in-Ok-Some.entry _ _ step before.start entry c.pass.ensures;
-      counting = λ text image read known begins first.
-          let at = before.counting text image read known begins first in
-          let walks = c.in-Ok-Some.ensures.walks image (before.looks.keeps.holds ∙ read) (known ∙ sym (ap (λ (s : Standing). s.known) before.same)) in
-          let head = head_found image _ _ c.in-Ok-Some.field-0 c.in-Ok-Some.entry c.in-Ok-Some.field-0-is walks in
-          counting_more text _ image _ _ at c.in-Ok-Some.entry _ c.pass.new.self (subst (λ k. IsHead image k c.heads.journal.gate c.in-Ok-Some.entry) (ap (λ (s : Standing). s.limit) before.same) head) gate c.pass.ensures;
+      counting = λ head image read known begins first.
+          let at = before.counting head image read known begins first in
+          let walks = c.in-Ok-Some.ensures.walks image (before.looks.keeps.holds ∙ read) (stands_moved c.args.journal.now c.heads.journal _ _ image before.same known) in
+          let at_head = head_found image _ _ c.in-Ok-Some.field-0 c.in-Ok-Some.entry c.in-Ok-Some.field-0-is walks in
+          counting_more head _ image _ _ at c.in-Ok-Some.entry _ c.pass.new.self (subst (λ k. IsHead image k c.heads.journal.gate c.in-Ok-Some.entry) (ap (λ (s : Standing). s.limit) before.same) at_head) gate c.pass.ensures;
     }
 
 pub returns-in-Ok-None-clause-reads : goal.returns-in-Ok-None-clause-reads
 returns-in-Ok-None-clause-reads g c = reads_of g.S.Station.meanings _ _ _ _ _ c.heads.invariant.looks c.next_entry.ensures.looks
 
 pub returns-in-Ok-None-clause-counts : goal.returns-in-Ok-None-clause-counts
-returns-in-Ok-None-clause-counts g c = λ text image read known begins first.
+returns-in-Ok-None-clause-counts g c = λ head image read known begins first.
     let before = c.heads.invariant in
-    let at = before.counting text image read known begins first in
-    let walks = c.in-Ok-None.ensures.walks image (before.looks.keeps.holds ∙ read) (known ∙ sym (ap (λ (s : Standing). s.known) before.same)) in
+    let at = before.counting head image read known begins first in
+    let walks = c.in-Ok-None.ensures.walks image (before.looks.keeps.holds ∙ read) (stands_moved c.args.journal.now c.heads.journal _ _ image before.same known) in
     let step = none_moved c.heads.journal c.next_entry.new.self c.in-Ok-None.field-0 c.in-Ok-None.field-0-is c.in-Ok-None.ensures.moves in
-    let done = counting_done text _ image _ _ at (gate_found image _ _ c.in-Ok-None.field-0 c.in-Ok-None.field-0-is walks) in
-    subst (λ (k : ℕ). AreRecords text c.args.journal.now.limit image k c.heads.heads) (sym (ap (λ (s : Standing). s.gate) step)) done
+    let done = counting_done head _ image _ _ at (gate_found image _ _ c.in-Ok-None.field-0 c.in-Ok-None.field-0-is walks) in
+    subst (λ (k : ℕ). AreRecords head c.args.journal.now.limit image k c.heads.heads) (sym (ap (λ (s : Standing). s.gate) step)) done
 
 pub returns-in-Err-Store-clause-reads : goal.returns-in-Err-Store-clause-reads
 returns-in-Err-Store-clause-reads g c = reads_of g.S.Station.meanings _ _ _ _ _ c.heads.invariant.looks c.next_entry.ensures.looks
@@ -54,27 +54,27 @@ pub returns-in-Err-Bad-clause-reads : goal.returns-in-Err-Bad-clause-reads
 returns-in-Err-Bad-clause-reads g c = reads_of g.S.Station.meanings _ _ _ _ _ c.heads.invariant.looks c.next_entry.ensures.looks
 
 pub returns-in-Err-Bad-clause-counts : goal.returns-in-Err-Bad-clause-counts
-returns-in-Err-Bad-clause-counts g c = λ text image read known begins first.
+returns-in-Err-Bad-clause-counts g c = λ head image read known begins first.
     let before = c.heads.invariant in
-    let at = before.counting text image read known begins first in
-    let walks = c.in-Err-Bad.ensures.walks image (before.looks.keeps.holds ∙ read) (known ∙ sym (ap (λ (s : Standing). s.known) before.same)) in
+    let at = before.counting head image read known begins first in
+    let walks = c.in-Err-Bad.ensures.walks image (before.looks.keeps.holds ∙ read) (stands_moved c.args.journal.now c.heads.journal _ _ image before.same known) in
     let bad = bad_found image _ _ c.in-Err-Bad.field-0 c.in-Err-Bad.at c.in-Err-Bad.field-0-is walks in
-    subst (HasBadHeadAt text _ image) (sym c.in-Err-Bad.at-is) (counting_bad text _ image _ _ at _ (subst (λ k. IsBadHead image k c.heads.journal.gate c.in-Err-Bad.at) (ap (λ (s : Standing). s.limit) before.same) bad))
+    subst (HasBadHeadAt head _ image) (sym c.in-Err-Bad.at-is) (counting_bad head _ image _ _ at _ (subst (λ k. IsBadHead image k c.heads.journal.gate c.in-Err-Bad.at) (ap (λ (s : Standing). s.limit) before.same) bad))
 
 pub returns-in-Ok-None-clause-few_bytes : goal.returns-in-Ok-None-clause-few_bytes
-returns-in-Ok-None-clause-few_bytes g c = λ text image records read known journal first.
+returns-in-Ok-None-clause-few_bytes g c = λ head image records read known journal first.
     let before = c.heads.invariant in
-    let at = before.counting text image read known (journal_begins_none text c.args.journal.now.limit records image journal) first in
-    heads_read g.S.Station.meanings text image c.args.journal.now.limit c.heads.journal.gate records c.heads.heads c.args.station.now c.heads.station c.next_entry.new.station journal at before.looks c.next_entry.ensures.looks
+    let at = before.counting head image read known (journal_begins_none head c.args.journal.now.limit records image journal) first in
+    heads_read g.S.Station.meanings head image c.args.journal.now.limit c.heads.journal.gate records c.heads.heads c.args.station.now c.heads.station c.next_entry.new.station journal at before.looks c.next_entry.ensures.looks
 
 pub returns-in-Err-Store-clause-few_bytes : goal.returns-in-Err-Store-clause-few_bytes
-returns-in-Err-Store-clause-few_bytes g c = λ text image records read known journal first.
+returns-in-Err-Store-clause-few_bytes g c = λ head image records read known journal first.
     let before = c.heads.invariant in
-    let at = before.counting text image read known (journal_begins_none text c.args.journal.now.limit records image journal) first in
-    heads_read g.S.Station.meanings text image c.args.journal.now.limit c.heads.journal.gate records c.heads.heads c.args.station.now c.heads.station c.next_entry.new.station journal at before.looks c.next_entry.ensures.looks
+    let at = before.counting head image read known (journal_begins_none head c.args.journal.now.limit records image journal) first in
+    heads_read g.S.Station.meanings head image c.args.journal.now.limit c.heads.journal.gate records c.heads.heads c.args.station.now c.heads.station c.next_entry.new.station journal at before.looks c.next_entry.ensures.looks
 
 pub returns-in-Err-Bad-clause-few_bytes : goal.returns-in-Err-Bad-clause-few_bytes
-returns-in-Err-Bad-clause-few_bytes g c = λ text image records read known journal first.
+returns-in-Err-Bad-clause-few_bytes g c = λ head image records read known journal first.
     let before = c.heads.invariant in
-    let at = before.counting text image read known (journal_begins_none text c.args.journal.now.limit records image journal) first in
-    heads_read g.S.Station.meanings text image c.args.journal.now.limit c.heads.journal.gate records c.heads.heads c.args.station.now c.heads.station c.next_entry.new.station journal at before.looks c.next_entry.ensures.looks
+    let at = before.counting head image read known (journal_begins_none head c.args.journal.now.limit records image journal) first in
+    heads_read g.S.Station.meanings head image c.args.journal.now.limit c.heads.journal.gate records c.heads.heads c.args.station.now c.heads.station c.next_entry.new.station journal at before.looks c.next_entry.ensures.looks

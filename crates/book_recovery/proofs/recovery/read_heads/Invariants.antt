@@ -1,6 +1,7 @@
 use Rattle.std.proofs.Common.{◌≡◌, ◌-◌, ◌+◌, ◌*◌, ◌≤◌, List, ℕ, [], length, Some}
+use Rattle.match_journal.specs.Journal.{Header}
 use Rattle.match_journal.specs.Causes.{LooksOnly}
-use Rattle.match_journal.specs.Standing.{moved}
+use Rattle.match_journal.specs.Standing.{StandsIn, moved}
 use Rattle.book_recovery.specs.BadPlaces.{BeginsWithRecords}
 use Rattle.book_recovery.specs.Inner.Starting.{BeginsAt}
 use Rattle.book_recovery.proofs.Counting.{IsCounting}
@@ -16,7 +17,7 @@ invariant-heads g l =
       same : l.journal ≡ moved l.fn.journal l.journal.gate l.journal.is_at_end;
       few : l.heads.entries ≤ l.journal.gate;
       start : BeginsAt l.journal l.heads;
-      counting : (text image : List ℕ) → m.holds l.fn.station ≡ Some image → length image ≡ l.fn.journal.known → BeginsWithRecords text l.fn.journal.limit [] image → l.fn.journal.first ≡ 13 + length text → IsCounting text l.fn.journal.limit image l.journal.gate l.heads;
+      counting : (head : Header) (image : List ℕ) → m.holds l.fn.station ≡ Some image → StandsIn l.fn.journal image → BeginsWithRecords head l.fn.journal.limit [] image → l.fn.journal.first ≡ 13 + length head.text → IsCounting head l.fn.journal.limit image l.journal.gate l.heads;
     }
 
 abbrev pub decreases-heads : goal.decreases-heads

@@ -11,27 +11,27 @@ use Rattle.book_recovery.specs.Inner.Starting.{CanBegin, begins_from}
 use Rattle.book_recovery.proofs.FewBytes.{next_within, gate_read, payload_read}
 use Rattle.book_recovery.proofs.Looks.{none_read, looks_by, reads_of}
 use Rattle.book_recovery.proofs.Starting.{none_begun, can_begin, begins_at, start_head, first_next, none_replayed}
-use Rattle.book_recovery.proofs.Standings.{moved_itself, moved_then, some_moved, none_moved, entry_found}
+use Rattle.book_recovery.proofs.Standings.{stands_moved, moved_itself, moved_then, some_moved, none_moved, entry_found}
 use Rattle.book_recovery.proofs.Replaying.{IsReplaying, replaying_first, journal_left, replaying_more, replaying_done, next_found, none_found, none_bad}
 use Rattle.book_recovery.proofs.Passes.{stopped_one}
 use Rattle.book_recovery.proofs.replay.replay_records.Goals as goal
 
 pub returns-in_default-clause-replays : goal.returns-in_default-clause-replays
-returns-in_default-clause-replays g c = λ text image records read known journal first walks.
+returns-in_default-clause-replays g c = λ head image records read known journal first walks.
     let none = none_begun c.args.start c.in_default.not-Some in
-    none_replayed text image c.args.journal.now.limit records c.args.start journal walks c.args.product.now c.args.journal.now.first c.args.journal.now.gate c.args.core.now none first (subst (CanBegin c.args.journal.now) none c.requires.start) c.requires.new
+    none_replayed head image c.args.journal.now.limit records c.args.start journal walks c.args.product.now c.args.journal.now.first c.args.journal.now.gate c.args.core.now none first (subst (CanBegin c.args.journal.now) none c.requires.start) c.requires.new
 
 pub returns-in_err-replay_entry-clause-replays : goal.returns-in_err-replay_entry-clause-replays
-returns-in_err-replay_entry-clause-replays g c = λ text image records read known journal first walks.
+returns-in_err-replay_entry-clause-replays g c = λ head image records read known journal first walks.
     let product = c.args.product.now in
     let limit = c.args.journal.now.limit in
-    let place = length (journal_front text (before_last_image records)) in
-    let at = replaying_first product text records place c.args.core.now refl c.requires.new in
-    let next = first_next text image limit records c.args.start journal walks _ c.in-Some.first c.in-Some.is refl in
+    let place = length (journal_front head (before_last_image records)) in
+    let at = replaying_first product head records place c.args.core.now refl c.requires.new in
+    let next = first_next head image limit records c.args.start journal walks _ c.in-Some.first c.in-Some.is refl in
     let did = c.in_err-replay_entry.ensures.replays image read known in
     let p = err_from_is_err_and c.from_residual.result c.from_residual.ensures.1 in
     rw (p.1, p.2)
-    (stopped_one product text image limit records place _ c.replay_entry.new.journal.gate c.args.core.now c.replay_entry.new.core c.replay_entry.new.core c.in-Some.first at next c.in_err-replay_entry.field-0.0 journal did)
+    (stopped_one product head image limit records place _ c.replay_entry.new.journal.gate c.args.core.now c.replay_entry.new.core c.replay_entry.new.core c.in-Some.first at next c.in_err-replay_entry.field-0.0 journal did)
 
 pub records-init : goal.records-init
 records-init g c =
@@ -51,13 +51,13 @@ records-init g c =
       room = c.replay_entry.ensures.room;
       fits = c.replay_entry.ensures.fits;
       few = c.in_ok-replay_entry.ensures.few;
-      replaying = λ text image records read known journal walks.
+      replaying = λ head image records read known journal walks.
           let limit = c.args.journal.now.limit in
-          let place = length (journal_front text (before_last_image records)) in
-          let at = replaying_first product text records place c.args.core.now refl c.requires.new in
-          let next = first_next text image limit records c.args.start journal walks c.go_behind.new.self.gate entry c.in-Some.is gate in
+          let place = length (journal_front head (before_last_image records)) in
+          let at = replaying_first product head records place c.args.core.now refl c.requires.new in
+          let next = first_next head image limit records c.args.start journal walks c.go_behind.new.self.gate entry c.in-Some.is gate in
           let did = c.in_ok-replay_entry.ensures.replays image read known in
-          replaying_more product text image limit records place c.args.core.now at c.go_behind.new.self.gate entry next c.limits.ensures journal c.requires.stands.in_limit c.replay_entry.new.core did;
+          replaying_more product head image limit records place c.args.core.now at c.go_behind.new.self.gate entry next c.limits.ensures journal c.requires.stands.in_limit c.replay_entry.new.core did;
     }
 
 pub records-preserved : goal.records-preserved
@@ -78,17 +78,17 @@ records-preserved g c =
       room = c.replay_entry-in-Ok-Some.ensures.room;
       fits = c.replay_entry-in-Ok-Some.ensures.fits;
       few = c.in_ok-replay_entry-in-Ok-Some.ensures.few;
-      replaying = λ text image records read known journal walks.
+      replaying = λ head image records read known journal walks.
           let product = c.args.product.now in
-          let at = before.replaying text image records read known journal walks in
+          let at = before.replaying head image records read known journal walks in
           let held = before.looks.keeps.holds ∙ read in
-          let long = known ∙ sym (ap (λ (s : Standing). s.known) before.same) in
-          let left = journal_left product text image c.records.journal.limit records c.records.journal.gate c.records.core at (subst (λ k. IsJournal text k records image) (sym limit) journal) in
-          let told = c.in-Ok-Some.ensures.in_order text image (before_last_image records ++ at.done) at.left held long left at.place in
-          let found = next_found text image (before_last_image records ++ at.done) at.left _ c.in-Ok-Some.field-0 c.in-Ok-Some.entry c.in-Ok-Some.field-0-is told in
-          let did = c.in_ok-replay_entry-in-Ok-Some.ensures.replays image (c.next_entry.ensures.looks.keeps.holds ∙ held) (long ∙ sym (ap (λ (s : Standing). s.known) (some_moved c.records.journal c.next_entry.new.self c.in-Ok-Some.field-0 c.in-Ok-Some.entry c.in-Ok-Some.field-0-is c.in-Ok-Some.ensures.moves))) in
-          subst (λ k. IsReplaying product text records k c.replay_entry-in-Ok-Some.new.core) (sym (ap (λ (s : Standing). s.gate) c.replay_entry-in-Ok-Some.ensures.stays))
-          (replaying_more product text image c.args.journal.now.limit records c.records.journal.gate c.records.core at _ c.in-Ok-Some.entry found c.limits.ensures journal c.requires.stands.in_limit c.replay_entry-in-Ok-Some.new.core did);
+          let long = stands_moved c.args.journal.now c.records.journal _ _ image before.same known in
+          let left = journal_left product head image c.records.journal.limit records c.records.journal.gate c.records.core at (subst (λ k. IsJournal head k records image) (sym limit) journal) in
+          let told = c.in-Ok-Some.ensures.in_order head image (before_last_image records ++ at.done) at.left held long left at.place in
+          let found = next_found head image (before_last_image records ++ at.done) at.left _ c.in-Ok-Some.field-0 c.in-Ok-Some.entry c.in-Ok-Some.field-0-is told in
+          let did = c.in_ok-replay_entry-in-Ok-Some.ensures.replays image (c.next_entry.ensures.looks.keeps.holds ∙ held) (stands_moved c.records.journal c.next_entry.new.self _ _ image (some_moved c.records.journal c.next_entry.new.self c.in-Ok-Some.field-0 c.in-Ok-Some.entry c.in-Ok-Some.field-0-is c.in-Ok-Some.ensures.moves) long) in
+          subst (λ k. IsReplaying product head records k c.replay_entry-in-Ok-Some.new.core) (sym (ap (λ (s : Standing). s.gate) c.replay_entry-in-Ok-Some.ensures.stays))
+          (replaying_more product head image c.args.journal.now.limit records c.records.journal.gate c.records.core at _ c.in-Ok-Some.entry found c.limits.ensures journal c.requires.stands.in_limit c.replay_entry-in-Ok-Some.new.core did);
     }
 
 pub returns-in_err-replay_entry-in-Ok-Some-clause-reads : goal.returns-in_err-replay_entry-in-Ok-Some-clause-reads
@@ -97,20 +97,20 @@ returns-in_err-replay_entry-in-Ok-Some-clause-reads g c =
     reads_of m _ _ _ _ c.in-Ok-Some.entry.length (looks_then m _ _ _ _ 6 c.records.invariant.looks c.next_entry.ensures.looks) c.replay_entry-in-Ok-Some.ensures.looks
 
 pub returns-in_err-replay_entry-in-Ok-Some-clause-replays : goal.returns-in_err-replay_entry-in-Ok-Some-clause-replays
-returns-in_err-replay_entry-in-Ok-Some-clause-replays g c = λ text image records read known journal first walks.
+returns-in_err-replay_entry-in-Ok-Some-clause-replays g c = λ head image records read known journal first walks.
     let product = c.args.product.now in
     let before = c.records.invariant in
-    let at = before.replaying text image records read known journal walks in
+    let at = before.replaying head image records read known journal walks in
     let held = before.looks.keeps.holds ∙ read in
     let limit = ap (λ (s : Standing). s.limit) before.same in
-    let long = known ∙ sym (ap (λ (s : Standing). s.known) before.same) in
-    let left = journal_left product text image c.records.journal.limit records c.records.journal.gate c.records.core at (subst (λ k. IsJournal text k records image) (sym limit) journal) in
-    let told = c.in-Ok-Some.ensures.in_order text image (before_last_image records ++ at.done) at.left held long left at.place in
-    let found = next_found text image (before_last_image records ++ at.done) at.left _ c.in-Ok-Some.field-0 c.in-Ok-Some.entry c.in-Ok-Some.field-0-is told in
-    let did = c.in_err-replay_entry-in-Ok-Some.ensures.replays image (c.next_entry.ensures.looks.keeps.holds ∙ held) (long ∙ sym (ap (λ (s : Standing). s.known) (some_moved c.records.journal c.next_entry.new.self c.in-Ok-Some.field-0 c.in-Ok-Some.entry c.in-Ok-Some.field-0-is c.in-Ok-Some.ensures.moves))) in
+    let long = stands_moved c.args.journal.now c.records.journal _ _ image before.same known in
+    let left = journal_left product head image c.records.journal.limit records c.records.journal.gate c.records.core at (subst (λ k. IsJournal head k records image) (sym limit) journal) in
+    let told = c.in-Ok-Some.ensures.in_order head image (before_last_image records ++ at.done) at.left held long left at.place in
+    let found = next_found head image (before_last_image records ++ at.done) at.left _ c.in-Ok-Some.field-0 c.in-Ok-Some.entry c.in-Ok-Some.field-0-is told in
+    let did = c.in_err-replay_entry-in-Ok-Some.ensures.replays image (c.next_entry.ensures.looks.keeps.holds ∙ held) (stands_moved c.records.journal c.next_entry.new.self _ _ image (some_moved c.records.journal c.next_entry.new.self c.in-Ok-Some.field-0 c.in-Ok-Some.entry c.in-Ok-Some.field-0-is c.in-Ok-Some.ensures.moves) long) in
     let p = err_from_is_err_and c.from_residual-in_err-replay_entry-in-Ok-Some.result c.from_residual-in_err-replay_entry-in-Ok-Some.ensures.1 in
     rw (p.1, p.2)
-    (stopped_one product text image c.args.journal.now.limit records c.records.journal.gate c.next_entry.new.self.gate c.replay_entry-in-Ok-Some.new.journal.gate c.records.core c.replay_entry-in-Ok-Some.new.core c.replay_entry-in-Ok-Some.new.core c.in-Ok-Some.entry at found c.in_err-replay_entry-in-Ok-Some.field-0.0 journal did)
+    (stopped_one product head image c.args.journal.now.limit records c.records.journal.gate c.next_entry.new.self.gate c.replay_entry-in-Ok-Some.new.journal.gate c.records.core c.replay_entry-in-Ok-Some.new.core c.replay_entry-in-Ok-Some.new.core c.in-Ok-Some.entry at found c.in_err-replay_entry-in-Ok-Some.field-0.0 journal did)
 
 pub returns-in-Ok-None-clause-reads : goal.returns-in-Ok-None-clause-reads
 returns-in-Ok-None-clause-reads g c = reads_of g.S.Station.meanings _ _ _ _ 6 c.records.invariant.looks c.next_entry.ensures.looks
@@ -122,16 +122,16 @@ returns-in-Ok-None-clause-bytes g c =
     reads_more _ _ _ _ (omega (arith, ap (λ (s : Standing). s.gate) step, c.records.invariant.from)) looks.bytes_read
 
 pub returns-in-Ok-None-clause-replays : goal.returns-in-Ok-None-clause-replays
-returns-in-Ok-None-clause-replays g c = λ text image records read known journal first walks.
+returns-in-Ok-None-clause-replays g c = λ head image records read known journal first walks.
     let product = c.args.product.now in
     let before = c.records.invariant in
-    let at = before.replaying text image records read known journal walks in
+    let at = before.replaying head image records read known journal walks in
     let limit = ap (λ (s : Standing). s.limit) before.same in
-    let left = journal_left product text image c.records.journal.limit records c.records.journal.gate c.records.core at (subst (λ k. IsJournal text k records image) (sym limit) journal) in
-    let told = c.in-Ok-None.ensures.in_order text image (before_last_image records ++ at.done) at.left (before.looks.keeps.holds ∙ read) (known ∙ sym (ap (λ (s : Standing). s.known) before.same)) left at.place in
+    let left = journal_left product head image c.records.journal.limit records c.records.journal.gate c.records.core at (subst (λ k. IsJournal head k records image) (sym limit) journal) in
+    let told = c.in-Ok-None.ensures.in_order head image (before_last_image records ++ at.done) at.left (before.looks.keeps.holds ∙ read) (stands_moved c.args.journal.now c.records.journal _ _ image before.same known) left at.place in
     let step = none_moved c.records.journal c.next_entry.new.self c.in-Ok-None.field-0 c.in-Ok-None.field-0-is c.in-Ok-None.ensures.moves in
-    let done = replaying_done product text image c.args.journal.now.limit records c.records.journal.gate c.records.core at journal (none_found text image (before_last_image records ++ at.done) at.left _ c.in-Ok-None.field-0 c.in-Ok-None.field-0-is told) in
-    subst (λ k. AreReplayed product text c.args.journal.now.limit image records k c.records.core) (sym (ap (λ (s : Standing). s.gate) step)) done
+    let done = replaying_done product head image c.args.journal.now.limit records c.records.journal.gate c.records.core at journal (none_found head image (before_last_image records ++ at.done) at.left _ c.in-Ok-None.field-0 c.in-Ok-None.field-0-is told) in
+    subst (λ k. AreReplayed product head c.args.journal.now.limit image records k c.records.core) (sym (ap (λ (s : Standing). s.gate) step)) done
 
 pub returns-in-Err-Store-clause-reads : goal.returns-in-Err-Store-clause-reads
 returns-in-Err-Store-clause-reads g c = reads_of g.S.Station.meanings _ _ _ _ 6 c.records.invariant.looks c.next_entry.ensures.looks
@@ -140,58 +140,58 @@ pub returns-in-Err-Bad-clause-reads : goal.returns-in-Err-Bad-clause-reads
 returns-in-Err-Bad-clause-reads g c = reads_of g.S.Station.meanings _ _ _ _ 6 c.records.invariant.looks c.next_entry.ensures.looks
 
 pub returns-in-Err-Bad-clause-replays : goal.returns-in-Err-Bad-clause-replays
-returns-in-Err-Bad-clause-replays g c = λ text image records read known journal first walks.
+returns-in-Err-Bad-clause-replays g c = λ head image records read known journal first walks.
     let product = c.args.product.now in
     let before = c.records.invariant in
-    let at = before.replaying text image records read known journal walks in
+    let at = before.replaying head image records read known journal walks in
     let limit = ap (λ (s : Standing). s.limit) before.same in
-    let left = journal_left product text image c.records.journal.limit records c.records.journal.gate c.records.core at (subst (λ k. IsJournal text k records image) (sym limit) journal) in
-    let told = c.in-Err-Bad.ensures.in_order text image (before_last_image records ++ at.done) at.left (before.looks.keeps.holds ∙ read) (known ∙ sym (ap (λ (s : Standing). s.known) before.same)) left at.place in
-    none_bad product text image c.args.journal.now.limit (before_last_image records ++ at.done) at.left c.next_entry.new.self.gate c.in-Err-Bad.field-0 c.in-Err-Bad.at c.in-Err-Bad.field-0-is told
+    let left = journal_left product head image c.records.journal.limit records c.records.journal.gate c.records.core at (subst (λ k. IsJournal head k records image) (sym limit) journal) in
+    let told = c.in-Err-Bad.ensures.in_order head image (before_last_image records ++ at.done) at.left (before.looks.keeps.holds ∙ read) (stands_moved c.args.journal.now c.records.journal _ _ image before.same known) left at.place in
+    none_bad product head image c.args.journal.now.limit (before_last_image records ++ at.done) at.left c.next_entry.new.self.gate c.in-Err-Bad.field-0 c.in-Err-Bad.at c.in-Err-Bad.field-0-is told
 
 -- ---- how much is read, whatever is answered
 
 pub returns-in_default-clause-few_bytes : goal.returns-in_default-clause-few_bytes
-returns-in_default-clause-few_bytes g c = λ text image records read known journal walks. reads_more 0 _ _ _ (omega arith) (none_read _)
+returns-in_default-clause-few_bytes g c = λ head image records read known journal walks. reads_more 0 _ _ _ (omega arith) (none_read _)
 
 pub returns-in_err-replay_entry-clause-few_bytes : goal.returns-in_err-replay_entry-clause-few_bytes
-returns-in_err-replay_entry-clause-few_bytes g c = λ text image records read known journal walks.
+returns-in_err-replay_entry-clause-few_bytes g c = λ head image records read known journal walks.
     let product = c.args.product.now in
-    let at = replaying_first product text records (length (journal_front text (before_last_image records))) c.args.core.now refl c.requires.new in
-    let next = first_next text image c.args.journal.now.limit records c.args.start journal walks _ c.in-Some.first c.in-Some.is refl in
-    reads_more _ _ _ _ (omega (arith, next_within product text image records _ c.args.core.now at _ c.in-Some.first next)) c.replay_entry.ensures.looks.bytes_read
+    let at = replaying_first product head records (length (journal_front head (before_last_image records))) c.args.core.now refl c.requires.new in
+    let next = first_next head image c.args.journal.now.limit records c.args.start journal walks _ c.in-Some.first c.in-Some.is refl in
+    reads_more _ _ _ _ (omega (arith, next_within product head image records _ c.args.core.now at _ c.in-Some.first next)) c.replay_entry.ensures.looks.bytes_read
 
 pub returns-in_err-replay_entry-in-Ok-Some-clause-few_bytes : goal.returns-in_err-replay_entry-in-Ok-Some-clause-few_bytes
-returns-in_err-replay_entry-in-Ok-Some-clause-few_bytes g c = λ text image records read known journal walks.
+returns-in_err-replay_entry-in-Ok-Some-clause-few_bytes g c = λ head image records read known journal walks.
     let product = c.args.product.now in
     let before = c.records.invariant in
-    let at = before.replaying text image records read known journal walks in
+    let at = before.replaying head image records read known journal walks in
     let held = before.looks.keeps.holds ∙ read in
     let limit = ap (λ (s : Standing). s.limit) before.same in
-    let long = known ∙ sym (ap (λ (s : Standing). s.known) before.same) in
-    let left = journal_left product text image c.records.journal.limit records c.records.journal.gate c.records.core at (subst (λ k. IsJournal text k records image) (sym limit) journal) in
-    let told = c.in-Ok-Some.ensures.in_order text image (before_last_image records ++ at.done) at.left held long left at.place in
-    let found = next_found text image (before_last_image records ++ at.done) at.left _ c.in-Ok-Some.field-0 c.in-Ok-Some.entry c.in-Ok-Some.field-0-is told in
-    let begins = begins_at c.args.journal.now c.args.start c.in-Some.first c.in-Some.is ∙ (start_head text image c.args.journal.now.limit records c.args.start journal walks c.in-Some.first c.in-Some.is).at_is in
-    payload_read product text image records c.records.journal.gate c.records.core at g.S.Station.meanings _ _ _ _ begins before.from before.looks c.next_entry.ensures.looks _ _ c.in-Ok-Some.entry found c.replay_entry-in-Ok-Some.ensures.looks
+    let long = stands_moved c.args.journal.now c.records.journal _ _ image before.same known in
+    let left = journal_left product head image c.records.journal.limit records c.records.journal.gate c.records.core at (subst (λ k. IsJournal head k records image) (sym limit) journal) in
+    let told = c.in-Ok-Some.ensures.in_order head image (before_last_image records ++ at.done) at.left held long left at.place in
+    let found = next_found head image (before_last_image records ++ at.done) at.left _ c.in-Ok-Some.field-0 c.in-Ok-Some.entry c.in-Ok-Some.field-0-is told in
+    let begins = begins_at c.args.journal.now c.args.start c.in-Some.first c.in-Some.is ∙ (start_head head image c.args.journal.now.limit records c.args.start journal walks c.in-Some.first c.in-Some.is).at_is in
+    payload_read product head image records c.records.journal.gate c.records.core at g.S.Station.meanings _ _ _ _ begins before.from before.looks c.next_entry.ensures.looks _ _ c.in-Ok-Some.entry found c.replay_entry-in-Ok-Some.ensures.looks
 
 pub returns-in-Ok-None-clause-few_bytes : goal.returns-in-Ok-None-clause-few_bytes
-returns-in-Ok-None-clause-few_bytes g c = λ text image records read known journal walks.
+returns-in-Ok-None-clause-few_bytes g c = λ head image records read known journal walks.
     let before = c.records.invariant in
-    let at = before.replaying text image records read known journal walks in
-    let begins = begins_at c.args.journal.now c.args.start c.in-Some.first c.in-Some.is ∙ (start_head text image c.args.journal.now.limit records c.args.start journal walks c.in-Some.first c.in-Some.is).at_is in
-    gate_read c.args.product.now text image records c.records.journal.gate c.records.core at g.S.Station.meanings _ _ _ _ begins before.from before.looks c.next_entry.ensures.looks
+    let at = before.replaying head image records read known journal walks in
+    let begins = begins_at c.args.journal.now c.args.start c.in-Some.first c.in-Some.is ∙ (start_head head image c.args.journal.now.limit records c.args.start journal walks c.in-Some.first c.in-Some.is).at_is in
+    gate_read c.args.product.now head image records c.records.journal.gate c.records.core at g.S.Station.meanings _ _ _ _ begins before.from before.looks c.next_entry.ensures.looks
 
 pub returns-in-Err-Store-clause-few_bytes : goal.returns-in-Err-Store-clause-few_bytes
-returns-in-Err-Store-clause-few_bytes g c = λ text image records read known journal walks.
+returns-in-Err-Store-clause-few_bytes g c = λ head image records read known journal walks.
     let before = c.records.invariant in
-    let at = before.replaying text image records read known journal walks in
-    let begins = begins_at c.args.journal.now c.args.start c.in-Some.first c.in-Some.is ∙ (start_head text image c.args.journal.now.limit records c.args.start journal walks c.in-Some.first c.in-Some.is).at_is in
-    gate_read c.args.product.now text image records c.records.journal.gate c.records.core at g.S.Station.meanings _ _ _ _ begins before.from before.looks c.next_entry.ensures.looks
+    let at = before.replaying head image records read known journal walks in
+    let begins = begins_at c.args.journal.now c.args.start c.in-Some.first c.in-Some.is ∙ (start_head head image c.args.journal.now.limit records c.args.start journal walks c.in-Some.first c.in-Some.is).at_is in
+    gate_read c.args.product.now head image records c.records.journal.gate c.records.core at g.S.Station.meanings _ _ _ _ begins before.from before.looks c.next_entry.ensures.looks
 
 pub returns-in-Err-Bad-clause-few_bytes : goal.returns-in-Err-Bad-clause-few_bytes
-returns-in-Err-Bad-clause-few_bytes g c = λ text image records read known journal walks.
+returns-in-Err-Bad-clause-few_bytes g c = λ head image records read known journal walks.
     let before = c.records.invariant in
-    let at = before.replaying text image records read known journal walks in
-    let begins = begins_at c.args.journal.now c.args.start c.in-Some.first c.in-Some.is ∙ (start_head text image c.args.journal.now.limit records c.args.start journal walks c.in-Some.first c.in-Some.is).at_is in
-    gate_read c.args.product.now text image records c.records.journal.gate c.records.core at g.S.Station.meanings _ _ _ _ begins before.from before.looks c.next_entry.ensures.looks
+    let at = before.replaying head image records read known journal walks in
+    let begins = begins_at c.args.journal.now c.args.start c.in-Some.first c.in-Some.is ∙ (start_head head image c.args.journal.now.limit records c.args.start journal walks c.in-Some.first c.in-Some.is).at_is in
+    gate_read c.args.product.now head image records c.records.journal.gate c.records.core at g.S.Station.meanings _ _ _ _ begins before.from before.looks c.next_entry.ensures.looks

@@ -1,7 +1,7 @@
 use Rattle.std.proofs.Common.{◌≡◌, ◌-◌, ◌+◌, ◌<◌, ◌≤◌, List, ℕ, length, Some, Ok}
-use Rattle.match_journal.specs.Journal.{IsJournal, Record, journal_front}
+use Rattle.match_journal.specs.Journal.{IsJournal, Record, journal_front, Header}
 use Rattle.match_journal.specs.Causes.{LooksOnly}
-use Rattle.match_journal.specs.Standing.{moved}
+use Rattle.match_journal.specs.Standing.{StandsIn, moved}
 use Rattle.match_journal.specs.Walking.{Walks}
 use Rattle.order_kinds.specs.Cores.{FitsProduct}
 use Rattle.order_kinds.specs.declared.core_state.TheConstants.{MOST_MESSAGES}
@@ -24,8 +24,8 @@ invariant-records g l =
       room : HasRoomFor l.product l.scratch;
       fits : FitsProduct l.product l.core;
       few : l.core.desk.messages < MOST_MESSAGES;
-      replaying : (text image : List ℕ) (records : List Record) → m.holds l.fn.station ≡ Some image → length image ≡ l.fn.journal.known → IsJournal text l.fn.journal.limit records image
-          → Walks image l.fn.journal.limit (length (journal_front text (before_last_image records))) (Ok l.fn.start) → IsReplaying l.product text records l.journal.gate l.core;
+      replaying : (head : Header) (image : List ℕ) (records : List Record) → m.holds l.fn.station ≡ Some image → StandsIn l.fn.journal image → IsJournal head l.fn.journal.limit records image
+          → Walks image l.fn.journal.limit (length (journal_front head (before_last_image records))) (Ok l.fn.start) → IsReplaying l.product head records l.journal.gate l.core;
     }
 
 abbrev pub decreases-records : goal.decreases-records
