@@ -13,15 +13,14 @@ use Rattle.gx_station.specs.Honest.{IsHonestNow}
 use Rattle.gx_station.specs.Quiet.{quiet_itself}
 use Rattle.fix_frame.specs.Grammar.{IsFrameFront}
 use Rattle.fix_frame.specs.Stream.{messages_of}
-use Rattle.product_file.specs.Products.{ProductLists, IsRightProduct}
+use Rattle.product_file.specs.Products.{ProductLists}
 use Rattle.product_file.specs.ProductTexts.{product_of}
-use Rattle.order_kinds.specs.Balance.{IsBalanced}
-use Rattle.balance_laws.proofs.Streams.{streams-balance}
-use Rattle.match_journal.specs.Journal.{Record}
+use Rattle.order_kinds.specs.Histories.{History, new_reports}
+use Rattle.match_journal.specs.Journal.{Header, Record, in_version}
 use Rattle.match_journal.specs.Classes.{IsForeignAt, HasBadHeader, HasOtherText, Keeps}
-use Rattle.match_journal.specs.Opening.{IsOpened}
+use Rattle.match_journal.specs.Opening.{IsOpenedOf}
 use Rattle.match_journal.specs.declared.faults.StartFault.TheVariants as start
-use Rattle.match_journal.proofs.Unique.{not_refused, unfinished_not_opened}
+use Rattle.match_journal.proofs.Unique.{unfinished_not_opened}
 use Rattle.book_recovery.specs.Kept.{IsStartable}
 use Rattle.book_recovery.specs.BadPlaces.{HasBadRecordAt, IsBadPlace}
 use Rattle.book_recovery.proofs.OneWay.{no_bad_place, no_bad_record, one_place, one_bad_record}
@@ -43,9 +42,9 @@ use Rattle.globex_run.specs.Words.{IsPrinting, OpensJournal, NeverEndsWith}
 use Rattle.globex_run.specs.ProductTexts.{TakesAtMost, IsProductText, ProductPremises}
 use Rattle.globex_run.specs.FullJournals.{IsFullJournal}
 use Rattle.globex_run.specs.Refusals.{HasBadRecordFor, IsRefusal, IsRefusedWith, RefusesExactly, CanStart}
-use Rattle.globex_run.specs.RunResult.{CommandResult, CommandEnded, RunEnded, EndedUnread, first_messages}
+use Rattle.globex_run.specs.RunResult.{CommandResult, CommandEnded, RunEnded, EndedUnread}
 use Rattle.globex_run.specs.Journals.{AnswersImage}
-use Rattle.globex_run.specs.Headline.{new_reports, Premises, InputPremises, SendsExactlyTheReports, EndsOtherwise, RunLeavesCrashPrefixes, RunBeforeTheFirstSync, KeepsEveryReported, AddsMessages, KeepsARecordPerRead, ReadsFew, CanBeServed, IsServed}
+use Rattle.globex_run.specs.Headline.{Premises, InputPremises, SendsExactlyTheReports, EndsOtherwise, RunLeavesCrashPrefixes, RunBeforeTheFirstSync, KeepsEveryReported, AddsMessages, KeepsARecordPerRead, ReadsFew, CanBeServed, IsServed}
 use Rattle.globex_run.specs.Drills.{made_bytes, KeepsAndSumsUp, DrillEndsOtherwise, DrillLeavesCrashPrefixes, DrillBeforeTheFirstSync, CanBeDrilled}
 use Rattle.globex_run.specs.Checkpoints.{AddsImage, KeepsTheSame, CheckpointLeavesCrashPrefixes, CheckpointBeforeTheFirstSync, HasNoRoomForImage, CanBeCheckpointed}
 use Rattle.globex_run.specs.Prints.{PrintsAs, outcome_printed, outcome_sent}
@@ -56,7 +55,7 @@ use Rattle.globex_run.specs.Calls.{Call}
 use Rattle.globex_run.specs.Works.{Given, Reads, work_of, CanBeDone}
 use Rattle.globex_run.specs.Drills.{summary, made_messages, summary_of_all}
 use Rattle.globex_run.specs.Checkpoints.{sends_nothing}
-use Rattle.globex_run.specs.Promises.{DoesAll, EndsAsTold, LeavesAFront, LeavesTheEntry, KeepsWhatIsSent, AddsMessagesAlone, AddsARecordPerRead, ReadsItOnce, IsFullForMessages, IsFullForImage, SendsNothing, EndsWellWhereItCan, PrintsItsText, Balances, EndsWhereTold, RefusesWhatItMust, OpensAgain, HasItsStatuses}
+use Rattle.globex_run.specs.Promises.{DoesAll, EndsAsTold, LeavesAFront, LeavesTheEntry, KeepsWhatIsSent, AddsMessagesAlone, AddsARecordPerRead, ReadsItOnce, IsFullForMessages, IsFullForImage, SendsNothing, EndsWellWhereItCan, PrintsItsText, EndsWhereTold, RefusesWhatItMust, OpensAgain, HasItsStatuses}
 use Rattle.globex_run.specs.declared.outcome.Outcome.{Outcome}
 use Rattle.globex_run.proofs.EverySent.{every-sent, all-grows, fronts-of, entry-or-fronts}
 use Rattle.globex_run.proofs.Reported.{fewer-reports}
@@ -64,42 +63,43 @@ use Rattle.globex_run.specs.declared.ending.Ending.{Ending}
 use Rattle.globex_run.specs.declared.ending.Ending.TheVariants.{Done, ReadFault, StoreFault, SendFault, BadFrame, Truncated, NotAJournal, JournalBad, ProductDiffers, Full}
 use Rattle.globex_run.proofs.Told.{outside_of}
 use Rattle.globex_run.proofs.Executed.{quiet-reads}
-use Rattle.globex_run.proofs.Runs.{short-text, few-of-product, told-product, run-exactly, run-otherwise, run-every-moment, run-first-sync, run-every-message, run-balanced, run-full, run-record-per-read, run-reads-few, run-all}
+use Rattle.globex_run.proofs.Openings.{kept_not_refused}
+use Rattle.globex_run.proofs.Runs.{short-text, few-of-product, told-product, run-exactly, run-otherwise, run-every-moment, run-first-sync, run-every-message, run-full, run-record-per-read, run-reads-few, run-all}
 use Rattle.globex_run.proofs.FewReads.{drill-reads}
 use Rattle.globex_run.proofs.Drills.{empty_front, drill-all, drill-otherwise, drill-adds, drill-moments, drill-first-sync, drill-full}
 use Rattle.globex_run.proofs.CheckpointHeadlines.{not-among, not-done, adds-image as checkpoint-adds, the-same as checkpoint-keeps, every-moment as checkpoint-moments, first-sync as checkpoint-first-sync, few-read as checkpoint-reads, image-full as checkpoint-full}
 use Rattle.globex_run.proofs.Complete.{served}
 use Rattle.globex_run.proofs.Endings.{when_done}
-use Rattle.globex_run.proofs.Refused.{not-refusal, none-counted, by-ending, by-book, by-events}
+use Rattle.globex_run.proofs.Refused.{unfinished-of, journal-opened-as, not-refusal, none-counted, by-ending, by-book, by-events}
 
 -- ---- an image from which a run can start has no fault
 
-module _ (product : ProductLists) (text image : List ℕ) (kept : List (List ℕ)) (short : length text ≤ 65536) (can : IsStartable product text kept image) where
+module _ (product : ProductLists) (text image : List ℕ) (kept : History) (short : length text ≤ 65536) (can : IsStartable product text kept image) where
   abbrev limit : ℕ
   limit = product.journal_limit
 
   not-foreign : (at : ℕ) → IsForeignAt image at → ⊥
-  not-foreign at foreign = not_refused text image limit can.records (start.NotAJournal at) short can.keeps foreign (λ e. cc e)
+  not-foreign at foreign = kept_not_refused text can.head can.of_text image limit can.records (start.NotAJournal at) short can.keeps foreign (λ e. cc e)
 
   not-headless : (at : ℕ) → HasBadHeader image at → ⊥
-  not-headless at bad = not_refused text image limit can.records (start.Bad at) short can.keeps bad (λ e. cc e)
+  not-headless at bad = kept_not_refused text can.head can.of_text image limit can.records (start.Bad at) short can.keeps bad (λ e. cc e)
 
   not-other : (at : ℕ) → HasOtherText text image at → ⊥
-  not-other at other = not_refused text image limit can.records (start.ProductDiffers at) short can.keeps other (λ e. cc e)
+  not-other at other = kept_not_refused text can.head can.of_text image limit can.records (start.ProductDiffers at) short can.keeps other (λ e. cc e)
 
-  not-bad : (at : ℕ) → IsOpened text image → IsBadPlace product text limit image at → ⊥
+  not-bad : (at : ℕ) (opened : IsOpenedOf text image) → IsBadPlace product (in_version opened.0 text) limit image at → ⊥
   not-bad at opened bad = ⊎_elim
-      (λ journal. no_bad_place product text limit can.records image at journal (good-from-last product can.records can.good) bad)
-      (λ unfinished. unfinished_not_opened text image unfinished.1.unfinished opened)
+      (λ journal. no_bad_place product (in_version opened.0 text) limit can.records image at (journal-opened-as text image limit short opened can.head can.of_text can.records journal) (good-from-last product can.records can.good) bad)
+      (λ unfinished. unfinished_not_opened text image (unfinished-of text image can.head can.of_text unfinished.1) opened)
       can.keeps
 
-  not-bad-record : (at : ℕ) → IsOpened text image → HasBadRecordAt product text limit image at → ⊥
+  not-bad-record : (at : ℕ) (opened : IsOpenedOf text image) → HasBadRecordAt product (in_version opened.0 text) limit image at → ⊥
   not-bad-record at opened bad = ⊎_elim
-      (λ journal. no_bad_record product text limit can.records image at journal can.good bad)
-      (λ unfinished. unfinished_not_opened text image unfinished.1.unfinished opened)
+      (λ journal. no_bad_record product (in_version opened.0 text) limit can.records image at (journal-opened-as text image limit short opened can.head can.of_text can.records journal) can.good bad)
+      (λ unfinished. unfinished_not_opened text image (unfinished-of text image can.head can.of_text unfinished.1) opened)
       can.keeps
 
-  not-bad-for : (command : Command) (at : ℕ) → IsOpened text image → HasBadRecordFor command product text image at → ⊥
+  not-bad-for : (command : Command) (at : ℕ) (opened : IsOpenedOf text image) → HasBadRecordFor command product (in_version opened.0 text) image at → ⊥
   not-bad-for Run at opened bad = not-bad at opened bad
   not-bad-for (Drill first count) at opened bad = not-bad at opened bad
   not-bad-for Checkpoint at opened bad = not-bad at opened bad
@@ -194,12 +194,6 @@ module _ {P I S : Type 0} (m : StationMeanings S) (p q : SourceAt P) (i j : Sour
   pub sends-none : (command : Command) → Causes command → outcome.status ≡ 1 → (m.sent new ≡ m.sent old) × (outcome.status ≢ 6)
   sends-none command causes one = (ap m.sent (no-memory command causes one).1, λ six. omega (arith, six, one))
 
-  -- what is kept balances
-  pub balances : (command : Command) → Causes command → (given : ProductPremises entry exit outcome.status) → (kept : List (List ℕ)) → IsBalanced given.product kept
-  balances command causes given kept =
-      streams-balance given.product kept
-      (told-product p q text lent same product took gives (λ (lists : ProductLists) (bytes : List ℕ). IsRightProduct lists) given.text given.product given.text_known given.gives causes.right)
-
   -- ---- the command that the words ask for
 
   module _ (asked : Option Command) (command : Command) (is : asked ≡ Some command) (did : Did command) (causes : Causes command) where
@@ -234,12 +228,9 @@ module _ {P I S : Type 0} (m : StationMeanings S) (p q : SourceAt P) (i j : Sour
         pub every-message : IsHonestNow m old → KeepsEveryReported m entry exit outcome given read
         every-message now = run-every-message m p q i j old new Any ran.then outcome text lent same product took gives ran.session given read now
 
-        pub balanced : (count : ℕ) → IsBalanced given.product (given.kept ++ first_messages count read.taken)
-        balanced count = run-balanced m p q i j old new Any ran.then outcome text lent same product took gives ran.session given read count
-
-      pub full : (given : ProductPremises entry exit outcome.status) (read : InputPremises i j) → m.is_honest old → (image : List ℕ) (records : List Record) → m.holds old ≡ Some image → Keeps given.text given.product.journal_limit records image → outcome.status ≡ 12
-          → IsFullJournal given.product given.text image records exit.streams.station outcome read.taken
-      full given read honest image records known keeps twelve = run-full m p q i j old new Any ran.then outcome text lent same product took gives ran.session given read honest image records known keeps twelve
+      pub full : (given : ProductPremises entry exit outcome.status) (read : InputPremises i j) → m.is_honest old → (image : List ℕ) (head : Header) (records : List Record) → m.holds old ≡ Some image → head.text ≡ given.text → Keeps head given.product.journal_limit records image → outcome.status ≡ 12
+          → IsFullJournal given.product head image records exit.streams.station outcome read.taken
+      full given read honest image head records known of_text keeps twelve = run-full m p q i j old new Any ran.then outcome text lent same product took gives ran.session given read honest image head records known of_text keeps twelve
 
       pub each-read : (given : Premises m entry exit outcome.status) → KeepsARecordPerRead m entry exit outcome given
       each-read given = run-record-per-read m p q i j old new Any ran.then outcome text lent same product took gives ran.session given
@@ -279,10 +270,10 @@ module _ {P I S : Type 0} (m : StationMeanings S) (p q : SourceAt P) (i j : Sour
         pub drill-few-read : ReadsFew m entry exit outcome given
         drill-few-read = drill-reads m given.product given.text _ made.end old new outcome made.did given.image given.kept given.honest given.image_known given.startable
 
-      pub drill-has-no-room : (given : ProductPremises entry exit outcome.status) → m.is_honest old → (image : List ℕ) (records : List Record) → m.holds old ≡ Some image → Keeps given.text given.product.journal_limit records image → outcome.status ≡ 12
-          → IsFullJournal given.product given.text image records exit.streams.station outcome (made_bytes given.product first count)
-      drill-has-no-room given honest image records known keeps twelve =
-          drill-full m given.product given.text image records first count old new outcome (drilled given.text given.product given.text_known given.gives) honest known keeps twelve
+      pub drill-has-no-room : (given : ProductPremises entry exit outcome.status) → m.is_honest old → (image : List ℕ) (head : Header) (records : List Record) → m.holds old ≡ Some image → head.text ≡ given.text → Keeps head given.product.journal_limit records image → outcome.status ≡ 12
+          → IsFullJournal given.product head image records exit.streams.station outcome (made_bytes given.product first count)
+      drill-has-no-room given honest image head records known of_text keeps twelve =
+          drill-full m given.product given.text head of_text image records first count old new outcome (drilled given.text given.product given.text_known given.gives) honest known keeps twelve
 
       -- where there is room and no fault comes, all is kept and summed up
       module _ (can : CanBeDrilled m entry first count) (quiet : IsQuiet entry exit) where
@@ -409,7 +400,7 @@ module _ {P I S : Type 0} (m : StationMeanings S) (p q : SourceAt P) (i j : Sour
         quiet-checkpoint : (outcome.status ≢ 5) × (outcome.status ≢ 6)
         quiet-checkpoint = no-fault Checkpoint (causes-as Checkpoint asks) quiet
 
-        done-by : (ending : Ending) → outcome ≡ outcome_of ending outcome.messages → EndsCheckpoint m can.start.product can.start.text old new ending can.start.startable.records can.start.kept outcome.messages → outcome.status ≡ 0
+        done-by : (ending : Ending) → outcome ≡ outcome_of ending outcome.messages → EndsCheckpoint m can.start.product can.start.startable.head old new ending can.start.startable.records can.start.kept outcome.messages → outcome.status ≡ 0
         done-by Done is ends = ap (λ (o : Outcome). o.status) is
         done-by (ReadFault place) is ends = absurd ends
         done-by StoreFault is ends = absurd (quiet-checkpoint.0 (ap (λ (o : Outcome). o.status) is))
@@ -477,11 +468,11 @@ module _ {P I S : Type 0} (m : StationMeanings S) (p q : SourceAt P) (i j : Sour
         quiet-print : (outcome.status ≢ 5) × (outcome.status ≢ 6)
         quiet-print = no-fault c (causes-as c asks) quiet
 
-        module _ (image : List ℕ) (kept : List (List ℕ)) (start : IsStartable can.product can.text kept image) where
+        module _ (image : List ℕ) (kept : History) (start : IsStartable can.product can.text kept image) where
           short : length can.text ≤ 65536
           short = short-text can.text can.product can.gives
 
-          events-printed : (line : LineText) (whole : List (List ℕ) → List ℕ) (answer : Result ℕ Unprinted) → outcome ≡ outcome_printed answer → PrintsEvents m can.product can.text image old new line whole answer → outcome.status ≡ 0
+          events-printed : (line : LineText) (whole : History → List ℕ) (answer : Result ℕ Unprinted) → outcome ≡ outcome_printed answer → PrintsEvents m can.product can.text image old new line whole answer → outcome.status ≡ 0
           events-printed line whole (Ok n) is printed = ap (λ (o : Outcome). o.status) is
           events-printed line whole (Err unprinted.Store) is printed = absurd (quiet-print.0 (ap (λ (o : Outcome). o.status) is))
           events-printed line whole (Err unprinted.Send) is printed = absurd (quiet-print.1 (ap (λ (o : Outcome). o.status) is))
@@ -507,7 +498,7 @@ module _ {P I S : Type 0} (m : StationMeanings S) (p q : SourceAt P) (i j : Sour
         Printed x = PrintsAs m can.product can.text entry.streams.station exit.streams.station outcome x
 
         abbrev Startable : Command → Type 0
-        Startable x = x ≢ Steps → (image : List ℕ) × ((entry.streams.station.image ≡ Some image) × ((kept : List (List ℕ)) × IsStartable can.product can.text kept image))
+        Startable x = x ≢ Steps → (image : List ℕ) × ((entry.streams.station.image ≡ Some image) × ((kept : History) × IsStartable can.product can.text kept image))
 
         by-command : (x : Command) → IsPrinting x → Startable x → Printed x → outcome.status ≡ 0
         by-command Run printing startable form = absurd printing
@@ -638,28 +629,28 @@ module _ {P I S : Type 0} (m : StationMeanings S) (p q : SourceAt P) (i j : Sour
         refuses-by : (x : Command) → OpensJournal x → Did x → outcome.status ≢ 1 → Exactly x
         refuses-by Run opens did told =
             let ended = ran-ended did in
-            by-ending Run product text image text-short (one_place product text product.journal_limit image) outcome (λ at bad. bad) (λ at bad. bad)
+            by-ending Run product text image text-short (λ head. one_place product head product.journal_limit image) outcome (λ head at bad. bad) (λ head at bad. bad)
             ended.ending ended.is (none-counted _ _ outcome ended.ending ended.serving.taken ended.is ended.serving.ends) (at-image image known ended.ending ended.image)
         refuses-by (Drill first count) opens drilled told =
             let ended = drill-ended first count drilled.1 drilled.0 in
-            by-ending (Drill first count) product text image text-short (one_place product text product.journal_limit image) outcome (λ at bad. bad) (λ at bad. bad)
+            by-ending (Drill first count) product text image text-short (λ head. one_place product head product.journal_limit image) outcome (λ head at bad. bad) (λ head at bad. bad)
             ended.ending ended.is ended.none (at-image image known ended.ending ended.image)
         refuses-by Checkpoint opens did told =
             let ended = checkpoint-ended did.1 did.0 in
-            by-ending Checkpoint product text image text-short (one_place product text product.journal_limit image) outcome (λ at bad. bad) (λ at bad. bad)
+            by-ending Checkpoint product text image text-short (λ head. one_place product head product.journal_limit image) outcome (λ head at bad. bad) (λ head at bad. bad)
             ended.ending ended.is ended.none (at-image image known ended.ending ended.image)
         refuses-by Book opens did told =
             let form = formed Book did in
-            by-book Book product text image text-short (one_place product text product.journal_limit image) outcome (λ at bad. bad) (λ at bad. bad) m old new form.answer form.outcome_is (form.prints image known).prints
+            by-book Book product text image text-short (λ head. one_place product head product.journal_limit image) outcome (λ head at bad. bad) (λ head at bad. bad) m old new form.answer form.outcome_is (form.prints image known).prints
         refuses-by Replay opens did told =
             let form = formed Replay did in
-            by-events Replay product text image text-short (one_bad_record product text product.journal_limit image) outcome tt (λ at bad. bad) (λ at bad. bad) m old new line_of _ form.answer form.outcome_is (form.prints image known)
+            by-events Replay product text image text-short (λ head. one_bad_record product head product.journal_limit image) outcome tt (λ head at bad. bad) (λ head at bad. bad) m old new line_of _ form.answer form.outcome_is (form.prints image known)
         refuses-by Fills opens did told =
             let form = formed Fills did in
-            by-events Fills product text image text-short (one_bad_record product text product.journal_limit image) outcome tt (λ at bad. bad) (λ at bad. bad) m old new fill_line _ form.answer form.outcome_is (form.prints image known)
+            by-events Fills product text image text-short (λ head. one_bad_record product head product.journal_limit image) outcome tt (λ head at bad. bad) (λ head at bad. bad) m old new fill_line _ form.answer form.outcome_is (form.prints image known)
         refuses-by Ledger opens did told =
             let form = formed Ledger did in
-            by-events Ledger product text image text-short (one_bad_record product text product.journal_limit image) outcome tt (λ at bad. bad) (λ at bad. bad) m old new (λ names. ledger_line) _ form.answer form.outcome_is (form.prints image known)
+            by-events Ledger product text image text-short (λ head. one_bad_record product head product.journal_limit image) outcome tt (λ head at bad. bad) (λ head at bad. bad) m old new (λ names. ledger_line) _ form.answer form.outcome_is (form.prints image known)
         refuses-by Steps opens did told = absurd opens
 
         refuses-told : OpensJournal c → outcome.status ≢ 1 → (told : List ℕ) (lists : ProductLists) → p.left ≡ Some told → product_of told ≡ Ok lists → RefusesExactly c lists told image outcome
@@ -770,7 +761,7 @@ module _ {P I S : Type 0} (m : StationMeanings S) (p q : SourceAt P) (i j : Sour
     ends-as-told Steps asks writing given read other = absurd writing
 
     pub leaves-a-front : LeavesAFront the-call
-    leaves-a-front Run asks writing given read = fronts-of the-call given (messages_of read.taken) (λ messages. new_reports given.product given.kept messages) (every-moment asked command is (did given.memory) causes asks given read)
+    leaves-a-front Run asks writing given read = fronts-of the-call given (messages_of read.taken) (λ messages. new_reports given.kept messages) (every-moment asked command is (did given.memory) causes asks given read)
     leaves-a-front (Drill first count) asks writing given read = fronts-of the-call given (made_messages given.product first count) (λ messages. summary_of_all given.product given.kept (made_messages given.product first count) messages) (drill-every-moment asked command is (did given.memory) causes first count asks given)
     leaves-a-front Checkpoint asks writing given read = fronts-of the-call given [] sends_nothing (checkpoint-every-moment asked command is (did given.memory) causes asks given)
     leaves-a-front Replay asks writing given read = absurd writing
@@ -780,7 +771,7 @@ module _ {P I S : Type 0} (m : StationMeanings S) (p q : SourceAt P) (i j : Sour
     leaves-a-front Steps asks writing given read = absurd writing
 
     pub leaves-the-entry : (m.is_honest old → IsHonestNow m old) → LeavesTheEntry the-call
-    leaves-the-entry now Run asks writing given read = entry-or-fronts the-call given (messages_of read.taken) (λ messages. new_reports given.product given.kept messages) (first-sync asked command is (did given.memory) causes asks given read (now given.honest))
+    leaves-the-entry now Run asks writing given read = entry-or-fronts the-call given (messages_of read.taken) (λ messages. new_reports given.kept messages) (first-sync asked command is (did given.memory) causes asks given read (now given.honest))
     leaves-the-entry now (Drill first count) asks writing given read = entry-or-fronts the-call given (made_messages given.product first count) (λ messages. summary_of_all given.product given.kept (made_messages given.product first count) messages) (drill-before-sync asked command is (did given.memory) causes first count asks given (now given.honest))
     leaves-the-entry now Checkpoint asks writing given read = entry-or-fronts the-call given [] sends_nothing (checkpoint-before-sync asked command is (did given.memory) causes asks given (now given.honest))
     leaves-the-entry now Replay asks writing given read = absurd writing
@@ -791,7 +782,7 @@ module _ {P I S : Type 0} (m : StationMeanings S) (p q : SourceAt P) (i j : Sour
 
     -- more is sent of more messages
     sends-grow : (given : Given the-call) (c : Command) (read : Reads the-call c) (a b : ℕ) → a ≤ b → length ((work_of the-call given c read).sends a) ≤ length ((work_of the-call given c read).sends b)
-    sends-grow given Run read a b le = fewer-reports given.product given.kept (messages_of read.taken) a b le
+    sends-grow given Run read a b le = fewer-reports given.kept (messages_of read.taken) a b le
     sends-grow given (Drill first count) read a b le = let made = made_messages given.product first count in all-grows (summary given.product given.kept made) made a b le
     sends-grow given Checkpoint read a b le = omega arith
     sends-grow given Replay read a b le = omega arith
@@ -842,14 +833,14 @@ module _ {P I S : Type 0} (m : StationMeanings S) (p q : SourceAt P) (i j : Sour
     is-full-for-image asks given twelve = image-full asked command is (did given.memory) causes asks given twelve
 
     pub is-full-for-messages : IsFullForMessages the-call
-    is-full-for-messages Run asks writing given read honest image records known keeps twelve = full asked command is (did given.memory) causes asks given read honest image records known keeps twelve
-    is-full-for-messages (Drill first count) asks writing given read honest image records known keeps twelve = drill-has-no-room asked command is (did given.memory) causes first count asks given honest image records known keeps twelve
-    is-full-for-messages Checkpoint asks writing given read honest image records known keeps twelve = absurd writing
-    is-full-for-messages Replay asks writing given read honest image records known keeps twelve = absurd writing
-    is-full-for-messages Book asks writing given read honest image records known keeps twelve = absurd writing
-    is-full-for-messages Fills asks writing given read honest image records known keeps twelve = absurd writing
-    is-full-for-messages Ledger asks writing given read honest image records known keeps twelve = absurd writing
-    is-full-for-messages Steps asks writing given read honest image records known keeps twelve = absurd writing
+    is-full-for-messages Run asks writing given read honest image head records known of_text keeps twelve = full asked command is (did given.memory) causes asks given read honest image head records known of_text keeps twelve
+    is-full-for-messages (Drill first count) asks writing given read honest image head records known of_text keeps twelve = drill-has-no-room asked command is (did given.memory) causes first count asks given honest image head records known of_text keeps twelve
+    is-full-for-messages Checkpoint asks writing given read honest image head records known of_text keeps twelve = absurd writing
+    is-full-for-messages Replay asks writing given read honest image head records known of_text keeps twelve = absurd writing
+    is-full-for-messages Book asks writing given read honest image head records known of_text keeps twelve = absurd writing
+    is-full-for-messages Fills asks writing given read honest image head records known of_text keeps twelve = absurd writing
+    is-full-for-messages Ledger asks writing given read honest image head records known of_text keeps twelve = absurd writing
+    is-full-for-messages Steps asks writing given read honest image head records known of_text keeps twelve = absurd writing
 
     pub ends-well : EndsWellWhereItCan the-call
     ends-well Run asks can quiet = unless-memory outcome.status (λ there. all-served asked command is (did there) causes asks can quiet)
@@ -875,9 +866,6 @@ module _ {P I S : Type 0} (m : StationMeanings S) (p q : SourceAt P) (i j : Sour
 
     pub has-its-statuses : HasItsStatuses the-call
     has-its-statuses c asks never = never-ends asked command is (did (never-lacks c outcome.status never)) causes c asks never
-
-    pub all-balance : Balances the-call
-    all-balance given messages = balances command causes given messages
 
     -- ---- what holds of a command, whether or not there was memory
 

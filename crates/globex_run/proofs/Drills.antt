@@ -20,10 +20,10 @@ use Rattle.product_file.specs.Products.{ProductLists}
 use Rattle.order_kinds.specs.State.{State}
 use Rattle.order_kinds.specs.Step.{state_after, events_from}
 use Rattle.plain_book.specs.Book.{live_orders}
-use Rattle.match_journal.specs.Journal.{Record}
+use Rattle.match_journal.specs.Journal.{Record, Header}
 use Rattle.match_journal.specs.declared.limits.TheConstants.{MOST_PAYLOAD}
-use Rattle.match_journal.specs.Classes.{Keeps}
-use Rattle.book_recovery.specs.Records.{messages_in, state_kept, from_last_image, count_behind_all}
+use Rattle.match_journal.specs.Classes.{Keeps, KeepsOf}
+use Rattle.book_recovery.specs.Records.{messages_in, from_last_image, count_behind_all}
 use Rattle.book_recovery.specs.Kept.{IsStartable}
 use Rattle.order_maker.specs.Stream.{MadeStream, generator_meanings, made_stream}
 use Rattle.book_print.specs.TallyText.{no_tally, tally_line, tally_of}
@@ -56,6 +56,7 @@ use Rattle.globex_run.proofs.Reported.{front-between}
 use Rattle.globex_run.proofs.SentReports.{sends_at_most}
 use Rattle.globex_run.proofs.Told.{outside_of}
 use Rattle.globex_run.proofs.Endings.{status_of, when_done}
+use Rattle.order_kinds.specs.Histories.{History, with_messages, state_kept}
 
 -- nothing is sent of any events
 no_lines : (product : ProductLists) (state : State) (messages : List (List ℕ)) → lines_from (tally_form.text no_tally) product state messages ≡ []
@@ -90,7 +91,7 @@ still_sent : (product : ProductLists) (state : State) (messages : List (List ℕ
 still_sent product state messages before after is = is ∙ ap (λ (l : List ℕ). sent_and before l) (no_lines product state messages) ∙ sent_and_none before
 
 -- all of them are sent, where they are all
-summary_sent : (product : ProductLists) (kept all first : List (List ℕ)) → length first ≡ length all → summary_of_all product kept all first ≡ summary product kept all
+summary_sent : (product : ProductLists) (kept : History) (all first : List (List ℕ)) → length first ≡ length all → summary_of_all product kept all first ≡ summary product kept all
 summary_sent product kept all first same = same_if (length first == length all) (summary product kept all) (grind (arith, nat_tests, same))
   where
     same_if : (b : Bool) (xs : List ℕ) → b ≡ true → cond b xs [] ≡ xs
@@ -188,7 +189,7 @@ module _ {P I S : Type 0} (m : StationMeanings S) (p q : SourceAt P) (i j : Sour
 
     -- what it came to from the image of entry
     abbrev From : Ending → Type 0
-    From ending = SessionFrom m (tally_form.text no_tally) given.product given.text before.streams after.streams Counted did.then given.image given.startable.records given.kept taken ending served.messages
+    From ending = SessionFrom m (tally_form.text no_tally) given.product given.startable.head before.streams after.streams Counted did.then given.image given.startable.records given.kept taken ending served.messages
 
     from : From did.session.ending
     from = did.session.from given.image given.kept given.honest given.image_known given.startable
@@ -268,7 +269,7 @@ module _ {P I S : Type 0} (m : StationMeanings S) (p q : SourceAt P) (i j : Sour
         record {
           count = at.count;
           within = omega (arith, at.within, fewer stream taken end.left whole parts);
-          keeps = subst (λ (l : List (List ℕ)). IsStartable given.product given.text (given.kept ++ l) left) same at.keeps;
+          keeps = subst (λ (l : List (List ℕ)). IsStartable given.product given.text (with_messages given.kept l) left) same at.keeps;
           no_longer = at.no_longer;
           output = at.output;
           front = subst (λ (l : List (List ℕ)). IsPrefix at.output (sums l)) same at.front;
@@ -279,7 +280,7 @@ module _ {P I S : Type 0} (m : StationMeanings S) (p q : SourceAt P) (i j : Sour
     session-moments =
         adds_weaker m old mid _ _ (λ h left out at. crash-same left out at)
         (headline.every-moment m p q (source_at generator_meanings at_first) (source_at generator_meanings end) old mid (tally_form.text no_tally) Counted did.then served given-then taken sums did.session.ending from
-        (λ messages out between. nothing_more given.product (state_kept given.product given.kept) (m.sent old) sums (messages_in messages) out between))
+        (λ messages out between. nothing_more given.product (state_kept given.kept) (m.sent old) sums (messages_in messages) out between))
 
     -- ---- what is kept
 
@@ -312,7 +313,7 @@ module _ {P I S : Type 0} (m : StationMeanings S) (p q : SourceAt P) (i j : Sour
         now-same same xs ys are now = record {
           image = now.image;
           image_known = same ∙ now.image_known;
-          keeps = subst (λ (l : List (List ℕ)). IsStartable given.product given.text (given.kept ++ l) now.image) are now.keeps;
+          keeps = subst (λ (l : List (List ℕ)). IsStartable given.product given.text (with_messages given.kept l) now.image) are now.keeps;
         }
 
     -- all messages of the records added were counted: the session kept them, and sent nothing
@@ -321,13 +322,13 @@ module _ {P I S : Type 0} (m : StationMeanings S) (p q : SourceAt P) (i j : Sour
       pub kept : KeepsNow m before after served given-then (messages_of taken) sums (first_messages served.messages taken)
       pub silent : m.sent mid ≡ m.sent old
 
-    did-all : (ending : Ending) (here : From ending) → here.added ≡ from.added → IsAllServed m (tally_form.text no_tally) given.product given.text before.streams after.streams given.startable.records given.kept here.added served.messages → DidAll
+    did-all : (ending : Ending) (here : From ending) → here.added ≡ from.added → IsAllServed m (tally_form.text no_tally) given.product given.startable.head before.streams after.streams given.startable.records given.kept here.added served.messages → DidAll
     did-all ending here same all =
         let first = headline.first m p q (source_at generator_meanings at_first) (source_at generator_meanings end) old mid (tally_form.text no_tally) Counted did.then served given-then taken sums ending here here.added [] (sym (append-nil here.added)) served.messages all.messages in
         record {
           counted = all.messages ∙ ap (λ (l : List Record). length (messages_in l)) same;
           kept = headline.keeps_now m p q (source_at generator_meanings at_first) (source_at generator_meanings end) old mid (tally_form.text no_tally) Counted did.then served given-then taken sums ending here here.added [] (sym (append-nil here.added)) (first_messages served.messages taken) first all.keeps;
-          silent = still_sent given.product (state_kept given.product given.kept) (messages_in here.added) (m.sent old) (m.sent mid) all.sent;
+          silent = still_sent given.product (state_kept given.kept) (messages_in here.added) (m.sent old) (m.sent mid) all.sent;
         }
 
     -- the messages of this session are no more than were taken
@@ -348,7 +349,7 @@ module _ {P I S : Type 0} (m : StationMeanings S) (p q : SourceAt P) (i j : Sour
       stopped-by Done here same is how = absurd (stopped (status_of served Done is))
       stopped-by StoreFault here same is how = (
         headline.keeps-front m p q (source_at generator_meanings at_first) (source_at generator_meanings end) old mid (tally_form.text no_tally) Counted did.then served given-then taken sums StoreFault here (status_of served StoreFault is) few-served here.ends,
-        still_sent given.product (state_kept given.product given.kept) (messages_in here.ends.served) (m.sent old) (m.sent mid) here.ends.sent,
+        still_sent given.product (state_kept given.kept) (messages_in here.ends.served) (m.sent old) (m.sent mid) here.ends.sent,
       )
       stopped-by (Full place) here same is how =
           let all = did-all (Full place) here same here.ends.0 in
@@ -417,7 +418,7 @@ module _ {P I S : Type 0} (m : StationMeanings S) (p q : SourceAt P) (i j : Sour
       -- the line is the summary
       line-is : tally_line served.messages did.tally (length (live_orders did.then.book)) ≡ summary given.product given.kept (messages_of stream)
       line-is =
-          let state = state_kept given.product given.kept in
+          let state = state_kept given.kept in
           ap (λ (n : ℕ). tally_line n did.tally (length (live_orders did.then.book))) all-count
           ∙ ap (λ (t : Tally). tally_line (length (messages_of stream)) t (length (live_orders did.then.book))) (from.published is-done (λ form p frame. refl) ∙ ap (λ (l : List (List ℕ)). tally_of (events_from given.product state l)) made-in)
           ∙ ap (λ (s : State). tally_line (length (messages_of stream)) (tally_of (events_from given.product state (messages_of stream))) (length (live_orders s.book))) (from.is_state is-done ∙ ap (λ (l : List (List ℕ)). state_after given.product state l) made-in)
@@ -429,12 +430,12 @@ module _ {P I S : Type 0} (m : StationMeanings S) (p q : SourceAt P) (i j : Sour
           (subst (λ (l : List ℕ). IsKnownPrefix (m.sent new) (sent_and (m.sent mid) l)) line-is (sends_at_most m mid new (tally_line served.messages did.tally (length (live_orders did.then.book))) sums-up.result sums-up.sends))
 
       -- all made messages are kept
-      keeps-at : (image : List ℕ) → m.holds mid ≡ Some image → IsStartable given.product given.text (given.kept ++ messages_of stream) image
+      keeps-at : (image : List ℕ) → m.holds mid ≡ Some image → IsStartable given.product given.text (with_messages given.kept (messages_of stream)) image
       keeps-at image read =
           let now = at-end.all.kept in
           let all : first_messages served.messages taken ≡ messages_of stream = take_all served.messages (messages_of taken) (omega (arith, at-end.all_counted)) ∙ ap messages_of (sym at-end.all_taken) in
-          subst (λ (x : List ℕ). IsStartable given.product given.text (given.kept ++ messages_of stream) x) (same_Some now.image image (sym now.image_known ∙ read))
-          (subst (λ (l : List (List ℕ)). IsStartable given.product given.text (given.kept ++ l) now.image) all now.keeps)
+          subst (λ (x : List ℕ). IsStartable given.product given.text (with_messages given.kept (messages_of stream)) x) (same_Some now.image image (sym now.image_known ∙ read))
+          (subst (λ (l : List (List ℕ)). IsStartable given.product given.text (with_messages given.kept l) now.image) all now.keeps)
 
       now-all : (messages : List (List ℕ)) → messages ≡ messages_of stream → KeepsNow m entry exit outcome given (messages_of stream) sums messages
       now-all messages are =
@@ -442,7 +443,7 @@ module _ {P I S : Type 0} (m : StationMeanings S) (p q : SourceAt P) (i j : Sour
           record {
             image = now.image;
             image_known = sums-up.sends.quiet.holds ∙ now.image_known;
-            keeps = subst (λ (l : List (List ℕ)). IsStartable given.product given.text (given.kept ++ l) now.image) (sym are) (keeps-at now.image now.image_known);
+            keeps = subst (λ (l : List (List ℕ)). IsStartable given.product given.text (with_messages given.kept l) now.image) (sym are) (keeps-at now.image now.image_known);
           }
 
       -- while the summary is sent, a crash leaves all of them and a front of it
@@ -460,7 +461,7 @@ module _ {P I S : Type 0} (m : StationMeanings S) (p q : SourceAt P) (i j : Sour
           record {
             count = length (messages_of stream);
             within = omega arith;
-            keeps = subst (λ (l : List (List ℕ)). IsStartable given.product given.text (given.kept ++ l) left) (sym all) (keeps-at left read);
+            keeps = subst (λ (l : List (List ℕ)). IsStartable given.product given.text (with_messages given.kept l) left) (sym all) (keeps-at left read);
             no_longer = omega (arith, rest.short, ap (λ (l : List ℕ). length l) same);
             output = front.0;
             front = subst (λ (l : List ℕ). IsPrefix front.0 l) (sym (summary_sent given.product given.kept (messages_of stream) (take (length (messages_of stream)) (messages_of stream)) (ap (λ (l : List (List ℕ)). length l) all))) front.1;
@@ -503,8 +504,8 @@ module _ {P I S : Type 0} (m : StationMeanings S) (p q : SourceAt P) (i j : Sour
 
     -- ---- which records were added
 
-    keeping : KeepsNoMore m given.text given.product.journal_limit mid given.startable.records from.added
-    keeping = keeps_no_more m (tally_form.text no_tally) given.product given.text before.streams after.streams served.messages given.startable.records given.kept from.added from.behind did.session.ending from.ends
+    keeping : KeepsNoMore m given.startable.head.text given.product.journal_limit mid given.startable.records from.added
+    keeping = keeps_no_more m (tally_form.text no_tally) given.product given.startable.head before.streams after.streams served.messages given.startable.records given.kept from.added from.behind did.session.ending from.ends
 
     -- the summary is sent, and the image stays
     adds-of : m.holds new ≡ m.holds mid → AddsMessages m entry exit outcome given
@@ -512,7 +513,7 @@ module _ {P I S : Type 0} (m : StationMeanings S) (p q : SourceAt P) (i j : Sour
       image = keeping.holds.image;
       image_known = same ∙ keeping.holds.read;
       added = keeping.more;
-      keeps = keeping.holds.has;
+      keeps = subst (λ (l : List ℕ). KeepsOf l given.product.journal_limit (given.startable.records ++ keeping.more) keeping.holds.image) given.startable.of_text keeping.holds.has;
       whole = whole-front keeping.more keeping.rest from.added keeping.are from.whole;
     }
 
@@ -563,7 +564,7 @@ module _ {P I S : Type 0} (m : StationMeanings S) (p q : SourceAt P) (i j : Sour
 
 -- ---- the next message has no room, or cannot be counted
 
-module _ {S : Type 0} (m : StationMeanings S) (product : ProductLists) (text image : List ℕ) (records : List Record) (first count : ℕ) (old new : S) (outcome : Outcome) (made : DrillsMade m product text first count old new outcome) where
+module _ {S : Type 0} (m : StationMeanings S) (product : ProductLists) (text : List ℕ) (head : Header) (of_text : head.text ≡ text) (image : List ℕ) (records : List Record) (first count : ℕ) (old new : S) (outcome : Outcome) (made : DrillsMade m product text first count old new outcome) where
   abbrev all_made : List ℕ
   all_made = made_stream product first count
 
@@ -572,7 +573,7 @@ module _ {S : Type 0} (m : StationMeanings S) (product : ProductLists) (text ima
   not-summed twelve (Err fault) is = omega (arith, twelve, ap (λ (o : Outcome). o.status) is)
 
   -- what holds of the bytes that its session took holds of all that were made
-  full-of-all : new ≡ made.did.mid → outcome ≡ made.did.served → IsFullJournal product text image records (station_at m made.did.mid) made.did.served made.did.session.serving.taken → IsFullJournal product text image records (station_at m new) outcome all_made
+  full-of-all : new ≡ made.did.mid → outcome ≡ made.did.served → IsFullJournal product head image records (station_at m made.did.mid) made.did.served made.did.session.serving.taken → IsFullJournal product head image records (station_at m new) outcome all_made
   full-of-all station is full =
       let served = made.did.served in
       let taken = made.did.session.serving.taken in
@@ -594,7 +595,7 @@ module _ {S : Type 0} (m : StationMeanings S) (product : ProductLists) (text ima
             ∙ append_assoc full.next full.more made.end.left;
         why = ⊎_elim
             (λ no_room. inl record {
-              each_alone = subst (λ (l : List (List ℕ)). product.journal_limit < end_of_journal text records + records_length (l ++ full.next ∷ [])) firsts-are no_room.each_alone;
+              each_alone = subst (λ (l : List (List ℕ)). product.journal_limit < end_of_journal head records + records_length (l ++ full.next ∷ [])) firsts-are no_room.each_alone;
               records_now = no_room.records_now;
               image_now = no_room.image_now;
               image_known = ap m.holds station ∙ no_room.image_known;
@@ -605,12 +606,12 @@ module _ {S : Type 0} (m : StationMeanings S) (product : ProductLists) (text ima
             full.why;
       }
 
-  pub drill-full : m.is_honest old → m.holds old ≡ Some image → Keeps text product.journal_limit records image → outcome.status ≡ 12 → IsFullJournal product text image records (station_at m new) outcome all_made
+  pub drill-full : m.is_honest old → m.holds old ≡ Some image → Keeps head product.journal_limit records image → outcome.status ≡ 12 → IsFullJournal product head image records (station_at m new) outcome all_made
   drill-full honest known keeps twelve = elim (eqb_tells made.did.served.status 0) [
     | inl none ↦ let sums = made.did.sums_up none.1 in absurd (not-summed twelve sums.result sums.outcome_is)
     | inr other ↦
         let same = made.did.otherwise other.1 in
         full-of-all same.0 same.1
-        (session-full m (tally_form.text no_tally) product made.did.session.right text image records keeps (streams_at {S = S} generator_meanings m (record { left = all_made; reads = 0 }) old) (streams_at {S = S} generator_meanings m made.end made.did.mid) refl made.did.served made.did.session.serving.taken _ made.did.then made.did.session refl honest known
+        (session-full m (tally_form.text no_tally) product made.did.session.right head image records keeps (streams_at {S = S} generator_meanings m (record { left = all_made; reads = 0 }) old) (streams_at {S = S} generator_meanings m made.end made.did.mid) refl made.did.served made.did.session.serving.taken text of_text _ made.did.then made.did.session refl honest known
         (sym (ap (λ (o : Outcome). o.status) same.1) ∙ twelve))
   ]

@@ -17,16 +17,17 @@ use Rattle.globex_run.specs.Journals.{most_read}
 use Rattle.globex_run.specs.Inner.Sessions.{SessionResult}
 use Rattle.globex_run.specs.Inner.Drilling.{DrillResult}
 use Rattle.globex_run.specs.declared.outcome.Outcome.{Outcome}
+use Rattle.order_kinds.specs.Histories.{History}
 
 -- how a session read its journal
 pub session-reads : {I S : Type 0} (m : StationMeanings S) (line : LineText) (product : ProductLists) (text : List ℕ) (before after : Streams I S) (Published : List Event → Type 0) (then : State) (outcome : Outcome) → SessionResult m line product text before after Published then outcome
-    → (image : List ℕ) (kept : List (List ℕ)) → m.is_honest before.station.object → before.station.image ≡ Some image → (startable : IsStartable product text kept image)
+    → (image : List ℕ) (kept : History) → m.is_honest before.station.object → before.station.image ≡ Some image → (startable : IsStartable product text kept image)
     → ReadsAtMost (most_read startable.records) (m.bytes_read before.station.object) (m.bytes_read after.station.object)
 session-reads m line product text before after Published then outcome session image kept honest read startable = (session.from image kept honest read startable).bytes
 
 -- the summary of a drill is sent, and nothing is read for it
 pub drill-reads : {S : Type 0} (m : StationMeanings S) (product : ProductLists) (text : List ℕ) (made rest : MadeStream) (old new : S) (outcome : Outcome) → DrillResult m product text made rest old new outcome
-    → (image : List ℕ) (kept : List (List ℕ)) → m.is_honest old → m.holds old ≡ Some image → (startable : IsStartable product text kept image)
+    → (image : List ℕ) (kept : History) → m.is_honest old → m.holds old ≡ Some image → (startable : IsStartable product text kept image)
     → ReadsAtMost (most_read startable.records) (m.bytes_read old) (m.bytes_read new)
 drill-reads m product text made rest old new outcome did image kept honest read startable =
     let Counted = λ (events : List Event). KeepsEvents tally_form no_tally did.tally events in

@@ -6,14 +6,14 @@ use Rattle.gx_station.specs.Counts.{Rose}
 use Rattle.gx_station.specs.Sources.{SourceMeanings}
 use Rattle.gx_station.specs.Stations.{StationMeanings, sent_and}
 use Rattle.gx_station.specs.Moments.{AddsOnly}
-use Rattle.match_journal.specs.Journal.{Record}
+use Rattle.match_journal.specs.Journal.{Record, Header}
 use Rattle.match_journal.specs.Causes.{SendsNothing, ReadsAtMost}
-use Rattle.match_journal.specs.Classes.{Keeps}
+use Rattle.match_journal.specs.Classes.{KeepsOf}
 use Rattle.match_journal.specs.Opening.{IsOpening}
 use Rattle.match_journal.specs.Steps.{HoldsOne}
 use Rattle.match_journal.specs.StepLaws.{adds_then, adds_weaker}
 use Rattle.match_journal.specs.declared.standing.Standing.{Standing}
-use Rattle.book_recovery.specs.Records.{AreWhole, messages_in, state_kept}
+use Rattle.book_recovery.specs.Records.{AreWhole, messages_in}
 use Rattle.book_recovery.specs.Kept.{CanBeRecovered}
 use Rattle.match_journal.specs.declared.limits.TheConstants.{MOST_UNFINISHED}
 use Rattle.product_file.specs.declared.limits.TheConstants.{LEAST_JOURNAL}
@@ -42,6 +42,7 @@ use Rattle.globex_run.proofs.Folds.{messages_in-append}
 use Rattle.globex_run.proofs.KeptMore.{never-last}
 use Rattle.globex_run.proofs.TakenBytes.{taken_by}
 use Rattle.globex_run.proofs.Endings.{when_done}
+use Rattle.order_kinds.specs.Histories.{History, state_kept}
 
 -- one of two holds of the image that a read gives
 holds_either : {S : Type 0} (m : StationMeanings S) (P Q : List ℕ → Type 0) (s : S) → HoldsOne m (λ image. P image ⊎ Q image) s → HoldsOne m P s ⊎ HoldsOne m Q s
@@ -53,19 +54,19 @@ holds_either m P Q s holds = ⊎_elim
 holds_weaker : {S : Type 0} (m : StationMeanings S) (P Q : List ℕ → Type 0) (s : S) → ((image : List ℕ) → P image → Q image) → HoldsOne m P s → HoldsOne m Q s
 holds_weaker m P Q s weaker holds = record { image = holds.image; read = holds.read; has = weaker holds.image holds.has }
 
-module _ {I S : Type 0} (inputs : SourceMeanings I) (m : StationMeanings S) (line : LineText) (Published : List Event → Type 0) (product : ProductLists) (text image : List ℕ) (records : List Record) (kept : List (List ℕ)) (old : S) (right : IsRightProduct product) where
+module _ {I S : Type 0} (inputs : SourceMeanings I) (m : StationMeanings S) (line : LineText) (Published : List Event → Type 0) (product : ProductLists) (head : Header) (image : List ℕ) (records : List Record) (kept : History) (old : S) (right : IsRightProduct product) where
   large : LEAST_JOURNAL ≤ product.journal_limit
   large = right.least_limit
 
   abbrev Crash : List Record → List ℕ → List ℕ → Type 0
-  Crash added = IsRecordCrash line product (state_kept product kept) text product.journal_limit records added (length image) (m.sent old)
+  Crash added = IsRecordCrash line product (state_kept kept) head product.journal_limit records added (length image) (m.sent old)
 
   -- while the journal is opened
-  opening_crash : (added : List Record) (left out : List ℕ) → IsOpening text product.journal_limit records image left → m.sent old ≡ Some out → Crash added left out
+  opening_crash : (added : List Record) (left out : List ℕ) → IsOpening head.text product.journal_limit records image left → m.sent old ≡ Some out → Crash added left out
   opening_crash added left out here sent = record {
     count = 0;
     within = omega arith;
-    keeps = subst (λ (rs : List Record). Keeps text product.journal_limit rs left) (sym (append-nil records)) here.keeps;
+    keeps = subst (λ (rs : List Record). KeepsOf head.text product.journal_limit rs left) (sym (append-nil records)) here.keeps;
     sent_is = record {
       low = subst (λ o. IsKnownPrefix (m.sent old) o) sent (known_itself (m.sent old));
       high = subst (λ o. IsKnownPrefix o (sent_and (m.sent old) [])) sent (known_more (m.sent old) []);
@@ -73,12 +74,12 @@ module _ {I S : Type 0} (inputs : SourceMeanings I) (m : StationMeanings S) (lin
     no_longer = omega (arith, here.no_longer, large);
   }
 
-  opening_adds : (added : List Record) (new : S) → AddsOnly m old new (λ left out. IsOpening text product.journal_limit records image left × (m.sent old ≡ Some out)) → AddsOnly m old new (Crash added)
+  opening_adds : (added : List Record) (new : S) → AddsOnly m old new (λ left out. IsOpening head.text product.journal_limit records image left × (m.sent old ≡ Some out)) → AddsOnly m old new (Crash added)
   opening_adds added new adds = adds_weaker m old new _ _ (λ h left out pair. opening_crash added left out pair.0 pair.1) adds
 
   -- the journal was not opened
-  pub from_unopened : (input : I) (new : S) (state after : State) → Opens m product text old new image records state (Err unopened.Store) → m.sent new ≡ m.sent old
-      → SessionFrom m line product text (streams_at inputs m input old) (streams_at inputs m input new) Published after image records kept [] StoreFault 0
+  pub from_unopened : (input : I) (new : S) (state after : State) → Opens m product head old new image records state (Err unopened.Store) → m.sent new ≡ m.sent old
+      → SessionFrom m line product head (streams_at inputs m input old) (streams_at inputs m input new) Published after image records kept [] StoreFault 0
   from_unopened input new state after opens silent =
       let same : records ≡ records ++ [] = sym (append-nil records) in
       record {
@@ -97,7 +98,7 @@ module _ {I S : Type 0} (inputs : SourceMeanings I) (m : StationMeanings S) (lin
           are = refl;
           one = omega arith;
           sent = silent ∙ sent_and_itself (m.sent old);
-          keeps = inl (holds_weaker m _ _ new (λ left here. subst (λ (rs : List Record). Keeps text product.journal_limit rs left) same here.keeps) opens.keeps);
+          keeps = inl (holds_weaker m _ _ new (λ left here. subst (λ (rs : List Record). KeepsOf head.text product.journal_limit rs left) same here.keeps) opens.keeps);
           messages = refl;
         };
         at_rest = λ done. absurd done;
@@ -110,18 +111,18 @@ module _ {I S : Type 0} (inputs : SourceMeanings I) (m : StationMeanings S) (lin
       sent_and_itself (Some out) = ap Some (sym (append-nil out))
 
   -- the journal was opened, and the input served
-  module _ (mid : S) (core state : State) (Numbered : Type 0) (numbered : Numbered) (journal : Standing) (opens : Opens m product text old mid image records core (Ok journal)) (silent : m.sent mid ≡ m.sent old) (state_is : state ≡ state_kept product kept) (state_count : state.desk.messages ≡ length (messages_in records))
+  module _ (mid : S) (core state : State) (Numbered : Type 0) (numbered : Numbered) (journal : Standing) (opens : Opens m product head old mid image records core (Ok journal)) (silent : m.sent mid ≡ m.sent old) (state_is : state ≡ state_kept kept) (state_count : state.desk.messages ≡ length (messages_in records))
       (input input' : I) (new : S) (end : ℕ) (then : State) (added : List Record) (behind : List ℕ) (serves : Serves m Numbered line product product.journal_limit mid new journal.gate state added) (count : ℕ) (counted : then.desk.messages ≡ state.desk.messages + count) where
     abbrev most : ℕ
     most = max (length image) MOST_UNFINISHED
 
-    sent_as : (messages : List (List ℕ)) → sent_and (m.sent mid) (lines_from line product state messages) ≡ sent_and (m.sent old) (lines_from line product (state_kept product kept) messages)
+    sent_as : (messages : List (List ℕ)) → sent_and (m.sent mid) (lines_from line product state messages) ≡ sent_and (m.sent old) (lines_from line product (state_kept kept) messages)
     sent_as messages = ap (λ o. sent_and o (lines_from line product state messages)) silent ∙ ap (λ (s : State). sent_and (m.sent old) (lines_from line product s messages)) state_is
 
-    part : IsKnownPrefix (m.sent new) (sent_and (m.sent old) (lines_from line product (state_kept product kept) (messages_in added)))
+    part : IsKnownPrefix (m.sent new) (sent_and (m.sent old) (lines_from line product (state_kept kept) (messages_in added)))
     part = subst (λ o. IsKnownPrefix (m.sent new) o) (sent_as (messages_in added)) (serves.part numbered)
 
-    crash : (left out : List ℕ) → IsRecordCrash line product state text product.journal_limit records added most (m.sent mid) left out → Crash added left out
+    crash : (left out : List ℕ) → IsRecordCrash line product state head product.journal_limit records added most (m.sent mid) left out → Crash added left out
     crash left out here = record {
       count = here.count;
       within = here.within;
@@ -134,12 +135,12 @@ module _ {I S : Type 0} (inputs : SourceMeanings I) (m : StationMeanings S) (lin
     }
 
     adds : AddsOnly m old new (Crash added)
-    adds = adds_then m old mid new _ _ (λ h left out here. crash left out here) (opening_adds added mid opens.moments) (serves.adds text records most opens.at_end numbered)
+    adds = adds_then m old mid new _ _ (λ h left out here. crash left out here) (opening_adds added mid opens.moments) (serves.adds head records most opens.at_end numbered)
 
-    all_kept : AllKept m product.journal_limit mid new journal.gate end added → HoldsOne m (Keeps text product.journal_limit (records ++ added)) new
+    all_kept : AllKept m product.journal_limit mid new journal.gate end added → HoldsOne m (KeepsOf head.text product.journal_limit (records ++ added)) new
     all_kept kept_all =
-        let rests = kept_all.at_end text records most opens.at_end in
-        record { image = rests.image; read = rests.rests.read; has = inl rests.journal.journal }
+        let rests = kept_all.at_end head records most opens.at_end in
+        record { image = rests.image; read = rests.rests.read; has = (head.version, inl rests.journal.journal) }
 
     abbrev at_entry : Streams I S
     at_entry = streams_at inputs m input old
@@ -147,7 +148,7 @@ module _ {I S : Type 0} (inputs : SourceMeanings I) (m : StationMeanings S) (lin
     abbrev at_exit : Streams I S
     at_exit = streams_at inputs m input' new
 
-    all_served : Served m Numbered line product product.journal_limit mid new journal.gate end state then added → IsAllServed m line product text at_entry at_exit records kept added count
+    all_served : Served m Numbered line product product.journal_limit mid new journal.gate end state then added → IsAllServed m line product head at_entry at_exit records kept added count
     all_served served = record { sent = served.sent numbered ∙ sent_as (messages_in added); keeps = all_kept served.all_kept; messages = omega (arith, served.count, counted) }
 
     -- so many messages have no room in a journal that not one more can be counted
@@ -155,8 +156,8 @@ module _ {I S : Type 0} (inputs : SourceMeanings I) (m : StationMeanings S) (lin
     has_no_room served full = ⊎_elim
         (λ long. long)
         (λ last.
-        let rests = served.all_kept.at_end text records most opens.at_end in
-        absurd (never-last product right text (records ++ added) rests.image rests.journal.journal
+        let rests = served.all_kept.at_end head records most opens.at_end in
+        absurd (never-last product right head (records ++ added) rests.image rests.journal.journal
         (omega (arith, last.0, served.count, state_count, ap (λ (l : List (List ℕ)). length l) (messages_in-append records added), length-append (messages_in records) (messages_in added)))))
         full
 
@@ -164,7 +165,7 @@ module _ {I S : Type 0} (inputs : SourceMeanings I) (m : StationMeanings S) (lin
     abbrev Ends : Ending → Type 0
     Ends ending = EndsServing m Numbered line product product.journal_limit (streams_at inputs m input mid) at_exit journal.gate end state then ending added behind
 
-    ends_session : (ending : Ending) → Ends ending → EndsSession m line product text at_entry at_exit ending count records kept added behind
+    ends_session : (ending : Ending) → Ends ending → EndsSession m line product head at_entry at_exit ending count records kept added behind
     ends_session Done ends = all_served ends.0
     ends_session (ReadFault place) ends = all_served ends.0
     ends_session StoreFault ends = record {
@@ -173,7 +174,7 @@ module _ {I S : Type 0} (inputs : SourceMeanings I) (m : StationMeanings S) (lin
       are = ends.are;
       one = omega arith;
       sent = ends.sent numbered ∙ sent_as (messages_in ends.served);
-      keeps = holds_either m _ _ new (holds_weaker m _ _ new (λ left. ⊎_elim (λ journal. inl (inl journal)) (λ journal. inr (inl journal))) (ends.keeps text records most opens.at_end));
+      keeps = holds_either m _ _ new (holds_weaker m _ _ new (λ left. ⊎_elim (λ journal. inl (head.version, inl journal)) (λ journal. inr (head.version, inl journal))) (ends.keeps head records most opens.at_end));
       messages = omega (arith, ends.count, counted);
     }
     ends_session SendFault ends = record { keeps = all_kept ends.all_kept; messages = omega (arith, ends.count, counted) }
@@ -183,7 +184,7 @@ module _ {I S : Type 0} (inputs : SourceMeanings I) (m : StationMeanings S) (lin
     ends_session (JournalBad place) ends = ends
     ends_session (ProductDiffers place) ends = ends
     ends_session (Full place) ends =
-        let rests = ends.0.all_kept.at_end text records most opens.at_end in (
+        let rests = ends.0.all_kept.at_end head records most opens.at_end in (
           all_served ends.0,
           record {
             end = end;
@@ -193,19 +194,19 @@ module _ {I S : Type 0} (inputs : SourceMeanings I) (m : StationMeanings S) (lin
           },
         )
 
-    rests_done : Ends Done → IsAtRest m line product text at_entry at_exit (max (length image) product.journal_limit)
+    rests_done : Ends Done → IsAtRest m line product head at_entry at_exit (max (length image) product.journal_limit)
     rests_done ends =
-        let rests = ends.0.all_kept.at_end text records most opens.at_end in
+        let rests = ends.0.all_kept.at_end head records most opens.at_end in
         record { image = rests.image; read = rests.rests.read; settled = rests.rests.settled; short = omega (arith, rests.short, large) }
 
-    done_rests : (ending : Ending) → IsDone ending → Ends ending → IsAtRest m line product text at_entry at_exit (max (length image) product.journal_limit)
-    done_rests ending done = when_done (λ (e : Ending). Ends e → IsAtRest m line product text at_entry at_exit (max (length image) product.journal_limit)) rests_done ending done
+    done_rests : (ending : Ending) → IsDone ending → Ends ending → IsAtRest m line product head at_entry at_exit (max (length image) product.journal_limit)
+    done_rests ending done = when_done (λ (e : Ending). Ends e → IsAtRest m line product head at_entry at_exit (max (length image) product.journal_limit)) rests_done ending done
 
     done_state : (ending : Ending) → IsDone ending → Ends ending → then ≡ state_after product state (messages_in added)
     done_state ending done = when_done (λ (e : Ending). Ends e → then ≡ state_after product state (messages_in added)) (λ ends. ends.0.is_state numbered) ending done
 
     pub from_opened : (ending : Ending) → AreWithinReads at_entry.input at_exit.input (length added) → m.bytes_read new ≡ m.bytes_read mid → (Numbered → IsDone ending → Published (events_from product state (messages_in added))) → Ends ending
-        → SessionFrom m line product text at_entry at_exit Published then image records kept (bytes_in added ++ behind) ending count
+        → SessionFrom m line product head at_entry at_exit Published then image records kept (bytes_in added ++ behind) ending count
     from_opened ending reads bytes published ends = record {
       right = right;
       at_rest = λ done. done_rests ending done ends;
@@ -272,12 +273,12 @@ module _ {I S : Type 0} (inputs : SourceMeanings I) (m : StationMeanings S) (lin
     ends_unopened (unopened.Bad at) = record { none = refl; nothing = refl; input = refl }
     ends_unopened (unopened.ProductDiffers at) = record { none = refl; nothing = refl; input = refl }
 
-    pub from_unopened_by : (image : List ℕ) (records : List Record) (kept : List (List ℕ)) (state after : State) (reason : Unopened) → IsRightProduct product → m.sent new ≡ m.sent old → Opens m product text old new image records state (Err reason)
-        → SessionFrom m line product text (streams_at inputs m input old) (streams_at inputs m input new) Published after image records kept [] (ending_without reason) 0
-    from_unopened_by image records kept state after unopened.Store right silent opens = from_unopened inputs m line Published product text image records kept old right input new state after opens silent
-    from_unopened_by image records kept state after (unopened.NotAJournal at) right silent opens = absurd (opens.accepted tt)
-    from_unopened_by image records kept state after (unopened.Bad at) right silent opens = absurd (opens.accepted tt)
-    from_unopened_by image records kept state after (unopened.ProductDiffers at) right silent opens = absurd (opens.accepted tt)
+    pub from_unopened_by : (head : Header) (image : List ℕ) (records : List Record) (kept : History) (state after : State) (reason : Unopened) → IsRightProduct product → m.sent new ≡ m.sent old → Opens m product head old new image records state (Err reason)
+        → SessionFrom m line product head (streams_at inputs m input old) (streams_at inputs m input new) Published after image records kept [] (ending_without reason) 0
+    from_unopened_by head image records kept state after unopened.Store right silent opens = from_unopened inputs m line Published product head image records kept old right input new state after opens silent
+    from_unopened_by head image records kept state after (unopened.NotAJournal at) right silent opens = absurd (opens.accepted tt)
+    from_unopened_by head image records kept state after (unopened.Bad at) right silent opens = absurd (opens.accepted tt)
+    from_unopened_by head image records kept state after (unopened.ProductDiffers at) right silent opens = absurd (opens.accepted tt)
 
 -- ---- the outcome
 
@@ -345,17 +346,17 @@ module _ {I S : Type 0} (inputs : SourceMeanings I) (m : StationMeanings S) (lin
           ends = subst (λ n. EndsAs (streams_at inputs m input old) (streams_at inputs m input mid) (ending_without reason) n []) (sym count) (ends_unopened inputs m line Published product text old input mid silent.send_faults reason);
         };
         from = λ image kept honest read startable.
-            subst (λ n. SessionFrom m line product text (streams_at inputs m input old) (streams_at inputs m input mid) Published after image startable.records kept [] (ending_without reason) n) (sym count)
-            (from_unopened_by inputs m line Published product text old input mid silent.send_faults image startable.records kept core after reason right silent.sent (opens image startable.records honest read startable.keeps startable.good startable.are_true));
-        full = λ image records honest read keeps place last. absurd (never_full reason place last);
+            subst (λ n. SessionFrom m line product startable.head (streams_at inputs m input old) (streams_at inputs m input mid) Published after image startable.records kept [] (ending_without reason) n) (sym count)
+            (from_unopened_by inputs m line Published product text old input mid silent.send_faults startable.head image startable.records kept core after reason right silent.sent (opens image startable.head startable.records honest read startable.of_text startable.keeps startable.good startable.are_true));
+        full = λ image head records honest read of_text keeps place last. absurd (never_full reason place last);
       }
 
   -- the next message has no room, or cannot be counted
-  full_opened : (journal : Standing) (image : List ℕ) (records : List Record) → RestsBehind m product text mid image records core journal → (input' : I) (new : S) (end : ℕ) (then : State) (added : List Record) (behind : List ℕ) → AreWhole added → (count : ℕ) → then.desk.messages ≡ (state_numbered core).desk.messages + count → (place : ℕ)
+  full_opened : (journal : Standing) (image : List ℕ) (head : Header) (records : List Record) → RestsBehind m product head mid image records core journal → (input' : I) (new : S) (end : ℕ) (then : State) (added : List Record) (behind : List ℕ) → AreWhole added → (count : ℕ) → then.desk.messages ≡ (state_numbered core).desk.messages + count → (place : ℕ)
       → EndsServing m (AreNumbered core) line product product.journal_limit (streams_at inputs m input mid) (streams_at inputs m input' new) journal.gate end (state_numbered core) then (Full place) added behind
-      → IsFullBehind m line product text (streams_at inputs m input old) (streams_at inputs m input' new) records (bytes_in added ++ behind) place count
-  full_opened journal image records rests input' new end then added behind whole count counted place ends =
-      let last = ends.0.all_kept.at_end text records (max (length image) MOST_UNFINISHED) rests.at_end in
+      → IsFullBehind m line product head (streams_at inputs m input old) (streams_at inputs m input' new) records (bytes_in added ++ behind) place count
+  full_opened journal image head records rests input' new end then added behind whole count counted place ends =
+      let last = ends.0.all_kept.at_end head records (max (length image) MOST_UNFINISHED) rests.at_end in
       record {
         added = added;
         behind = behind;
@@ -390,11 +391,11 @@ module _ {I S : Type 0} (inputs : SourceMeanings I) (m : StationMeanings S) (lin
         image = where_told (m.holds old) _ (λ image read. answers_by inputs m line Published product text old Numbered product.journal_limit before after journal.gate end state then served.added served.behind image ending served.ends (answers image read));
         serving = record { taken = bytes_in served.added ++ served.behind; took = served.took; some = taken.0; ends = taken.1 };
         from = λ image kept honest read startable.
-            let from_image = opens image startable.records honest read startable.keeps startable.good startable.are_true in
+            let from_image = opens image startable.head startable.records honest read startable.of_text startable.keeps startable.good startable.are_true in
             let at_start = from_image.is_state in
-            from_opened inputs m line Published product text image startable.records kept old right mid core state Numbered at_start.numbered journal from_image silent.sent (at_start.state_is ∙ ap (state_kept product) (sym startable.are)) at_start.count_is input input' new end then served.added served.behind served.serves outcome.messages counted ending served.reads bytes served.published
+            from_opened inputs m line Published product startable.head image startable.records kept old right mid core state Numbered at_start.numbered journal from_image silent.sent (at_start.state_is ∙ ap state_kept (sym startable.are)) at_start.count_is input input' new end then served.added served.behind served.serves outcome.messages counted ending served.reads bytes served.published
             served.ends;
-        full = λ image records honest read keeps place last.
-            full_opened journal image records (rests image records honest read keeps) input' new end then served.added served.behind served.serves.whole outcome.messages counted place
+        full = λ image head records honest read of_text keeps place last.
+            full_opened journal image head records (rests image head records honest read of_text keeps) input' new end then served.added served.behind served.serves.whole outcome.messages counted place
             (subst (λ (e : Ending). EndsServing m Numbered line product product.journal_limit before after journal.gate end state then e served.added served.behind) last served.ends);
       }

@@ -10,11 +10,11 @@ use Rattle.gx_station.specs.Stations.{StationMeanings, IsBetween, sent_and}
 use Rattle.gx_station.specs.SendLaws.{sent_and_none}
 use Rattle.gx_station.specs.Honest.{IsHonestNow}
 use Rattle.fix_frame.specs.Stream.{messages_of}
-use Rattle.match_journal.specs.Classes.{Keeps}
+use Rattle.match_journal.specs.Classes.{Keeps, KeepsOf}
 use Rattle.match_journal.specs.Steps.{HoldsOne}
 use Rattle.match_journal.specs.StepLaws.{adds_weaker}
 use Rattle.order_kinds.specs.State.{State}
-use Rattle.book_recovery.specs.Records.{IsWhole, AreWhole, messages_in, state_kept}
+use Rattle.book_recovery.specs.Records.{IsWhole, AreWhole, messages_in}
 use Rattle.book_recovery.specs.Kept.{IsStartable}
 use Rattle.exec_report.specs.Forms.{LineText}
 use Rattle.globex_run.specs.Outside.{SourceAt, Outside}
@@ -24,16 +24,17 @@ use Rattle.globex_run.specs.Inner.Recording.{lines_from, IsRecordCrash}
 use Rattle.globex_run.specs.Inner.Sessions.{IsFrontServed, SessionFrom}
 use Rattle.globex_run.specs.declared.outcome.Outcome.{Outcome}
 use Rattle.globex_run.specs.declared.ending.Ending.{Ending}
-use Rattle.match_journal.specs.Journal.{Record, IsRecord, most_payload}
+use Rattle.match_journal.specs.Journal.{Record, IsRecord, most_payload, Header, in_version}
 use Rattle.match_journal.specs.declared.limits.TheConstants.{MOST_PAYLOAD}
 use Rattle.match_journal.specs.declared.entry.EntryKind.{EntryKind}
 use Rattle.std.specs.List.{concat, AllByRecursion}
 use Rattle.plain_book.proofs.Pairs.{all-front}
 use Rattle.book_order.proofs.Each.{all-back}
 use Rattle.globex_run.proofs.Folds.{messages_in-append}
-use Rattle.globex_run.proofs.KeptMore.{keeps-frames}
+use Rattle.globex_run.proofs.KeptMore.{with-none, keeps-frames}
 use Rattle.globex_run.proofs.Additions.{first_served, within_served, records_joined}
 use Rattle.globex_run.proofs.Told.{outside_of}
+use Rattle.order_kinds.specs.Histories.{History, of_product, with_messages, state_kept}
 
 -- ---- the messages of one record at most
 
@@ -45,8 +46,8 @@ none-more n messages =
     subst (λ (l : List (List ℕ)). length (concat l) ≤ MOST_PAYLOAD) (sym none) (omega arith)
 
 -- the records added behind others are sized as records are
-sized-behind : (text : List ℕ) (limit : ℕ) (records added : List Record) (image : List ℕ) → Keeps text limit (records ++ added) image → AllByRecursion IsRecord added
-sized-behind text limit records added image keeps = ⊎_elim
+sized-behind : (head : Header) (limit : ℕ) (records added : List Record) (image : List ℕ) → Keeps head limit (records ++ added) image → AllByRecursion IsRecord added
+sized-behind head limit records added image keeps = ⊎_elim
     (λ journal. all-back IsRecord records added journal.sized)
     (λ unfinished. all-back IsRecord records added (subst (λ (l : List Record). AllByRecursion IsRecord l) (sym unfinished.0) tt))
     keeps
@@ -69,15 +70,15 @@ module _ {P I S : Type 0} (m : StationMeanings S) (p q : SourceAt P) (i j : Sour
   module _ (given : Premises m entry exit outcome.status) (taken : List ℕ) (sends : List (List ℕ) → List ℕ) where
     -- what the session came to from the image of entry
     abbrev From : Ending → Type 0
-    From ending = SessionFrom m line given.product given.text entry.streams exit.streams Published then given.image given.startable.records given.kept taken ending outcome.messages
+    From ending = SessionFrom m line given.product given.startable.head entry.streams exit.streams Published then given.image given.startable.records given.kept taken ending outcome.messages
 
     -- an image that keeps the earlier messages and then these
     abbrev KeepsAt : List (List ℕ) → List ℕ → Type 0
-    KeepsAt messages left = IsStartable given.product given.text (given.kept ++ messages) left
+    KeepsAt messages left = IsStartable given.product given.text (with_messages given.kept messages) left
 
     -- what is sent of the messages in these records
     abbrev lines_in : List Record → List ℕ
-    lines_in served = lines_from line given.product (state_kept given.product given.kept) (messages_in served)
+    lines_in served = lines_from line given.product (state_kept given.kept) (messages_in served)
 
     -- the messages that the outcome counts
     abbrev counted : List (List ℕ)
@@ -100,16 +101,16 @@ module _ {P I S : Type 0} (m : StationMeanings S) (p q : SourceAt P) (i j : Sour
         within = within_served taken from.behind from.added served others from.whole from.are parts
 
         -- an image that keeps the first records keeps their messages
-        keeps_served : (messages : List (List ℕ)) → messages ≡ messages_in served → (left : List ℕ) → Keeps given.text given.product.journal_limit (given.startable.records ++ served) left → KeepsAt messages left
+        keeps_served : (messages : List (List ℕ)) → messages ≡ messages_in served → (left : List ℕ) → KeepsOf given.startable.head.text given.product.journal_limit (given.startable.records ++ served) left → KeepsAt messages left
         keeps_served messages same left keeps =
-            keeps-frames given.product from.right given.text given.startable.records given.startable.good given.startable.are_true
-            served (all-front IsWhole served others (subst (λ (l : List Record). AreWhole l) parts from.whole)) left (given.kept ++ messages) keeps
-            (ap (λ (l : List (List ℕ)). given.kept ++ l) same
-            ∙ ap (λ (l : List (List ℕ)). l ++ messages_in served) given.startable.are
-            ∙ sym (messages_in-append given.startable.records served))
+            keeps-frames given.product from.right given.startable.head given.text given.startable.of_text given.startable.records given.startable.good given.startable.are_true
+            served (all-front IsWhole served others (subst (λ (l : List Record). AreWhole l) parts from.whole)) left (with_messages given.kept messages) keeps
+            (ap (λ (l : List (List ℕ)). with_messages given.kept l) same
+            ∙ ap (λ (h : History). with_messages h (messages_in served)) given.startable.are
+            ∙ ap (λ (l : List (List ℕ)). of_product given.product l) (sym (messages_in-append given.startable.records served)))
 
         -- and so does what a read gives
-        pub keeps_now : (messages : List (List ℕ)) → messages ≡ messages_in served → HoldsOne m (Keeps given.text given.product.journal_limit (given.startable.records ++ served)) new → KeepsNow m entry exit outcome given (messages_of taken) sends messages
+        pub keeps_now : (messages : List (List ℕ)) → messages ≡ messages_in served → HoldsOne m (KeepsOf given.startable.head.text given.product.journal_limit (given.startable.records ++ served)) new → KeepsNow m entry exit outcome given (messages_of taken) sends messages
         keeps_now messages same holds = record { image = holds.image; image_known = holds.read; keeps = keeps_served messages same holds.image holds.has }
 
       -- all of them are the first ones
@@ -120,7 +121,7 @@ module _ {P I S : Type 0} (m : StationMeanings S) (p q : SourceAt P) (i j : Sour
 
       module _ (on_way : IsOnTheWay) where
         -- in messages
-        pub crash : (left out : List ℕ) → IsRecordCrash line given.product (state_kept given.product given.kept) given.text given.product.journal_limit given.startable.records from.added (length given.image) (m.sent old) left out → IsCrashPrefix m entry exit outcome given (messages_of taken) sends left out
+        pub crash : (left out : List ℕ) → IsRecordCrash line given.product (state_kept given.kept) given.startable.head given.product.journal_limit given.startable.records from.added (length given.image) (m.sent old) left out → IsCrashPrefix m entry exit outcome given (messages_of taken) sends left out
         crash left out at =
             let served = take at.count from.added in
             let others = drop at.count from.added in
@@ -160,7 +161,7 @@ module _ {P I S : Type 0} (m : StationMeanings S) (p q : SourceAt P) (i j : Sour
           record {
             count = 0;
             within = omega arith;
-            keeps = subst (λ (l : List (List ℕ)). IsStartable given.product given.text l left) (sym (append-nil given.kept)) (subst (λ (l : List ℕ). IsStartable given.product given.text given.kept l) same given.startable);
+            keeps = subst (λ (h : History). IsStartable given.product given.text h left) (sym (with-none given.kept)) (subst (λ (l : List ℕ). IsStartable given.product given.text given.kept l) same given.startable);
             no_longer = omega (arith, ap (λ (l : List ℕ). length l) same);
             output = [];
             front = nothing;
@@ -211,7 +212,7 @@ module _ {P I S : Type 0} (m : StationMeanings S) (p q : SourceAt P) (i j : Sour
     keeps-counted ending from some keeps = record { some = some; keeps = λ other. keeps; keeps_more = λ five. record { count = outcome.messages; counted = omega arith; within = some; keeps = keeps; one_record = none-more outcome.messages (messages_of taken) } }
 
     -- at a failed append the last record may be kept
-    pub keeps-front : (ending : Ending) (from : From ending) → outcome.status ≡ 5 → outcome.messages ≤ length (messages_of taken) → IsFrontServed m line given.product given.text entry.streams exit.streams given.startable.records given.kept from.added outcome.messages → KeepsCounted m entry exit outcome given (messages_of taken) sends
+    pub keeps-front : (ending : Ending) (from : From ending) → outcome.status ≡ 5 → outcome.messages ≤ length (messages_of taken) → IsFrontServed m line given.product given.startable.head entry.streams exit.streams given.startable.records given.kept from.added outcome.messages → KeepsCounted m entry exit outcome given (messages_of taken) sends
     keeps-front ending from five some front =
         let served = front.served in
         let others = front.others in
@@ -244,7 +245,7 @@ module _ {P I S : Type 0} (m : StationMeanings S) (p q : SourceAt P) (i j : Sour
                       (few-in-one others front.one
                       (all-back IsWhole served others (subst (λ (l : List Record). AreWhole l) front.are from.whole))
                       (all-back IsRecord served others (subst (λ (l : List Record). AllByRecursion IsRecord l) front.are
-                      (sized-behind given.text given.product.journal_limit given.startable.records from.added entire.image entire.has)))));
+                      (sized-behind (in_version entire.has.0 given.startable.head.text) given.product.journal_limit given.startable.records from.added entire.image entire.has.1)))));
                 }
               ];
         }

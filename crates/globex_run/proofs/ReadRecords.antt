@@ -2,8 +2,8 @@
 use Rattle.std.proofs.Common.{◌≡◌, ⊎_elim, inl, inr, ℕ, ◌≤◌, List, [], ◌++◌, length, sym, ap, subst, arith, length-append}
 use Rattle.std.proofs.lemmas.List.{append-nil}
 use Rattle.gx_station.specs.Stations.{StationMeanings}
-use Rattle.match_journal.specs.Journal.{Record}
-use Rattle.match_journal.specs.Classes.{Keeps}
+use Rattle.match_journal.specs.Journal.{Record, Header}
+use Rattle.match_journal.specs.Classes.{KeepsOf}
 use Rattle.match_journal.specs.Steps.{HoldsOne}
 use Rattle.book_recovery.specs.Records.{IsWhole, AreWhole}
 use Rattle.product_file.specs.Products.{ProductLists}
@@ -18,6 +18,7 @@ use Rattle.globex_run.specs.declared.ending.Ending.TheVariants.{Done, ReadFault,
 use Rattle.globex_run.specs.declared.outcome.Outcome.{Outcome}
 use Rattle.plain_book.proofs.Pairs.{all-front}
 use Rattle.globex_run.proofs.Told.{outside_of}
+use Rattle.order_kinds.specs.Histories.{History}
 
 -- the first of whole records are whole
 pub whole-front : (more rest added : List Record) → added ≡ more ++ rest → AreWhole added → AreWhole more
@@ -28,16 +29,16 @@ pub record KeepsNoMore {S : Type 0} (m : StationMeanings S) (text : List ℕ) (l
   pub more : List Record
   pub rest : List Record
   pub are : added ≡ more ++ rest
-  pub holds : HoldsOne m (Keeps text limit (records ++ more)) now
+  pub holds : HoldsOne m (KeepsOf text limit (records ++ more)) now
 
-module _ {I S : Type 0} (m : StationMeanings S) (line : LineText) (product : ProductLists) (text : List ℕ) (before after : Streams I S) (count : ℕ) (records : List Record) (kept : List (List ℕ)) (added : List Record) (behind : List ℕ) where
+module _ {I S : Type 0} (m : StationMeanings S) (line : LineText) (product : ProductLists) (head : Header) (before after : Streams I S) (count : ℕ) (records : List Record) (kept : History) (added : List Record) (behind : List ℕ) where
   abbrev Keeping : Type 0
-  Keeping = KeepsNoMore m text product.journal_limit after.station.object records added
+  Keeping = KeepsNoMore m head.text product.journal_limit after.station.object records added
 
-  all_added : HoldsOne m (Keeps text product.journal_limit (records ++ added)) after.station.object → Keeping
+  all_added : HoldsOne m (KeepsOf head.text product.journal_limit (records ++ added)) after.station.object → Keeping
   all_added holds = record { more = added; rest = []; are = sym (append-nil added); holds = holds }
 
-  pub keeps_no_more : (ending : Ending) → EndsSession m line product text before after ending count records kept added behind → Keeping
+  pub keeps_no_more : (ending : Ending) → EndsSession m line product head before after ending count records kept added behind → Keeping
   keeps_no_more Done ends = all_added ends.keeps
   keeps_no_more (ReadFault place) ends = all_added ends.keeps
   keeps_no_more StoreFault ends = ⊎_elim
@@ -59,16 +60,16 @@ module _ {P I S : Type 0} (m : StationMeanings S) (p q : SourceAt P) (i j : Sour
   abbrev exit : Outside P I S
   exit = outside_of m q j new
 
-  module _ (given : Premises m entry exit outcome.status) (taken : List ℕ) (ending : Ending) (from : SessionFrom m line given.product given.text entry.streams exit.streams Published then given.image given.startable.records given.kept taken ending outcome.messages) where
-    pub keeping : KeepsNoMore m given.text given.product.journal_limit new given.startable.records from.added
-    keeping = keeps_no_more m line given.product given.text entry.streams exit.streams outcome.messages given.startable.records given.kept from.added from.behind ending from.ends
+  module _ (given : Premises m entry exit outcome.status) (taken : List ℕ) (ending : Ending) (from : SessionFrom m line given.product given.startable.head entry.streams exit.streams Published then given.image given.startable.records given.kept taken ending outcome.messages) where
+    pub keeping : KeepsNoMore m given.startable.head.text given.product.journal_limit new given.startable.records from.added
+    keeping = keeps_no_more m line given.product given.startable.head entry.streams exit.streams outcome.messages given.startable.records given.kept from.added from.behind ending from.ends
 
     abbrev pub adds-messages : AddsMessages m entry exit outcome given
     adds-messages = record {
       image = keeping.holds.image;
       image_known = keeping.holds.read;
       added = keeping.more;
-      keeps = keeping.holds.has;
+      keeps = subst (λ (l : List ℕ). KeepsOf l given.product.journal_limit (given.startable.records ++ keeping.more) keeping.holds.image) given.startable.of_text keeping.holds.has;
       whole = whole-front keeping.more keeping.rest from.added keeping.are from.whole;
     }
 

@@ -2,9 +2,9 @@
 use Rattle.std.specs.Prelude.{◌≡◌, ◌≢◌, ◌⊎◌, ℕ, List, Some, None}
 use Rattle.gx_station.specs.Counts.{Rose}
 use Rattle.gx_station.specs.Honest.{KeepsImage}
-use Rattle.match_journal.specs.Journal.{Record}
+use Rattle.match_journal.specs.Journal.{Header, Record}
 use Rattle.match_journal.specs.Classes.{Keeps}
-use Rattle.order_kinds.specs.Balance.{IsBalanced}
+use Rattle.order_kinds.specs.Histories.{History, AreOfTexts, IsBalanced}
 use Rattle.report_laws.specs.Sums.{IsReadBalanced}
 use Rattle.command_words.specs.declared.command.Command.{Command}
 use Rattle.command_words.specs.declared.command.Command.TheVariants.{Run, Checkpoint}
@@ -69,9 +69,9 @@ module _ {P I S : Type 0} (c : Call P I S) where
   -- 12, of a command that serves messages: the next one has no room in the journal, or cannot be counted; whatever the journal keeps.
   abbrev pub IsFullForMessages : Type 0
   IsFullForMessages = OfEach (λ asked. Serves c asked → (given : ProductPremises c.before c.after c.outcome.status) (read : Reads c asked)
-      → c.station.is_honest c.before.streams.station.object → (image : List ℕ) (records : List Record) → c.before.streams.station.image ≡ Some image
-      → Keeps given.text given.product.journal_limit records image → c.outcome.status ≡ 12
-      → IsFullJournal given.product given.text image records c.after.streams.station c.outcome (bytes_for c given asked read))
+      → c.station.is_honest c.before.streams.station.object → (image : List ℕ) (head : Header) (records : List Record) → c.before.streams.station.image ≡ Some image
+      → head.text ≡ given.text → Keeps head given.product.journal_limit records image → c.outcome.status ≡ 12
+      → IsFullJournal given.product head image records c.after.streams.station c.outcome (bytes_for c given asked read))
 
   -- 12, of a checkpoint: the image has no room.
   abbrev pub IsFullForImage : Type 0
@@ -93,13 +93,13 @@ module _ {P I S : Type 0} (c : Call P I S) where
   PrintsItsText = OfEach (λ asked. (given : ProductPremises c.before c.after c.outcome.status)
       → PrintsAs c.station given.product given.text c.before.streams.station c.after.streams.station c.outcome asked)
 
-  -- The reports of any messages add up: those that are kept, and those of this call.
+  -- The reports of each history add up whose products are those of texts: of what is kept, and of what this call adds to it.
   abbrev pub Balances : Type 0
-  Balances = (given : ProductPremises c.before c.after c.outcome.status) (messages : List (List ℕ)) → IsBalanced given.product messages
+  Balances = (kept : History) → AreOfTexts kept → IsBalanced kept
 
   -- So does what the bytes of their reports say, read as messages are read, with the ledger's lines and its total.
   abbrev pub BalancesAsRead : Type 0
-  BalancesAsRead = (given : ProductPremises c.before c.after c.outcome.status) (messages : List (List ℕ)) → IsReadBalanced given.product messages
+  BalancesAsRead = (kept : History) → AreOfTexts kept → IsReadBalanced kept
 
   -- What was taken from the product's source and the input, and why it ended there, for all statuses but 1.
   abbrev pub EndsWhereTold : Type 0

@@ -1,7 +1,6 @@
 //! Executing a command over a product that was taken.
 ghost use Rattle.std.specs.Prelude.{◌≡◌, ◌≢◌, ℕ, List, Some, IfOk, OnErr};
 ghost use Rattle.gx_station.specs.Honest.{KeepsImage};
-ghost use Rattle.report_laws.specs.Sums.{IsReadBalanced};
 ghost use Rattle.command_words.specs.declared.command.Command.TheVariants as command;
 ghost use Rattle.globex_run.specs.Outside.{streams_at};
 ghost use Rattle.globex_run.specs.Words.{IsWriting};
@@ -17,10 +16,8 @@ use crate::taken::Taken;
 use book_print::{FillForm, Totals};
 use command_words::Command;
 use exec_report::ReportForm;
-use generator_laws::names_are_right;
 use gx_station::{Source, Station};
 use journal_print::Lines;
-use report_laws::reports_balance;
 use std::alloc::{AllocError, Global};
 
 /// Takes the memory of a command, and executes it over a product and its text. Want of memory is status 1, and nothing is touched
@@ -36,14 +33,11 @@ pub fn execute<I: Source, S: Station>(
         (streams_at I.meanings S.meanings input.old station.old) (streams_at I.meanings S.meanings input.new station.new) result command }
     ensures causes { HasCauses S.meanings taken.now.product.now taken.now.text.now (streams_at I.meanings S.meanings input.old station.old)
         (streams_at I.meanings S.meanings input.new station.new) result command }
-    ensures reports { (messages : List (List ℕ)) → IsReadBalanced taken.now.product.now messages }
     ensures stays { (image : List ℕ) → IsWriting command → S.meanings.holds station.old ≡ Some image → IsRefusal result.status
         → KeepsImage S.meanings station.old station.new }
     ensures refused { IsWriting command → IsRefusal result.status → S.meanings.sent station.new ≡ S.meanings.sent station.old }
 {
     taken.product.limits();
-    names_are_right(taken.product);
-    reports_balance();
     match executed(alloc, command, taken, input, station) {
         Ok(outcome) => outcome,
         Err(AllocError) => Status::NoMemory.outcome(0, 0),

@@ -26,6 +26,7 @@ use crate::taken::Taken;
 use command_words::{WordsFault, read_command};
 use gx_station::{Source, Station};
 use product_file::LONGEST_TEXT;
+use report_laws::reports_balance;
 use std::alloc::Global;
 
 /// The outcome where the words give no command: nothing was touched.
@@ -100,7 +101,7 @@ pub fn globex<P: Source, I: Source, S: Station>(
     ensures prints { PrintsItsText (call P.meanings I.meanings S.meanings words.now product input station result) }
     ensures only_reads { (asked : Command) → AsksFor words.now asked → IsPrinting asked → ReadsAndSends S.meanings station.old station.new }
 
-    // Every command: it ends well where it can, the reports of any messages balance, as their bytes are read too, and why it ended.
+    // Every command: it ends well where it can, the reports of each history balance, as their bytes are read too, and why it ended.
     ensures all_done { EndsWellWhereItCan (call P.meanings I.meanings S.meanings words.now product input station result) }
     ensures balanced { Balances (call P.meanings I.meanings S.meanings words.now product input station result) }
     ensures reports_balanced { BalancesAsRead (call P.meanings I.meanings S.meanings words.now product input station result) }
@@ -130,6 +131,7 @@ pub fn globex<P: Source, I: Source, S: Station>(
     ensures store_faults { TellsStoreFaults (call P.meanings I.meanings S.meanings words.now product input station result) }
     ensures send_faults { TellsSendFaults (call P.meanings I.meanings S.meanings words.now product input station result) }
 {
+    reports_balance();
     let command = match read_command(alloc, words) {
         Ok(command) => command,
         Err(fault) => return outcome_of_words(fault),

@@ -1,7 +1,7 @@
 -- What opening the journal of a product does, whatever its image.
 use Rattle.std.specs.Prelude.{◌≡◌, ℕ, List, [], Some, Result, IfOk}
 use Rattle.gx_station.specs.Stations.{StationMeanings}
-use Rattle.match_journal.specs.Journal.{Record}
+use Rattle.match_journal.specs.Journal.{Header, Record}
 use Rattle.match_journal.specs.Classes.{Keeps}
 use Rattle.match_journal.specs.declared.standing.Standing.{Standing}
 use Rattle.book_recovery.specs.Records.{AreGoodRecords, AreTrueRecords}
@@ -18,11 +18,12 @@ module _ {S : Type 0} (m : StationMeanings S) (product : ProductLists) (text : L
   -- from an image that keeps good and true records
   abbrev pub OpensAny : S → S → State → Result Standing Unopened → Type 0
   OpensAny old new state result =
-      (image : List ℕ) (records : List Record) → m.is_honest old → m.holds old ≡ Some image → Keeps text product.journal_limit records image
-      → AreGoodRecords product 0 records → AreTrueRecords product [] records → Opens m product text old new image records state result
+      (image : List ℕ) (head : Header) (records : List Record) → m.is_honest old → m.holds old ≡ Some image → head.text ≡ text
+      → Keeps head product.journal_limit records image → AreGoodRecords product 0 records → AreTrueRecords product [] records
+      → Opens m product head old new image records state result
 
   -- from an image that keeps records, good or true or not
   abbrev pub RestsAny : S → S → State → Result Standing Unopened → Type 0
   RestsAny old new state result =
-      (image : List ℕ) (records : List Record) → m.is_honest old → m.holds old ≡ Some image → Keeps text product.journal_limit records image
-      → IfOk result (λ journal. RestsBehind m product text new image records state journal)
+      (image : List ℕ) (head : Header) (records : List Record) → m.is_honest old → m.holds old ≡ Some image → head.text ≡ text
+      → Keeps head product.journal_limit records image → IfOk result (λ journal. RestsBehind m product head new image records state journal)

@@ -4,15 +4,16 @@ use Rattle.gx_base.specs.KnownBytes.{IsKnownPrefix}
 use Rattle.gx_station.specs.Stations.{StationMeanings, sent_and}
 use Rattle.gx_station.specs.Honest.{IsSettled}
 use Rattle.gx_station.specs.Moments.{AddsOnly}
-use Rattle.match_journal.specs.Journal.{Record, journal_front}
-use Rattle.match_journal.specs.Classes.{Keeps}
+use Rattle.match_journal.specs.Journal.{Header, Record, journal_front}
+use Rattle.match_journal.specs.Classes.{Keeps, KeepsOf}
 use Rattle.match_journal.specs.Appending.{IsJournalTo}
 use Rattle.match_journal.specs.Causes.{ReadsAtMost}
 use Rattle.match_journal.specs.Opening.{IsOpening}
 use Rattle.match_journal.specs.Steps.{HoldsOne}
 use Rattle.match_journal.specs.declared.limits.TheConstants.{MOST_UNFINISHED}
 use Rattle.match_journal.specs.declared.standing.Standing.{Standing}
-use Rattle.book_recovery.specs.Records.{AreWhole, messages_in, state_kept, from_last_image, count_behind_all}
+use Rattle.order_kinds.specs.Histories.{History, of_product, state_kept}
+use Rattle.book_recovery.specs.Records.{AreWhole, messages_in, from_last_image, count_behind_all}
 use Rattle.book_recovery.specs.Kept.{IsStartable, CanBeRecovered}
 use Rattle.book_recovery.specs.Recovering.{IsStateAfter}
 use Rattle.product_file.specs.Products.{ProductLists, IsRightProduct}
@@ -54,43 +55,43 @@ IsRefusedOpening (Err (unopened.NotAJournal at)) = Unit {0}
 IsRefusedOpening (Err (unopened.Bad at)) = Unit {0}
 IsRefusedOpening (Err (unopened.ProductDiffers at)) = Unit {0}
 
-module _ {S : Type 0} (m : StationMeanings S) (product : ProductLists) (text : List ℕ) where
+module _ {S : Type 0} (m : StationMeanings S) (product : ProductLists) (head : Header) where
   -- The journal of an honest station, whose image keeps these records, was opened, and the core is in the state after their
   -- messages; or a call on the store has failed. In either case the image keeps the same records.
   pub record Opens (old new : S) (image : List ℕ) (records : List Record) (state : State) (result : Result Standing Unopened) : Type 0 where
     pub accepted : IsRefusedOpening result → ⊥
-    pub moments : AddsOnly m old new (λ left out. IsOpening text product.journal_limit records image left × (m.sent old ≡ Some out))
-    pub keeps : HoldsOne m (IsOpening text product.journal_limit records image) new
-    pub at_end : IfOk result (λ journal. RestsAtEnd m text product.journal_limit records journal.gate (max (length image) MOST_UNFINISHED) new)
-    pub is_state : IfOk result (λ journal. IsStateAfter product (messages_in records) state)
+    pub moments : AddsOnly m old new (λ left out. IsOpening head.text product.journal_limit records image left × (m.sent old ≡ Some out))
+    pub keeps : HoldsOne m (IsOpening head.text product.journal_limit records image) new
+    pub at_end : IfOk result (λ journal. RestsAtEnd m head product.journal_limit records journal.gate (max (length image) MOST_UNFINISHED) new)
+    pub is_state : IfOk result (λ journal. IsStateAfter (of_product product (messages_in records)) state)
     pub bytes : ReadsAtMost (most_read records) (m.bytes_read old) (m.bytes_read new)
 
   -- The journal of an image that keeps these records was opened, good or true or not: nothing is pending behind them, and those from the
   -- last book image on are counted.
   pub record RestsBehind (new : S) (image : List ℕ) (records : List Record) (state : State) (journal : Standing) : Type 0 where
-    pub at_end : RestsAtEnd m text product.journal_limit records journal.gate (max (length image) MOST_UNFINISHED) new
+    pub at_end : RestsAtEnd m head product.journal_limit records journal.gate (max (length image) MOST_UNFINISHED) new
     pub count : state.desk.messages ≡ count_behind_all 0 (from_last_image records)
 
 -- ---- a session, from its opening on
 
-module _ {I S : Type 0} (m : StationMeanings S) (line : LineText) (product : ProductLists) (text : List ℕ) (before after : Streams I S) where
+module _ {I S : Type 0} (m : StationMeanings S) (line : LineText) (product : ProductLists) (head : Header) (before after : Streams I S) where
   -- a read gives an image that keeps these records
   abbrev pub KeepsRecords : List Record → Type 0
-  KeepsRecords records = HoldsOne m (Keeps text product.journal_limit records) after.station.object
+  KeepsRecords records = HoldsOne m (KeepsOf head.text product.journal_limit records) after.station.object
 
   -- of the records added all are kept, and the reports of their messages were sent
-  pub record IsAllServed (records : List Record) (kept : List (List ℕ)) (added : List Record) (count : ℕ) : Type 0 where
-    pub sent : after.station.sent ≡ sent_and before.station.sent (lines_from line product (state_kept product kept) (messages_in added))
+  pub record IsAllServed (records : List Record) (kept : History) (added : List Record) (count : ℕ) : Type 0 where
+    pub sent : after.station.sent ≡ sent_and before.station.sent (lines_from line product (state_kept kept) (messages_in added))
     pub keeps : KeepsRecords (records ++ added)
     pub messages : count ≡ length (messages_in added)
 
   -- of the records added the first ones are kept and their messages reported; one more may be kept
-  pub record IsFrontServed (records : List Record) (kept : List (List ℕ)) (added : List Record) (count : ℕ) : Type 0 where
+  pub record IsFrontServed (records : List Record) (kept : History) (added : List Record) (count : ℕ) : Type 0 where
     pub served : List Record
     pub others : List Record
     pub are : added ≡ served ++ others
     pub one : length others ≤ 1
-    pub sent : after.station.sent ≡ sent_and before.station.sent (lines_from line product (state_kept product kept) (messages_in served))
+    pub sent : after.station.sent ≡ sent_and before.station.sent (lines_from line product (state_kept kept) (messages_in served))
     pub keeps : KeepsRecords (records ++ served) ⊎ KeepsRecords (records ++ added)
     pub messages : count ≡ length (messages_in served)
 
@@ -102,11 +103,11 @@ module _ {I S : Type 0} (m : StationMeanings S) (line : LineText) (product : Pro
   -- the journal ends at this gate, and the next message has no room
   pub record EndsAtFull (records added : List Record) (behind : List ℕ) : Type 0 where
     pub end : ℕ
-    pub end_is : end ≡ length (journal_front text records) + length_of_records added
-    pub journal : HoldsOne m (IsJournalTo text product.journal_limit (records ++ added) end) after.station.object
+    pub end_is : end ≡ length (journal_front head records) + length_of_records added
+    pub journal : HoldsOne m (IsJournalTo head product.journal_limit (records ++ added) end) after.station.object
     pub no_room : HasNoRoomAt product.journal_limit end behind
 
-  abbrev pub EndsSession : Ending → ℕ → List Record → List (List ℕ) → List Record → List ℕ → Type 0
+  abbrev pub EndsSession : Ending → ℕ → List Record → History → List Record → List ℕ → Type 0
   EndsSession ending.StoreFault count records kept added behind = IsFrontServed records kept added count
   EndsSession ending.SendFault count records kept added behind = IsAllKept records added count
   EndsSession (ending.NotAJournal at) count records kept added behind = ⊥
@@ -123,7 +124,7 @@ module _ {I S : Type 0} (m : StationMeanings S) (line : LineText) (product : Pro
     pub short : length image ≤ most
 
   -- From an image that keeps these records: which records were added, what was sent and is kept, and what a crash leaves.
-  pub record SessionFrom (Published : List Event → Type 0) (then : State) (image : List ℕ) (records : List Record) (kept : List (List ℕ)) (taken : List ℕ) (ending : Ending) (count : ℕ) : Type 0 where
+  pub record SessionFrom (Published : List Event → Type 0) (then : State) (image : List ℕ) (records : List Record) (kept : History) (taken : List ℕ) (ending : Ending) (count : ℕ) : Type 0 where
     pub right : IsRightProduct product
     pub added : List Record
     pub behind : List ℕ
@@ -131,12 +132,12 @@ module _ {I S : Type 0} (m : StationMeanings S) (line : LineText) (product : Pro
     pub reads : AreWithinReads before.input after.input (length added)
     pub bytes : ReadsAtMost (most_read records) (m.bytes_read before.station.object) (m.bytes_read after.station.object)
     pub whole : AreWhole added
-    pub part : IsKnownPrefix after.station.sent (sent_and before.station.sent (lines_from line product (state_kept product kept) (messages_in added)))
-    pub adds : AddsOnly m before.station.object after.station.object (IsRecordCrash line product (state_kept product kept) text product.journal_limit records added (length image) before.station.sent)
+    pub part : IsKnownPrefix after.station.sent (sent_and before.station.sent (lines_from line product (state_kept kept) (messages_in added)))
+    pub adds : AddsOnly m before.station.object after.station.object (IsRecordCrash line product (state_kept kept) head product.journal_limit records added (length image) before.station.sent)
     pub ends : EndsSession ending count records kept added behind
     pub at_rest : IsDone ending → IsAtRest (max (length image) product.journal_limit)
-    pub is_state : IsDone ending → then ≡ state_after product (state_kept product kept) (messages_in added)
-    pub published : IsDone ending → Published (events_from product (state_kept product kept) (messages_in added))
+    pub is_state : IsDone ending → then ≡ state_after product (state_kept kept) (messages_in added)
+    pub published : IsDone ending → Published (events_from product (state_kept kept) (messages_in added))
 
   -- Behind an image that keeps these records, good or true or not, some were added, and the next message has no room behind them, or
   -- cannot be counted.
@@ -148,14 +149,15 @@ module _ {I S : Type 0} (m : StationMeanings S) (line : LineText) (product : Pro
     pub messages : count ≡ length (messages_in added)
     pub place_is : place ≡ length (bytes_in added)
     pub end : ℕ
-    pub end_is : end ≡ length (journal_front text records) + length_of_records added
-    pub journal : HoldsOne m (IsJournalTo text product.journal_limit (records ++ added) end) after.station.object
+    pub end_is : end ≡ length (journal_front head records) + length_of_records added
+    pub journal : HoldsOne m (IsJournalTo head product.journal_limit (records ++ added) end) after.station.object
     pub why : HasNoRoomAt product.journal_limit end behind ⊎ IsLastCounted (count_behind_all 0 (from_last_image records) + count) behind
 
-  -- the ending is that of a full journal, at this place
-  abbrev pub IsFullAt : ℕ → Ending → Type 0
-  IsFullAt place last = last ≡ ending.Full place
+-- the ending is that of a full journal, at this place
+abbrev pub IsFullAt : ℕ → Ending → Type 0
+IsFullAt place last = last ≡ ending.Full place
 
+module _ {I S : Type 0} (m : StationMeanings S) (line : LineText) (product : ProductLists) (text : List ℕ) (before after : Streams I S) where
   -- the journal was opened, and the input served until an ending
   pub record SessionResult (Published : List Event → Type 0) (then : State) (outcome : Outcome) : Type 0 where
     pub right : IsRightProduct product
@@ -164,7 +166,8 @@ module _ {I S : Type 0} (m : StationMeanings S) (line : LineText) (product : Pro
     pub cause : CausedBy ending before after
     pub image : IfSome before.station.image (λ image. AnswersImage product text image ending)
     pub serving : ServingResult before after ending outcome.messages
-    pub from : (image : List ℕ) (kept : List (List ℕ)) → m.is_honest before.station.object → before.station.image ≡ Some image → (startable : IsStartable product text kept image)
-        → SessionFrom Published then image startable.records kept serving.taken ending outcome.messages
-    pub full : (image : List ℕ) (records : List Record) → m.is_honest before.station.object → before.station.image ≡ Some image → Keeps text product.journal_limit records image → (place : ℕ) → IsFullAt place ending
-        → IsFullBehind records serving.taken place outcome.messages
+    pub from : (image : List ℕ) (kept : History) → m.is_honest before.station.object → before.station.image ≡ Some image → (startable : IsStartable product text kept image)
+        → SessionFrom m line product startable.head before after Published then image startable.records kept serving.taken ending outcome.messages
+    pub full : (image : List ℕ) (head : Header) (records : List Record) → m.is_honest before.station.object → before.station.image ≡ Some image → head.text ≡ text
+        → Keeps head product.journal_limit records image → (place : ℕ) → IsFullAt place ending
+        → IsFullBehind m line product head before after records serving.taken place outcome.messages

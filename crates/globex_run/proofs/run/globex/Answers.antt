@@ -1,11 +1,10 @@
 use Rattle.std.proofs.Common.{◌≤◌, inl, ℕ, List, length, sym, subst, ◌∙◌}
 use Rattle.std.proofs.lemmas.Option.{same_Some}
-use Rattle.product_file.specs.Products.{ProductLists}
-use Rattle.report_laws.specs.Sums.{IsReadBalanced}
 use Rattle.globex_run.specs.Outside.{source_at}
 use Rattle.globex_run.specs.Words.{IsWriting}
-use Rattle.globex_run.proofs.Runs.{short-text, memory-without, told-product, product-early, product-none, product-taken, words-early}
-use Rattle.globex_run.proofs.Commands.{product-told, no-memory, only-reads, leaves-the-input, does-all, ends-as-told, leaves-a-front, leaves-the-entry, keeps-what-is-sent, adds-messages-alone, adds-a-record-per-read, reads-it-once, is-full-for-messages, is-full-for-image, sends-nothing-then, prints-its-text, ends-well, all-balance, ends-where-told, refuses-what-it-must, opens-it-again, has-its-statuses}
+use Rattle.globex_run.proofs.Runs.{short-text, memory-without, product-early, product-none, product-taken, words-early}
+use Rattle.globex_run.proofs.Commands.{product-told, no-memory, only-reads, leaves-the-input, does-all, ends-as-told, leaves-a-front, leaves-the-entry, keeps-what-is-sent, adds-messages-alone, adds-a-record-per-read, reads-it-once, is-full-for-messages, is-full-for-image, sends-nothing-then, prints-its-text, ends-well, ends-where-told, refuses-what-it-must, opens-it-again, has-its-statuses}
+use Rattle.globex_run.proofs.Balanced.{all-balance, all-balance-as-read}
 use Rattle.globex_run.proofs.run.globex.Goals as goal
 
 pub returns-in-Err-take_product-clause-all_done : goal.returns-in-Err-take_product-clause-all_done
@@ -89,9 +88,14 @@ pub returns-clause-all_done : goal.returns-clause-all_done
 returns-clause-all_done g c = ends-well g.S.Station.meanings (source_at g.P.Source.meanings c.args.product.now) (source_at g.P.Source.meanings c.take_product.new.source) (source_at g.I.Source.meanings c.args.input.now) (source_at g.I.Source.meanings c.execute.new.input)
     c.args.station.now c.execute.new.station c.execute.result _ _ c.deref.ensures.value c.in-Ok-take_product.taken.product c.in-Ok-take_product.ensures.0 c.in-Ok-take_product.ensures.1 _ _ c.in-Ok.ensures.given c.execute.ensures.executes c.execute.ensures.causes
 
+pub returns-in-Err-clause-balanced : goal.returns-in-Err-clause-balanced
+returns-in-Err-clause-balanced g c = all-balance
+
+pub returns-in-Err-take_product-clause-balanced : goal.returns-in-Err-take_product-clause-balanced
+returns-in-Err-take_product-clause-balanced g c = all-balance
+
 pub returns-clause-balanced : goal.returns-clause-balanced
-returns-clause-balanced g c = all-balance g.S.Station.meanings (source_at g.P.Source.meanings c.args.product.now) (source_at g.P.Source.meanings c.take_product.new.source) (source_at g.I.Source.meanings c.args.input.now) (source_at g.I.Source.meanings c.execute.new.input)
-    c.args.station.now c.execute.new.station c.execute.result _ _ c.deref.ensures.value c.in-Ok-take_product.taken.product c.in-Ok-take_product.ensures.0 c.in-Ok-take_product.ensures.1 _ _ c.in-Ok.ensures.given c.execute.ensures.executes c.execute.ensures.causes
+returns-clause-balanced g c = all-balance
 
 pub returns-clause-did : goal.returns-clause-did
 returns-clause-did g c = ends-where-told g.S.Station.meanings (source_at g.P.Source.meanings c.args.product.now) (source_at g.P.Source.meanings c.take_product.new.source) (source_at g.I.Source.meanings c.args.input.now) (source_at g.I.Source.meanings c.execute.new.input)
@@ -121,7 +125,11 @@ pub returns-clause-product : goal.returns-clause-product
 returns-clause-product g c text known =
     product-taken _ _ c.execute.result text known c.in-Ok-take_product.taken.text.items c.in-Ok-take_product.taken.product c.in-Ok-take_product.ensures.0 c.in-Ok-take_product.ensures.1 c.execute.ensures.causes.product_right
 
+pub returns-in-Err-clause-reports_balanced : goal.returns-in-Err-clause-reports_balanced
+returns-in-Err-clause-reports_balanced g c = all-balance-as-read c.reports_balance.ensures
+
+pub returns-in-Err-take_product-clause-reports_balanced : goal.returns-in-Err-take_product-clause-reports_balanced
+returns-in-Err-take_product-clause-reports_balanced g c = all-balance-as-read c.reports_balance.ensures
+
 pub returns-clause-reports_balanced : goal.returns-clause-reports_balanced
-returns-clause-reports_balanced g c given messages =
-    told-product (source_at g.P.Source.meanings c.args.product.now) (source_at g.P.Source.meanings c.take_product.new.source) c.in-Ok-take_product.taken.text.items _ c.deref.ensures.value c.in-Ok-take_product.taken.product c.in-Ok-take_product.ensures.0 c.in-Ok-take_product.ensures.1
-    (λ (lists : ProductLists) (bytes : List ℕ). IsReadBalanced lists messages) given.text given.product given.text_known given.gives (c.execute.ensures.reports messages)
+returns-clause-reports_balanced g c = all-balance-as-read c.reports_balance.ensures
