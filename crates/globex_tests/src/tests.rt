@@ -1,4 +1,5 @@
 //! Most tests are runs over a source and a station in memory. Each file has tables of cases, and few tests that go through them.
+mod amendments;
 mod expects;
 mod fronts;
 mod generator;

@@ -5,6 +5,7 @@ mod journals;
 mod printed;
 mod records;
 mod refused;
+mod versions;
 
 use expects::expect_outcome;
 use globex_run::Outcome;
@@ -39,8 +40,11 @@ const ENTRIES: &str = "#1 entered 10 filled 0 open 10 cancelled 0
 #2 entered 4 filled 4 open 0 cancelled 0
 ";
 
-/// What stands in a journal of the product before its text.
-const HEADER: &[u8] = b"\x01GXJOURN1\x00\x00\x00\x88";
+/// What stands in a new journal of the product before its text.
+const HEADER: &[u8] = b"\x01GXJOURN2\x00\x00\x00\x88";
+
+/// The same in a journal of the first version.
+const FIRST_HEADER: &[u8] = b"\x01GXJOURN1\x00\x00\x00\x88";
 
 /// The parts, one behind the other.
 fn image_of(rt: &(impl Abort + AllocGlobal), parts: &[&[u8]]) -> Vec<u8> {
@@ -51,11 +55,16 @@ fn image_of(rt: &(impl Abort + AllocGlobal), parts: &[&[u8]]) -> Vec<u8> {
     bytes
 }
 
-/// A journal of the product with these records, each with its head, and a closed gate.
-fn journal_of(rt: &(impl Abort + AllocGlobal), records: &[&[u8]]) -> Vec<u8> {
+/// A journal of the product with this before its text, and with these records, each with its head, and a closed gate.
+fn journal_with(rt: &(impl Abort + AllocGlobal), header: &[u8], records: &[&[u8]]) -> Vec<u8> {
     let records = image_of(rt, records);
-    let parts: [&[u8]; 4] = [HEADER, PRODUCT.as_bytes(), records.as_slice(), b"\x00"];
+    let parts: [&[u8]; 4] = [header, PRODUCT.as_bytes(), records.as_slice(), b"\x00"];
     image_of(rt, &parts)
+}
+
+/// A journal of the product as it is made now, with these records.
+fn journal_of(rt: &(impl Abort + AllocGlobal), records: &[&[u8]]) -> Vec<u8> {
+    journal_with(rt, HEADER, records)
 }
 
 /// The bytes of these texts, one behind the other.

@@ -530,21 +530,35 @@ fn journal_of_before(rt: &(impl Abort + AllocGlobal)) -> Vec<u8> {
     closed(rt, &parts)
 }
 
-/// A journal of before, whose image does not say the session, goes on, with images of both kinds in any order: each command ends
-/// over it as over a journal of now, and a checkpoint adds an image that says it.
+/// With images of both kinds in any order after its first bytes a journal goes on as one with an image of now.
+fn expect_all_going_on(rt: &(impl Abort + AllocGlobal), front: &[u8]) {
+    let now = with_records(rt, front, &[Added::Image(10, 1)]);
+    let now = now.as_slice();
+    expect_going_on(rt, front, &[Added::OldImage(10)], now);
+    expect_going_on(rt, front, &[Added::OldImage(10), Added::Image(10, 1)], now);
+    expect_going_on(rt, front, &[Added::Image(10, 1), Added::OldImage(10)], now);
+    expect_going_on(rt, front, &[Added::OldImage(10), Added::OldImage(10)], now);
+}
+
+/// The first bytes of a journal of the first version: those of one of now but for the byte that tells it.
+fn in_first_version(rt: &(impl Abort + AllocGlobal), front: &[u8]) -> Vec<u8> {
+    let mut bytes = front.to_vec(rt.alloc()).expect(rt, "memory");
+    assert!(rt; bytes.len() > 8 && bytes[8] == b'2');
+    bytes[8] = b'1';
+    bytes
+}
+
+/// A journal of before, whose image does not say the session, goes on: each command ends over it as over a journal with an image of
+/// now, and a checkpoint adds an image that says it. So does one of the second version.
 #[test]
 fn journals_of_before(rt: HostRuntime) {
     let front = open_journal(&rt);
-    let front = front.as_slice();
-    let now = with_records(&rt, front, &[Added::Image(10, 1)]);
-    let now = now.as_slice();
-    let made = with_records(&rt, front, &[Added::OldImage(10)]);
+    let first = in_first_version(&rt, front.as_slice());
+    let made = with_records(&rt, first.as_slice(), &[Added::OldImage(10)]);
     let before = journal_of_before(&rt);
     expect_bytes(&rt, "before", made.as_slice(), before.as_slice());
-    expect_going_on(&rt, front, &[Added::OldImage(10)], now);
-    expect_going_on(&rt, front, &[Added::OldImage(10), Added::Image(10, 1)], now);
-    expect_going_on(&rt, front, &[Added::Image(10, 1), Added::OldImage(10)], now);
-    expect_going_on(&rt, front, &[Added::OldImage(10), Added::OldImage(10)], now);
+    expect_all_going_on(&rt, first.as_slice());
+    expect_all_going_on(&rt, front.as_slice());
 }
 
 /// The journal of `ONE_ORDER` with an image behind which two more messages can be counted.

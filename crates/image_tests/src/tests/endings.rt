@@ -48,9 +48,11 @@ fn statuses_of_words_and_products(rt: HostRuntime) {
 fn statuses_of_files(rt: HostRuntime) {
     let text = SMALL_PRODUCT;
     expect_left(&rt, "checkpoint", text, b"hello", ended(9, 0, 0));
-    expect_left(&rt, "checkpoint", text, b"\x01GXJOURN2", ended(9, 8, 0));
-    let bad = b"\x01GXJOURN1\x00\x01\x00\x01";
-    expect_left(&rt, "checkpoint", text, bad, ended(10, 9, 0));
+    expect_left(&rt, "checkpoint", text, b"\x01GXJOURN3", ended(9, 8, 0));
+    let first = b"\x01GXJOURN1\x00\x01\x00\x01";
+    expect_left(&rt, "checkpoint", text, first, ended(10, 9, 0));
+    let second = b"\x01GXJOURN2\x00\x01\x00\x01";
+    expect_left(&rt, "checkpoint", text, second, ended(10, 9, 0));
 }
 
 /// Of an empty file a checkpoint makes a journal with the image of an empty book.

@@ -49,7 +49,7 @@ fn journal_of_one_order(rt: &(impl Abort + AllocGlobal)) -> Vec<u8> {
     let orders = frames_of(rt.alloc(), &ONE_ORDER).expect(rt, "memory");
     let payload = one_order_image(rt);
     let parts: [&[u8]; 6] = [
-        b"\x01GXJOURN1\x00\x00\x00\x88",
+        b"\x01GXJOURN2\x00\x00\x00\x88",
         PRODUCT.as_bytes(),
         b"\x01M\x00\x00\x00\xDD",
         orders.as_slice(),

@@ -101,8 +101,9 @@ fn records_of_images(rt: HostRuntime) {
     expect_images(&rt, EntryKind::OldImage, b'C');
 }
 
-/// Each image with what is answered to one who looks, whether there is a journal, or why not; the product is `text`.
-const IMAGES: [(&[u8], Result<bool, StartFault>); 21] = [
+/// Each image of the first version with what is answered to one who looks, whether there is a journal, or why not; the product is
+/// `text`. In the second version the answers are the same.
+const IMAGES: [(&[u8], Result<bool, StartFault>); 22] = [
     (b"", Ok(false)),
     (b"\x01", Ok(false)),
     (b"\xC8", Ok(false)),
@@ -124,8 +125,12 @@ const IMAGES: [(&[u8], Result<bool, StartFault>); 21] = [
     (b"hello", Err(StartFault::NotAJournal(0))),
     (b"\x01GXJ", Err(StartFault::NotAJournal(4))),
     (
-        b"\x01GXJOURN2\x00\x00\x00\x04text\x00",
+        b"\x01GXJOURN3\x00\x00\x00\x04text\x00",
         Err(StartFault::NotAJournal(8)),
+    ),
+    (
+        b"\xC8GXJOURN3\x00\x00\x00\x04text\x00",
+        Err(StartFault::NotAJournal(0)),
     ),
     (
         b"\x01gXJOURN1\x00\x00\x00\x04text\x00",
@@ -169,12 +174,45 @@ fn expect_started(rt: &(impl Abort + AllocGlobal), image: &[u8], want: Result<()
     assert!(rt; want.is_ok() || station.image() == image);
 }
 
+/// The image in the second version, if it is of the first.
+fn in_second_version(rt: &(impl Abort + AllocGlobal), image: &[u8]) -> Vec<u8> {
+    let mut image = image.to_vec(rt.alloc()).expect(rt, "memory");
+    if image.len() > 8 && image[8] == b'1' {
+        image[8] = b'2';
+    }
+    image
+}
+
 #[test]
 fn images_by_their_class(rt: HostRuntime) {
     for (image, want) in IMAGES {
         expect_looked(&rt, image, want);
         expect_started(&rt, image, want.map(|_| ()));
+        let second = in_second_version(&rt, image);
+        expect_looked(&rt, second.as_slice(), want);
+        expect_started(&rt, second.as_slice(), want.map(|_| ()));
     }
+}
+
+/// Over this image one who starts has a journal of this version.
+fn expect_version(rt: &(impl Abort + AllocGlobal), image: &[u8], version: u8) {
+    let mut station = station_of(rt, image);
+    let started = Journal::start(&mut station, b"text", LIMIT);
+    let journal = started.expect(rt, "a journal");
+    assert_eq!(rt; journal.version(), version);
+    let byte = b'0' + version;
+    assert_eq!(rt; station.image().get(8), Some(&byte));
+}
+
+/// A journal that is made is of the second version; a sealed one and an open one keep their own.
+#[test]
+fn versions_of_journals(rt: HostRuntime) {
+    expect_version(&rt, b"", 2);
+    expect_version(&rt, b"\x00GXJOURN1\x00\x00\x00\x04text\x00", 2);
+    expect_version(&rt, b"\xC8GXJOURN1\x00\x00\x00\x04text\x00", 1);
+    expect_version(&rt, b"\xC8GXJOURN2\x00\x00\x00\x04text\x00", 2);
+    expect_version(&rt, b"\x01GXJOURN1\x00\x00\x00\x04text\x00", 1);
+    expect_version(&rt, b"\x01GXJOURN2\x00\x00\x00\x04text\x00", 2);
 }
 
 #[test]

@@ -49,14 +49,20 @@ fn other_journal(rt: &(impl Abort + AllocGlobal)) -> Vec<u8> {
     image_of(rt, &[HEADER, other.as_bytes(), b"\x00"])
 }
 
-/// Images of something else, with a bad header, and of another product.
+/// No command opens an image whose header, but for the product text, is this one.
+fn expect_bad_header(rt: &(impl Abort + AllocGlobal), header: &[u8]) {
+    let image = image_of(rt, &[header, PRODUCT.as_bytes(), b"\x00"]);
+    expect_unopened(rt, image.as_slice(), ended(10, 9, 0));
+}
+
+/// Images of something else, with a bad header in either version, and of another product.
 #[test]
 fn images_that_no_command_opens(rt: HostRuntime) {
     expect_unopened(&rt, b"hello", ended(9, 0, 0));
-    expect_unopened(&rt, b"\x01GXJOURN2", ended(9, 8, 0));
-    let head: &[u8] = b"\x01GXJOURN1\x00\x01\x00\x01";
-    let bad_header = image_of(&rt, &[head, PRODUCT.as_bytes(), b"\x00"]);
-    expect_unopened(&rt, bad_header.as_slice(), ended(10, 9, 0));
+    expect_unopened(&rt, b"\x01GXJOURN3", ended(9, 8, 0));
+    expect_unopened(&rt, b"\x01GXJOURN2", ended(10, 9, 0));
+    expect_bad_header(&rt, b"\x01GXJOURN1\x00\x01\x00\x01");
+    expect_bad_header(&rt, b"\x01GXJOURN2\x00\x01\x00\x01");
     let other = other_journal(&rt);
     expect_unopened(&rt, other.as_slice(), ended(11, 131, 0));
 }
