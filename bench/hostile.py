@@ -203,7 +203,7 @@ def journal_payloads():
 def write_journal(folder, payload, size):
     """A journal of records of one payload, at most so long, over the folder's product. Answers its length."""
     text = pathlib.Path(folder, "product.toml").read_bytes()
-    front = b"\x01GXJOURN1" + len(text).to_bytes(4, "big") + text
+    front = b"\x01GXJOURN2" + len(text).to_bytes(4, "big") + text
     path = os.path.join(folder, streams.JOURNAL)
     with open(path, "wb") as file:
         file.write(front)

@@ -5,7 +5,8 @@ import dataclasses
 import fix42
 import session_rules
 
-MAGIC = b"GXJOURN1"
+# of the first version and of the second, which new journals have
+MAGICS = (b"GXJOURN1", b"GXJOURN2")
 MOST_TEXT = 65_536
 MOST_UNFINISHED = 65_550
 MOST_PAYLOAD = 8_192
@@ -70,9 +71,9 @@ def record_bytes(kind, payload):
 
 
 def has_header(data):
-    """Whether GXJOURN1, a length, a text and a gate follow the first gate."""
+    """Whether GXJOURN1 or GXJOURN2, a length, a text and a gate follow the first gate."""
     length = number_at(data, 9, 4)
-    return data[1:9] == MAGIC and len(data) >= TEXT_AT and length <= MOST_TEXT and len(data) > TEXT_AT + length
+    return data[1:9] in MAGICS and len(data) >= TEXT_AT and length <= MOST_TEXT and len(data) > TEXT_AT + length
 
 
 def first_gate(data):
@@ -85,29 +86,36 @@ def class_of(data):
         return "blank"
     if data[:1] not in (CLOSED, OPEN) and has_header(data) and data[first_gate(data)] == 0:
         return "sealed"
-    if data[:9] == OPEN + MAGIC:
+    if data[:1] == OPEN and data[1:9] in MAGICS:
         return "journal"
     return "foreign"
 
 
+def foreign_place(data):
+    """The first place that shows that a file is no journal: 0, or the first that fits neither magic."""
+    return 0 if data[:1] != OPEN else 1 + max(fix42.first_difference(data[1:9], magic) for magic in MAGICS)
+
+
 class Journal:
-    """A journal file: its class, its product text, and its records up to the first closed gate or the first bad head."""
+    """A journal file: its class, its version, its product text, and its records up to the first closed gate or the first bad head."""
 
     def __init__(self, data):
         self.data = data
         self.kind = class_of(data)
         self.records = []
+        self.version = None
         self.text = None
         self.product = None
         self.product_fault = None
         self.bad_head = None
         self.gate = None
         if self.kind == "foreign":
-            raise Bad(0 if data[:1] != OPEN else 1 + fix42.first_difference(data[1:9], MAGIC), "it is no journal")
+            raise Bad(foreign_place(data), "it is no journal")
         if self.kind == "blank":
             return
         if not has_header(data):
             raise Bad(9, "the length of the product text in the header cannot be")
+        self.version = 1 + MAGICS.index(data[1:9])
         self.text = data[TEXT_AT : first_gate(data)]
         try:
             self.product = session_rules.Product(self.text)

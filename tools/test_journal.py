@@ -16,7 +16,7 @@ SELL, BUY = fix42.whole_frames(STREAM)
 # a message more, of the documented stream of a drill
 CANCEL = next(soh(line) for line in documented_frames() if "|35=F|" in line)
 
-EMPTY = b"\x01GXJOURN1" + len(TEXT).to_bytes(4, "big") + TEXT + b"\x00"
+EMPTY = b"\x01GXJOURN2" + len(TEXT).to_bytes(4, "big") + TEXT + b"\x00"
 
 
 def messages_record(*frames):
@@ -33,6 +33,11 @@ def old_image_record(image):
 
 def journal_of(*records):
     return EMPTY[:-1] + b"".join(records) + b"\x00"
+
+
+def first_version(data):
+    """The same file in the first version."""
+    return data[:8] + b"1" + data[9:]
 
 
 def documented_image():
@@ -174,7 +179,7 @@ class Documented(InFolder):
             with self.subTest(line):
                 checkpoint = journal_of(messages_record(SELL, BUY), image)
                 listed = (
-                    b"header: product text of 136 bytes, journal_limit 16777216\n"
+                    b"header: version 2, product text of 136 bytes, journal_limit 16777216\n"
                     b"149 M 2 messages, 221 bytes\n"
                     b"%b"
                     b"%d last gate\n"
@@ -323,7 +328,7 @@ class Damaged(InFolder):
 
     def test_heads(self):
         small = TEXT.replace(b"\n\n", b"\njournal_limit = 131072\n\n", 1)
-        front = b"\x01GXJOURN1" + len(small).to_bytes(4, "big") + small
+        front = b"\x01GXJOURN2" + len(small).to_bytes(4, "big") + small
         for bad, why in BAD_HEADS + LONG_HEADS:
             with self.subTest(why):
                 self.refused(front + bad, len(front), why)
@@ -331,7 +336,7 @@ class Damaged(InFolder):
 
     def test_the_limit(self):
         small = TEXT.replace(b"\n\n", b"\njournal_limit = 131072\n\n", 1)
-        front = b"\x01GXJOURN1" + len(small).to_bytes(4, "big") + small
+        front = b"\x01GXJOURN2" + len(small).to_bytes(4, "big") + small
         filler = messages_record(SELL) * ((131_072 - len(front) - 1) // 117 - 1)
         left = 131_072 - 1 - len(front) - len(filler) - 6
         body = soh("35=0|58=")
@@ -366,7 +371,7 @@ class Damaged(InFolder):
 
     def test_more_live_orders_than_max_orders(self):
         text = TEXT.replace(b"\n\n", b"\nmax_orders = 2\n\n", 1)
-        front = b"\x01GXJOURN1" + len(text).to_bytes(4, "big") + text
+        front = b"\x01GXJOURN2" + len(text).to_bytes(4, "big") + text
         for resting, waiting in ((2, 0), (1, 1), (3, 0), (1, 2)):
             image = old_image_of([ROW] * resting, [ROW] * waiting)
             for record in (image_record(image + MARKET_OPEN), old_image_record(image)):
@@ -419,7 +424,7 @@ class Damaged(InFolder):
         for data, place in [
             (b"\x01G", 2),
             (b"\x01X" + EMPTY[2:], 1),
-            (b"\x01GXJOURN2" + EMPTY[9:], 8),
+            (b"\x01GXJOURN3" + EMPTY[9:], 8),
             (b"\x02" + EMPTY[1:-1] + b"\x01", 0),
             (b"\x02" + EMPTY[1:-1], 0),
             (TEXT, 0),
@@ -435,6 +440,13 @@ class Damaged(InFolder):
         for data in (EMPTY[:9], EMPTY[:12], EMPTY[:13], EMPTY[:-1], EMPTY[:9] + b"\x00\x01\x00\x01" + bytes(66_000)):
             with self.subTest(len(data)):
                 self.refused(data, 9, why)
+                self.refused(first_version(data), 9, why)
+
+    def test_journals_of_the_first_version(self):
+        old = first_version(journal_of(messages_record(SELL, BUY), image_record(IMAGE)))
+        self.assertEqual(self.over(old, "check"), (0, b"2 messages, 2 records, 1 images\n", ""))
+        self.assertEqual(self.over(old, "messages"), (0, STREAM, ""))
+        self.assertTrue(self.over(old, "list")[1].startswith(b"header: version 1, product text of 136 bytes, "))
 
     def test_unfinished_creations(self):
         sealed = b"\x02" + EMPTY[1:]
