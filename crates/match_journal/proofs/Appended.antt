@@ -1,16 +1,16 @@
 -- An append: the record behind its closed gate, and then the gate.
-use Rattle.std.proofs.Common.{◌≡◌, ◌⊎◌, inl, ℕ, ◌+◌, ◌≤◌, List, [], ◌∷◌, ◌++◌, length, drop, max, Result, Ok, Err, IsErr, sym, ◌∙◌, ap, subst, arith, length-append, length-drop}
+use Rattle.std.proofs.Common.{◌≡◌, ◌⊎◌, inl, ℕ, ◌+◌, ◌≤◌, List, [], ◌∷◌, ◌++◌, length, drop, max, true, Result, Ok, Err, IsErr, sym, ◌∙◌, ap, subst, arith, length-append, length-drop}
 use Rattle.gx_station.specs.Disk.{Torn, written}
 use Rattle.gx_station.specs.Stations.{StationMeanings}
 use Rattle.match_journal.specs.Steps.{Steps}
-use Rattle.match_journal.specs.Journal.{Header, IsJournal, IsRecord, Record, journal_front, open_record}
+use Rattle.match_journal.specs.Journal.{Header, IsJournal, IsRecord, Record, has_kind, journal_front, open_record}
 use Rattle.match_journal.specs.declared.standing.Standing.{Standing}
 use Rattle.match_journal.specs.Appending.{IsJournalTo, IsBeforeOrAfter, IsAdded}
 use Rattle.match_journal.specs.Inner.Stores.{Stored, staged}
 use Rattle.match_journal.proofs.Stepping.{steps_then, steps_err, steps_weaker}
 use Rattle.match_journal.proofs.Records.{torn_behind, written_behind, torn_gate, written_gate, whole_record, opened, all-push, journal_front-push, length-staged, length-record, length-gate}
 
-module _ (head : Header) (image : List ℕ) (r : Record) (limit : ℕ) (records : List Record) (end : ℕ) (right : IsRecord r) (fits : end + 7 + length r.payload ≤ limit) (first : IsJournalTo head limit records end image) where
+module _ (head : Header) (image : List ℕ) (r : Record) (limit : ℕ) (records : List Record) (end : ℕ) (right : IsRecord head.version r) (fits : end + 7 + length r.payload ≤ limit) (first : IsJournalTo head limit records end image) where
   abbrev front : List ℕ
   front = journal_front head records
 
@@ -73,7 +73,7 @@ module _ (head : Header) (image : List ℕ) (r : Record) (limit : ℕ) (records 
             behind = behind;
             is = is;
             closed = omega arith;
-            sized = all-push IsRecord records r first.journal.sized right;
+            sized = all-push (IsRecord head.version) records r first.journal.sized right;
             in_limit = omega (arith, long, fits, first.gate_is);
           };
           gate_is = omega (arith, first.gate_is, long);
@@ -85,10 +85,10 @@ module _ (head : Header) (image : List ℕ) (r : Record) (limit : ℕ) (records 
 
 -- how an image goes on where a record is added to a journal that stands there
 abbrev pub AppendsAt : {S T F : Type 0} → StationMeanings S → S → S → Record → Result T F → Standing → Type 0
-AppendsAt m old new r answer s = (head : Header) (image : List ℕ) (records : List Record) → IsJournalTo head s.limit records s.gate image
+AppendsAt m old new r answer s = (head : Header) (image : List ℕ) (records : List Record) → has_kind head.version r.kind ≡ true → IsJournalTo head s.limit records s.gate image
     → Steps m old new image (IsBeforeOrAfter head s.limit records r image (s.gate + 6 + length r.payload)) (IsAdded head s.limit records r image (s.gate + 6 + length r.payload)) answer
 
-module _ {S : Type 0} (m : StationMeanings S) (head : Header) (image : List ℕ) (r : Record) (limit : ℕ) (records : List Record) (end : ℕ) (right : IsRecord r) (fits : end + 7 + length r.payload ≤ limit) (first : IsJournalTo head limit records end image) where
+module _ {S : Type 0} (m : StationMeanings S) (head : Header) (image : List ℕ) (r : Record) (limit : ℕ) (records : List Record) (end : ℕ) (right : IsRecord head.version r) (fits : end + 7 + length r.payload ≤ limit) (first : IsJournalTo head limit records end image) where
   abbrev During : List ℕ → Type 0
   During = IsBeforeOrAfter head limit records r image (end + 6 + length r.payload)
 

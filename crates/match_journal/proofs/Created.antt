@@ -5,10 +5,9 @@ use Rattle.std.specs.List.{flat_map}
 use Rattle.std.proofs.lemmas.List.{append-nil, drop_all, drop_more, drop-drop, take-append-drop, take_at, get_or-append_right}
 use Rattle.std.proofs.lemmas.Bool.{cases_eq}
 use Rattle.gx_station.specs.Disk.{Torn, written}
-use Rattle.match_journal.specs.Journal.{Header, Record, IsJournal, header, magic, open_record}
-use Rattle.match_journal.specs.Classes.{HasHeader, IsBlank, IsSealed, IsUnfinished, Keeps, KeepsOf}
+use Rattle.match_journal.specs.Journal.{Header, Record, IsJournal, header, in_version, magic, open_record}
+use Rattle.match_journal.specs.Classes.{HasHeader, HasOpenGate, IsBlank, IsSealed, IsUnfinished, Keeps, KeepsOf}
 use Rattle.match_journal.specs.HeaderLaws.{length-magic, length-header}
-use Rattle.match_journal.specs.Opening.{IsOpened}
 use Rattle.match_journal.specs.Inner.Fronts.{IsClosed, IsMade}
 use Rattle.match_journal.specs.declared.limits.TheConstants.{MOST_TEXT, MOST_UNFINISHED}
 use Rattle.match_journal.specs.declared.version.Version.TheVariants.{Second}
@@ -44,8 +43,12 @@ pub record IsNew (text : List ℕ) (limit : ℕ) (left : List ℕ) : Type 0 wher
   pub keeps : KeepsOf text limit [] left
   pub few : length left ≤ MOST_UNFINISHED
 
+-- an image that keeps nothing, with a header of this text
+pub nothing_kept : (head : Header) (text : List ℕ) (limit : ℕ) (left : List ℕ) → head.text ≡ text → Keeps head limit [] left → KeepsOf text limit [] left
+nothing_kept head text limit left is keeps = record { head = head; last = record { is = is; inside = tt }; keeps = keeps }
+
 blank_new : (text : List ℕ) (limit : ℕ) (left : List ℕ) → IsBlank left → length left ≤ MOST_UNFINISHED → IsNew text limit left
-blank_new text limit left blank few = record { keeps = (Second, inr (refl, record { unfinished = inl (blank, refl); few = few })); few = few }
+blank_new text limit left blank few = record { keeps = nothing_kept (in_version Second text) text limit left refl (inr (refl, record { unfinished = inl (blank, refl); few = few })); few = few }
 
 -- ---- the first gate is made
 
@@ -119,7 +122,7 @@ torn_first head limit known image left short fits ready torn =
     let few : length left ≤ MOST_UNFINISHED = omega (arith, torn.no_longer, ready.few) in
     let is : left ≡ gate ∷ tail = torn_gate [] ready.gate tail left (subst (λ (l : List ℕ). Torn 0 1 l left) ready.is torn) in
     elim (cases_eq gate 1) [
-      | inl is_open ↦ record { keeps = (head.version, inl (subst (IsJournal head limit []) (sym (is ∙ ap (λ g. g ∷ tail) is_open)) (made head limit ready.behind fits))); few = few }
+      | inl is_open ↦ record { keeps = nothing_kept head head.text limit left refl (inl (subst (IsJournal head limit []) (sym (is ∙ ap (λ g. g ∷ tail) is_open)) (made head limit ready.behind fits))); few = few }
       | inr shut ↦ elim (cases_eq gate 0) [
         | inl zero ↦ blank_new head.text limit left (inr (zero, few)) few
         | inr other ↦
@@ -129,7 +132,7 @@ torn_first head limit known image left short fits ready torn =
               header = subst (HasHeader head) (sym is) (has_header head ready.behind gate 0 short);
               closed = ap (λ (l : List ℕ). get_or l (13 + length head.text) 0) is ∙ last_byte head ready.behind gate 0;
             } in
-            record { keeps = (head.version, inr (refl, record { unfinished = inr sealed; few = few })); few = few }
+            record { keeps = nothing_kept head head.text limit left refl (inr (refl, record { unfinished = inr sealed; few = few })); few = few }
       ]
     ]
 
@@ -197,12 +200,12 @@ blank_keeps head limit image second blank = inr (
   },
 )
 
-pub opened_keeps : (head : Header) (limit : ℕ) (image : List ℕ) (records : List Record) → Keeps head limit records image → IsOpened head image → IsJournal head limit records image
-opened_keeps head limit image records (inl journal) opened = journal
-opened_keeps head limit image records (inr (none, unfinished)) opened = elim unfinished.unfinished [
+pub opened_keeps : (head : Header) (limit : ℕ) (image : List ℕ) (records : List Record) → Keeps head limit records image → HasOpenGate image → 1 < length image → IsJournal head limit records image
+opened_keeps head limit image records (inl journal) opened long = journal
+opened_keeps head limit image records (inr (none, unfinished)) opened long = elim unfinished.unfinished [
   | inl blank ↦ elim blank.0 [
-    | inl short ↦ absurd (omega (arith, opened.1.inside, short))
-    | inr closed ↦ absurd (cc (closed.0, opened.0.opened))
+    | inl short ↦ absurd (omega (arith, long, short))
+    | inr closed ↦ absurd (cc (closed.0, opened.opened))
   ]
-  | inr sealed ↦ absurd (sealed.not_open opened.0.opened)
+  | inr sealed ↦ absurd (sealed.not_open opened.opened)
 ]

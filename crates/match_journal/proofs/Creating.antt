@@ -3,10 +3,10 @@ use Rattle.std.proofs.Common.{◌≡◌, ℕ, ◌+◌, ◌<◌, ◌≤◌, max, 
 use Rattle.gx_station.specs.Disk.{Torn, written}
 use Rattle.gx_station.specs.Stations.{StationMeanings}
 use Rattle.match_journal.specs.Steps.{Steps, HoldsOne}
-use Rattle.match_journal.specs.Journal.{Header, Record, IsJournal, version_of}
-use Rattle.match_journal.specs.HeaderLaws.{journal_version}
-use Rattle.match_journal.specs.Classes.{IsSealed, Keeps, KeepsOf}
-use Rattle.match_journal.specs.Opening.{IsOpening, IsOpened}
+use Rattle.match_journal.specs.Journal.{Header, Record, IsJournal}
+use Rattle.match_journal.specs.Texts.{HasLastText}
+use Rattle.match_journal.specs.Classes.{HasOpenGate, IsSealed, Keeps}
+use Rattle.match_journal.specs.Opening.{IsOpening}
 use Rattle.match_journal.specs.Inner.Stores.{Stored}
 use Rattle.match_journal.specs.Inner.Fronts.{IsClosed, IsMade}
 use Rattle.match_journal.specs.declared.limits.TheConstants.{MOST_TEXT, MOST_UNFINISHED, LEAST_LIMIT}
@@ -17,8 +17,20 @@ opening_new : (text : List ℕ) (limit : ℕ) (image left : List ℕ) → IsNew 
 opening_new text limit image left new = record { keeps = new.keeps; no_longer = omega (arith, new.few) }
 
 -- what keeps some records of a text is left as it is
-pub opening_itself : (text : List ℕ) (limit : ℕ) (head : Header) (records : List Record) (image : List ℕ) → head.text ≡ text → Keeps head limit records image → IsOpening text limit records image image
-opening_itself text limit head records image of_text keeps = record { keeps = subst (λ (l : List ℕ). KeepsOf l limit records image) of_text (head.version, keeps); no_longer = omega arith }
+pub opening_itself : (text : List ℕ) (limit : ℕ) (head : Header) (records : List Record) (image : List ℕ) → HasLastText head records text → Keeps head limit records image → IsOpening text limit records image image
+opening_itself text limit head records image last keeps = record { keeps = record { head = head; last = last; keeps = keeps }; no_longer = omega arith }
+
+-- a journal stays as it is
+pub open_done : {S T F : Type 0} (m : StationMeanings S) (text : List ℕ) (limit : ℕ) (head : Header) (records : List Record) (old : S) (image : List ℕ) (r : Result T F) → HasLastText head records text → HasOpenGate image → 1 < length image → Keeps head limit records image
+    → Steps m old old image (IsOpening text limit records image) (IsJournal head limit records) r
+open_done m text limit head records old image r last opened long keeps =
+    steps_none m old image _ _ r (opening_itself text limit head records image last keeps) (opened_keeps head limit image records keeps opened long)
+
+-- the same steps, by one header and by an equal one
+pub same_steps : {S T F : Type 0} (m : StationMeanings S) (text : List ℕ) (limit : ℕ) (records : List Record) (a b : Header) (old new : S) (image : List ℕ) (r : Result T F) → a ≡ b
+    → (Keeps b limit records image → Steps m old new image (IsOpening text limit records image) (IsJournal b limit records) r) → Keeps a limit records image → Steps m old new image (IsOpening text limit records image) (IsJournal a limit records) r
+same_steps m text limit records a b old new image r same steps keeps =
+    subst (λ (h : Header). Steps m old new image (IsOpening text limit records image) (IsJournal h limit records) r) (sym same) (steps (subst (λ (h : Header). Keeps h limit records image) same keeps))
 
 module _ {S : Type 0} (m : StationMeanings S) (head : Header) (limit : ℕ) (short : length head.text ≤ MOST_TEXT) (fits : LEAST_LIMIT ≤ limit) where
   in_limit : 13 + length head.text < limit
@@ -95,17 +107,13 @@ module _ {S : Type 0} (m : StationMeanings S) (head : Header) (limit : ℕ) (sho
       ended (Ok x) held = record { image = held.image; read = held.read; has = subst (IsJournal head limit []) (sym held.has.1) (written_sealed head limit image in_limit sealed) }
       ended (Err e) held = tt
 
-  pub open_done : {T F : Type 0} (old : S) (image : List ℕ) (records : List Record) (r : Result T F) → IsOpened head image → Keeps head limit records image → Finishes old old image records r
-  open_done old image records r opened keeps =
-      steps_none m old image _ _ r record { keeps = (head.version, keeps); no_longer = omega arith } (opened_keeps head limit image records keeps opened)
-
-  -- ---- how long the image is then, and which version it tells
+  -- ---- the journal that was made, and how long it is
 
   abbrev Told : {T F : Type 0} → S → ℕ → Result T F → Type 0
-  Told new known r = OnOk r (HoldsOne m (λ last. (length last ≡ known) × (version_of last ≡ head.version)) new)
+  Told new known r = OnOk r (HoldsOne m (IsMade head limit known) new)
 
   told_made : {T F : Type 0} (new : S) (During : List ℕ → Type 0) (known long : ℕ) (r : Result T F) → known ≡ long → OnOk r (HoldsOne m (λ last. During last × IsMade head limit known last) new) → Told new long r
-  told_made new During known long (Ok x) is held = record { image = held.image; read = held.read; has = (held.has.1.length_is ∙ is, journal_version head limit [] held.image held.has.1.journal) }
+  told_made new During known long (Ok x) is held = record { image = held.image; read = held.read; has = record { journal = held.has.1.journal; length_is = held.has.1.length_is ∙ is } }
   told_made new During known long (Err e) is held = tt
 
   pub empty_told : {T U F G : Type 0} (old mid new : S) (image : List ℕ) (long : ℕ) (x : U) (r : Result T F) → length image ≤ 1 → m.holds old ≡ Some image → long ≡ 14 + length head.text → Stored m {T = U} {F = G} old mid 0 (0 ∷ []) (Ok x) → Creates mid new r → Told new long r
@@ -125,6 +133,6 @@ module _ {S : Type 0} (m : StationMeanings S) (head : Header) (limit : ℕ) (sho
       ended (Ok x) held = record {
         image = held.image;
         read = held.read;
-        has = (omega (arith, held.has.0.no_shorter, held.has.0.no_longer, sealed.header.inside, is), journal_version head limit [] held.image (journal held.image held.has.1));
+        has = record { journal = journal held.image held.has.1; length_is = omega (arith, held.has.0.no_shorter, held.has.0.no_longer, sealed.header.inside, is) };
       }
       ended (Err e) held = tt

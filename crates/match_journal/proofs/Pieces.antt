@@ -5,12 +5,12 @@ use Rattle.std.proofs.lemmas.Bool.{cases_lt}
 use Rattle.match_journal.specs.Classes.{first_difference}
 use Rattle.match_journal.proofs.Texts.{fd_more, fd_here, fd_other, fd_same, fd_ended}
 
-module _ (image text product part : List ℕ) (size at count same : ℕ) (text_is : take size (drop 13 image) ≡ text) (long : length text ≡ size) (in_text : at + count ≤ size) (in_product : at + count ≤ length product)
+module _ (image text product part : List ℕ) (front size at count same : ℕ) (text_is : take size (drop front image) ≡ text) (long : length text ≡ size) (in_text : at + count ≤ size) (in_product : at + count ≤ length product)
     (so_far : first_difference text product ≡ at + first_difference (drop at text) (drop at product))
-    (part_is : part ≡ take count (drop at product)) (same_is : same ≡ first_difference (take (length part) (drop (13 + at) image)) part) where
-  piece : take count (drop (13 + at) image) ≡ take count (drop at text)
+    (part_is : part ≡ take count (drop at product)) (same_is : same ≡ first_difference (take (length part) (drop (front + at) image)) part) where
+  piece : take count (drop (front + at) image) ≡ take count (drop at text)
   piece =
-      sym (ap (take count) (ap (drop at) (sym text_is ∙ ap (λ k. take k (drop 13 image)) (omega (arith, in_text))) ∙ drop-take at (size - at) (drop 13 image)) ∙ take-take count (size - at) (drop at (drop 13 image)) (omega (arith, in_text)) ∙ ap (take count) (drop-drop at 13 image))
+      sym (ap (take count) (ap (drop at) (sym text_is ∙ ap (λ k. take k (drop front image)) (omega (arith, in_text))) ∙ drop-take at (size - at) (drop front image)) ∙ take-take count (size - at) (drop at (drop front image)) (omega (arith, in_text)) ∙ ap (take count) (drop-drop at front image))
 
   long_part : length part ≡ count
   long_part = ap length part_is ∙ length-take-le count (drop at product) (omega (arith, length-drop at product, in_product))
@@ -18,7 +18,7 @@ module _ (image text product part : List ℕ) (size at count same : ℕ) (text_i
   same_pieces : same ≡ first_difference (take count (drop at text)) (take count (drop at product))
   same_pieces =
       same_is
-      ∙ ap (λ k. first_difference (take k (drop (13 + at) image)) part) long_part
+      ∙ ap (λ k. first_difference (take k (drop (front + at) image)) part) long_part
       ∙ ap (λ (l : List ℕ). first_difference l part) piece
       ∙ ap (first_difference (take count (drop at text))) part_is
 

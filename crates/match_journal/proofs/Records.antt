@@ -83,7 +83,7 @@ module _ (head : Header) (limit : ℕ) (records : List Record) (r : Record) wher
       ∙ ap (λ (l : List ℕ). l ++ 0 ∷ rest) (sym (journal_front-push head records r))
 
   -- the record stands whole behind a gate
-  pub whole_record : AllByRecursion IsRecord records → IsRecord r → length front + 7 + length r.payload ≤ limit → (gate : ℕ) (rest : List ℕ)
+  pub whole_record : AllByRecursion (IsRecord head.version) records → IsRecord head.version r → length front + 7 + length r.payload ≤ limit → (gate : ℕ) (rest : List ℕ)
       → IsJournal head limit records (front ++ gate ∷ (staged r ++ rest)) ⊎ IsJournal head limit (records ++ r ∷ []) (front ++ gate ∷ (staged r ++ rest))
   whole_record sized right fits gate rest = elim (cases_eq gate 1) [
     | inl is_open ↦ inr record {
@@ -91,7 +91,7 @@ module _ (head : Header) (limit : ℕ) (records : List Record) (r : Record) wher
       behind = rest;
       is = ap (λ g. front ++ g ∷ (staged r ++ rest)) is_open ∙ opened rest;
       closed = omega arith;
-      sized = all-push IsRecord records r sized right;
+      sized = all-push (IsRecord head.version) records r sized right;
       in_limit = omega (arith, fits, ap length (journal_front-push head records r), length-append front (open_record r), length-record r);
     }
     | inr shut ↦ inl record {

@@ -1,14 +1,16 @@
 -- The bytes of a journal at a gate.
-use Rattle.std.proofs.Common.{◌≡◌, ◌≢◌, ℕ, ◌+◌, ◌<◌, ◌≤◌, ◌^◌, List, [], ◌∷◌, ◌++◌, length, get_or, take, drop, Option, Some, None, Result, Ok, Err, refl, sym, subst, ◌∙◌, ap, arith, append_assoc, length-append}
+use Rattle.std.proofs.Common.{◌≡◌, ◌≢◌, ℕ, ◌+◌, ◌<◌, ◌≤◌, ◌^◌, List, [], ◌∷◌, ◌++◌, length, get_or, take, drop, true, Option, Some, None, Result, Ok, Err, refl, sym, subst, ◌∙◌, ap, arith, append_assoc, length-append}
 use Rattle.std.specs.Int.{w32, to_be_bytes, from_be_bytes}
 use Rattle.std.specs.List.{flat_map, AllByRecursion}
 use Rattle.std.proofs.lemmas.List.{take_at, drop_at, drop-drop, get_or-drop}
 use Rattle.std.proofs.lemmas.Nat.{from_be_bytes-to_be_bytes_4}
 use Rattle.std.proofs.lemmas.Grind.{flat_map-append}
-use Rattle.match_journal.specs.Journal.{Header, IsJournal, IsRecord, Record, kind_byte, journal_front, header, open_record, most_payload}
-use Rattle.match_journal.specs.Standing.{StandsIn}
+use Rattle.match_journal.specs.Journal.{Header, IsJournal, IsRecord, Record, has_kind, kind_byte, version_of, journal_front, header, open_record, most_payload}
+use Rattle.match_journal.specs.HeaderLaws.{header_version, journal_version}
+use Rattle.match_journal.specs.Opening.{StandsIn}
 use Rattle.match_journal.specs.Walking.{IsHead, IsBadHead, IsNext, Walks, InOrder}
 use Rattle.match_journal.specs.declared.entry.Entry.{Entry}
+use Rattle.match_journal.specs.declared.version.Version.{Version}
 use Rattle.match_journal.specs.declared.standing.Standing.{Standing}
 use Rattle.match_journal.specs.declared.faults.WalkFault.{WalkFault}
 use Rattle.match_journal.specs.declared.faults.WalkFault.TheVariants as fault
@@ -58,22 +60,33 @@ pub below : (k : EntryKind) (n : ℕ) → n ≤ most_payload k → n < 2 ^ 32
 below kind.Frames n few = omega (arith, few)
 below kind.OldImage n few = omega (arith, few)
 below kind.Image n few = omega (arith, few)
+below kind.Amendment n few = omega (arith, few)
 
 -- two kinds with the same byte
 pub one_kind : (a b : EntryKind) → kind_byte a ≡ kind_byte b → a ≡ b
 one_kind kind.Frames kind.Frames same = refl
 one_kind kind.OldImage kind.OldImage same = refl
 one_kind kind.Image kind.Image same = refl
+one_kind kind.Amendment kind.Amendment same = refl
 one_kind kind.Frames kind.OldImage same = absurd (omega (arith, same))
 one_kind kind.Frames kind.Image same = absurd (omega (arith, same))
 one_kind kind.OldImage kind.Frames same = absurd (omega (arith, same))
 one_kind kind.OldImage kind.Image same = absurd (omega (arith, same))
 one_kind kind.Image kind.Frames same = absurd (omega (arith, same))
 one_kind kind.Image kind.OldImage same = absurd (omega (arith, same))
+one_kind kind.Frames kind.Amendment same = absurd (omega (arith, same))
+one_kind kind.OldImage kind.Amendment same = absurd (omega (arith, same))
+one_kind kind.Image kind.Amendment same = absurd (omega (arith, same))
+one_kind kind.Amendment kind.Frames same = absurd (omega (arith, same))
+one_kind kind.Amendment kind.OldImage same = absurd (omega (arith, same))
+one_kind kind.Amendment kind.Image same = absurd (omega (arith, same))
 
 module _ (head : Header) (image : List ℕ) (limit : ℕ) (before : List Record) (r : Record) (more : List Record) (journal : IsJournal head limit (before ++ r ∷ more) image) (gate : ℕ) (place : gate ≡ length (journal_front head before)) where
-  right : IsRecord r
-  right = (all-behind IsRecord before (r ∷ more) journal.sized).0
+  right : IsRecord head.version r
+  right = (all-behind (IsRecord head.version) before (r ∷ more) journal.sized).0
+
+  has_its_kind : has_kind (version_of image) r.kind ≡ true
+  has_its_kind = ap (λ (v : Version). has_kind v r.kind) (journal_version head limit (before ++ r ∷ more) image journal) ∙ right.known
 
   head_bytes : take 6 (drop gate image) ≡ 1 ∷ kind_byte r.kind ∷ to_be_bytes w32 (length r.payload)
   head_bytes = ap (take 6) (at_gate head image limit before (r ∷ more) journal gate place)
@@ -89,7 +102,7 @@ module _ (head : Header) (image : List ℕ) (limit : ℕ) (before : List Record)
 
   -- the record has a good head
   pub good_head : IsHead image limit gate entry
-  good_head = record { at_is = refl; stands = head_bytes; fits = record { some = right.some; few = right.few; inside = inside; in_limit = in_limit } }
+  good_head = record { at_is = refl; known = has_its_kind; stands = head_bytes; fits = record { some = right.some; few = right.few; inside = inside; in_limit = in_limit } }
 
   stands_behind : take (length r.payload) (drop (gate + 6) image) ≡ r.payload
   stands_behind =
@@ -127,20 +140,29 @@ none_bad head image limit before (r ∷ more) journal gate at place bad = bad.no
 
 -- ---- what a walk answers, by the fields of the journal and by what contracts see of it
 
-module _ (head : Header) (image : List ℕ) (before after : List Record) (inner seen : Standing) (same : inner ≡ seen) (stands : StandsIn seen image) (journal : IsJournal head seen.limit (before ++ after) image) (place : seen.gate ≡ length (journal_front head before)) where
+-- an image in which a journal stands tells the journal's version
+pub standing_version : (s : Standing) (image : List ℕ) → StandsIn s image → version_of image ≡ s.version
+standing_version s image stands = header_version stands.head image stands.opened.header ∙ sym stands.version
+
+module _ (image : List ℕ) (inner seen : Standing) (same : inner ≡ seen) (stands : StandsIn seen image) where
   abbrev Answered : Result (Option Entry) WalkFault → Type 0
-  Answered r = StandsIn inner image → Walks image inner.limit inner.gate r
+  Answered r = length image ≡ inner.known → version_of image ≡ inner.version → Walks image inner.limit inner.gate r
 
-  answer : (r : Result (Option Entry) WalkFault) → Answered r → Walks image seen.limit seen.gate r
-  answer r walks = subst (λ (s : Standing). Walks image s.limit s.gate r) same (walks (subst (λ (s : Standing). StandsIn s image) (sym same) stands))
+  pub walked : (r : Result (Option Entry) WalkFault) → Answered r → Walks image seen.limit seen.gate r
+  walked r walks = subst (λ (s : Standing). Walks image s.limit s.gate r) same
+      (walks (stands.known ∙ ap (λ (s : Standing). s.known) (sym same)) (standing_version seen image stands ∙ ap (λ (s : Standing). s.version) (sym same)))
 
-  pub some_in_order : (found : Option Entry) (entry : Entry) → found ≡ Some entry → Answered (Ok found) → IsNext head image before after (inner.gate + (6 + entry.length)) entry
+module _ (head : Header) (image : List ℕ) (before after : List Record) (inner seen : Standing) (same : inner ≡ seen) (stands : StandsIn seen image) (journal : IsJournal head seen.limit (before ++ after) image) (place : seen.gate ≡ length (journal_front head before)) where
+  answer : (r : Result (Option Entry) WalkFault) → Answered image inner seen same stands r → Walks image seen.limit seen.gate r
+  answer r walks = walked image inner seen same stands r walks
+
+  pub some_in_order : (found : Option Entry) (entry : Entry) → found ≡ Some entry → Answered image inner seen same stands (Ok found) → IsNext head image before after (inner.gate + (6 + entry.length)) entry
   some_in_order found entry is walks =
       record_left head image seen.limit before after journal seen.gate _ entry place (subst (λ (o : Option Entry). Walks image seen.limit seen.gate (Ok o)) is (answer (Ok found) walks)) (omega (arith, ap (λ (s : Standing). s.gate) same))
 
-  pub none_in_order : (found : Option Entry) → found ≡ None → Answered (Ok found) → after ≡ []
+  pub none_in_order : (found : Option Entry) → found ≡ None → Answered image inner seen same stands (Ok found) → after ≡ []
   none_in_order found is walks = none_left head image seen.limit before after journal seen.gate place (subst (λ (o : Option Entry). Walks image seen.limit seen.gate (Ok o)) is (answer (Ok found) walks))
 
-  pub fault_in_order : (gate : ℕ) (e : WalkFault) → Answered (Err e) → InOrder head image before after gate (Err e)
+  pub fault_in_order : (gate : ℕ) (e : WalkFault) → Answered image inner seen same stands (Err e) → InOrder head image before after gate (Err e)
   fault_in_order gate fault.Store walks = tt
   fault_in_order gate (fault.Bad at) walks = none_bad head image seen.limit before after journal seen.gate at place (answer (Err (fault.Bad at)) walks)

@@ -25,3 +25,8 @@ module _ {S : Type 0} (m : StationMeanings S) where
     pub images_stay : m.is_honest old → (image : List ℕ) → m.may_leave old image → m.may_leave new image
     pub reach : m.reach old ≤ m.reach new
     pub bytes_read : ReadsAtMost most (m.bytes_read old) (m.bytes_read new)
+
+  -- The station was read, and nothing was written, synced or sent.
+  pub record ReadsOnly (old new : S) : Type 0 where
+    pub most : ℕ
+    pub looks : LooksOnly old new most

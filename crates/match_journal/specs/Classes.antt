@@ -3,6 +3,7 @@ use Rattle.std.specs.Prelude.{◌≡◌, ◌≢◌, ◌⊎◌, ℕ, ◌+◌, ◌
 use Rattle.std.specs.Bool.{nat_eq}
 use Rattle.std.specs.List.{common_prefix_len}
 use Rattle.match_journal.specs.Journal.{Header, Record, IsJournal, header, in_version, magic}
+use Rattle.match_journal.specs.Texts.{HasLastText}
 use Rattle.match_journal.specs.declared.version.Version.{Version}
 use Rattle.match_journal.specs.declared.version.Version.TheVariants.{First, Second}
 use Rattle.match_journal.specs.declared.limits.TheConstants.{MOST_TEXT, MOST_UNFINISHED}
@@ -38,6 +39,10 @@ pub record HasOpenGate (image : List ℕ) : Type 0 where
   pub version : Version
   pub magic : take 8 (drop 1 image) ≡ magic version
 
+-- the same of the second version, all heads of which an opening goes over
+abbrev pub IsOfSecondVersion : List ℕ → Type 0
+IsOfSecondVersion image = (gate : HasOpenGate image) × (gate.version ≡ Second)
+
 pub record IsForeign (image : List ℕ) : Type 0 where
   pub not_blank : IsBlank image → ⊥
   pub not_sealed : (head : Header) → IsSealed head image → ⊥
@@ -60,14 +65,6 @@ pub record HasBadHeader (image : List ℕ) (at : ℕ) : Type 0 where
   pub no_header : (head : Header) → HasHeader head image → ⊥
   pub place : at ≡ 9
 
--- its text is another one than this
-pub record HasOtherText (product image : List ℕ) (at : ℕ) : Type 0 where
-  pub head : Header
-  pub header : HasHeader head image
-  pub journal_or_sealed : HasOpenGate image ⊎ IsSealed head image
-  pub other : head.text ≢ product
-  pub place : at ≡ 13 + first_difference head.text product
-
 -- ---- what an image keeps
 
 -- A creation that a crash has cut, or that was not begun. It keeps no record. A blank image becomes a journal of the second version,
@@ -80,6 +77,8 @@ pub record IsUnfinished (head : Header) (image : List ℕ) : Type 0 where
 abbrev pub Keeps : Header → ℕ → List Record → List ℕ → Type 0
 Keeps head limit records image = IsJournal head limit records image ⊎ ((records ≡ []) × IsUnfinished head image)
 
--- the same with a header of this text in either version
-abbrev pub KeepsOf : List ℕ → ℕ → List Record → List ℕ → Type 0
-KeepsOf text limit records image = (version : Version) × Keeps (in_version version text) limit records image
+-- The same with some header, where the last text is this one. An unfinished creation has no text but the header's.
+pub record KeepsOf (text : List ℕ) (limit : ℕ) (records : List Record) (image : List ℕ) : Type 0 where
+  pub head : Header
+  pub last : HasLastText head records text
+  pub keeps : Keeps head limit records image

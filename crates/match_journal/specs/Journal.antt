@@ -1,17 +1,18 @@
 -- What a journal's image is, and which records it keeps.
 --
 -- Byte 0 is the first gate. Then comes the header: the eight bytes GXJOURN1 or GXJOURN2, the length of the product text in four
--- bytes, the highest first, and the text; and then a gate. A record is a gate, its kind (M for frames, C for a book image without the session, D for a book image),
--- the length of its payload in four bytes, the payload; and then comes the next gate. A gate is open where its byte is 1, and closed otherwise. The records are those
--- behind open gates, up to the first closed one. Bytes behind that gate mean nothing.
-use Rattle.std.specs.Prelude.{◌≡◌, ◌≢◌, ℕ, ◌<◌, ◌≤◌, ◌==◌, if◌then◌else◌, List, [], ◌∷◌, ◌++◌, length, get_or}
+-- bytes, the highest first, and the text; and then a gate. A record is a gate, its kind, the length of its payload in four bytes, and
+-- the payload; and then comes the next gate. The kinds are M for frames, C for a book image without the session, D for a book image,
+-- and P for an amendment, which a journal of the first version does not have. A gate is open where its byte is 1, and closed
+-- otherwise. The records are those after open gates, up to the first closed one. Bytes after that gate mean nothing.
+use Rattle.std.specs.Prelude.{◌≡◌, ◌≢◌, ℕ, ◌<◌, ◌≤◌, ◌==◌, if◌then◌else◌, Bool, true, false, List, [], ◌∷◌, ◌++◌, length, get_or}
 use Rattle.std.specs.Int.{w32, to_be_bytes}
 use Rattle.std.specs.List.{flat_map, AllByRecursion}
 use Rattle.match_journal.specs.declared.limits.TheConstants.{MOST_PAYLOAD, MOST_IMAGE}
 use Rattle.match_journal.specs.declared.version.Version.{Version}
 use Rattle.match_journal.specs.declared.version.Version.TheVariants.{First, Second}
 use Rattle.match_journal.specs.declared.entry.EntryKind.{EntryKind}
-use Rattle.match_journal.specs.declared.entry.EntryKind.TheVariants.{Frames, OldImage, Image}
+use Rattle.match_journal.specs.declared.entry.EntryKind.TheVariants.{Frames, OldImage, Image, Amendment}
 
 -- ---- headers
 
@@ -47,11 +48,20 @@ pub record Record : Type 0 where
 abbrev pub frames_record : List ℕ → Record
 frames_record payload = record { kind = Frames; payload = payload }
 
--- the byte of a kind: M, C or D
+-- the byte of a kind: M, C, D or P
 abbrev pub kind_byte : EntryKind → ℕ
 kind_byte Frames = 77
 kind_byte OldImage = 67
 kind_byte Image = 68
+kind_byte Amendment = 80
+
+-- a journal of the version may have records of the kind
+abbrev pub has_kind : Version → EntryKind → Bool
+has_kind version Frames = true
+has_kind version OldImage = true
+has_kind version Image = true
+has_kind First Amendment = false
+has_kind Second Amendment = true
 
 -- a record behind its open gate
 abbrev pub open_record : Record → List ℕ
@@ -62,13 +72,17 @@ abbrev pub least_payload : EntryKind → ℕ
 least_payload Frames = 1
 least_payload OldImage = 0
 least_payload Image = 0
+least_payload Amendment = 0
 
 abbrev pub most_payload : EntryKind → ℕ
 most_payload Frames = MOST_PAYLOAD
 most_payload OldImage = MOST_IMAGE
 most_payload Image = MOST_IMAGE
+most_payload Amendment = MOST_IMAGE
 
-pub record IsRecord (r : Record) : Type 0 where
+-- a record that a journal of the version may have
+pub record IsRecord (version : Version) (r : Record) : Type 0 where
+  pub known : has_kind version r.kind ≡ true
   pub some : least_payload r.kind ≤ length r.payload
   pub few : length r.payload ≤ most_payload r.kind
 
@@ -85,5 +99,5 @@ pub record IsJournal (head : Header) (limit : ℕ) (records : List Record) (imag
   pub behind : List ℕ
   pub is : image ≡ journal_front head records ++ gate ∷ behind
   pub closed : gate ≢ 1
-  pub sized : AllByRecursion IsRecord records
+  pub sized : AllByRecursion (IsRecord head.version) records
   pub in_limit : length (journal_front head records) < limit

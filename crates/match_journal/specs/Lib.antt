@@ -1,11 +1,13 @@
 pub mod Standing
 pub mod Journal
+pub mod Texts
 pub mod Classes
 pub mod Causes
 pub mod Steps
 pub mod StepLaws
 pub mod LookLaws
 pub mod HeaderLaws
+pub mod BadRecords
 pub mod Opening
 pub mod Walking
 pub mod Appending

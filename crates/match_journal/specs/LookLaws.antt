@@ -3,8 +3,12 @@ use Rattle.std.proofs.Common.{ℕ, ◌+◌, ◌≤◌, Option, Some, None, refl,
 use Rattle.gx_station.specs.Stations.{StationMeanings}
 use Rattle.gx_station.specs.Moments.{adds_none}
 use Rattle.gx_station.specs.Honest.{KeepsImage}
-use Rattle.match_journal.specs.Causes.{ReadsAtMost, SendsNothing, LooksOnly}
+use Rattle.match_journal.specs.Causes.{ReadsAtMost, SendsNothing, LooksOnly, ReadsOnly}
 use Rattle.match_journal.specs.StepLaws.{adds_then}
+
+pub none_read : (count : Option ℕ) → ReadsAtMost 0 count count
+none_read None = tt
+none_read (Some n) = (omega arith, omega arith)
 
 pub reads_then : (x y : ℕ) (a b c : Option ℕ) → ReadsAtMost x a b → ReadsAtMost y b c → ReadsAtMost (x + y) a c
 reads_then x y None None None p q = tt
@@ -55,3 +59,32 @@ module _ {S : Type 0} (m : StationMeanings S) where
     reach = looks.reach;
     bytes_read = reads_more x y (m.bytes_read a) (m.bytes_read b) le looks.bytes_read;
   }
+
+  -- one look more, by a bound for both
+  pub looks_by : (a b c : S) (x y most : ℕ) → LooksOnly m a b x → LooksOnly m b c y → x + y ≤ most → LooksOnly m a c most
+  looks_by a b c x y most first second few = looks_more a c (x + y) most few (looks_then a b c x y first second)
+
+  -- ---- looks, whatever their bounds
+
+  pub reads_itself : (a : S) → ReadsOnly m a a
+  reads_itself a = record {
+    most = 0;
+    looks = record {
+      silent = record { sent = refl; send_faults = refl; store_faults = omega arith };
+      keeps = keeps_itself a;
+      images_stay = λ h image may. may;
+      reach = omega arith;
+      bytes_read = none_read (m.bytes_read a);
+    };
+  }
+
+  pub reads_of : (a b c : S) (x y : ℕ) → LooksOnly m a b x → LooksOnly m b c y → ReadsOnly m a c
+  reads_of a b c x y first second = record { most = x + y; looks = looks_then a b c x y first second }
+
+  -- one look more
+  pub reads_look : (a b c : S) (most : ℕ) → ReadsOnly m a b → LooksOnly m b c most → ReadsOnly m a c
+  reads_look a b c most reads looks = reads_of a b c reads.most most reads.looks looks
+
+  -- and one look before
+  pub look_reads : (a b c : S) (most : ℕ) → LooksOnly m a b most → ReadsOnly m b c → ReadsOnly m a c
+  look_reads a b c most looks reads = reads_of a b c most reads.most looks reads.looks

@@ -1,7 +1,7 @@
 -- Going over the records of a journal.
-use Rattle.std.specs.Prelude.{◌≡◌, ◌≢◌, ℕ, ◌+◌, List, [], ◌∷◌, ◌++◌, length, take, drop, get_or, not, false, Option, Some, None, Result, Ok, Err}
+use Rattle.std.specs.Prelude.{◌≡◌, ◌≢◌, ℕ, ◌+◌, List, [], ◌∷◌, ◌++◌, length, take, drop, get_or, not, true, false, Option, Some, None, Result, Ok, Err}
 use Rattle.std.specs.Int.{w32, to_be_bytes}
-use Rattle.match_journal.specs.Journal.{Header, Record, kind_byte, journal_front}
+use Rattle.match_journal.specs.Journal.{Header, Record, has_kind, kind_byte, version_of, journal_front}
 use Rattle.match_journal.specs.Standing.{Fits, moved}
 use Rattle.match_journal.specs.declared.standing.Standing.{Standing}
 use Rattle.match_journal.specs.declared.entry.Entry.{Entry}
@@ -12,9 +12,10 @@ use Rattle.match_journal.specs.declared.faults.WalkFault.TheVariants as fault
 abbrev pub head_of : Entry → List ℕ
 head_of entry = 1 ∷ kind_byte entry.kind ∷ to_be_bytes w32 entry.length
 
--- at the gate is the head of a good record
+-- at the gate is the head of a record of a kind that a journal of the image's version has, which ends where it may
 pub record IsHead (image : List ℕ) (limit gate : ℕ) (entry : Entry) : Type 0 where
   pub at_is : entry.at ≡ gate
+  pub known : has_kind (version_of image) entry.kind ≡ true
   pub stands : take 6 (drop gate image) ≡ head_of entry
   pub fits : Fits (length image) limit entry
 

@@ -5,13 +5,15 @@ ghost use Rattle.gx_station.specs.Counts.{Rose};
 ghost use Rattle.match_journal.specs.declared.limits.TheConstants.{MOST_PAYLOAD};
 ghost use Rattle.match_journal.specs.Causes.{SendsNothing};
 ghost use Rattle.match_journal.specs.Steps.{Steps};
-ghost use Rattle.match_journal.specs.Standing.{IsStanding, grown, lost};
+ghost use Rattle.match_journal.specs.Standing.{IsStanding, added, lost};
 ghost use Rattle.match_journal.specs.Appending.{IsJournalTo, IsBeforeOrAfter, IsAdded};
-ghost use Rattle.match_journal.specs.Journal.{Header, Record, IsRecord, kind_byte, least_payload, most_payload};
+ghost use Rattle.match_journal.specs.Journal.{Header, Record, IsRecord, has_kind, kind_byte, least_payload, most_payload};
+ghost use Rattle.match_journal.specs.Texts.{HasText};
+ghost use Rattle.match_journal.specs.declared.entry.EntryKind.TheVariants.{Amendment};
 ghost use Rattle.match_journal.specs.Inner.Stores.{staged, Puts, Stored};
 ghost use Rattle.gx_station.specs.Honest.{IsSettled};
 
-use crate::entry::{AROUND, EntryKind, FRAMES, HEAD, IMAGE, OLD_IMAGE};
+use crate::entry::{AMENDMENT, AROUND, EntryKind, FRAMES, HEAD, IMAGE, OLD_IMAGE};
 use crate::faults::AppendFault;
 use crate::journal::{Journal, RECORD};
 use crate::parts::{store, store_parts};
@@ -25,6 +27,7 @@ fn byte_of(kind: EntryKind) -> u8
         EntryKind::Frames => FRAMES,
         EntryKind::OldImage => OLD_IMAGE,
         EntryKind::Image => IMAGE,
+        EntryKind::Amendment => AMENDMENT,
     }
 }
 
@@ -67,7 +70,7 @@ fn store_record<S: Station>(
             stage(buffer, kind, payload);
             store(station, gate + 1, &buffer[..payload.len() + HEAD])
         }
-        EntryKind::OldImage | EntryKind::Image => store_parts(
+        EntryKind::OldImage | EntryKind::Image | EntryKind::Amendment => store_parts(
             station,
             gate + 1,
             &head_of(kind, payload.len() as u32),
@@ -91,7 +94,8 @@ fn put_record<S: Station>(
     ensures puts { Puts S.meanings station.old station.new result }
     ensures settled { OnOk result (S.meanings.is_honest station.old → IsSettled S.meanings station.new) }
     ensures reach_ok { OnOk result (gate + 7 + length payload.now ≤ S.meanings.reach station.new) }
-    ensures appends { (head : Header) (image : List ℕ) (limit : ℕ) (records : List Record) → IsRecord (record { kind = kind; payload = payload.now })
+    ensures appends { (head : Header) (image : List ℕ) (limit : ℕ) (records : List Record)
+        → IsRecord head.version (record { kind = kind; payload = payload.now })
         → gate + 7 + length payload.now ≤ limit → IsJournalTo head limit records gate image
         → let added : Record = record { kind = kind; payload = payload.now } in
         let next = gate + 6 + length payload.now in
@@ -103,7 +107,8 @@ fn put_record<S: Station>(
 }
 
 impl Journal {
-    /// Adds a record, by writes and two syncs, with no read. At Ok every crash from then on leaves an image that keeps it.
+    /// Adds a record, by writes and two syncs, with no read. Only a journal of the second version takes an amendment, whose text is
+    /// then the last one. At Ok every crash from then on leaves an image that keeps the record.
     /// After `Full`, which comes exactly where the record would end past the limit, nothing was done. After `Store` the
     /// journal is to be opened again.
     pub fn append<S: Station>(
@@ -116,12 +121,14 @@ impl Journal {
         requires reach { self.old.known ≤ S.meanings.reach station.old }
         requires some { least_payload kind ≤ length payload.now }
         requires few { length payload.now ≤ most_payload kind }
+        requires known { has_kind self.old.version kind ≡ true }
+        requires text { kind ≡ Amendment → HasText payload.now }
         ensures full { IsErrOf result AppendFault.Full ↔ (self.old.limit < self.old.gate + 7 + length payload.now) }
         ensures nothing { IsErrOf result AppendFault.Full → (station.new ≡ station.old) × (self.new ≡ self.old) }
         ensures store { IsErrOf result AppendFault.Store → Rose (S.meanings.store_faults station.old) (S.meanings.store_faults station.new) }
         ensures none { (IsErrOf result AppendFault.Store → ⊥) → S.meanings.store_faults station.new ≡ S.meanings.store_faults station.old }
         ensures is_lost { IsErrOf result AppendFault.Store → self.new ≡ lost self.old }
-        ensures grows { OnOk result (self.new ≡ grown self.old (self.old.gate + 6 + length payload.now)) }
+        ensures grows { OnOk result (self.new ≡ added self.old kind payload.now) }
         ensures stands { IsStanding self.new }
         ensures silent { SendsNothing S.meanings station.old station.new }
         ensures bytes_read { S.meanings.bytes_read station.new ≡ S.meanings.bytes_read station.old }
@@ -130,7 +137,7 @@ impl Journal {
         ensures settles { OnOk result (S.meanings.is_honest station.old → IsSettled S.meanings station.new) }
         // From a journal that ends here, by images that keep the records before, or those and the new one, to a journal that
         // keeps all of them.
-        ensures appends { (head : Header) (image : List ℕ) (records : List Record) → IsJournalTo head self.old.limit records self.old.gate image
+        ensures appends { (head : Header) (image : List ℕ) (records : List Record) → has_kind head.version kind ≡ true → IsJournalTo head self.old.limit records self.old.gate image
             → let added : Record = record { kind = kind; payload = payload.now } in
             let next = self.old.gate + 6 + length payload.now in
             Steps S.meanings station.old station.new image (IsBeforeOrAfter head self.old.limit records added image next)
@@ -145,6 +152,11 @@ impl Journal {
             self.standing.is_at_end = false;
             self.standing.is_lost = true;
             return Err(AppendFault::Store);
+        }
+        if let EntryKind::Amendment = kind {
+            let size = [payload[0], payload[1], payload[2], payload[3]];
+            self.standing.text_at = gate + HEAD as u64 + 4;
+            self.standing.text_len = u32::from_be_bytes(size);
         }
         self.standing.gate = gate + HEAD as u64 + count as u64;
         self.standing.known = self.standing.known.max(gate + AROUND + count as u64);

@@ -9,6 +9,9 @@ pub enum EntryKind {
     OldImage,
     /// A book image.
     Image,
+    /// A product text that takes the place of the one before, and a book image under its product. A journal of the first version has
+    /// none.
+    Amendment,
 }
 
 /// A record in a journal: the place of its gate, its kind, and how many bytes its payload has.
@@ -31,3 +34,5 @@ pub(crate) const FRAMES: u8 = b'M';
 pub(crate) const OLD_IMAGE: u8 = b'C';
 
 pub(crate) const IMAGE: u8 = b'D';
+
+pub(crate) const AMENDMENT: u8 = b'P';

@@ -1,12 +1,13 @@
 //! A journal, and its places.
 ghost use Rattle.std.specs.Prelude.{◌≡◌, ◌+◌, ◌-◌, ◌<◌, ◌≤◌, length, false};
 ghost use Rattle.match_journal.specs.Standing.{IsStanding, moved, at_first, version_number};
-ghost use Rattle.match_journal.specs.declared.limits.TheConstants.{MOST_LIMIT};
+ghost use Rattle.match_journal.specs.declared.limits.TheConstants.{MOST_LIMIT, MOST_TEXT};
 
 use crate::class::TEXT_AT;
 use crate::entry::{AROUND, Entry, HEAD};
 use crate::limits::MOST_PAYLOAD;
 use crate::standing::Standing;
+use crate::text::TextPlace;
 use crate::version::Version;
 use std::marker::Model;
 
@@ -34,13 +35,23 @@ impl Model for Journal {
 }
 
 impl Journal {
-    /// A journal of a version that was just opened in an image of `known` bytes, at its first gate.
-    pub(crate) fn opened(version: Version, product: &[u8], known: u64, limit: u64) -> Journal
-        requires known { 13 + length product.now < known }
+    /// A journal of a version that was just opened in an image of `known` bytes, at its first gate. Its header has a text of `size`
+    /// bytes, and its last text stands at `text`.
+    pub(crate) fn opened(
+        version: Version,
+        size: u32,
+        text: TextPlace,
+        known: u64,
+        limit: u64,
+    ) -> Journal
+        requires known { 13 + size < known }
+        requires short { size ≤ MOST_TEXT }
+        requires text { text.at + text.len < known }
+        requires text_short { text.len ≤ MOST_TEXT }
         requires most { limit ≤ MOST_LIMIT }
-        ensures { result ≡ at_first version (13 + length product.now) known limit }
+        ensures { result ≡ at_first version (13 + size) known limit text.at text.len }
     {
-        let first = TEXT_AT as u64 + product.len() as u64;
+        let first = TEXT_AT as u64 + size as u64;
         Journal {
             standing: Standing {
                 version,
@@ -50,6 +61,8 @@ impl Journal {
                 limit,
                 is_at_end: false,
                 is_lost: false,
+                text_at: text.at,
+                text_len: text.len,
             },
             record: [0; RECORD],
         }

@@ -11,6 +11,7 @@ mod laws;
 mod limits;
 mod look;
 mod parts;
+mod read_text;
 mod standing;
 mod start;
 mod text;
@@ -21,8 +22,10 @@ pub use entry::{Entry, EntryKind, HEAD};
 pub use faults::{AppendFault, StartFault, StoreFault, WalkFault};
 pub use journal::Journal;
 pub use laws::{
-    a_gate_has_one_answer, a_kept_image_is_not_refused, an_image_has_one_answer,
-    an_image_keeps_one_list, the_first_gate_is_written_alone,
+    a_gate_has_one_answer, a_journal_has_one_last_text, a_kept_image_is_not_refused,
+    an_image_has_one_answer, an_image_keeps_one_list, the_first_gate_is_written_alone,
 };
-pub use limits::{LEAST_LIMIT, MOST_IMAGE, MOST_LIMIT, MOST_PAYLOAD, MOST_TEXT, MOST_UNFINISHED};
+pub use limits::{
+    LEAST_LIMIT, MOST_IMAGE, MOST_LIMIT, MOST_OPENING, MOST_PAYLOAD, MOST_TEXT, MOST_UNFINISHED,
+};
 pub use version::Version;

@@ -13,6 +13,10 @@ pub const MOST_IMAGE: usize = 4_294_967_295;
 /// a gate.
 pub const MOST_UNFINISHED: u64 = 65_550;
 
+/// How many bytes an opening reads at most, besides the heads of records: the front of the header, the longest product text, and its
+/// length.
+pub const MOST_OPENING: u64 = 65_600;
+
 /// The least place at which the last record may have to end.
 pub const LEAST_LIMIT: u64 = 131_072;
 

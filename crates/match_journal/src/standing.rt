@@ -19,4 +19,8 @@ pub struct Standing {
     pub is_at_end: bool,
     /// An append has failed.
     pub is_lost: bool,
+    /// The first byte of the last text: that of the last amendment, or else the header's.
+    pub text_at: u64,
+    /// How many bytes the last text has.
+    pub text_len: u32,
 }

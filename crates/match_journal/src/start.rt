@@ -1,24 +1,25 @@
 //! Opening for writing: a blank image is made a journal of the second version, and a sealed one of the product a journal of its
 //! own, one step after the other.
-ghost use Rattle.std.specs.Prelude.{◌≡◌, ◌⊎◌, ℕ, ◌+◌, ◌<◌, ◌≤◌, max, List, [], ◌++◌, length, Some, true, OnOk, IfOk, IfErr, IsErrOf};
+ghost use Rattle.std.specs.Prelude.{◌≡◌, ◌⊎◌, ℕ, ◌+◌, ◌<◌, ◌≤◌, max, List, [], ◌++◌, length, Some, true, false, OnOk, IfOk, IfErr, IsErrOf};
 ghost use Rattle.gx_station.specs.Counts.{Rose};
 ghost use Rattle.gx_station.specs.Honest.{KeepsImage, IsSettled};
 ghost use Rattle.match_journal.specs.Causes.{SendsNothing, ReadsAtMost};
 ghost use Rattle.match_journal.specs.Steps.{Steps, StepsFrom, HoldsOne};
-ghost use Rattle.match_journal.specs.Standing.{IsStanding, StandsIn, at_first};
+ghost use Rattle.match_journal.specs.Standing.{IsStanding, at_first};
+ghost use Rattle.match_journal.specs.Texts.{HasLastText};
 ghost use Rattle.std.specs.Int.{w32, to_be_bytes};
-ghost use Rattle.match_journal.specs.Journal.{Header, Record, IsJournal, in_version, magic, version_of};
-ghost use Rattle.match_journal.specs.Classes.{HasOpenGate, IsBlank, IsSealed, Keeps};
-ghost use Rattle.match_journal.specs.Opening.{Starts, IsOpening, IsRefusal};
+ghost use Rattle.match_journal.specs.Journal.{Header, Record, IsJournal, in_version, magic};
+ghost use Rattle.match_journal.specs.Classes.{HasOpenGate, IsOfSecondVersion, IsBlank, IsSealed, Keeps};
+ghost use Rattle.match_journal.specs.Opening.{Starts, StandsIn, IsOpening, IsRefusal, most_to_open};
 ghost use Rattle.match_journal.specs.Inner.Stores.{Puts};
-ghost use Rattle.match_journal.specs.Inner.Fronts.{IsFound, IsClosed, IsMade, least_of_class, is_open, is_sealed, version_or};
+ghost use Rattle.match_journal.specs.Inner.Fronts.{IsHeld, IsInside, HasSizeOf, IsClosed, IsMade, is_open, is_sealed, version_or, journal_then};
 ghost use Rattle.match_journal.specs.declared.limits.TheConstants.{MOST_TEXT, MOST_LIMIT, LEAST_LIMIT, MOST_UNFINISHED};
 ghost use Rattle.match_journal.specs.declared.version.Version.TheVariants.{Second};
 
 use crate::class::{Class, magic_of};
 use crate::faults::StartFault;
 use crate::journal::Journal;
-use crate::look::{Found, look_at};
+use crate::look::{Found, header_text, hold_text, look_at};
 use crate::parts::{store, store_parts};
 use crate::version::Version;
 use gx_station::{Failed, Station};
@@ -63,21 +64,21 @@ fn finish<S: Station>(
 ) -> Result<(), Failed>
     requires short { length product.now ≤ MOST_TEXT }
     requires reach { found.now.len ≤ S.meanings.reach station.old }
-    requires least { least_of_class (length product.now) found.now.class ≤ found.now.len }
+    requires inside { IsInside found.now.class found.now.text found.now.len }
+    requires size { HasSizeOf (length product.now) found.now.class found.now.text }
     ensures puts { Puts S.meanings station.old station.new result }
-    ensures reach { OnOk result (max found.now.len (14 + length product.now) ≤ S.meanings.reach station.new) }
+    ensures reach { OnOk result (is_open found.now.class ≡ false → max found.now.len (14 + length product.now) ≤ S.meanings.reach station.new) }
     ensures settled { OnOk result (S.meanings.is_honest station.old → IsSettled S.meanings station.old → IsSettled S.meanings station.new) }
     ensures opened { is_open found.now.class ≡ true → station.new ≡ station.old }
-    ensures known { (image : List ℕ) → IsFound product.now image found.now → S.meanings.holds station.old ≡ Some image
-        → version ≡ version_or found.now.class Second
-        → OnOk result (HoldsOne S.meanings (λ last. (length last ≡ max found.now.len (14 + length product.now)) × (version_of last ≡ version)) station.new) }
+    ensures makes_one { (image : List ℕ) (limit : ℕ) → LEAST_LIMIT ≤ limit → is_open found.now.class ≡ false → IsHeld product.now limit image found.now
+        → S.meanings.holds station.old ≡ Some image → version ≡ version_or found.now.class Second
+        → OnOk result (HoldsOne S.meanings (IsMade (in_version version product.now) limit (max found.now.len (14 + length product.now))) station.new) }
     ensures makes { (image : List ℕ) (limit : ℕ) → LEAST_LIMIT ≤ limit → is_sealed found.now.class ≡ true → IsSealed (in_version version product.now) image
         → S.meanings.holds station.old ≡ Some image
         → OnOk result (HoldsOne S.meanings (IsJournal (in_version version product.now) limit []) station.new) }
-    ensures steps { (image : List ℕ) (limit : ℕ) (records : List Record) → LEAST_LIMIT ≤ limit → IsFound product.now image found.now
-        → version ≡ version_or found.now.class Second → Keeps (in_version version product.now) limit records image
-        → let head = in_version version product.now in
-        Steps S.meanings station.old station.new image (IsOpening product.now limit records image) (IsJournal head limit records) result }
+    ensures steps { (image : List ℕ) (limit : ℕ) (head : Header) (records : List Record) → LEAST_LIMIT ≤ limit → IsHeld product.now limit image found.now
+        → version ≡ version_or found.now.class Second → HasLastText head records product.now → Keeps head limit records image
+        → Steps S.meanings station.old station.new image (IsOpening product.now limit records image) (IsJournal head limit records) result }
 {
     match found.class {
         Class::Empty => {
@@ -98,10 +99,32 @@ fn length_then(found: &Found, product: &[u8]) -> u64
     found.len.max(product.len() as u64 + 14)
 }
 
+/// The journal that was found, or was made of what was found.
+fn journal_then(found: &Found, version: Version, product: &[u8], limit: u64) -> Journal
+    requires inside { IsInside found.now.class found.now.text found.now.len }
+    requires short { length product.now ≤ MOST_TEXT }
+    requires most { limit ≤ MOST_LIMIT }
+    ensures { result ≡ journal_then found.now version (length product.now) limit }
+{
+    match found.class {
+        Class::Open(version, size) => Journal::opened(version, size, found.text, found.len, limit),
+        Class::Empty | Class::Blank | Class::Sealed(_, _) => {
+            let size = product.len() as u32;
+            Journal::opened(
+                version,
+                size,
+                header_text(size),
+                length_then(found, product),
+                limit,
+            )
+        }
+    }
+}
+
 impl Journal {
     /// Opens for writing, which begins with a sync: a blank image becomes a journal of the second version that keeps nothing, and
     /// a sealed one of this product such a journal of its own version. A journal of either version stays as it is, and so does
-    /// what is refused.
+    /// what is refused. What is refused, and in which order, is as for `look`.
     pub fn start<S: Station>(
         station: &mut S,
         product: &[u8],
@@ -113,15 +136,19 @@ impl Journal {
         ensures silent { SendsNothing S.meanings station.old station.new }
         ensures store { IsErrOf result StartFault.Store → Rose (S.meanings.store_faults station.old) (S.meanings.store_faults station.new) }
         ensures none { (IsErrOf result StartFault.Store → ⊥) → S.meanings.store_faults station.new ≡ S.meanings.store_faults station.old }
-        ensures bytes_read { ReadsAtMost MOST_UNFINISHED (S.meanings.bytes_read station.old) (S.meanings.bytes_read station.new) }
-        ensures place { IfOk result (λ journal. (journal ≡ at_first journal.version (13 + length product.now) journal.known limit) × IsStanding journal) }
+        // How many bytes are read: of an image whose heads are not gone over, and of a journal of good heads.
+        ensures front_bytes { (image : List ℕ) → S.meanings.holds station.old ≡ Some image → (IsOfSecondVersion image → ⊥)
+            → ReadsAtMost MOST_UNFINISHED (S.meanings.bytes_read station.old) (S.meanings.bytes_read station.new) }
+        ensures few_bytes { (head : Header) (image : List ℕ) (records : List Record) → S.meanings.holds station.old ≡ Some image → IsJournal head limit records image
+            → ReadsAtMost (most_to_open records) (S.meanings.bytes_read station.old) (S.meanings.bytes_read station.new) }
+        ensures place { IfOk result (λ journal. (journal ≡ at_first journal.version journal.first journal.known limit journal.text_at (length product.now)) × IsStanding journal) }
         ensures reach { IfOk result (λ journal. journal.known ≤ S.meanings.reach station.new) }
         ensures stands_in { IfOk result (λ journal. (before after : List ℕ) → S.meanings.holds station.old ≡ Some before
             → S.meanings.holds station.new ≡ Some after → StandsIn journal after) }
         // Which images are opened, and which fault comes with the others, at which place.
-        ensures answers { (image : List ℕ) → S.meanings.holds station.old ≡ Some image → Starts product.now image result }
+        ensures answers { (image : List ℕ) → S.meanings.holds station.old ≡ Some image → Starts product.now limit image result }
         // An image that keeps some records is opened by images that keep the same.
-        ensures starts { (image : List ℕ) (head : Header) (records : List Record) → head.text ≡ product.now → Keeps head limit records image
+        ensures starts { (image : List ℕ) (head : Header) (records : List Record) → HasLastText head records product.now → Keeps head limit records image
             → StepsFrom S.meanings station.old station.new image (IsOpening product.now limit records image) (IsJournal head limit records) result }
         // A blank image is made a journal of the second version that keeps nothing, and a sealed one of this text such a journal of its own.
         ensures creates { (image : List ℕ) → S.meanings.holds station.old ≡ Some image → IsBlank image
@@ -130,7 +157,7 @@ impl Journal {
             → OnOk result (HoldsOne S.meanings (IsJournal head limit []) station.new) }
         // Whatever the answer, a read gives an image that keeps the same then.
         ensures keeps { (image : List ℕ) (head : Header) (records : List Record) → S.meanings.is_honest station.old → S.meanings.holds station.old ≡ Some image
-            → head.text ≡ product.now → Keeps head limit records image
+            → HasLastText head records product.now → Keeps head limit records image
             → HoldsOne S.meanings (IsOpening product.now limit records image) station.new }
         // Whatever the image was, nothing is pending at the end.
         ensures settles { OnOk result (S.meanings.is_honest station.old → IsSettled S.meanings station.new) }
@@ -141,15 +168,18 @@ impl Journal {
         if station.sync().is_err() {
             return Err(StartFault::Store);
         }
-        let found = match look_at(station, product) {
+        let found = match look_at(station, limit) {
             Ok(found) => found,
             Err(fault) => return Err(fault),
         };
+        match hold_text(station, &found, product) {
+            Ok(()) => {}
+            Err(fault) => return Err(fault),
+        }
         let version = found.class.version_or(Version::Second);
         if finish(station, &found, version, product).is_err() {
             return Err(StartFault::Store);
         }
-        let known = length_then(&found, product);
-        Ok(Journal::opened(version, product, known, limit))
+        Ok(journal_then(&found, version, product, limit))
     }
 }

@@ -1,5 +1,5 @@
 //! The product text in an image, and the one that is handed in.
-ghost use Rattle.std.specs.Prelude.{◌≡◌, ℕ, ◌+◌, ◌<◌, ◌≤◌, List, length, take, drop, None, Some, IfOk, IfSome};
+ghost use Rattle.std.specs.Prelude.{◌≡◌, ℕ, ◌+◌, ◌<◌, ◌≤◌, ◌^◌, List, length, take, drop, None, Some, IfOk, IfSome};
 ghost use Rattle.gx_station.specs.StoreCalls.{OnStore};
 ghost use Rattle.match_journal.specs.Causes.{LooksOnly};
 ghost use Rattle.match_journal.specs.Classes.{first_difference};
@@ -7,8 +7,15 @@ ghost use Rattle.match_journal.specs.Inner.Fronts.{TextAnswers};
 ghost use Rattle.match_journal.specs.declared.limits.TheConstants.{MOST_TEXT};
 ghost use Rattle.match_journal.specs.declared.text.TheConstants.{PIECE};
 
-use crate::class::{TEXT_AT, common_front};
+use crate::class::common_front;
 use gx_station::{Failed, Station};
+
+/// Where a text stands in an image, and how many bytes it has.
+#[derive(Clone, Copy, Debug, PartialEq, Eq)]
+pub(crate) struct TextPlace {
+    pub at: u64,
+    pub len: u32,
+}
 
 /// How many bytes are compared at a time.
 const PIECE: usize = 4096;
@@ -30,27 +37,29 @@ fn same_in<S: Station>(station: &mut S, at: u64, part: &[u8]) -> Result<usize, F
     Ok(common_front(&piece[..count], part))
 }
 
-/// Where the product differs from the text of `size` bytes in the image.
+/// Where the product differs from the text that stands there.
 pub(crate) fn difference<S: Station>(
     station: &mut S,
-    size: usize,
+    place: TextPlace,
     product: &[u8],
 ) -> Result<Option<usize>, Failed>
-    requires few { size ≤ MOST_TEXT }
-    requires reach { 13 + size ≤ S.meanings.reach station.old }
-    ensures looks { LooksOnly S.meanings station.old station.new size }
+    requires few { place.len ≤ MOST_TEXT }
+    requires reach { place.at + place.len ≤ S.meanings.reach station.old }
+    requires small { place.at + place.len < 2 ^ 64 }
+    ensures looks { LooksOnly S.meanings station.old station.new place.len }
     ensures reach { S.meanings.reach station.new ≡ S.meanings.reach station.old }
     ensures on_store { OnStore S.meanings station.old station.new result }
-    ensures size { IfOk result (λ found. found ≡ None → size ≡ length product.now) }
-    ensures within { IfOk result (λ found. IfSome found (λ at. at ≤ size)) }
-    ensures text { (image text : List ℕ) → S.meanings.holds station.old ≡ Some image → take size (drop 13 image) ≡ text → length text ≡ size
+    ensures size { IfOk result (λ found. found ≡ None → place.len ≡ length product.now) }
+    ensures within { IfOk result (λ found. IfSome found (λ at. at ≤ place.len)) }
+    ensures text { (image text : List ℕ) → S.meanings.holds station.old ≡ Some image → take place.len (drop place.at image) ≡ text → length text ≡ place.len
         → IfOk result (TextAnswers text product.now) }
 {
+    let size = place.len as usize;
     let most = size.min(product.len());
     let mut at = 0;
     while at < most {
         let count = (most - at).min(PIECE);
-        let same = same_in(station, (TEXT_AT + at) as u64, &product[at..at + count])?;
+        let same = same_in(station, place.at + at as u64, &product[at..at + count])?;
         at += same;
         if same < count {
             return Ok(Some(at));

@@ -1,30 +1,36 @@
 //! Going over the records.
-ghost use Rattle.std.specs.Prelude.{◌≡◌, ℕ, ◌+◌, ◌<◌, ◌≤◌, ◌↔◌, List, ◌++◌, length, take, drop, min, Some, None, OnOk, IfOk, IfSome, IsErrOf, IsTrue};
+ghost use Rattle.std.specs.Prelude.{◌≡◌, ℕ, ◌+◌, ◌<◌, ◌≤◌, ◌↔◌, List, ◌++◌, length, take, drop, min, true, Some, None, OnOk, IfOk, IfSome, IsErrOf, IsTrue};
 ghost use Rattle.gx_station.specs.Counts.{Rose};
 ghost use Rattle.gx_station.specs.StoreCalls.{OnStore};
 ghost use Rattle.match_journal.specs.Causes.{LooksOnly};
-ghost use Rattle.match_journal.specs.Journal.{Header, IsJournal, Record, kind_byte, least_payload, most_payload, journal_front};
-ghost use Rattle.match_journal.specs.Standing.{IsStanding, StandsIn, Fits};
+ghost use Rattle.match_journal.specs.Journal.{Header, IsJournal, Record, has_kind, kind_byte, version_of, least_payload, most_payload, journal_front};
+ghost use Rattle.match_journal.specs.Standing.{IsStanding, Fits};
+ghost use Rattle.match_journal.specs.Opening.{StandsIn};
 ghost use Rattle.match_journal.specs.Walking.{Walks, InOrder, IsNext, stands_then};
 ghost use Rattle.match_journal.specs.Inner.Heads.{HeadAnswers};
 ghost use Rattle.match_journal.specs.declared.entry.EntryKind.{EntryKind};
 
-use crate::entry::{AROUND, Entry, EntryKind, FRAMES, HEAD, IMAGE, OLD_IMAGE};
+use crate::entry::{AMENDMENT, AROUND, Entry, EntryKind, FRAMES, HEAD, IMAGE, OLD_IMAGE};
 use crate::faults::{StoreFault, WalkFault};
 use crate::journal::Journal;
 use crate::limits::MOST_PAYLOAD;
 use crate::standing::Standing;
+use crate::version::Version;
 use gx_station::Station;
 
-/// The kind of a byte. `None` exactly where it is that of none.
-fn kind_of(byte: u8) -> Option<EntryKind>
-    ensures some { IfSome result (λ kind. byte ≡ kind_byte kind) }
-    ensures none { result ≡ None → (kind : EntryKind) → byte ≡ kind_byte kind → ⊥ }
+/// The kind of a byte in a journal of a version. `None` exactly if it is that of no kind that such a journal has.
+fn kind_of(byte: u8, version: Version) -> Option<EntryKind>
+    ensures some { IfSome result (λ kind. (byte ≡ kind_byte kind) × (has_kind version kind ≡ true)) }
+    ensures none { result ≡ None → (kind : EntryKind) → byte ≡ kind_byte kind → has_kind version kind ≡ true → ⊥ }
 {
     match byte {
         FRAMES => Some(EntryKind::Frames),
         OLD_IMAGE => Some(EntryKind::OldImage),
         IMAGE => Some(EntryKind::Image),
+        AMENDMENT => match version {
+            Version::First => None,
+            Version::Second => Some(EntryKind::Amendment),
+        },
         _ => None,
     }
 }
@@ -35,19 +41,19 @@ fn is_length_of(kind: EntryKind, length: u32) -> bool
 {
     match kind {
         EntryKind::Frames => (1..=MOST_PAYLOAD as u32).contains(&length),
-        EntryKind::OldImage | EntryKind::Image => true,
+        EntryKind::OldImage | EntryKind::Image | EntryKind::Amendment => true,
     }
 }
 
-/// The entry whose head these bytes are, behind an open gate at a place. `most` is where the image ends or, where that is
-/// less, the limit.
-fn entry_of(head: &[u8], at: u64, most: u64) -> Option<Entry>
-    ensures { HeadAnswers head.now at most result }
+/// The entry whose head these bytes are, behind an open gate at a place in a journal of a version. `most` is where the image ends or,
+/// where that is less, the limit.
+fn entry_of(version: Version, head: &[u8], at: u64, most: u64) -> Option<Entry>
+    ensures { HeadAnswers version head.now at most result }
 {
     if head.len() < HEAD {
         return None;
     }
-    let kind = kind_of(head[1])?;
+    let kind = kind_of(head[1], version)?;
     let length = u32::from_be_bytes([head[2], head[3], head[4], head[5]]);
     if !is_length_of(kind, length) {
         return None;
@@ -59,7 +65,10 @@ fn entry_of(head: &[u8], at: u64, most: u64) -> Option<Entry>
 }
 
 /// Reads the head at the last gate met, at most six bytes.
-fn read_head<S: Station>(station: &mut S, standing: &Standing) -> Result<Option<Entry>, WalkFault>
+pub(crate) fn read_head<S: Station>(
+    station: &mut S,
+    standing: &Standing,
+) -> Result<Option<Entry>, WalkFault>
     requires stands { IsStanding standing.now }
     requires reach { standing.now.known ≤ S.meanings.reach station.old }
     ensures looks { LooksOnly S.meanings station.old station.new 6 }
@@ -67,8 +76,8 @@ fn read_head<S: Station>(station: &mut S, standing: &Standing) -> Result<Option<
     ensures store { IsErrOf result WalkFault.Store → Rose (S.meanings.store_faults station.old) (S.meanings.store_faults station.new) }
     ensures none { (IsErrOf result WalkFault.Store → ⊥) → S.meanings.store_faults station.new ≡ S.meanings.store_faults station.old }
     ensures entry { IfOk result (λ found. IfSome found (λ entry. (entry.at ≡ standing.now.gate) × Fits standing.now.known standing.now.limit entry)) }
-    ensures walks { (image : List ℕ) → S.meanings.holds station.old ≡ Some image → StandsIn standing.now image
-        → Walks image standing.now.limit standing.now.gate result }
+    ensures walks { (image : List ℕ) → S.meanings.holds station.old ≡ Some image → length image ≡ standing.now.known
+        → version_of image ≡ standing.now.version → Walks image standing.now.limit standing.now.gate result }
 {
     let gate = standing.gate;
     let count = (standing.known - gate).min(HEAD as u64) as usize;
@@ -79,7 +88,8 @@ fn read_head<S: Station>(station: &mut S, standing: &Standing) -> Result<Option<
     if head[0] != 1 {
         return Ok(None);
     }
-    match entry_of(&head[..count], gate, standing.known.min(standing.limit)) {
+    let most = standing.known.min(standing.limit);
+    match entry_of(standing.version, &head[..count], gate, most) {
         Some(entry) => Ok(Some(entry)),
         None => Err(WalkFault::Bad(gate)),
     }

@@ -1,14 +1,21 @@
 -- What is found in an image before it is opened, step by step.
-use Rattle.std.specs.Prelude.{◌≡◌, ◌≢◌, ℕ, ◌+◌, ◌<◌, ◌≤◌, List, [], ◌∷◌, ◌++◌, length, take, drop, get_or, Bool, true, false, Option, Some, None, Result, Ok, Err}
+use Rattle.std.specs.Prelude.{◌≡◌, ◌≢◌, ◌⊎◌, ℕ, ◌+◌, ◌<◌, ◌≤◌, max, List, [], ◌∷◌, ◌++◌, length, take, drop, get_or, Bool, true, false, Option, Some, None, Result, Ok, Err}
 use Rattle.std.specs.Int.{w32, to_be_bytes}
-use Rattle.match_journal.specs.Journal.{Header, IsJournal, in_version, magic}
+use Rattle.match_journal.specs.Journal.{Header, Record, IsJournal, magic}
+use Rattle.match_journal.specs.Texts.{PlacedText, PlacedAmendment, HasText, amended_text, header_text, last_amendment}
 use Rattle.match_journal.specs.Classes.{HasOpenGate, IsForeignAt, HasBadHeader, IsSealed, first_difference, magic_difference}
-use Rattle.match_journal.specs.Opening.{IsOpened, IsStartFault}
+use Rattle.match_journal.specs.BadRecords.{HasBadHeadAt, HasBadLastText}
+use Rattle.match_journal.specs.Opening.{IsOpened, IsTextIn, IsStartFault, IsLookFault}
 use Rattle.match_journal.specs.declared.limits.TheConstants.{MOST_TEXT, MOST_UNFINISHED}
 use Rattle.match_journal.specs.declared.version.Version.{Version}
+use Rattle.match_journal.specs.declared.version.Version.TheVariants.{Second}
 use Rattle.match_journal.specs.declared.class.Class.{Class}
 use Rattle.match_journal.specs.declared.class.Class.TheVariants as class
+use Rattle.match_journal.specs.declared.entry.Entry.{Entry}
+use Rattle.match_journal.specs.declared.text.TextPlace.{TextPlace}
 use Rattle.match_journal.specs.declared.look.Found.{Found}
+use Rattle.match_journal.specs.Standing.{at_first}
+use Rattle.match_journal.specs.declared.standing.Standing.{Standing}
 use Rattle.match_journal.specs.declared.faults.StartFault.{StartFault}
 use Rattle.match_journal.specs.declared.faults.StartFault.TheVariants as fault
 
@@ -55,6 +62,7 @@ version_or class.Blank new = new
 version_or (class.Sealed version size) new = version
 version_or (class.Open version size) new = version
 
+-- no head is looked at yet, so nothing but the header can be bad
 abbrev pub IsFrontFault : List ℕ → StartFault → Type 0
 IsFrontFault image fault.Store = Unit {0}
 IsFrontFault image (fault.NotAJournal at) = IsForeignAt image at
@@ -77,45 +85,159 @@ abbrev pub EndAnswers : List ℕ → Class → Result (Unit {0}) StartFault → 
 EndAnswers image c (Ok t) = has_closed_end image c
 EndAnswers image c (Err e) = IsFrontFault image e
 
+-- ---- and the last amendment, where a journal of the second version has one
+
+-- an entry is that of an amendment
+abbrev pub IsEntryOf : List ℕ → Option Entry → Option PlacedAmendment → Type 0
+IsEntryOf image None None = Unit {0}
+IsEntryOf image None (Some last) = ⊥
+IsEntryOf image (Some entry) None = ⊥
+IsEntryOf image (Some entry) (Some last) = (entry.at ≡ last.gate) × (entry.length ≡ length last.payload) × (take entry.length (drop (entry.at + 6) image) ≡ last.payload)
+
+-- no head is bad, and the entry is that of the last amendment
+pub record HasLastEntry (head : Header) (limit : ℕ) (image : List ℕ) (found : Option Entry) : Type 0 where
+  pub records : List Record
+  pub heads : IsJournal head limit records image
+  pub last : IsEntryOf image found (last_amendment head records)
+
+abbrev pub HeadsAnswers : Header → ℕ → List ℕ → Result (Option Entry) StartFault → Type 0
+HeadsAnswers head limit image (Ok found) = HasLastEntry head limit image found
+HeadsAnswers head limit image (Err fault.Store) = Unit {0}
+HeadsAnswers head limit image (Err (fault.NotAJournal at)) = ⊥
+HeadsAnswers head limit image (Err (fault.Bad at)) = HasBadHeadAt head limit image at
+HeadsAnswers head limit image (Err (fault.ProductDiffers at)) = ⊥
+
 -- ---- and the text
+
+-- so a text stands in an image
+pub record IsPlaceOf (image : List ℕ) (place : TextPlace) (text : PlacedText) : Type 0 where
+  pub at : place.at ≡ text.at
+  pub len : place.len ≡ length text.bytes
+  pub stands : take place.len (drop place.at image) ≡ text.bytes
+
+-- the text of an amendment with this payload is whole, and stands there
+pub record IsAmendedPlace (image : List ℕ) (gate : ℕ) (payload : List ℕ) (place : TextPlace) : Type 0 where
+  pub whole : HasText payload
+  pub stands : IsPlaceOf image place (record { at = gate + 10; bytes = amended_text payload })
+
+abbrev pub AmendedAnswers : List ℕ → ℕ → List ℕ → Result TextPlace StartFault → Type 0
+AmendedAnswers image gate payload (Ok place) = IsAmendedPlace image gate payload place
+AmendedAnswers image gate payload (Err fault.Store) = Unit {0}
+AmendedAnswers image gate payload (Err (fault.NotAJournal at)) = ⊥
+AmendedAnswers image gate payload (Err (fault.Bad at)) = (HasText payload → ⊥) × (at ≡ gate)
+AmendedAnswers image gate payload (Err (fault.ProductDiffers at)) = ⊥
+
+-- the last text of a journal of the second version stands there
+pub record IsLastPlace (head : Header) (limit : ℕ) (image : List ℕ) (place : TextPlace) : Type 0 where
+  pub text : PlacedText
+  pub is : IsTextIn Second head limit image text
+  pub stands : IsPlaceOf image place text
+
+abbrev pub LastTextAnswers : Header → ℕ → List ℕ → Result TextPlace StartFault → Type 0
+LastTextAnswers head limit image (Ok place) = IsLastPlace head limit image place
+LastTextAnswers head limit image (Err fault.Store) = Unit {0}
+LastTextAnswers head limit image (Err (fault.NotAJournal at)) = ⊥
+LastTextAnswers head limit image (Err (fault.Bad at)) = HasBadHeadAt head limit image at ⊎ HasBadLastText head limit image at
+LastTextAnswers head limit image (Err (fault.ProductDiffers at)) = ⊥
 
 abbrev pub TextAnswers : List ℕ → List ℕ → Option ℕ → Type 0
 TextAnswers text product None = text ≡ product
 TextAnswers text product (Some at) = (text ≢ product) × (at ≡ first_difference text product)
 
-abbrev pub SameAnswers : List ℕ → List ℕ → Result (Unit {0}) StartFault → Type 0
-SameAnswers text product (Ok t) = text ≡ product
-SameAnswers text product (Err fault.Store) = Unit {0}
-SameAnswers text product (Err (fault.NotAJournal at)) = ⊥
-SameAnswers text product (Err (fault.Bad at)) = ⊥
-SameAnswers text product (Err (fault.ProductDiffers at)) = (text ≢ product) × (at ≡ 13 + first_difference text product)
+abbrev pub SameAnswers : List ℕ → ℕ → List ℕ → Result (Unit {0}) StartFault → Type 0
+SameAnswers text text_at product (Ok t) = text ≡ product
+SameAnswers text text_at product (Err fault.Store) = Unit {0}
+SameAnswers text text_at product (Err (fault.NotAJournal at)) = ⊥
+SameAnswers text text_at product (Err (fault.Bad at)) = ⊥
+SameAnswers text text_at product (Err (fault.ProductDiffers at)) = (text ≢ product) × (at ≡ text_at + first_difference text product)
 
 -- ---- what was found
 
-abbrev pub IsOfClass : List ℕ → List ℕ → Class → Type 0
-IsOfClass product image class.Empty = length image ≤ 1
-IsOfClass product image class.Blank = (get_or image 0 0 ≡ 0) × (length image ≤ MOST_UNFINISHED)
-IsOfClass product image (class.Sealed version size) = IsSealed (in_version version product) image
-IsOfClass product image (class.Open version size) = IsOpened (in_version version product) image
+-- sealed, by a header of this version with a text of so many bytes, which stands there
+pub record IsSealedAs (version : Version) (size : ℕ) (place : TextPlace) (image : List ℕ) : Type 0 where
+  pub head : Header
+  pub sealed : IsSealed head image
+  pub version_is : head.version ≡ version
+  pub size_is : length head.text ≡ size
+  pub stands : IsPlaceOf image place (header_text head)
 
--- how many bytes it has at least, with a product text of so many bytes
-abbrev pub least_of_class : ℕ → Class → ℕ
-least_of_class count class.Empty = 0
-least_of_class count class.Blank = 1
-least_of_class count (class.Sealed version size) = 14 + count
-least_of_class count (class.Open version size) = 14 + count
+-- a journal by such a header, whose text stands there
+pub record IsOpenedAs (limit : ℕ) (version : Version) (size : ℕ) (place : TextPlace) (image : List ℕ) : Type 0 where
+  pub head : Header
+  pub text : PlacedText
+  pub opened : IsOpened head limit text image
+  pub version_is : head.version ≡ version
+  pub size_is : length head.text ≡ size
+  pub stands : IsPlaceOf image place text
 
-abbrev pub HoldAnswers : List ℕ → List ℕ → Class → Result (Unit {0}) StartFault → Type 0
-HoldAnswers product image c (Ok t) = IsOfClass product image c
-HoldAnswers product image c (Err e) = IsStartFault product image e
+abbrev pub IsOfClass : ℕ → List ℕ → Class → TextPlace → Type 0
+IsOfClass limit image class.Empty place = length image ≤ 1
+IsOfClass limit image class.Blank place = (get_or image 0 0 ≡ 0) × (length image ≤ MOST_UNFINISHED)
+IsOfClass limit image (class.Sealed version size) place = IsSealedAs version size place image
+IsOfClass limit image (class.Open version size) place = IsOpenedAs limit version size place image
 
-pub record IsFound (product image : List ℕ) (found : Found) : Type 0 where
-  pub class : IsOfClass product image found.class
+-- where the text of an image of this class stands, or why it is refused
+abbrev pub PlaceAnswers : ℕ → List ℕ → Class → Result TextPlace StartFault → Type 0
+PlaceAnswers limit image c (Ok place) = IsOfClass limit image c place
+PlaceAnswers limit image c (Err e) = IsLookFault limit image e
+
+pub record IsFound (limit : ℕ) (image : List ℕ) (found : Found) : Type 0 where
+  pub class : IsOfClass limit image found.class found.text
   pub len : length image ≡ found.len
 
-abbrev pub FoundAnswers : List ℕ → List ℕ → Result Found StartFault → Type 0
-FoundAnswers product image (Ok found) = IsFound product image found
-FoundAnswers product image (Err e) = IsStartFault product image e
+abbrev pub FoundAnswers : ℕ → List ℕ → Result Found StartFault → Type 0
+FoundAnswers limit image (Ok found) = IsFound limit image found
+FoundAnswers limit image (Err e) = IsLookFault limit image e
+
+-- its header and its text are inside an image of this length
+abbrev pub IsInside : Class → TextPlace → ℕ → Type 0
+IsInside class.Empty place len = Unit {0}
+IsInside class.Blank place len = 1 ≤ len
+IsInside (class.Sealed version size) place len = (14 + size ≤ len) × (size ≤ MOST_TEXT) × (place.at ≡ 13) × (place.len ≡ size)
+IsInside (class.Open version size) place len = (14 + size ≤ len) × (size ≤ MOST_TEXT) × (place.at + place.len < len) × (place.len ≤ MOST_TEXT)
+
+-- the text there is this one, where there is a text
+abbrev pub HasTextOf : List ℕ → List ℕ → Class → TextPlace → Type 0
+HasTextOf product image class.Empty place = Unit {0}
+HasTextOf product image class.Blank place = Unit {0}
+HasTextOf product image (class.Sealed version size) place = take place.len (drop place.at image) ≡ product
+HasTextOf product image (class.Open version size) place = take place.len (drop place.at image) ≡ product
+
+-- it has so many bytes
+abbrev pub HasSizeOf : ℕ → Class → TextPlace → Type 0
+HasSizeOf count class.Empty place = Unit {0}
+HasSizeOf count class.Blank place = Unit {0}
+HasSizeOf count (class.Sealed version size) place = place.len ≡ count
+HasSizeOf count (class.Open version size) place = place.len ≡ count
+
+abbrev pub HoldAnswers : List ℕ → ℕ → List ℕ → Found → Result (Unit {0}) StartFault → Type 0
+HoldAnswers product limit image found (Ok t) = HasTextOf product image found.class found.text
+HoldAnswers product limit image found (Err e) = IsStartFault product limit image e
+
+-- it was found, and its text is that of the product
+pub record IsHeld (product : List ℕ) (limit : ℕ) (image : List ℕ) (found : Found) : Type 0 where
+  pub is_found : IsFound limit image found
+  pub has_text : HasTextOf product image found.class found.text
+
+-- the journal that was found, at its first gate
+abbrev pub IsJournalOf : Class → TextPlace → ℕ → ℕ → Option Standing → Type 0
+IsJournalOf class.Empty place len limit found = found ≡ None
+IsJournalOf class.Blank place len limit found = found ≡ None
+IsJournalOf (class.Sealed version size) place len limit found = found ≡ None
+IsJournalOf (class.Open version size) place len limit found = found ≡ Some (at_first version (13 + size) len limit place.at place.len)
+
+abbrev pub JournalAnswers : Found → ℕ → Option Standing → Type 0
+JournalAnswers found limit journal = IsJournalOf found.class found.text found.len limit journal
+
+-- the journal once it is finished, with a product text of so many bytes
+abbrev pub journal_as : Class → TextPlace → ℕ → Version → ℕ → ℕ → Standing
+journal_as class.Empty place len version count limit = at_first version (13 + count) (max len (14 + count)) limit 13 count
+journal_as class.Blank place len version count limit = at_first version (13 + count) (max len (14 + count)) limit 13 count
+journal_as (class.Sealed own size) place len version count limit = at_first version (13 + count) (max len (14 + count)) limit 13 count
+journal_as (class.Open own size) place len version count limit = at_first own (13 + size) len limit place.at place.len
+
+abbrev pub journal_then : Found → Version → ℕ → ℕ → Standing
+journal_then found version count limit = journal_as found.class found.text found.len version count limit
 
 abbrev pub is_open : Class → Bool
 is_open class.Empty = false

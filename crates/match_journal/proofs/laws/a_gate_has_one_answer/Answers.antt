@@ -1,4 +1,4 @@
-use Rattle.match_journal.proofs.Unique.{one_walk}
+use Rattle.match_journal.proofs.Heads.{one_walk}
 use Rattle.match_journal.proofs.laws.a_gate_has_one_answer.Goals as goal
 
 pub returns : goal.returns

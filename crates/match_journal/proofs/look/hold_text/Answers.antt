@@ -1,11 +1,10 @@
-use Rattle.std.proofs.Common.{refl}
+use Rattle.std.proofs.Common.{⊎_elim}
 use Rattle.match_journal.proofs.Found.{held_sealed, held_open}
 use Rattle.match_journal.proofs.look.hold_text.Goals as goal
 
 pub returns-in-Sealed-clause-text : goal.returns-in-Sealed-clause-text
-returns-in-Sealed-clause-text g c = λ image read front end.
-    held_sealed c.args.product.now image c.args.class _ c.in-Sealed.size c.same_text.result c.in-Sealed.is front end (λ long. c.same_text.ensures.text image _ read refl long)
-
-pub returns-in-Open-clause-text : goal.returns-in-Open-clause-text
-returns-in-Open-clause-text g c = λ image read front end.
-    held_open c.args.product.now image c.args.class _ c.in-Open.size c.same_text-in-Open.result c.in-Open.is front (λ long. c.same_text-in-Open.ensures.text image _ read refl long)
+returns-in-Sealed-clause-text g c = λ image limit read found.
+    ⊎_elim
+    (λ sealed. held_sealed c.args.product.now limit image c.args.found.now sealed.0 sealed.1 _ sealed.2 found (λ text is long. c.same_text.ensures.text image text read is long))
+    (λ opened. held_open c.args.product.now limit image c.args.found.now opened.0 opened.1 _ opened.2 found (λ text is long. c.same_text.ensures.text image text read is long))
+    c.in-Sealed.is

@@ -1,6 +1,5 @@
 use Rattle.std.proofs.Common.{refl, sym, ◌∙◌, ap, subst, arith}
 use Rattle.match_journal.specs.Journal.{Record}
-use Rattle.match_journal.specs.Standing.{lost}
 use Rattle.match_journal.specs.declared.standing.Standing.{Standing}
 use Rattle.match_journal.proofs.Appended.{AppendsAt}
 use Rattle.match_journal.proofs.Stepping.{steps_ok, steps_failed}
@@ -19,9 +18,6 @@ put_record-requires-clause-small g c = omega (arith, c.if-saturating_sub-count.f
 
 -- ---- a store that has failed
 
-pub invariant_of-self : goal.invariant_of-self
-invariant_of-self g c = record { first = c.self.invariant.first; gate = c.self.invariant.gate; in_limit = c.self.invariant.in_limit }
-
 pub returns-then-is_err-clause-full : goal.returns-then-is_err-clause-full
 returns-then-is_err-clause-full g c =
     let seen = c.self.view_is in
@@ -33,20 +29,14 @@ returns-then-is_err-clause-nothing g c = λ is. absurd (cc is)
 pub returns-then-is_err-clause-none : goal.returns-then-is_err-clause-none
 returns-then-is_err-clause-none g c = λ other. absurd (other refl)
 
-pub returns-then-is_err-clause-is_lost : goal.returns-then-is_err-clause-is_lost
-returns-then-is_err-clause-is_lost g c = λ is. ap lost c.self.view_is
-
-pub returns-then-is_err-clause-stands : goal.returns-then-is_err-clause-stands
-returns-then-is_err-clause-stands g c = invariant_of-self g c
-
 pub returns-then-is_err-clause-reach : goal.returns-then-is_err-clause-reach
 returns-then-is_err-clause-reach g c = omega (arith, c.requires.reach, c.put_record.ensures.puts.reach, ap (λ (s : Standing). s.known) c.self.view_is)
 
 pub returns-then-is_err-clause-appends : goal.returns-then-is_err-clause-appends
 returns-then-is_err-clause-appends g c =
     let added : Record = record { kind = c.args.kind; payload = c.args.payload.now } in
-    subst (AppendsAt g.S.Station.meanings c.args.station.now c.put_record.new.station added _) c.self.view_is (λ text image records journal.
-    steps_failed g.S.Station.meanings _ _ image _ _ _ _ (sym c.is_err.ensures.value ∙ c.if-is_err.true) (c.put_record.ensures.appends text image _ records record { some = c.requires.some; few = c.requires.few } (omega (arith, c.if-saturating_sub-count.false, c.saturating_sub.ensures)) journal))
+    subst (AppendsAt g.S.Station.meanings c.args.station.now c.put_record.new.station added _) c.self.view_is (λ head image records kind journal.
+    steps_failed g.S.Station.meanings _ _ image _ _ _ _ (sym c.is_err.ensures.value ∙ c.if-is_err.true) (c.put_record.ensures.appends head image _ records record { known = kind; some = c.requires.some; few = c.requires.few } (omega (arith, c.if-saturating_sub-count.false, c.saturating_sub.ensures)) journal))
 
 -- ---- a record that was put
 
@@ -55,24 +45,11 @@ returns-clause-full g c =
     let seen = c.self.view_is in
     (λ is. absurd (cc is), λ less. absurd (omega (arith, less, c.if-saturating_sub-count.false, c.saturating_sub.ensures, ap (λ (s : Standing). s.limit) seen, ap (λ (s : Standing). s.gate) seen)))
 
-pub invariant_of-self-2 : goal.invariant_of-self-2
-invariant_of-self-2 g c = record {
-  first = omega (arith, c.max-self-inside.ensures, c.self.invariant.first);
-  gate = omega (arith, c.max-self-inside.ensures);
-  in_limit = c.self.invariant.in_limit;
-}
-
 pub returns-clause-nothing : goal.returns-clause-nothing
 returns-clause-nothing g c = λ is. absurd (cc is)
-
-pub returns-clause-is_lost : goal.returns-clause-is_lost
-returns-clause-is_lost g c = λ is. absurd (cc is)
-
-pub returns-clause-stands : goal.returns-clause-stands
-returns-clause-stands g c = invariant_of-self-2 g c
 
 pub returns-clause-appends : goal.returns-clause-appends
 returns-clause-appends g c =
     let added : Record = record { kind = c.args.kind; payload = c.args.payload.now } in
-    subst (AppendsAt g.S.Station.meanings c.args.station.now c.put_record.new.station added _) c.self.view_is (λ text image records journal.
-    steps_ok g.S.Station.meanings _ _ image _ _ _ _ (sym c.is_err.ensures.value ∙ c.if-is_err.false) (c.put_record.ensures.appends text image _ records record { some = c.requires.some; few = c.requires.few } (omega (arith, c.if-saturating_sub-count.false, c.saturating_sub.ensures)) journal))
+    subst (AppendsAt g.S.Station.meanings c.args.station.now c.put_record.new.station added _) c.self.view_is (λ head image records kind journal.
+    steps_ok g.S.Station.meanings _ _ image _ _ _ _ (sym c.is_err.ensures.value ∙ c.if-is_err.false) (c.put_record.ensures.appends head image _ records record { known = kind; some = c.requires.some; few = c.requires.few } (omega (arith, c.if-saturating_sub-count.false, c.saturating_sub.ensures)) journal))

@@ -1,27 +1,32 @@
-use Rattle.std.proofs.Common.{ap}
-use Rattle.match_journal.specs.Inner.Fronts.{is_open}
-use Rattle.match_journal.proofs.Found.{class_none, found_stands, found_looks}
+use Rattle.std.proofs.Common.{◌+◌, ◌*◌, length, ◌∙◌, arith}
+use Rattle.match_journal.specs.LookLaws.{reads_look, reads_then, reads_more}
+use Rattle.match_journal.specs.Opening.{most_to_open}
+use Rattle.match_journal.specs.declared.limits.TheConstants.{MOST_TEXT}
+use Rattle.match_journal.proofs.Found.{found_looks}
 use Rattle.match_journal.proofs.journal.Journal.look.Goals as goal
 
--- ---- a journal
+pub returns-in-Err-clause-few_bytes : goal.returns-in-Err-clause-few_bytes
+returns-in-Err-clause-few_bytes g c = λ head image records read journal.
+    reads_more (18 + 6 * (length records + 1)) (most_to_open records) _ _ (omega arith) (c.look_at.ensures.few_bytes head image records read journal)
 
-pub returns-in-Open-clause-stands_in : goal.returns-in-Open-clause-stands_in
-returns-in-Open-clause-stands_in g c = λ image read.
+pub returns-in-Ok-hold_text-clause-reads : goal.returns-in-Ok-hold_text-clause-reads
+returns-in-Ok-hold_text-clause-reads g c = reads_look g.S.Station.meanings _ _ _ MOST_TEXT c.look_at.ensures.reads c.hold_text.ensures.looks
+
+pub returns-in-Ok-hold_text-clause-few_bytes : goal.returns-in-Ok-hold_text-clause-few_bytes
+returns-in-Ok-hold_text-clause-few_bytes g c = λ head image records read journal.
+    reads_more (18 + 6 * (length records + 1) + MOST_TEXT) (most_to_open records) _ _ (omega arith)
+    (reads_then (18 + 6 * (length records + 1)) MOST_TEXT _ _ _ (c.look_at.ensures.few_bytes head image records read journal) c.hold_text.ensures.looks.bytes_read)
+
+pub returns-in-Err-hold_text-clause-reads : goal.returns-in-Err-hold_text-clause-reads
+returns-in-Err-hold_text-clause-reads g c = reads_look g.S.Station.meanings _ _ _ MOST_TEXT c.look_at.ensures.reads c.hold_text.ensures.looks
+
+pub returns-in-Err-hold_text-clause-few_bytes : goal.returns-in-Err-hold_text-clause-few_bytes
+returns-in-Err-hold_text-clause-few_bytes g c = λ head image records read journal.
+    reads_more (18 + 6 * (length records + 1) + MOST_TEXT) (most_to_open records) _ _ (omega arith)
+    (reads_then (18 + 6 * (length records + 1)) MOST_TEXT _ _ _ (c.look_at.ensures.few_bytes head image records read journal) c.hold_text.ensures.looks.bytes_read)
+
+pub returns-in-Ok-hold_text-clause-answers : goal.returns-in-Ok-hold_text-clause-answers
+returns-in-Ok-hold_text-clause-answers g c = λ image read.
     let found = c.in-Ok.ensures.found image read in
-    found_stands c.args.product.now image c.opened.result c.in-Ok.found.class c.in-Open.version c.in-Open.field-1 _ c.in-Ok.found.len c.args.limit c.in-Open.is c.opened.ensures found.class found.len
-
-pub returns-in-Open-clause-answers : goal.returns-in-Open-clause-answers
-returns-in-Open-clause-answers g c = λ image read.
-    let found = c.in-Ok.ensures.found image read in
-    found_looks c.args.product.now image c.opened.result c.in-Ok.found.class c.in-Open.version c.in-Open.field-1 c.in-Ok.found.len c.args.limit c.in-Open.is c.opened.ensures found.class found.len
-
--- ---- none yet
-
-pub returns-in-Empty-clause-answers : goal.returns-in-Empty-clause-answers
-returns-in-Empty-clause-answers g c = λ image read. class_none c.args.product.now image c.in-Ok.found.class (c.in-Ok.ensures.found image read).class (ap is_open c.in-Empty.is)
-
-pub returns-in-Blank-clause-answers : goal.returns-in-Blank-clause-answers
-returns-in-Blank-clause-answers g c = λ image read. class_none c.args.product.now image c.in-Ok.found.class (c.in-Ok.ensures.found image read).class (ap is_open c.in-Blank.is)
-
-pub returns-in-Sealed-clause-answers : goal.returns-in-Sealed-clause-answers
-returns-in-Sealed-clause-answers g c = λ image read. class_none c.args.product.now image c.in-Ok.found.class (c.in-Ok.ensures.found image read).class (ap is_open c.in-Sealed.is)
+    let has = c.in-Ok-hold_text.ensures.text image c.args.limit (c.look_at.ensures.reads.looks.keeps.holds ∙ read) found in
+    found_looks c.args.product.now c.args.limit image c.in-Ok.found.class c.in-Ok.found.text c.in-Ok.found.len c.journal_of.result found.class found.len has c.journal_of.ensures
