@@ -12,7 +12,7 @@ pub(crate) fn part_of(kind: EntryKind, payload: &[u8]) -> &[u8]
 {
     match kind {
         EntryKind::Image => &payload[..payload.len().saturating_sub(SESSION_BYTES)],
-        EntryKind::OldImage | EntryKind::Frames => payload,
+        EntryKind::OldImage | EntryKind::Frames | EntryKind::Amendment => payload,
     }
 }
 
@@ -22,7 +22,7 @@ pub(crate) fn session_of(kind: EntryKind, payload: &[u8]) -> u8
 {
     match kind {
         EntryKind::Image => payload.last().copied().unwrap_or(CLOSED),
-        EntryKind::OldImage | EntryKind::Frames => OPEN,
+        EntryKind::OldImage | EntryKind::Frames | EntryKind::Amendment => OPEN,
     }
 }
 

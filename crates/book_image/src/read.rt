@@ -1,7 +1,7 @@
 //! Reading an image back into a core.
 ghost use Rattle.std.specs.Prelude.{◌≡◌, ◌≢◌, IsErr, OnOk, option_map};
 ghost use Rattle.gx_base.specs.FirstFault.{unless_fault};
-ghost use Rattle.match_journal.specs.declared.entry.EntryKind.TheVariants.{Frames};
+ghost use Rattle.match_journal.specs.declared.entry.EntryKind.TheVariants.{Frames, Amendment};
 ghost use Rattle.order_kinds.specs.State.{empty_state, state_numbered};
 ghost use Rattle.order_kinds.specs.Cores.{FitsProduct};
 ghost use Rattle.book_image.specs.Faults.{image_fault};
@@ -23,7 +23,8 @@ use thiserror::Error;
 #[error("the book image is bad, at {0}")]
 pub struct ImageBad(pub u64);
 
-/// Brings a new core to the state that an image is of. An image of the old form is of an open market. `ImageBad` comes exactly where
+/// Brings a new core to the state that an image is of. An image of the old form is of an open market. The image of an
+/// amendment is given as an image, without what comes before it in its payload. `ImageBad` comes exactly where
 /// the payload breaks a rule of images of its kind, with the first place that does (our own rules); the core is new then, as it was.
 ///
 /// It takes no memory, and a time in proportion to the payload's length.
@@ -34,6 +35,7 @@ pub fn read_image<B: Book>(
     core: &mut Core<B>,
 ) -> Result<(), ImageBad>
     requires image { kind ≢ Frames }
+    requires alone { kind ≢ Amendment }
     requires new { core.old ≡ empty_state product.now }
     ensures reads { result ≡ unless_fault (option_map (λ at. record { 0 = at }) (image_fault kind product.now payload.now)) tt }
     ensures state { OnOk result (state_numbered core.new ≡ state_of_image kind product.now payload.now) }
