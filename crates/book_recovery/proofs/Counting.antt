@@ -5,15 +5,15 @@ use Rattle.match_journal.specs.Journal.{Record, journal_front, Header}
 use Rattle.match_journal.specs.Walking.{IsHead, IsBadHead, Walks}
 use Rattle.match_journal.specs.declared.entry.Entry.{Entry}
 use Rattle.match_journal.specs.declared.entry.EntryKind.{EntryKind}
-use Rattle.match_journal.specs.declared.entry.EntryKind.TheVariants.{Frames, OldImage, Image}
+use Rattle.match_journal.specs.declared.entry.EntryKind.TheVariants.{Frames, OldImage, Image, Amendment}
 use Rattle.match_journal.specs.declared.faults.WalkFault.{WalkFault}
 use Rattle.match_journal.specs.declared.faults.WalkFault.TheVariants as walk
 use Rattle.book_recovery.specs.Records.{is_image_kind, is_image, before_last_image, image_gate}
-use Rattle.book_recovery.specs.BadPlaces.{BeginsWithRecords, HasBadHeadAt}
+use Rattle.match_journal.specs.BadRecords.{BeginsWithRecords, HasBadHeadAt}
+use Rattle.match_journal.proofs.Heads.{length-first, length-push, record_there, payload_size, begins_more, begins_closed}
 use Rattle.book_recovery.specs.Inner.Counting.{with_head_of, with_head, AreRecords}
 use Rattle.book_recovery.specs.declared.recovery.Heads.{Heads}
 use Rattle.book_recovery.proofs.LastImages.{before-image-more, gate-image-more, before-frames-more, gate-frames-more}
-use Rattle.book_recovery.proofs.Images.{length-first, length-push, record_there, payload_size, begins_more, begins_closed}
 
 -- The second pass begins with the head of the last image, or else with the first head; where there is none yet, no record was met.
 abbrev pub IsStart : Header → List ℕ → ℕ → List Record → Option Entry → Type 0
@@ -53,6 +53,7 @@ kind_entries : (heads : Heads) (kind : EntryKind) (entry : Entry) → (with_head
 kind_entries heads Frames entry = refl
 kind_entries heads OldImage entry = refl
 kind_entries heads Image entry = refl
+kind_entries heads Amendment entry = refl
 
 pub entries_more : (heads then : Heads) (entry : Entry) → then ≡ with_head heads entry → then.entries ≡ heads.entries + 1
 entries_more heads then entry is = ap (λ (h : Heads). h.entries) is ∙ kind_entries heads entry.kind entry
@@ -85,6 +86,7 @@ module _ (head : Header) (limit : ℕ) (image : List ℕ) (gate : ℕ) (heads : 
       }
   tells-more entry r OldImage is at_head = tells-image entry r (ap is_image_kind is) at_head
   tells-more entry r Image is at_head = tells-image entry r (ap is_image_kind is) at_head
+  tells-more entry r Amendment is at_head = tells-image entry r (ap is_image_kind is) at_head
 
   pub counting_more : (entry : Entry) (next : ℕ) (then : Heads) → IsHead image limit gate entry → next ≡ gate + 6 + entry.length → then ≡ with_head heads entry → IsCounting head limit image next then
   counting_more entry next then at_head is then_is =

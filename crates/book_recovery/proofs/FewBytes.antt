@@ -3,12 +3,11 @@ use Rattle.std.proofs.Common.{◌≡◌, ℕ, ◌+◌, ◌-◌, ◌*◌, ◌≤�
 use Rattle.std.specs.List.{flat_map}
 use Rattle.std.proofs.lemmas.Grind.{flat_map-append}
 use Rattle.gx_station.specs.Stations.{StationMeanings}
-use Rattle.product_file.specs.Products.{ProductLists}
-use Rattle.order_kinds.specs.State.{State}
 use Rattle.match_journal.specs.Causes.{ReadsAtMost, LooksOnly}
 use Rattle.match_journal.specs.Journal.{IsJournal, Record, journal_front, open_record, Header}
 use Rattle.match_journal.specs.LookLaws.{reads_then, reads_more}
-use Rattle.match_journal.specs.Standing.{StandsIn, moved}
+use Rattle.match_journal.specs.Opening.{StandsIn}
+use Rattle.match_journal.specs.Standing.{moved}
 use Rattle.match_journal.specs.Walking.{IsNext, Walks}
 use Rattle.match_journal.specs.declared.entry.Entry.{Entry}
 use Rattle.match_journal.specs.declared.standing.Standing.{Standing}
@@ -19,8 +18,8 @@ use Rattle.book_recovery.specs.Recovering.{most_to_recover}
 use Rattle.book_recovery.specs.Inner.Counting.{AreRecords}
 use Rattle.book_recovery.specs.declared.recovery.Heads.{Heads}
 use Rattle.book_recovery.proofs.Counting.{IsCounting}
-use Rattle.book_recovery.proofs.OneWay.{one_journal, no_more_heads}
-use Rattle.book_recovery.proofs.Replaying.{IsReplaying}
+use Rattle.match_journal.proofs.Heads.{one_journal, no_more_heads}
+use Rattle.book_recovery.proofs.Replaying.{IsPassing}
 use Rattle.book_recovery.proofs.Standings.{stands_moved}
 
 -- ---- the first pass: six bytes more are read than for the heads that were met
@@ -33,7 +32,7 @@ heads_read m head image limit gate records heads a b c journal at first second =
 
 -- ---- the second pass: nothing behind the last gate
 
-module _ (product : ProductLists) (head : Header) (image : List ℕ) (records : List Record) (gate : ℕ) (s : State) (at : IsReplaying product head records gate s) where
+module _ (head : Header) (image : List ℕ) (records : List Record) (gate : ℕ) (at : IsPassing head records gate) where
   abbrev from : ℕ
   from = length (journal_front head (before_last_image records))
 

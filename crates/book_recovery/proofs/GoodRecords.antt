@@ -1,5 +1,5 @@
--- Good records and true ones, one more of them, and how many messages fit.
-use Rattle.std.proofs.Common.{◌≡◌, ℕ, ◌*◌, ◌<◌, ◌≤◌, List, [], ◌∷◌, ◌++◌, length, refl, sym, subst, ◌∙◌, ap, arith, append_assoc, append-nil, length-append}
+-- Good records, one more of them, one of true records, and how many messages fit.
+use Rattle.std.proofs.Common.{◌≡◌, ℕ, ◌*◌, ◌<◌, ◌≤◌, List, [], ◌∷◌, ◌++◌, length, refl, ◌∙◌, ap, arith, append-nil, length-append}
 use Rattle.std.specs.List.{flat_map, concat}
 use Rattle.std.proofs.lemmas.Grind.{flat_map-append}
 use Rattle.fix_frame.specs.Stream.{messages_of, rest_of}
@@ -9,10 +9,12 @@ use Rattle.product_file.specs.Products.{ProductLists}
 use Rattle.order_kinds.specs.declared.core_state.TheConstants.{MOST_MESSAGES}
 use Rattle.match_journal.specs.Journal.{IsJournal, Record, open_record, header, Header}
 use Rattle.match_journal.specs.declared.entry.EntryKind.{EntryKind}
-use Rattle.match_journal.specs.declared.entry.EntryKind.TheVariants.{Frames, OldImage, Image}
+use Rattle.match_journal.specs.declared.entry.EntryKind.TheVariants.{Frames, OldImage, Image, Amendment}
 use Rattle.match_journal.specs.declared.limits.TheConstants.{MOST_LIMIT}
 use Rattle.match_journal.proofs.Records.{length-record}
-use Rattle.book_recovery.specs.Records.{messages_as, record_messages, messages_in, count_behind, count_behind_all, IsGoodRecord, AreGoodRecords, IsTrueRecord, AreTrueRecords}
+use Rattle.book_recovery.specs.Records.{messages_as, record_messages, messages_in, count_behind, count_behind_all, IsGoodRecord, AreGoodRecords}
+use Rattle.order_kinds.specs.Histories.{History}
+use Rattle.book_recovery.specs.Histories.{IsTrueAs, AreTrueFrom, history_as, history_behind}
 
 -- ---- one record more
 
@@ -30,12 +32,9 @@ good_push product count (x ∷ xs) r good more = (good.0, good_push product (cou
 
 -- ---- one of true records
 
-pub true_at : (product : ProductLists) (before : List (List ℕ)) (xs : List Record) (r : Record) (more : List Record)
-    → AreTrueRecords product before (xs ++ r ∷ more) → IsTrueRecord product (before ++ messages_in xs) r
-true_at product before [] r more are_true = subst (λ (m : List (List ℕ)). IsTrueRecord product m r) (sym (append-nil before)) are_true.0
-true_at product before (x ∷ xs) r more are_true =
-    subst (λ (m : List (List ℕ)). IsTrueRecord product m r) (append_assoc before (record_messages x) (messages_in xs))
-    (true_at product (before ++ record_messages x) xs r more are_true.1)
+pub true_at : (h : History) (xs : List Record) (r : Record) (more : List Record) → AreTrueFrom h (xs ++ r ∷ more) → IsTrueAs (history_as (history_behind h xs) r.kind r.payload) r.kind r.payload
+true_at h [] r more are_true = are_true.0
+true_at h (x ∷ xs) r more are_true = true_at (history_as h x.kind x.payload) xs r more are_true.1
 
 -- ---- how many messages fit
 
@@ -49,6 +48,7 @@ payload-messages Frames payload =
     )
 payload-messages OldImage payload = omega arith
 payload-messages Image payload = omega arith
+payload-messages Amendment payload = omega arith
 
 pub records-messages : (records : List Record) → length (messages_in records) * 22 ≤ length (flat_map open_record records)
 records-messages [] = omega arith

@@ -105,3 +105,22 @@ none-from-none (x ∷ records) is =
       | true ↦ λ some. not-both (has_image records) some (none-from-none records (ap has_image (sym (last-behind x records some)) ∙ is))
       | false ↦ λ none. ap has_image (sym (last-here x records none)) ∙ is
     ] in go (has_image records) refl
+
+-- ---- no image comes behind the first of the records from the last image on
+
+none-behind : (xs : List Record) (r : Record) (more : List Record) → has_image (xs ++ r ∷ more) ≡ false → has_image more ≡ false
+none-behind [] r more none = (or-none (is_image r) (has_image more) none).1
+none-behind (x ∷ xs) r more none = none-behind xs r more (or-none (is_image x) (has_image (xs ++ r ∷ more)) none).1
+
+none-within : (x : Record) (records done : List Record) (r : Record) (more : List Record) → has_image records ≡ false → x ∷ records ≡ done ++ r ∷ more → has_image more ≡ false
+none-within x records [] r more none is = let same : records ≡ more = cc is in ap has_image (sym same) ∙ none
+none-within x records (d ∷ done) r more none is = let same : records ≡ done ++ r ∷ more = cc is in none-behind done r more (ap has_image (sym same) ∙ none)
+
+pub none-left : (records done : List Record) (r : Record) (more : List Record) → from_last_image records ≡ done ++ r ∷ more → has_image more ≡ false
+none-left [] [] r more is = absurd (cc is)
+none-left [] (d ∷ done) r more is = absurd (cc is)
+none-left (x ∷ records) done r more is =
+    let go : (b : Bool) → has_image records ≡ b → has_image more ≡ false = elim [
+      | true ↦ λ some. none-left records done r more (sym (last-behind x records some) ∙ is)
+      | false ↦ λ none. none-within x records done r more none (sym (last-here x records none) ∙ is)
+    ] in go (has_image records) refl

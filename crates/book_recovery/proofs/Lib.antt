@@ -2,7 +2,8 @@
 pub mod FromLastImage
 pub mod GoodRecords
 pub mod OneWay
-pub mod Images
+pub mod Histories
+pub mod PlainJournals
 pub mod KeptHistories
 pub mod Standings
 pub mod StatesBehind
@@ -13,7 +14,6 @@ mod Applied
 mod GivenFrames
 mod RecordContents
 mod Replaying
-mod Looks
 mod Starting
 mod Passes
 mod FewBytes

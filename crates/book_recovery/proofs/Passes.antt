@@ -3,7 +3,10 @@ use Rattle.std.proofs.Common.{◌≡◌, inl, inr, ℕ, ◌+◌, List, length, O
 use Rattle.product_file.specs.Products.{ProductLists}
 use Rattle.order_kinds.specs.State.{State}
 use Rattle.match_journal.specs.Journal.{IsJournal, Record, Header}
-use Rattle.match_journal.specs.Standing.{StandsIn, moved}
+use Rattle.match_journal.specs.Opening.{StandsIn}
+use Rattle.match_journal.specs.Texts.{last_text}
+use Rattle.product_file.specs.ProductTexts.{product_of}
+use Rattle.match_journal.specs.Standing.{moved}
 use Rattle.match_journal.specs.Walking.{IsNext, Walks}
 use Rattle.match_journal.specs.declared.entry.Entry.{Entry}
 use Rattle.match_journal.specs.declared.standing.Standing.{Standing}
@@ -27,7 +30,7 @@ module _ (product : ProductLists) (head : Header) (image : List ℕ) (limit : �
   stopped_replaying records gate gate' new state fault.Store told = tt
   stopped_replaying records gate gate' new state (fault.Bad at) told = inr told
 
-  pub stopped_one : (records : List Record) (gate next last : ℕ) (old new then : State) (entry : Entry) (at : IsReplaying product head records gate old) → IsNext head image (before product head image limit records gate old at) at.left next entry
+  pub stopped_one : (records : List Record) (gate next last : ℕ) (old new then : State) (entry : Entry) (at : IsReplaying product head records gate old) → IsNext head image (before head records gate at.passing) at.passing.left next entry
       → (why : RecoverFault) → IsJournal head limit records image → ReplaysOne product old new entry.at (record_at image entry) (Err why) → ReplaysAll product head limit image records last then (Err why)
   stopped_one records gate next last old new then entry at next_one fault.Store journal told = tt
   stopped_one records gate next last old new then entry at next_one (fault.Bad place) journal told = replaying_bad product head image limit records gate old at next entry next_one place journal told.0 told.1
@@ -47,10 +50,10 @@ module _ (product : ProductLists) (head : Header) (image : List ℕ) (limit : �
 
   -- the second pass begins where the first has ended, with the entry that it has met
   pub replays_after : (old mid : Standing) (records : List Record) (place gate : ℕ) (new : State) (start : Option Entry) (r : Result (Unit {0}) RecoverFault) → old.limit ≡ limit → mid ≡ moved old mid.gate mid.is_at_end
-      → (StandsIn mid image → IsJournal head mid.limit records image → mid.first ≡ 13 + length head.text → Walks image mid.limit place (Ok start) → ReplaysAll product head mid.limit image records gate new r)
-      → StandsIn old image → IsJournal head limit records image → old.first ≡ 13 + length head.text → Walks image limit place (Ok start) → ReplaysAll product head limit image records gate new r
-  replays_after old mid records place gate new start r limit_is same then known journal first walks =
+      → (StandsIn mid image → IsJournal head mid.limit records image → mid.first ≡ 13 + length head.text → product_of (last_text head records).bytes ≡ Ok product → Walks image mid.limit place (Ok start) → ReplaysAll product head mid.limit image records gate new r)
+      → StandsIn old image → IsJournal head limit records image → old.first ≡ 13 + length head.text → product_of (last_text head records).bytes ≡ Ok product → Walks image limit place (Ok start) → ReplaysAll product head limit image records gate new r
+  replays_after old mid records place gate new start r limit_is same then known journal first gives walks =
       let limits : mid.limit ≡ limit = ap (λ (s : Standing). s.limit) same ∙ limit_is in
       subst (λ k. ReplaysAll product head k image records gate new r) limits
-      (then (stands_moved old mid mid.gate mid.is_at_end image same known) (subst (λ k. IsJournal head k records image) (sym limits) journal) (ap (λ (s : Standing). s.first) same ∙ first)
+      (then (stands_moved old mid mid.gate mid.is_at_end image same known) (subst (λ k. IsJournal head k records image) (sym limits) journal) (ap (λ (s : Standing). s.first) same ∙ first) gives
       (subst (λ k. Walks image k place (Ok start)) (sym limits) walks))

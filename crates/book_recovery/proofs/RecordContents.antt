@@ -6,8 +6,8 @@ use Rattle.product_file.specs.Products.{ProductLists}
 use Rattle.order_kinds.specs.State.{State}
 use Rattle.order_kinds.specs.declared.core_state.TheConstants.{MOST_MESSAGES}
 use Rattle.match_journal.specs.declared.entry.EntryKind.{EntryKind}
-use Rattle.match_journal.specs.declared.entry.EntryKind.TheVariants.{Frames, OldImage, Image}
-use Rattle.book_recovery.specs.Records.{is_image_kind, AreGoodFrames}
+use Rattle.match_journal.specs.declared.entry.EntryKind.TheVariants.{Frames, OldImage, Image, Amendment}
+use Rattle.book_recovery.specs.Records.{is_image_kind, AreGoodFrames, GivesAs}
 use Rattle.book_recovery.specs.Inner.Replays.{IsImageRead, ReadsImage}
 use Rattle.book_recovery.specs.Inner.Contents.{CountsBehind, ReadsFrames, IsContent, ReadsContent}
 use Rattle.book_recovery.specs.declared.recovery.RecoverFault.{RecoverFault}
@@ -32,6 +32,7 @@ module _ (product : ProductLists) (count : ℕ) (payload : List ℕ) (gate : ℕ
   counts_frames Frames is r counts = counts
   counts_frames OldImage is r counts = absurd (cc is)
   counts_frames Image is r counts = absurd (cc is)
+  counts_frames Amendment is r counts = absurd (cc is)
 
   content_frames : (r : Result ℕ RecoverFault) → IfOk r (λ behind. behind ≡ count + length given) → ReadsFrames count payload gate given r → ReadsContent product count Frames payload gate given core r
   content_frames (Ok behind) counts read = record {
@@ -47,12 +48,13 @@ module _ (product : ProductLists) (count : ℕ) (payload : List ℕ) (gate : ℕ
   reads_frames Frames is r counts read = content_frames r counts read
   reads_frames OldImage is r counts read = absurd (cc is)
   reads_frames Image is r counts read = absurd (cc is)
+  reads_frames Amendment is r counts read = absurd (cc is)
 
-  pub reads_image : (kind : EntryKind) → is_image_kind kind ≡ true → (behind : ℕ) → given ≡ [] → behind ≡ core.desk.messages → IsImageRead kind product payload core → IsContent product count kind payload given core behind
-  reads_image kind image behind none counted read = record {
-    good = image-good product count kind payload image read.right;
+  pub reads_image : (kind : EntryKind) → is_image_kind kind ≡ true → (behind : ℕ) → given ≡ [] → behind ≡ core.desk.messages → IsImageRead kind product payload core → GivesAs product kind payload → IsContent product count kind payload given core behind
+  reads_image kind image behind none counted read gives = record {
+    good = image-good product count kind payload image read.has gives;
     given_are = none ∙ sym (image-messages kind payload image);
-    behind_is = counted ∙ ap (λ (s : State). s.desk.messages) read.state ∙ sym (image-count product count kind payload image read.right);
+    behind_is = counted ∙ ap (λ (s : State). s.desk.messages) read.state ∙ sym (image-count product count kind payload image read.has.right);
     state = λ of_image. read.state;
   }
 
@@ -65,3 +67,4 @@ pub frames_counted : (count : ℕ) (kind : EntryKind) (given : List (List ℕ)) 
 frames_counted count Frames given core behind is counts = counts
 frames_counted count OldImage given core behind is counts = absurd (cc is)
 frames_counted count Image given core behind is counts = absurd (cc is)
+frames_counted count Amendment given core behind is counts = absurd (cc is)

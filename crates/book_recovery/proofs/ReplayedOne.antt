@@ -6,13 +6,13 @@ use Rattle.order_kinds.specs.State.{State, state_numbered}
 use Rattle.order_kinds.specs.Step.{state_after}
 use Rattle.order_kinds.specs.Cores.{AreNumbered}
 use Rattle.match_journal.specs.declared.entry.EntryKind.{EntryKind}
-use Rattle.match_journal.specs.declared.entry.EntryKind.TheVariants.{Frames, OldImage, Image}
+use Rattle.match_journal.specs.declared.entry.EntryKind.TheVariants.{Frames, OldImage, Image, Amendment}
 use Rattle.book_recovery.specs.Records.{is_image_kind, AreGoodFrames}
 use Rattle.book_recovery.specs.Inner.Replays.{IsReplayed, ReplaysOne}
 use Rattle.book_recovery.specs.Inner.Contents.{CountsBehind, IsContent, ReadsContent}
 use Rattle.book_recovery.specs.declared.recovery.RecoverFault.{RecoverFault}
 use Rattle.book_recovery.specs.declared.recovery.RecoverFault.TheVariants as fault
-use Rattle.book_recovery.proofs.ImageKinds.{image-good, good-image, image-count, image-state, image-counts}
+use Rattle.book_recovery.proofs.ImageKinds.{still-good, same-count, image-state, image-counts}
 
 module _ (product : ProductLists) (old : State) (count : ℕ) (payload : List ℕ) (given : List (List ℕ)) where
   -- ---- an image, which is read into a core that was cleared
@@ -20,14 +20,9 @@ module _ (product : ProductLists) (old : State) (count : ℕ) (payload : List �
   pub image_replayed : (kind : EntryKind) → is_image_kind kind ≡ true → (new : State) (behind : ℕ) → CountsBehind count kind given new behind → IsContent product count kind payload given new behind
       → IsReplayed product old new (record { kind = kind; payload = payload })
   image_replayed kind image new behind counts content =
-      let right = good-image product count kind payload image content.good in
       record {
-        good = image-good product old.desk.messages kind payload image right;
-        messages =
-            sym (image-counts count kind given new behind image counts).1
-            ∙ content.behind_is
-            ∙ image-count product count kind payload image right
-            ∙ sym (image-count product old.desk.messages kind payload image right);
+        good = still-good product count old.desk.messages kind payload image content.good;
+        messages = sym (image-counts count kind given new behind image counts).1 ∙ content.behind_is ∙ same-count count old.desk.messages kind payload image;
         state = λ numbered. content.state image ∙ sym (image-state product (state_numbered old) kind payload image);
         numbered = λ frames. absurd (not-both (is_image_kind kind) image frames);
       }
@@ -36,7 +31,7 @@ module _ (product : ProductLists) (old : State) (count : ℕ) (payload : List �
       → ReplaysOne product old new gate (record { kind = kind; payload = payload }) (Err why)
   image_not_replayed kind image core new gate fault.Store read = tt
   image_not_replayed kind image core new gate (fault.Bad at) read =
-      (λ good. read.0 (image-good product count kind payload image (good-image product old.desk.messages kind payload image good)), read.1)
+      (λ good. read.0 (still-good product old.desk.messages count kind payload image good), read.1)
 
   -- ---- frames, which leave the core as it was until they are applied
 
@@ -47,6 +42,7 @@ module _ (product : ProductLists) (old : State) (count : ℕ) (payload : List �
         → IsReplayed product old new (record { kind = kind; payload = payload })
     frames_replayed OldImage is core new behind same content state messages numbered = absurd (cc is)
     frames_replayed Image is core new behind same content state messages numbered = absurd (cc is)
+    frames_replayed Amendment is core new behind same content state messages numbered = absurd (cc is)
     frames_replayed Frames is core new behind same content state messages numbered = record {
       good = subst (λ (n : ℕ). AreGoodFrames n payload) counted content.good;
       messages = messages ∙ ap (λ (s : State). s.desk.messages + length given) same ∙ ap (λ (l : List (List ℕ)). old.desk.messages + length l) content.given_are;
@@ -61,6 +57,7 @@ module _ (product : ProductLists) (old : State) (count : ℕ) (payload : List �
         → ReplaysOne product old new gate (record { kind = kind; payload = payload }) (Err why)
     frames_not_replayed OldImage is core new gate why read = absurd (cc is)
     frames_not_replayed Image is core new gate why read = absurd (cc is)
+    frames_not_replayed Amendment is core new gate why read = absurd (cc is)
     frames_not_replayed Frames is core new gate fault.Store read = tt
     frames_not_replayed Frames is core new gate (fault.Bad at) read =
         ((λ good. read.0 (subst (λ (n : ℕ). AreGoodFrames n payload) (sym counted) good)), read.1)

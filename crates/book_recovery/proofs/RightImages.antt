@@ -1,5 +1,5 @@
 -- What is known of a right image: it is no longer than the room for one, and of fewer messages than a core takes.
-use Rattle.std.proofs.Common.{◌≡◌, ℕ, ◌+◌, ◌-◌, ◌<◌, ◌≤◌, Bool, true, false, List, length, Option, Some, None, Ok, Err, option_map, refl, sym, ap, ◌∙◌, arith}
+use Rattle.std.proofs.Common.{◌≡◌, ℕ, ◌+◌, ◌-◌, ◌<◌, ◌≤◌, Bool, true, false, List, length, Option, Some, None, Ok, Err, option_map, refl, sym, subst, ap, ◌∙◌, arith, length-drop}
 use Rattle.std.specs.Prelude.{nat_le, nat_lt}
 use Rattle.std.specs.Int.{w64, from_be_bytes}
 use Rattle.std.specs.Option.{option_or}
@@ -11,13 +11,17 @@ use Rattle.order_kinds.specs.declared.core_state.TheConstants.{MOST_MESSAGES}
 use Rattle.order_kinds.specs.State.{State, state_numbered}
 use Rattle.book_image.specs.Rows.{number_at}
 use Rattle.match_journal.specs.declared.entry.EntryKind.{EntryKind}
-use Rattle.match_journal.specs.declared.entry.EntryKind.TheVariants.{Frames, OldImage, Image}
+use Rattle.match_journal.specs.declared.entry.EntryKind.TheVariants.{Frames, OldImage, Image, Amendment}
 use Rattle.book_image.specs.Image.{image_len}
 use Rattle.book_image.specs.Kinds.{part_of, session_of, trading_of}
 use Rattle.book_image.specs.Faults.{resting_place, resting_rows, resting_count, waiting_place, waiting_rows, waiting_count, rows_end, length_fault, desk_fault, wrong_place, is_right_last, parts_fault, image_fault}
 use Rattle.book_image.specs.declared.format.TheConstants.{DESK_BYTES, INSTRUMENT_BYTES, ROW_BYTES}
 use Rattle.book_image.specs.Reading.{state_of_image}
-use Rattle.book_recovery.specs.Inner.Replays.{IsImageRead}
+use Rattle.match_journal.specs.Texts.{text_size, amended_image}
+use Rattle.match_journal.specs.declared.limits.TheConstants.{MOST_TEXT}
+use Rattle.book_recovery.specs.Records.{is_image_kind, image_in, image_kind, HasTextAs}
+use Rattle.book_recovery.specs.Inner.Contents.{FindsImage}
+use Rattle.book_recovery.specs.Inner.Replays.{HasRightImage, IsImageRead}
 
 none-then : {F : Type 0} (fault rest : Option F) → option_or fault rest ≡ None → (fault ≡ None) × (rest ≡ None)
 none-then None rest h = (refl, h)
@@ -39,12 +43,14 @@ fewer a b h = grind (arith, nat_tests)
 part-length : (kind : EntryKind) (payload : List ℕ) → length payload ≤ length (part_of kind payload) + 1
 part-length Frames payload = omega arith
 part-length OldImage payload = omega arith
+part-length Amendment payload = omega arith
 part-length Image payload = omega (arith, length-take-le (length payload - 1) payload (omega arith))
 
 -- and it comes last
 part-count : (kind : EntryKind) (payload : List ℕ) → 8 ≤ length (part_of kind payload) → number_at (part_of kind payload) 0 ≡ number_at payload 0
 part-count Frames payload long = refl
 part-count OldImage payload long = refl
+part-count Amendment payload long = refl
 part-count Image payload long =
     ap (from_be_bytes w64) (take-take 8 (length payload - 1) payload (omega (arith, long, length-take-le (length payload - 1) payload (omega arith))))
 
@@ -99,6 +105,15 @@ module _ (kind : EntryKind) (product : ProductLists) (payload : List ℕ) (right
   pub right-length : length payload ≤ image_len many product.max_orders
   right-length = omega (arith, ends, few-orders, part-length kind payload)
 
+-- a payload with one is no longer than the room for an amendment
+pub payload-right-length : (kind : EntryKind) (product : ProductLists) (payload : List ℕ) → is_image_kind kind ≡ true → HasRightImage kind product payload
+    → length payload ≤ 4 + MOST_TEXT + image_len (length product.names.instruments) product.max_orders
+payload-right-length Frames product payload image has = absurd (cc image)
+payload-right-length OldImage product payload image has = omega (arith, right-length OldImage product payload has.right)
+payload-right-length Image product payload image has = omega (arith, right-length Image product payload has.right)
+payload-right-length Amendment product payload image has =
+    omega (arith, right-length Image product (amended_image payload) has.right, has.text.few, has.text.inside, length-drop (4 + text_size payload) payload)
+
 -- ---- what reading one answers
 
 module _ {F : Type 0} (f : ℕ → F) where
@@ -110,18 +125,29 @@ module _ {F : Type 0} (f : ℕ → F) where
   err-wrong why None is none = absurd (cc is)
   err-wrong why (Some at) is none = absurd (cc none)
 
-  module _ (kind : EntryKind) (product : ProductLists) (held : List ℕ) where
-    pub few-read : (new : State) → Ok tt ≡ unless_fault {A = Unit {0}} (option_map f (image_fault kind product held)) tt → state_numbered new ≡ state_of_image kind product held
+  module _ (own : EntryKind) (product : ProductLists) (held : List ℕ) where
+    pub few-read : (new : State) → Ok tt ≡ unless_fault {A = Unit {0}} (option_map f (image_fault own product held)) tt → state_numbered new ≡ state_of_image own product held
         → new.desk.messages < MOST_MESSAGES
-    few-read new is state = omega (arith, right-messages kind product held (ok-right (image_fault kind product held) is), ap (λ (s : State). s.desk.messages) state)
+    few-read new is state = omega (arith, right-messages own product held (ok-right (image_fault own product held) is), ap (λ (s : State). s.desk.messages) state)
 
-    pub image-read : (payload : List ℕ) (new : State) → held ≡ payload → Ok tt ≡ unless_fault {A = Unit {0}} (option_map f (image_fault kind product held)) tt
-        → state_numbered new ≡ state_of_image kind product held → IsImageRead kind product payload new
-    image-read payload new same is state = record {
-      right = sym (ap (image_fault kind product) same) ∙ ok-right (image_fault kind product held) is;
-      state = state ∙ ap (state_of_image kind product) same;
-    }
+    -- it was found in these bytes, which are those of a payload
+    module _ (kind : EntryKind) (own_is : own ≡ image_kind kind) (bytes payload : List ℕ) (same : bytes ≡ payload) (found : FindsImage kind bytes (Some held)) where
+      held-is : held ≡ image_in kind payload
+      held-is = found.1 ∙ ap (image_in kind) same
 
-    pub image-wrong : (payload : List ℕ) (why : F) → held ≡ payload → Err why ≡ unless_fault {A = Unit {0}} (option_map f (image_fault kind product held)) tt
-        → image_fault kind product payload ≡ None → ⊥
-    image-wrong payload why same is right = err-wrong why (image_fault kind product held) is (ap (image_fault kind product) same ∙ right)
+      fault-is : image_fault own product held ≡ image_fault (image_kind kind) product (image_in kind payload)
+      fault-is = ap (λ (k : EntryKind). image_fault k product held) own_is ∙ ap (image_fault (image_kind kind) product) held-is
+
+      pub image-read : (new : State) → Ok tt ≡ unless_fault {A = Unit {0}} (option_map f (image_fault own product held)) tt
+          → state_numbered new ≡ state_of_image own product held → IsImageRead kind product payload new
+      image-read new is state = record {
+        has = record { text = subst (HasTextAs kind) same found.0; right = sym fault-is ∙ ok-right (image_fault own product held) is };
+        state = state ∙ ap (λ (k : EntryKind). state_of_image k product held) own_is ∙ ap (state_of_image (image_kind kind) product) held-is;
+      }
+
+      pub image-wrong : (why : F) → Err why ≡ unless_fault {A = Unit {0}} (option_map f (image_fault own product held)) tt → HasRightImage kind product payload → ⊥
+      image-wrong why is has = err-wrong why (image_fault own product held) is (fault-is ∙ has.right)
+
+-- no image was found there
+pub none-found : (kind : EntryKind) (product : ProductLists) (bytes payload : List ℕ) → bytes ≡ payload → FindsImage kind bytes None → HasRightImage kind product payload → ⊥
+none-found kind product bytes payload same found has = found (subst (HasTextAs kind) (sym same) has.text)

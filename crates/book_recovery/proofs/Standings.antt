@@ -1,7 +1,11 @@
 -- A journal that has moved, and moves again.
-use Rattle.std.proofs.Common.{◌≡◌, ℕ, ◌+◌, List, Bool, false, Option, Some, None, Ok, not, sym, ◌∙◌, ap, ap₂, subst}
+use Rattle.std.proofs.Common.{◌≡◌, ℕ, ◌+◌, List, length, Bool, false, Option, Some, None, Ok, not, sym, ◌∙◌, ap, ap₂, subst}
 use Rattle.std.specs.Prelude.{IfSome}
-use Rattle.match_journal.specs.Standing.{StandsIn, moved}
+use Rattle.match_journal.specs.Journal.{Header}
+use Rattle.match_journal.specs.HeaderLaws.{one_header}
+use Rattle.match_journal.specs.Classes.{HasHeader}
+use Rattle.match_journal.specs.Opening.{StandsIn}
+use Rattle.match_journal.specs.Standing.{moved}
 use Rattle.match_journal.specs.Walking.{stands_then}
 use Rattle.match_journal.specs.declared.entry.Entry.{Entry}
 use Rattle.match_journal.specs.declared.standing.Standing.{Standing}
@@ -14,7 +18,20 @@ moved_then s x y gate ends same is = moved_itself s y gate ends (is ∙ ap (λ (
 
 -- it knows of an image what it knew
 pub stands_moved : (s x : Standing) (gate : ℕ) (ends : Bool) (image : List ℕ) → x ≡ moved s gate ends → StandsIn s image → StandsIn x image
-stands_moved s x gate ends image is stands = subst (λ (t : Standing). StandsIn t image) (sym is) (record { known = stands.known; version = stands.version })
+stands_moved s x gate ends image is stands = subst (λ (t : Standing). StandsIn t image) (sym is) (record {
+  known = stands.known;
+  head = stands.head;
+  text = stands.text;
+  opened = stands.opened;
+  version = stands.version;
+  first = stands.first;
+  text_at = stands.text_at;
+  text_len = stands.text_len;
+})
+
+-- the first gate is behind the header of the image
+pub stands_first : (s : Standing) (head : Header) (image : List ℕ) → StandsIn s image → HasHeader head image → s.first ≡ 13 + length head.text
+stands_first s head image stands header = stands.first ∙ ap (λ (h : Header). 13 + length h.text) (one_header image stands.head head stands.opened.header header)
 
 -- the head of a record was passed
 pub some_moved : (x y : Standing) (found : Option Entry) (entry : Entry) → found ≡ Some entry → y ≡ stands_then x (Ok found) → y ≡ moved x (x.gate + 6 + entry.length) false

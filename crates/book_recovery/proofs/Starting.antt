@@ -2,13 +2,15 @@
 use Rattle.std.proofs.Common.{◌≡◌, ℕ, ◌+◌, List, [], ◌++◌, length, Bool, Option, Some, None, Ok, refl, sym, subst, ◌∙◌, ap, arith, append-nil}
 use Rattle.std.specs.Option.{option_or}
 use Rattle.product_file.specs.Products.{ProductLists}
+use Rattle.product_file.specs.ProductTexts.{product_of}
+use Rattle.match_journal.specs.Texts.{last_text}
 use Rattle.order_kinds.specs.State.{State, empty_state}
 use Rattle.match_journal.specs.Journal.{IsJournal, Record, journal_front, Header}
 use Rattle.match_journal.specs.Standing.{Fits, moved}
 use Rattle.match_journal.specs.Walking.{IsHead, Walks, IsNext}
 use Rattle.match_journal.specs.declared.entry.Entry.{Entry}
 use Rattle.match_journal.specs.declared.entry.EntryKind.{EntryKind}
-use Rattle.match_journal.specs.declared.entry.EntryKind.TheVariants.{Frames, OldImage, Image}
+use Rattle.match_journal.specs.declared.entry.EntryKind.TheVariants.{Frames, OldImage, Image, Amendment}
 use Rattle.match_journal.specs.declared.standing.Standing.{Standing}
 use Rattle.match_journal.proofs.Walked.{record_left, none_left}
 use Rattle.book_recovery.specs.Records.{before_last_image, from_last_image}
@@ -17,7 +19,7 @@ use Rattle.book_recovery.specs.Inner.Starting.{CanBegin, begins_from, IsAtImage,
 use Rattle.book_recovery.specs.Inner.Counting.{with_head_of, with_head}
 use Rattle.book_recovery.specs.Inner.Replays.{AreReplayed}
 use Rattle.book_recovery.specs.declared.recovery.Heads.{Heads}
-use Rattle.book_recovery.proofs.Images.{length-first}
+use Rattle.match_journal.proofs.Heads.{length-first}
 use Rattle.book_recovery.proofs.LastImages.{last_split, none-kept}
 use Rattle.book_recovery.proofs.Replaying.{replaying_first, replaying_done}
 
@@ -36,6 +38,7 @@ kind_then s heads Frames entry gate ends begins met =
     record { can = both.0; at_image = both.1 }
 kind_then s heads OldImage entry gate ends begins met = record { can = met.1; at_image = refl }
 kind_then s heads Image entry gate ends begins met = record { can = met.1; at_image = refl }
+kind_then s heads Amendment entry gate ends begins met = record { can = met.1; at_image = refl }
 
 pub begins_then : (s t : Standing) (heads then : Heads) (entry : Entry) (gate : ℕ) (ends : Bool) → t ≡ moved s gate ends → BeginsAt s heads → (entry.at ≡ s.gate) × Fits s.known s.limit entry
     → then ≡ with_head heads entry → BeginsAt t then
@@ -74,13 +77,13 @@ module _ (head : Header) (image : List ℕ) (limit : ℕ) (records : List Record
   start_head entry is = subst (λ (o : Option Entry). Walks image limit place (Ok o)) is walks
 
   -- without an entry nothing is left to do
-  pub none_replayed : (product : ProductLists) (first gate : ℕ) (new : State) → start ≡ None → first ≡ 13 + length head.text → gate ≡ first → new ≡ empty_state product
+  pub none_replayed : (product : ProductLists) (first gate : ℕ) (new : State) → start ≡ None → first ≡ 13 + length head.text → gate ≡ first → new ≡ empty_state product → product_of (last_text head records).bytes ≡ Ok product
       → AreReplayed product head limit image records gate new
-  none_replayed product first gate new is first_is still empty =
+  none_replayed product first gate new is first_is still empty gives =
       let left : from_last_image records ≡ [] = none_left head image limit (before_last_image records) (from_last_image records) split place refl (subst (λ (o : Option Entry). Walks image limit place (Ok o)) is walks) in
       let none = none-kept records left in
       let at : gate ≡ place = still ∙ first_is ∙ sym (length-first head) ∙ ap (λ (l : List Record). length (journal_front head (before_last_image l))) (sym none) in
-      replaying_done product head image limit records gate new (replaying_first product head records gate new at empty) journal left
+      replaying_done product head image limit records gate new (replaying_first product head records gate new at empty gives) journal left
 
   -- the first of the records from the last image on is that of the entry
   pub first_next : (next : ℕ) (entry : Entry) → start ≡ Some entry → next ≡ entry.at + 6 + entry.length

@@ -1,54 +1,72 @@
--- Which messages an image keeps, and under which product (our own rule).
-use Rattle.std.specs.Prelude.{◌≡◌, ◌⊎◌, ℕ, List, []}
+-- Which history an image keeps: its messages, and under which products (our own rule).
+use Rattle.std.specs.Prelude.{◌≡◌, ◌⊎◌, ℕ, ◌≤◌, List, [], length, Ok}
 use Rattle.product_file.specs.Products.{ProductLists}
+use Rattle.product_file.specs.ProductTexts.{product_of}
 use Rattle.order_kinds.specs.Histories.{History, of_product}
 use Rattle.match_journal.specs.Classes.{Keeps, IsBlank, IsSealedOf}
 use Rattle.match_journal.specs.Journal.{Header, IsJournal, Record}
-use Rattle.book_recovery.specs.Records.{from_last_image, messages_in, AreGoodRecords, AreTrueRecords}
+use Rattle.match_journal.specs.Texts.{HasLastText}
+use Rattle.match_journal.specs.declared.limits.TheConstants.{MOST_TEXT}
+use Rattle.book_recovery.specs.Records.{from_last_image, AreGoodRecords}
+use Rattle.book_recovery.specs.Histories.{AreGoodFrom, AreTrueFrom, HaveNoAmendment, history_behind}
 
--- A run of the product can start from the image, and this is the history that it keeps: the product, with the messages in the
--- records after open gates, up to the first closed gate. It is a journal of this text with no bad record, and each book image in it
--- is that of the state after the messages before it; or an unfinished creation of at most 65,550 bytes, which keeps no message.
+-- A run of the product can start from the image, and this is the history that it keeps: the product of the header's text, the messages in
+-- the records after open gates, up to the first closed gate, and the products of the amendments between them. It is a journal whose last
+-- text is this one, with no bad record, and each book image in it is that of the state there; or an unfinished creation of at most
+-- 65,550 bytes, which keeps no message.
 pub record IsStartable (product : ProductLists) (text : List ℕ) (kept : History) (image : List ℕ) : Type 0 where
   pub head : Header
   pub records : List Record
   pub keeps : Keeps head product.journal_limit records image
-  pub of_text : head.text ≡ text
-  pub good : AreGoodRecords product 0 records
-  pub are_true : AreTrueRecords product [] records
-  pub are : kept ≡ of_product product (messages_in records)
+  pub last : HasLastText head records text
+  pub first : ProductLists
+  pub gives : product_of head.text ≡ Ok first
+  pub good : AreGoodFrom first 0 records
+  pub are_true : AreTrueFrom (of_product first []) records
+  pub are : kept ≡ history_behind (of_product first []) records
 
--- a journal of this text with no bad record
-pub record IsGoodJournal (product : ProductLists) (text : List ℕ) (limit : ℕ) (image : List ℕ) : Type 0 where
+-- a journal whose last text is this one, with no bad record
+pub record IsGoodJournal (text : List ℕ) (limit : ℕ) (image : List ℕ) : Type 0 where
   pub head : Header
   pub records : List Record
   pub journal : IsJournal head limit records image
-  pub of_text : head.text ≡ text
-  pub good : AreGoodRecords product 0 records
+  pub last : HasLastText head records text
+  pub first : ProductLists
+  pub gives : product_of head.text ≡ Ok first
+  pub good : AreGoodFrom first 0 records
 
--- This is the history that the image keeps, whether a run can start from it or not: the messages of a journal with no bad record, and
--- none if it is an unfinished creation, however long.
+-- the history of its records
+abbrev pub history_of_journal : {text : List ℕ} {limit : ℕ} {image : List ℕ} → IsGoodJournal text limit image → History
+history_of_journal good = history_behind (of_product good.first []) good.records
+
+-- This is the history that the image keeps, whether a run can start from it or not: that of a journal with no bad record, and of no
+-- message if it is an unfinished creation, however long.
 abbrev pub HasKept : ProductLists → List ℕ → History → List ℕ → Type 0
 HasKept product text kept image =
     ((IsBlank image ⊎ IsSealedOf text image) × (kept ≡ of_product product []))
-    ⊎ ((good : IsGoodJournal product text product.journal_limit image) × (kept ≡ of_product product (messages_in good.records)))
+    ⊎ ((good : IsGoodJournal text product.journal_limit image) × (kept ≡ history_of_journal good))
+
+-- the journal in the image, if there is one, has no amendment
+abbrev pub KeepsNoAmendment : ℕ → List ℕ → Type 0
+KeepsNoAmendment limit image = (head : Header) (records : List Record) → IsJournal head limit records image → HaveNoAmendment records
 
 -- ---- for who begins with the last book image
 
--- a journal of this text with no bad head, and none of its records from the last book image on is bad
+-- a journal whose header is good, whose last text is this one, with no bad head, and none of its records from the last book image on is bad
 pub record IsGoodFromLastImage (product : ProductLists) (text : List ℕ) (limit : ℕ) (image : List ℕ) : Type 0 where
   pub head : Header
+  pub few : length head.text ≤ MOST_TEXT
   pub records : List Record
   pub journal : IsJournal head limit records image
-  pub of_text : head.text ≡ text
+  pub last : HasLastText head records text
   pub good : AreGoodRecords product 0 (from_last_image records)
 
 -- a state can be recovered from the image: it is such a journal, or an unfinished creation
 abbrev pub CanBeRecovered : ProductLists → List ℕ → ℕ → List ℕ → Type 0
 CanBeRecovered product text limit image = (IsBlank image ⊎ IsSealedOf text image) ⊎ IsGoodFromLastImage product text limit image
 
--- This is the history that the image keeps, and each book image in it is that of the state after the messages before it.
+-- This is the history that the image keeps, and each book image in it is that of the state there.
 abbrev pub IsTrueImage : ProductLists → List ℕ → History → List ℕ → Type 0
 IsTrueImage product text kept image =
     ((IsBlank image ⊎ IsSealedOf text image) × (kept ≡ of_product product []))
-    ⊎ ((good : IsGoodJournal product text product.journal_limit image) × (kept ≡ of_product product (messages_in good.records)) × AreTrueRecords product [] good.records)
+    ⊎ ((good : IsGoodJournal text product.journal_limit image) × (kept ≡ history_of_journal good) × AreTrueFrom (of_product good.first []) good.records)

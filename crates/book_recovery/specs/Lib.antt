@@ -1,4 +1,5 @@
 pub mod Records
+pub mod Histories
 pub mod Kept
 pub mod BadPlaces
 pub mod Passed

@@ -1,21 +1,20 @@
--- The records of a journal, which are messages and book images: what stands behind each, when they are good, and when their
--- images are true. Our own rule.
-use Rattle.std.specs.Prelude.{◌≡◌, ℕ, ◌+◌, ◌<◌, Bool, true, false, if◌then◌else◌, List, [], ◌∷◌, ◌++◌, flat_map, length, Option, Some, None}
+-- The records of a journal, which are messages, book images and amendments: what stands after each, and when they are good. Our own
+-- rule. An amendment has a product text and a book image; so it is an image record too.
+use Rattle.std.specs.Prelude.{◌≡◌, ℕ, ◌+◌, ◌<◌, Bool, true, false, if◌then◌else◌, List, [], ◌∷◌, flat_map, length, Option, Some, None, Ok}
 use Rattle.std.specs.List.{list_any, AllByRecursion}
-use Rattle.gx_base.specs.declared.trading.Trading.TheVariants.{Open}
 use Rattle.fix_frame.specs.Stream.{messages_of, rest_of}
 use Rattle.product_file.specs.Products.{ProductLists}
+use Rattle.product_file.specs.ProductTexts.{product_of}
 use Rattle.order_kinds.specs.declared.core_state.TheConstants.{MOST_MESSAGES}
 use Rattle.order_kinds.specs.State.{State}
 use Rattle.order_kinds.specs.Step.{state_after}
-use Rattle.order_kinds.specs.Histories.{of_product, state_kept}
 use Rattle.book_image.specs.Rows.{number_at}
-use Rattle.book_image.specs.Image.{old_image_of, image_of}
 use Rattle.book_image.specs.Faults.{image_fault}
 use Rattle.book_image.specs.Reading.{state_of_image}
 use Rattle.match_journal.specs.Journal.{Header, Record, journal_front}
+use Rattle.match_journal.specs.Texts.{HasText, amended_text, amended_image}
 use Rattle.match_journal.specs.declared.entry.EntryKind.{EntryKind}
-use Rattle.match_journal.specs.declared.entry.EntryKind.TheVariants.{Frames, OldImage, Image}
+use Rattle.match_journal.specs.declared.entry.EntryKind.TheVariants.{Frames, OldImage, Image, Amendment}
 
 -- ---- kinds
 
@@ -23,8 +22,9 @@ abbrev pub is_image_kind : EntryKind → Bool
 is_image_kind Frames = false
 is_image_kind OldImage = true
 is_image_kind Image = true
+is_image_kind Amendment = true
 
--- the record is a book image, and no messages
+-- the record has a book image, and no messages
 abbrev pub is_image : Record → Bool
 is_image r = is_image_kind r.kind
 
@@ -45,13 +45,41 @@ before_last_image (r ∷ records) = if has_image records then r ∷ before_last_
 abbrev pub image_gate : Header → List Record → Option ℕ
 image_gate head records = if has_image records then Some (length (journal_front head (before_last_image records))) else None
 
+-- the book image in a payload of a kind, and the kind that this image has
+abbrev pub image_in : EntryKind → List ℕ → List ℕ
+image_in Frames payload = payload
+image_in OldImage payload = payload
+image_in Image payload = payload
+image_in Amendment payload = amended_image payload
+
+abbrev pub image_kind : EntryKind → EntryKind
+image_kind Frames = Frames
+image_kind OldImage = OldImage
+image_kind Image = Image
+image_kind Amendment = Image
+
+-- the text of an amendment ends in its payload; other payloads have none
+abbrev pub HasTextAs : EntryKind → List ℕ → Type 0
+HasTextAs Frames payload = Unit {0}
+HasTextAs OldImage payload = Unit {0}
+HasTextAs Image payload = Unit {0}
+HasTextAs Amendment payload = HasText payload
+
+-- the text of an amendment gives this product
+abbrev pub GivesAs : ProductLists → EntryKind → List ℕ → Type 0
+GivesAs product Frames payload = Unit {0}
+GivesAs product OldImage payload = Unit {0}
+GivesAs product Image payload = Unit {0}
+GivesAs product Amendment payload = product_of (amended_text payload) ≡ Ok product
+
 -- ---- messages
 
--- the messages in a payload of a kind: an image has none
+-- the messages in a payload of a kind: an image has none, nor has an amendment
 abbrev pub messages_as : EntryKind → List ℕ → List (List ℕ)
 messages_as Frames payload = messages_of payload
 messages_as OldImage payload = []
 messages_as Image payload = []
+messages_as Amendment payload = []
 
 abbrev pub record_messages : Record → List (List ℕ)
 record_messages r = messages_as r.kind r.payload
@@ -75,6 +103,7 @@ abbrev pub count_as : ℕ → EntryKind → List ℕ → ℕ
 count_as count Frames payload = count + length (messages_of payload)
 count_as count OldImage payload = number_at payload 0
 count_as count Image payload = number_at payload 0
+count_as count Amendment payload = number_at (amended_image payload) 0
 
 abbrev pub count_behind : ℕ → Record → ℕ
 count_behind count r = count_as count r.kind r.payload
@@ -91,36 +120,27 @@ pub record AreGoodFrames (count : ℕ) (payload : List ℕ) : Type 0 where
   pub no_rest : rest_of payload ≡ []
   pub few : count + length (messages_of payload) < MOST_MESSAGES
 
--- A payload of a kind is good behind so many messages. Nothing is wrong with an image, wherever it stands.
+-- the text of an amendment gives this product, and nothing is wrong with its image under it
+pub record AmendsTo (product : ProductLists) (payload : List ℕ) : Type 0 where
+  pub text : HasText payload
+  pub gives : product_of (amended_text payload) ≡ Ok product
+  pub image : image_fault Image product (amended_image payload) ≡ None
+
+-- A payload of a kind is good behind so many messages, under the product that holds after it. Nothing is wrong with an image, wherever it
+-- stands.
 abbrev pub IsGoodAs : ProductLists → ℕ → EntryKind → List ℕ → Type 0
 IsGoodAs product count Frames payload = AreGoodFrames count payload
 IsGoodAs product count OldImage payload = image_fault OldImage product payload ≡ None
 IsGoodAs product count Image payload = image_fault Image product payload ≡ None
+IsGoodAs product count Amendment payload = AmendsTo product payload
 
 abbrev pub IsGoodRecord : ProductLists → ℕ → Record → Type 0
 IsGoodRecord product count r = IsGoodAs product count r.kind r.payload
 
--- each is good by the count behind those before it
+-- Each is good under one product, by the count behind those before it: so are the records from the last image on.
 abbrev pub AreGoodRecords : ProductLists → ℕ → List Record → Type 0
 AreGoodRecords product count [] = Unit {0}
 AreGoodRecords product count (r ∷ records) = IsGoodRecord product count r × AreGoodRecords product (count_behind count r) records
-
--- ---- true records
-
--- A payload of a kind is true behind these messages: an image is that of the state after them, and frames may be any. An old
--- image does not say the session: the market is open then.
-abbrev pub IsTrueAs : ProductLists → List (List ℕ) → EntryKind → List ℕ → Type 0
-IsTrueAs product before Frames payload = Unit {0}
-IsTrueAs product before OldImage payload = (payload ≡ old_image_of (state_kept (of_product product before))) × ((state_kept (of_product product before)).trading ≡ Open)
-IsTrueAs product before Image payload = payload ≡ image_of (state_kept (of_product product before))
-
-abbrev pub IsTrueRecord : ProductLists → List (List ℕ) → Record → Type 0
-IsTrueRecord product before r = IsTrueAs product before r.kind r.payload
-
--- each is true by all messages before it
-abbrev pub AreTrueRecords : ProductLists → List (List ℕ) → List Record → Type 0
-AreTrueRecords product before [] = Unit {0}
-AreTrueRecords product before (r ∷ records) = IsTrueRecord product before r × AreTrueRecords product (before ++ record_messages r) records
 
 -- where the record is frames, nothing stands behind them
 abbrev pub HasWholeFrames : Record → Type 0
@@ -136,6 +156,7 @@ abbrev pub state_as : ProductLists → State → EntryKind → List ℕ → Stat
 state_as product state Frames payload = state_after product state (messages_of payload)
 state_as product state OldImage payload = state_of_image OldImage product payload
 state_as product state Image payload = state_of_image Image product payload
+state_as product state Amendment payload = state_of_image Image product (amended_image payload)
 
 abbrev pub state_behind : ProductLists → State → Record → State
 state_behind product state r = state_as product state r.kind r.payload

@@ -1,30 +1,26 @@
 -- What recovery does and answers.
 use Rattle.std.specs.Prelude.{◌≡◌, ℕ, ◌+◌, ◌*◌, ◌≤◌, List, [], length, flat_map, Option, Some, None, Result, Ok, Err}
 use Rattle.std.specs.Box.{boxed_slice_len}
-use Rattle.gx_station.specs.Stations.{StationMeanings}
 use Rattle.product_file.specs.Products.{ProductLists}
+use Rattle.product_file.specs.ProductTexts.{product_of}
 use Rattle.order_kinds.specs.State.{State, state_numbered}
 use Rattle.order_kinds.specs.Cores.{AreNumbered}
 use Rattle.order_kinds.specs.Histories.{History, of_product, length_kept, state_kept}
 use Rattle.book_image.specs.Image.{image_len}
 use Rattle.match_journal.specs.Journal.{Header, Record, open_record}
 use Rattle.match_journal.specs.Appending.{IsJournalTo}
-use Rattle.match_journal.specs.Causes.{LooksOnly}
-use Rattle.book_recovery.specs.Records.{from_last_image, image_gate, messages_in, count_behind_all, AreGoodRecords, AreTrueRecords}
+use Rattle.match_journal.specs.declared.limits.TheConstants.{MOST_TEXT}
+use Rattle.book_recovery.specs.Records.{from_last_image, image_gate, count_behind_all, AreGoodRecords}
+use Rattle.book_recovery.specs.Histories.{AreGoodFrom, AreTrueFrom, history_behind}
 use Rattle.book_recovery.specs.BadPlaces.{IsBadPlace}
 use Rattle.book_recovery.specs.declared.recovery.Recovered.{Recovered}
 use Rattle.book_recovery.specs.declared.recovery.RecoverFault.{RecoverFault}
 use Rattle.book_recovery.specs.declared.recovery.RecoverFault.TheVariants as fault
 use Rattle.book_recovery.specs.declared.scratch.Scratch.{Scratch}
 
--- a station was read, and nothing was written, synced or sent
-pub record ReadsOnly {S : Type 0} (m : StationMeanings S) (old new : S) : Type 0 where
-  pub most : ℕ
-  pub looks : LooksOnly m old new most
-
--- there is room for each right book image of a product
+-- there is room for the payload of an amendment: the longest text, its length, and each right book image of a product
 abbrev pub HasRoomFor : ProductLists → Scratch → Type 0
-HasRoomFor product scratch = image_len (length product.names.instruments) product.max_orders ≤ boxed_slice_len scratch.payload
+HasRoomFor product scratch = 4 + MOST_TEXT + image_len (length product.names.instruments) product.max_orders ≤ boxed_slice_len scratch.payload
 
 -- the state is that of the engine after a history, but for the slots of the orders, and order numbers differ
 pub record IsStateAfter (history : History) (state : State) : Type 0 where
@@ -42,8 +38,14 @@ first_read (Some image_at) first = image_at
 abbrev pub most_to_recover : List Record → ℕ
 most_to_recover records = 6 * (length records + 1) + length (flat_map open_record (from_last_image records))
 
--- The image is a journal up to this gate, no record of which is bad from the last book image on, and these were replayed. Where
--- each book image in it is that of the state after the messages before it, this is the state after all messages.
+-- if these records are good and true from the header's product on, this is the state after their history
+abbrev pub KeptFrom : Header → List Record → State → Type 0
+KeptFrom head records state =
+    (first : ProductLists) → product_of head.text ≡ Ok first → AreGoodFrom first 0 records → AreTrueFrom (of_product first []) records
+    → IsStateAfter (history_behind (of_product first []) records) state
+
+-- The image is a journal up to this gate, no record of which is bad from the last book image on, and these were replayed. If no record
+-- before it is bad either, and each book image in it is that of the state there, this is the state after the whole history.
 pub record IsRecovered (product : ProductLists) (head : Header) (limit : ℕ) (image : List ℕ) (gate : ℕ) (state : State) (recovered : Recovered) : Type 0 where
   pub records : List Record
   pub journal : IsJournalTo head limit records gate image
@@ -51,7 +53,7 @@ pub record IsRecovered (product : ProductLists) (head : Header) (limit : ℕ) (i
   pub messages : recovered.messages ≡ count_behind_all 0 (from_last_image records)
   pub entries : recovered.entries ≡ length records
   pub image_at : recovered.image_at ≡ image_gate head records
-  pub kept : AreTrueRecords product [] records → IsStateAfter (of_product product (messages_in records)) state
+  pub kept : KeptFrom head records state
 
 -- What is answered over an image whose first gate and header are good. Ok and Bad do not hold together, nor does Bad at two
 -- places (`an_image_is_recovered_one_way`), so each comes exactly where it holds.

@@ -1,5 +1,5 @@
 //! Reading what a record holds, whose entry is known.
-ghost use Rattle.std.specs.Prelude.{◌≡◌, ℕ, ◌+◌, ◌<◌, ◌≤◌, ◌↔◌, List, [], ◌++◌, length, true, Some, IsTrue, OnOk, IfOk, IsErr, IsErrOf};
+ghost use Rattle.std.specs.Prelude.{◌≡◌, ℕ, ◌+◌, ◌<◌, ◌≤◌, ◌↔◌, List, [], ◌++◌, length, true, option_map, Some, IsTrue, OnOk, IfOk, IsErr, IsErrOf};
 ghost use Rattle.std.specs.List.{concat};
 ghost use Rattle.std.specs.Box.{boxed_slice_len};
 ghost use Rattle.gx_station.specs.Counts.{Rose};
@@ -7,23 +7,24 @@ ghost use Rattle.gx_station.specs.StoreCalls.{OnStore};
 ghost use Rattle.fix_frame.specs.Stream.{messages_of, rest_of};
 ghost use Rattle.book_image.specs.Image.{image_len};
 ghost use Rattle.match_journal.specs.Causes.{LooksOnly};
-ghost use Rattle.match_journal.specs.Standing.{Fits, StandsIn};
+ghost use Rattle.match_journal.specs.Standing.{Fits};
+ghost use Rattle.match_journal.specs.Opening.{StandsIn};
 ghost use Rattle.match_journal.specs.declared.entry.EntryKind.TheVariants.{Frames};
-ghost use Rattle.match_journal.specs.declared.limits.TheConstants.{MOST_PAYLOAD};
+ghost use Rattle.match_journal.specs.declared.limits.TheConstants.{MOST_PAYLOAD, MOST_TEXT};
 ghost use Rattle.order_kinds.specs.State.{empty_state};
 ghost use Rattle.order_kinds.specs.Cores.{FitsProduct};
 ghost use Rattle.order_kinds.specs.declared.core_state.TheConstants.{MOST_MESSAGES};
-ghost use Rattle.book_recovery.specs.Records.{is_image_kind};
+ghost use Rattle.book_recovery.specs.Records.{is_image_kind, image_kind, GivesAs};
 ghost use Rattle.book_recovery.specs.Recovering.{HasRoomFor};
 ghost use Rattle.book_recovery.specs.Inner.Replays.{payload_at, ReadsImage};
-ghost use Rattle.book_recovery.specs.Inner.Contents.{CountsBehind, ReadsFrames, ReadsContent};
+ghost use Rattle.book_recovery.specs.Inner.Contents.{CountsBehind, FindsImage, ReadsFrames, ReadsContent};
 
 use crate::recovery::RecoverFault;
-use crate::scratch::Scratch;
+use crate::scratch::{Scratch, TEXT_SIZE};
 use book_image::read_image;
 use fix_frame::{Framer, Next};
 use gx_station::Station;
-use match_journal::{Entry, EntryKind, Journal, StoreFault};
+use match_journal::{Entry, EntryKind, Journal, MOST_TEXT, StoreFault};
 use order_kinds::{Core, MOST_MESSAGES};
 use plain_book::Book;
 use product_file::Product;
@@ -64,8 +65,40 @@ fn read_frames<S: Station>(
     Ok(())
 }
 
-/// Reads a book image, and brings a new core to the state that it is of. It is `Bad` exactly where the image is not right; the core
-/// is new then, as it was.
+/// The book image in a payload of a kind; of an amendment, what comes after its text. `None` exactly if the text of an amendment is longer
+/// than a product text may be, or does not end in the payload.
+fn image_in(kind: EntryKind, payload: &[u8]) -> Option<&[u8]>
+    ensures { FindsImage kind payload.now (option_map (λ image. image.now) result) }
+{
+    match kind {
+        EntryKind::Amendment => {
+            if payload.len() < TEXT_SIZE {
+                return None;
+            }
+            let size = u32::from_be_bytes([
+                payload[0], payload[1], payload[2], payload[3],
+            ]) as usize;
+            if size > MOST_TEXT || payload.len() - TEXT_SIZE < size {
+                return None;
+            }
+            Some(&payload[TEXT_SIZE + size..])
+        }
+        EntryKind::Frames | EntryKind::OldImage | EntryKind::Image => Some(payload),
+    }
+}
+
+/// The kind of the book image in a payload of a kind.
+fn image_kind(kind: EntryKind) -> EntryKind
+    ensures { result ≡ image_kind kind }
+{
+    match kind {
+        EntryKind::Amendment => EntryKind::Image,
+        EntryKind::Frames | EntryKind::OldImage | EntryKind::Image => kind,
+    }
+}
+
+/// Reads the book image of a record, and brings a new core to the state that it is of. It is `Bad` exactly where the image is not right, or
+/// the text of an amendment does not end in its payload; the core is new then, as it was.
 fn read_image_record<S: Station, B: Book>(
     station: &mut S,
     journal: &mut Journal,
@@ -76,7 +109,7 @@ fn read_image_record<S: Station, B: Book>(
 ) -> Result<(), RecoverFault>
     requires image { is_image_kind entry.now.kind ≡ true }
     requires new { core.old ≡ empty_state product.now }
-    requires room { image_len (length product.now.names.instruments) product.now.max_orders ≤ length payload.old }
+    requires room { 4 + MOST_TEXT + image_len (length product.now.names.instruments) product.now.max_orders ≤ length payload.old }
     requires reach { journal.old.known ≤ S.meanings.reach station.old }
     requires entry { Fits journal.old.known journal.old.limit entry.now }
     ensures looks { LooksOnly S.meanings station.old station.new entry.now.length }
@@ -91,7 +124,7 @@ fn read_image_record<S: Station, B: Book>(
         → ReadsImage entry.now.kind product.now (payload_at image entry.now) core.new entry.now.at result }
 {
     let length = entry.length as usize;
-    // No right image is longer than the room for one.
+    // No right image is longer than the room for one, nor is an amendment with one.
     if length > payload.len() {
         return Err(RecoverFault::Bad(entry.at));
     }
@@ -99,7 +132,10 @@ fn read_image_record<S: Station, B: Book>(
     if read.is_err() {
         return Err(RecoverFault::Store);
     }
-    match read_image(entry.kind, &payload[..length], product, core) {
+    let Some(image) = image_in(entry.kind, &payload[..length]) else {
+        return Err(RecoverFault::Bad(entry.at));
+    };
+    match read_image(image_kind(entry.kind), image, product, core) {
         Ok(()) => Ok(()),
         Err(_) => Err(RecoverFault::Bad(entry.at)),
     }
@@ -167,8 +203,9 @@ pub(crate) struct Met {
 
 /// Reads a record that was met, and answers the count after it. Of a record of frames, the scratch's
 /// framer has then given all, and the core is as it was. A book image gives no message; it is read into the core, which is new
-/// before, and says the count itself. It is `Bad` exactly if the record is bad: it is not whole frames, or they bring the count to
-/// 2^24 or more; or it is an image that is not right. The core is as it was then.
+/// before, and says the count itself. So is that of an amendment, whose text is known to give the product. It is `Bad` exactly if the
+/// record is bad: it is not whole frames, or they bring the count to 2^24 or more; or its image is not right, or the text of an amendment
+/// does not end in its payload. The core is as it was then.
 pub(crate) fn read_record<S: Station, B: Book>(
     station: &mut S,
     journal: &mut Journal,
@@ -197,13 +234,13 @@ pub(crate) fn read_record<S: Station, B: Book>(
     ensures given { OnOk result (scratch.new.framer.given ≡ messages_of (concat scratch.new.framer.given)) }
     ensures size { OnOk result (length (concat scratch.new.framer.given) ≤ met.entry.length) }
     ensures reads { (image : List ℕ) → S.meanings.holds station.old ≡ Some image → StandsIn journal.old image
-        → ReadsContent product.now met.count met.entry.kind (payload_at image met.entry) met.entry.at scratch.new.framer.given core.new result }
+        → GivesAs product.now met.entry.kind (payload_at image met.entry) → ReadsContent product.now met.count met.entry.kind (payload_at image met.entry) met.entry.at scratch.new.framer.given core.new result }
 {
     match met.entry.kind {
         EntryKind::Frames => {
             read_frame_record(station, journal, scratch, &met.entry, met.count)
         },
-        EntryKind::OldImage | EntryKind::Image => {
+        EntryKind::OldImage | EntryKind::Image | EntryKind::Amendment => {
             scratch.framer.clear();
             match read_image_record(
                 station,

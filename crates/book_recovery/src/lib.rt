@@ -16,4 +16,7 @@ pub use laws::{an_image_is_recovered_one_way, one_record_is_the_first_bad_one};
 pub use records::next_record;
 pub use recovery::{RecoverFault, Recovered, recover};
 pub use scratch::Scratch;
-pub use true_images::{recovery_from_an_image_is_a_full_replay, true_records_are_good};
+pub use true_images::{
+    good_records_are_good_from_the_last_image, recovery_from_an_image_is_a_full_replay,
+    true_records_are_good,
+};

@@ -3,16 +3,19 @@ ghost use Rattle.std.specs.Prelude.{◌≡◌, ℕ, ◌+◌, ◌<◌, ◌≤◌,
 ghost use Rattle.std.specs.List.{concat};
 ghost use Rattle.gx_station.specs.Counts.{Rose};
 ghost use Rattle.fix_frame.specs.Stream.{messages_of};
+ghost use Rattle.match_journal.specs.Causes.{ReadsOnly};
 ghost use Rattle.match_journal.specs.Journal.{Record, journal_front, Header};
-ghost use Rattle.match_journal.specs.Standing.{IsStanding, moved, StandsIn};
+ghost use Rattle.match_journal.specs.Standing.{IsStanding, moved};
+ghost use Rattle.match_journal.specs.Opening.{StandsIn};
 ghost use Rattle.match_journal.specs.declared.entry.EntryKind.{EntryKind};
 ghost use Rattle.match_journal.specs.declared.entry.EntryKind.TheVariants.{Frames};
 ghost use Rattle.order_kinds.specs.State.{empty_state};
 ghost use Rattle.order_kinds.specs.Cores.{FitsProduct};
 ghost use Rattle.order_kinds.specs.declared.core_state.TheConstants.{MOST_MESSAGES};
 ghost use Rattle.book_recovery.specs.Records.{count_behind_all};
+ghost use Rattle.book_recovery.specs.Histories.{is_amendment};
 ghost use Rattle.book_recovery.specs.BadPlaces.{AreFirstRecords};
-ghost use Rattle.book_recovery.specs.Recovering.{ReadsOnly, HasRoomFor};
+ghost use Rattle.book_recovery.specs.Recovering.{HasRoomFor};
 ghost use Rattle.book_recovery.specs.Inner.Reading.{ReadsRecord};
 
 use crate::contents::{Met, read_record};
@@ -24,6 +27,16 @@ use order_kinds::Core;
 use plain_book::Book;
 use product_file::Product;
 
+/// Whether records of a kind are amendments.
+fn is_amendment(kind: EntryKind) -> bool
+    ensures { result ≡ is_amendment kind }
+{
+    match kind {
+        EntryKind::Amendment => true,
+        EntryKind::Frames | EntryKind::OldImage | EntryKind::Image => false,
+    }
+}
+
 /// Makes a spare core new again after a record of a kind: only an image is read into it.
 fn clear_spare<B: Book>(spare: &mut Core<B>, _product: &Product, kind: EntryKind)
     requires fits { FitsProduct _product.now spare.old }
@@ -32,7 +45,7 @@ fn clear_spare<B: Book>(spare: &mut Core<B>, _product: &Product, kind: EntryKind
 {
     match kind {
         EntryKind::Frames => {}
-        EntryKind::OldImage | EntryKind::Image => spare.clear(),
+        EntryKind::OldImage | EntryKind::Image | EntryKind::Amendment => spare.clear(),
     }
 }
 
@@ -40,8 +53,8 @@ fn clear_spare<B: Book>(spare: &mut Core<B>, _product: &Product, kind: EntryKind
 /// frames adds its own, and a book image sets the count to that of its state. `Ok` has the count behind the record, and leaves the
 /// messages of the record in the scratch's framer, all given: those of a book image are none. `Ok(None)`
 /// comes exactly at a closed gate. `Bad` comes exactly if the record is bad, with its gate: its head is, or it is not whole frames,
-/// or brings the count to 2^24 or more; or it is an image that is not right. `Store` comes only if the count of store faults
-/// rose. The spare core is new, and new again then. Nothing is written, synced or sent.
+/// or brings the count to 2^24 or more; or it is an image that is not right, or an amendment, whatever it holds. `Store` comes only if
+/// the count of store faults rose. The spare core is new, and new again then. Nothing is written, synced or sent.
 pub fn next_record<S: Station, B: Book>(
     station: &mut S,
     journal: &mut Journal,
@@ -77,6 +90,9 @@ pub fn next_record<S: Station, B: Book>(
         Err(WalkFault::Store) => return Err(RecoverFault::Store),
         Err(WalkFault::Bad(at)) => return Err(RecoverFault::Bad(at)),
     };
+    if is_amendment(entry.kind) {
+        return Err(RecoverFault::Bad(entry.at));
+    }
     let met = Met { entry, count };
     match read_record(station, journal, product, scratch, spare, met) {
         Ok(behind) => {

@@ -1,16 +1,18 @@
 //! The state of a journal.
-ghost use Rattle.std.specs.Prelude.{◌≡◌, ℕ, ◌+◌, ◌-◌, ◌*◌, ◌^◌, ◌<◌, ◌≤◌, List, [], false, true, length, Some, OnOk, IfOk, IsErrOf};
+ghost use Rattle.std.specs.Prelude.{◌≡◌, ℕ, ◌+◌, ◌-◌, ◌*◌, ◌^◌, ◌<◌, ◌≤◌, List, [], false, true, length, Some, Ok, OnOk, IfOk, IsErrOf};
+ghost use Rattle.product_file.specs.ProductTexts.{product_of};
 ghost use Rattle.gx_station.specs.Counts.{Rose};
-ghost use Rattle.match_journal.specs.Causes.{ReadsAtMost};
+ghost use Rattle.match_journal.specs.Causes.{ReadsAtMost, ReadsOnly};
 ghost use Rattle.match_journal.specs.Journal.{IsJournal, Record, Header};
-ghost use Rattle.match_journal.specs.Opening.{IsOpened};
-ghost use Rattle.match_journal.specs.Standing.{IsStanding, moved, StandsIn};
+ghost use Rattle.match_journal.specs.Opening.{IsOpened, StandsIn};
+ghost use Rattle.match_journal.specs.Texts.{PlacedText};
+ghost use Rattle.match_journal.specs.BadRecords.{BeginsWithRecords};
+ghost use Rattle.match_journal.specs.Standing.{IsStanding, moved};
 ghost use Rattle.match_journal.specs.declared.limits.TheConstants.{LEAST_LIMIT};
 ghost use Rattle.order_kinds.specs.State.{empty_state};
 ghost use Rattle.order_kinds.specs.Cores.{FitsProduct};
 ghost use Rattle.order_kinds.specs.declared.core_state.TheConstants.{MOST_MESSAGES};
-ghost use Rattle.book_recovery.specs.BadPlaces.{BeginsWithRecords};
-ghost use Rattle.book_recovery.specs.Recovering.{ReadsOnly, HasRoomFor, first_read, most_to_recover, Recovers};
+ghost use Rattle.book_recovery.specs.Recovering.{HasRoomFor, first_read, most_to_recover, Recovers};
 ghost use Rattle.book_recovery.specs.Inner.Starting.{BeginsAt};
 ghost use Rattle.book_recovery.specs.Inner.Counting.{Counts};
 
@@ -63,7 +65,7 @@ impl Heads {
         self.entries += 1;
         match entry.kind {
             EntryKind::Frames => self.start = self.start.or(Some(entry)),
-            EntryKind::OldImage | EntryKind::Image => {
+            EntryKind::OldImage | EntryKind::Image | EntryKind::Amendment => {
                 self.image_at = Some(entry.at);
                 self.start = Some(entry);
             }
@@ -108,16 +110,16 @@ fn read_heads<S: Station>(station: &mut S, journal: &mut Journal) -> Result<Head
     }
 }
 
-/// Brings a new core to the state after all messages that a journal keeps, and reports nothing: it reads the last book image, if
-/// there is one, and applies each message behind it. It goes over all heads, wherever the journal stands, before it reads a
-/// payload. `Ok` leaves the journal at its end.
+/// Brings a new core to the state after all messages that a journal of the product's text keeps, and reports nothing: it reads the last
+/// book image, if there is one, which may be that of an amendment, and applies each message behind it. It goes over all heads, wherever
+/// the journal stands, before it reads a payload. `Ok` leaves the journal at its end.
 ///
 /// `Store` comes only where the count of store faults rose. `Bad` comes exactly where a head is bad, or a record from the last
 /// book image on: with the place of the first bad head, or else of the first of those records that is bad. After a fault nothing
 /// is told of the content of the core, and `Core::clear` makes it as new. Nothing is written, synced or sent.
 ///
-/// A right book image is believed. Where each is that of the state after the messages before it, as `checkpoint` writes it, the
-/// core is as if all messages had been applied.
+/// A right book image is believed, and no record before it is read. Where none of those is bad, and each image is that of the state
+/// there, as `checkpoint` writes it, the core is as if all messages had been applied, each under the product of its time.
 pub fn recover<S: Station, B: Book>(
     station: &mut S,
     journal: &mut Journal,
@@ -150,8 +152,8 @@ pub fn recover<S: Station, B: Book>(
     ensures few_bytes { (head : Header) (image : List ℕ) (records : List Record) → S.meanings.holds station.old ≡ Some image → StandsIn journal.old image
         → IsJournal head journal.old.limit records image → journal.old.first ≡ 13 + length head.text
         → ReadsAtMost (most_to_recover records) (S.meanings.bytes_read station.old) (S.meanings.bytes_read station.new) }
-    ensures recovers { (head : Header) (image : List ℕ) → S.meanings.holds station.old ≡ Some image → StandsIn journal.old image → LEAST_LIMIT ≤ journal.old.limit
-        → IsOpened head image → journal.old.first ≡ 13 + length head.text
+    ensures recovers { (head : Header) (text : PlacedText) (image : List ℕ) → S.meanings.holds station.old ≡ Some image → StandsIn journal.old image
+        → LEAST_LIMIT ≤ journal.old.limit → IsOpened head journal.old.limit text image → product_of text.bytes ≡ Ok product.now
         → Recovers product.now head journal.old.limit image journal.new.gate core.new result }
 {
     let heads = read_heads(station, journal)?;

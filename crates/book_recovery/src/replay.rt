@@ -1,17 +1,20 @@
 //! Replaying the records from the last book image on.
 ghost use Rattle.std.specs.Prelude.{◌≡◌, ℕ, ◌+◌, ◌-◌, ◌<◌, ◌≤◌, List, length, flat_map, false, true, Some, Ok, OnOk, IsErrOf};
 ghost use Rattle.gx_station.specs.Counts.{Rose};
-ghost use Rattle.match_journal.specs.Causes.{ReadsAtMost, LooksOnly};
+ghost use Rattle.match_journal.specs.Causes.{ReadsAtMost, ReadsOnly, LooksOnly};
 ghost use Rattle.match_journal.specs.Journal.{IsJournal, Record, journal_front, open_record, Header};
-ghost use Rattle.match_journal.specs.Standing.{IsStanding, Fits, moved, StandsIn};
+ghost use Rattle.match_journal.specs.Standing.{IsStanding, Fits, moved};
+ghost use Rattle.match_journal.specs.Opening.{StandsIn};
+ghost use Rattle.match_journal.specs.Texts.{last_text};
 ghost use Rattle.match_journal.specs.Walking.{Walks};
 ghost use Rattle.order_kinds.specs.State.{empty_state};
 ghost use Rattle.order_kinds.specs.Cores.{FitsProduct};
 ghost use Rattle.order_kinds.specs.declared.core_state.TheConstants.{MOST_MESSAGES};
-ghost use Rattle.book_recovery.specs.Records.{before_last_image, from_last_image};
-ghost use Rattle.book_recovery.specs.Recovering.{ReadsOnly, HasRoomFor};
+ghost use Rattle.book_recovery.specs.Records.{before_last_image, from_last_image, GivesAs};
+ghost use Rattle.book_recovery.specs.Recovering.{HasRoomFor};
 ghost use Rattle.book_recovery.specs.Inner.Starting.{CanBegin, begins_from};
-ghost use Rattle.book_recovery.specs.Inner.Replays.{record_at, ReplaysOne, ReplaysAll};
+ghost use Rattle.book_recovery.specs.Inner.Replays.{payload_at, record_at, ReplaysOne, ReplaysAll};
+ghost use Rattle.product_file.specs.ProductTexts.{product_of};
 
 use crate::applying::apply_given;
 use crate::contents::{Met, read_record};
@@ -24,7 +27,8 @@ use order_kinds::Core;
 use plain_book::Book;
 use product_file::Product;
 
-/// Replays a record: applies its messages, or takes its image for the state. It is `Bad` exactly if the record is bad.
+/// Replays a record: applies its messages, or takes its image for the state. It is `Bad` exactly if the record is bad, where the text of an
+/// amendment gives the product.
 fn replay_entry<S: Station, B: Book>(
     station: &mut S,
     journal: &mut Journal,
@@ -47,11 +51,11 @@ fn replay_entry<S: Station, B: Book>(
     ensures few { OnOk result (core.new.desk.messages < MOST_MESSAGES) }
     ensures fits { FitsProduct product.now core.new }
     ensures replays { (image : List ℕ) → S.meanings.holds station.old ≡ Some image → StandsIn journal.old image
-        → ReplaysOne product.now core.old core.new entry.now.at (record_at image entry.now) result }
+        → GivesAs product.now entry.now.kind (payload_at image entry.now) → ReplaysOne product.now core.old core.new entry.now.at (record_at image entry.now) result }
 {
     match entry.kind {
         EntryKind::Frames => {}
-        EntryKind::OldImage | EntryKind::Image => {
+        EntryKind::OldImage | EntryKind::Image | EntryKind::Amendment => {
             core.clear();
             let met = Met {
                 entry: *entry,
@@ -115,6 +119,7 @@ pub(crate) fn replay_records<S: Station, B: Book>(
     ensures few { OnOk result (core.new.desk.messages < MOST_MESSAGES) }
     ensures replays { (head : Header) (image : List ℕ) (records : List Record) → S.meanings.holds station.old ≡ Some image → StandsIn journal.old image
         → IsJournal head journal.old.limit records image → journal.old.first ≡ 13 + length head.text
+        → product_of (last_text head records).bytes ≡ Ok product.now
         → Walks image journal.old.limit (length (journal_front head (before_last_image records))) (Ok start)
         → ReplaysAll product.now head journal.old.limit image records journal.new.gate core.new result }
 {

@@ -5,10 +5,13 @@ ghost use Rattle.match_journal.specs.declared.limits.TheConstants.{MOST_PAYLOAD}
 
 use book_image::image_len;
 use fix_frame::Framer;
-use match_journal::MOST_PAYLOAD;
+use match_journal::MOST_TEXT;
 use product_file::Product;
 use std::alloc::{AllocError, Global};
 use std::boxed::BoxedSlice;
+
+/// How many bytes the length of an amendment's text has.
+pub(crate) const TEXT_SIZE: usize = 4;
 
 /// Room for the payload of one record, and a framer for its messages. Neither can grow.
 #[derive(Drop)]
@@ -21,15 +24,16 @@ pub struct Scratch {
 impl Scratch {
     ghost use Rattle.book_recovery.specs.Recovering.{HasRoomFor};
 
-    /// Takes all the memory of a recovery of a product's journals: that of the longest record of frames, or of the image of a
-    /// book with as many orders as the product allows. A recovery takes no more. An `Err` is want of memory.
+    /// Takes all the memory of a recovery of a product's journals: that of an amendment with the longest product text, and the image
+    /// of a book with as many orders as the product allows; no other record is longer. A recovery takes no more. An `Err` is want of
+    /// memory.
     pub fn new(alloc: Global, product: &Product) -> Result<Scratch, AllocError>
         ensures { IfOk result (HasRoomFor product.now) }
     {
         let instruments = product.names().instrument_count();
         let image = image_len(instruments as u32, product.max_orders());
         Ok(Scratch {
-            payload: vec![in alloc; 0; image.max(MOST_PAYLOAD)]?.into_boxed_slice(),
+            payload: vec![in alloc; 0; TEXT_SIZE + MOST_TEXT + image]?.into_boxed_slice(),
             framer: Framer::new(alloc)?,
         })
     }

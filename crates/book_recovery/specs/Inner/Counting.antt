@@ -6,9 +6,9 @@ use Rattle.match_journal.specs.Appending.{IsJournalTo}
 use Rattle.match_journal.specs.Walking.{Walks}
 use Rattle.match_journal.specs.declared.entry.Entry.{Entry}
 use Rattle.match_journal.specs.declared.entry.EntryKind.{EntryKind}
-use Rattle.match_journal.specs.declared.entry.EntryKind.TheVariants.{Frames, OldImage, Image}
+use Rattle.match_journal.specs.declared.entry.EntryKind.TheVariants.{Frames, OldImage, Image, Amendment}
 use Rattle.book_recovery.specs.Records.{before_last_image, image_gate}
-use Rattle.book_recovery.specs.BadPlaces.{HasBadHeadAt}
+use Rattle.match_journal.specs.BadRecords.{HasBadHeadAt}
 use Rattle.book_recovery.specs.declared.recovery.Heads.{Heads}
 use Rattle.book_recovery.specs.declared.recovery.RecoverFault.{RecoverFault}
 use Rattle.book_recovery.specs.declared.recovery.RecoverFault.TheVariants as fault
@@ -18,6 +18,7 @@ abbrev pub with_head_of : Heads → EntryKind → Entry → Heads
 with_head_of heads Frames entry = record { entries = heads.entries + 1; image_at = heads.image_at; start = option_or heads.start (Some entry) }
 with_head_of heads OldImage entry = record { entries = heads.entries + 1; image_at = Some entry.at; start = Some entry }
 with_head_of heads Image entry = record { entries = heads.entries + 1; image_at = Some entry.at; start = Some entry }
+with_head_of heads Amendment entry = record { entries = heads.entries + 1; image_at = Some entry.at; start = Some entry }
 
 abbrev pub with_head : Heads → Entry → Heads
 with_head heads entry = with_head_of heads entry.kind entry

@@ -1,7 +1,6 @@
 -- Replaying records: their messages are applied, and an image takes the place of the state.
-use Rattle.std.specs.Prelude.{◌≡◌, ℕ, ◌+◌, false, List, [], take, drop, None, Result, Ok, Err}
+use Rattle.std.specs.Prelude.{◌≡◌, ℕ, ◌+◌, false, List, take, drop, None, Result, Ok, Err}
 use Rattle.product_file.specs.Products.{ProductLists}
-use Rattle.order_kinds.specs.Histories.{of_product}
 use Rattle.order_kinds.specs.State.{State, state_numbered}
 use Rattle.order_kinds.specs.Cores.{AreNumbered}
 use Rattle.book_image.specs.Faults.{image_fault}
@@ -10,9 +9,9 @@ use Rattle.match_journal.specs.Journal.{Record, Header}
 use Rattle.match_journal.specs.Appending.{IsJournalTo}
 use Rattle.match_journal.specs.declared.entry.Entry.{Entry}
 use Rattle.match_journal.specs.declared.entry.EntryKind.{EntryKind}
-use Rattle.book_recovery.specs.Records.{is_image, from_last_image, messages_in, count_behind, count_behind_all, state_behind, IsGoodRecord, AreGoodRecords, AreTrueRecords}
+use Rattle.book_recovery.specs.Records.{is_image, image_in, image_kind, HasTextAs, from_last_image, count_behind, count_behind_all, state_behind, IsGoodRecord, AreGoodRecords}
 use Rattle.book_recovery.specs.BadPlaces.{HasBadPayloadAt}
-use Rattle.book_recovery.specs.Recovering.{IsStateAfter}
+use Rattle.book_recovery.specs.Recovering.{KeptFrom}
 use Rattle.book_recovery.specs.declared.recovery.RecoverFault.{RecoverFault}
 use Rattle.book_recovery.specs.declared.recovery.RecoverFault.TheVariants as fault
 
@@ -23,16 +22,21 @@ payload_at image entry = take entry.length (drop (entry.at + 6) image)
 abbrev pub record_at : List ℕ → Entry → Record
 record_at image entry = record { kind = entry.kind; payload = payload_at image entry }
 
--- the payload is a right image of this kind, and the state is the one that it is of
+-- the image in a payload of this kind is right
+pub record HasRightImage (kind : EntryKind) (product : ProductLists) (payload : List ℕ) : Type 0 where
+  pub text : HasTextAs kind payload
+  pub right : image_fault (image_kind kind) product (image_in kind payload) ≡ None
+
+-- it is, and the state is the one that it is of
 pub record IsImageRead (kind : EntryKind) (product : ProductLists) (payload : List ℕ) (new : State) : Type 0 where
-  pub right : image_fault kind product payload ≡ None
-  pub state : state_numbered new ≡ state_of_image kind product payload
+  pub has : HasRightImage kind product payload
+  pub state : state_numbered new ≡ state_of_image (image_kind kind) product (image_in kind payload)
 
 -- what is answered at an image of this kind, with its payload and gate
 abbrev pub ReadsImage : EntryKind → ProductLists → List ℕ → State → ℕ → Result (Unit {0}) RecoverFault → Type 0
 ReadsImage kind product payload new gate (Ok t) = IsImageRead kind product payload new
 ReadsImage kind product payload new gate (Err fault.Store) = Unit {0}
-ReadsImage kind product payload new gate (Err (fault.Bad at)) = (image_fault kind product payload ≡ None → ⊥) × (at ≡ gate)
+ReadsImage kind product payload new gate (Err (fault.Bad at)) = (HasRightImage kind product payload → ⊥) × (at ≡ gate)
 
 -- The record is good behind so many messages, and the state is the one behind it; where it is frames, only if order numbers differed.
 pub record IsReplayed (product : ProductLists) (old new : State) (r : Record) : Type 0 where
@@ -52,7 +56,7 @@ pub record AreReplayed (product : ProductLists) (head : Header) (limit : ℕ) (i
   pub journal : IsJournalTo head limit records gate image
   pub good : AreGoodRecords product 0 (from_last_image records)
   pub messages : new.desk.messages ≡ count_behind_all 0 (from_last_image records)
-  pub kept : AreTrueRecords product [] records → IsStateAfter (of_product product (messages_in records)) new
+  pub kept : KeptFrom head records new
 
 -- what is answered over a journal with these records
 abbrev pub ReplaysAll : ProductLists → Header → ℕ → List ℕ → List Record → ℕ → State → Result (Unit {0}) RecoverFault → Type 0

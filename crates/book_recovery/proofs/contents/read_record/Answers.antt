@@ -10,7 +10,7 @@ returns-in-Frames-clause-counts g c =
     counts_frames c.args.product.now c.args.met.count [] entry.at c.read_frame_record.new.scratch.framer.given c.args.core.now entry.kind c.in-Frames.is c.read_frame_record.result c.read_frame_record.ensures.counts
 
 pub returns-in-Frames-clause-reads : goal.returns-in-Frames-clause-reads
-returns-in-Frames-clause-reads g c = λ image read known.
+returns-in-Frames-clause-reads g c = λ image read known gives.
     let entry = c.args.met.entry in
     reads_frames c.args.product.now c.args.met.count (payload_at image entry) entry.at c.read_frame_record.new.scratch.framer.given c.args.core.now entry.kind c.in-Frames.is c.read_frame_record.result c.read_frame_record.ensures.counts (c.read_frame_record.ensures.reads image read)
 
@@ -26,12 +26,12 @@ returns-in-Ok-clause-counts g c =
     counts-image c.args.met.count entry.kind c.clear.new.self.given c.read_image_record.new.core c.messages.result (either-image entry.kind c.in-OldImage.is) c.clear.ensures.0 c.messages.ensures.count
 
 pub returns-in-Ok-clause-reads : goal.returns-in-Ok-clause-reads
-returns-in-Ok-clause-reads g c = λ image read known.
+returns-in-Ok-clause-reads g c = λ image read known gives.
     let entry = c.args.met.entry in
     reads_image c.args.product.now c.args.met.count (payload_at image entry) entry.at c.clear.new.self.given c.read_image_record.new.core entry.kind (either-image entry.kind c.in-OldImage.is) c.messages.result c.clear.ensures.0 c.messages.ensures.count
-    (c.in-Ok.ensures.reads image read known)
+    (c.in-Ok.ensures.reads image read known) gives
 
 pub returns-in-Err-clause-reads : goal.returns-in-Err-clause-reads
-returns-in-Err-clause-reads g c = λ image read known.
+returns-in-Err-clause-reads g c = λ image read known gives.
     let entry = c.args.met.entry in
     reads_no_image c.args.product.now c.args.met.count (payload_at image entry) entry.at c.clear.new.self.given c.read_image_record.new.core entry.kind (either-image entry.kind c.in-OldImage.is) c.in-Err.why (c.in-Err.ensures.reads image read known)

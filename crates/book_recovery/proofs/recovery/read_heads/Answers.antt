@@ -3,10 +3,10 @@ use Rattle.match_journal.specs.Standing.{Fits}
 use Rattle.match_journal.specs.Walking.{IsHead, IsBadHead}
 use Rattle.match_journal.specs.declared.entry.Entry.{Entry}
 use Rattle.match_journal.specs.declared.standing.Standing.{Standing}
-use Rattle.book_recovery.specs.BadPlaces.{HasBadHeadAt}
+use Rattle.match_journal.specs.BadRecords.{HasBadHeadAt}
 use Rattle.book_recovery.specs.Inner.Counting.{AreRecords}
-use Rattle.book_recovery.proofs.Looks.{looks_by, reads_of}
-use Rattle.book_recovery.proofs.Images.{journal_begins_none}
+use Rattle.match_journal.specs.LookLaws.{looks_by, reads_of}
+use Rattle.match_journal.proofs.Heads.{journal_begins_none}
 use Rattle.book_recovery.proofs.FewBytes.{heads_read}
 use Rattle.book_recovery.proofs.Starting.{begins_then}
 use Rattle.book_recovery.proofs.Standings.{stands_moved, moved_then, some_moved, none_moved, entry_found}

@@ -1,8 +1,9 @@
 use Rattle.std.proofs.Common.{◌≡◌, ◌-◌, ◌+◌, ◌*◌, ◌≤◌, List, ℕ, [], length, Some}
 use Rattle.match_journal.specs.Journal.{Header}
 use Rattle.match_journal.specs.Causes.{LooksOnly}
-use Rattle.match_journal.specs.Standing.{StandsIn, moved}
-use Rattle.book_recovery.specs.BadPlaces.{BeginsWithRecords}
+use Rattle.match_journal.specs.Opening.{StandsIn}
+use Rattle.match_journal.specs.Standing.{moved}
+use Rattle.match_journal.specs.BadRecords.{BeginsWithRecords}
 use Rattle.book_recovery.specs.Inner.Starting.{BeginsAt}
 use Rattle.book_recovery.proofs.Counting.{IsCounting}
 use Rattle.book_recovery.proofs.recovery.read_heads.Given as goal

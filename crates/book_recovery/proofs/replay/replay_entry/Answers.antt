@@ -19,14 +19,14 @@ read_record-requires-clause-fits g c =
     subst (λ (s : State). FitsProduct c.args.product.now s) (sym (c.clear.ensures ∙ cleared_new c.args.product.now c.args.core.now c.requires.fits)) (fits-empty c.args.product.now)
 
 pub returns-in-Ok-clause-replays : goal.returns-in-Ok-clause-replays
-returns-in-Ok-clause-replays g c = λ image read known.
+returns-in-Ok-clause-replays g c = λ image read known gives.
     let entry = c.args.entry.now in
-    image_replayed c.args.product.now c.args.core.now 0 (payload_at image entry) c.read_record.new.scratch.framer.given entry.kind (either-image entry.kind c.in-OldImage.is) c.read_record.new.core c.in-Ok.field-0 c.in-Ok.ensures.counts (c.in-Ok.ensures.reads image read known)
+    image_replayed c.args.product.now c.args.core.now 0 (payload_at image entry) c.read_record.new.scratch.framer.given entry.kind (either-image entry.kind c.in-OldImage.is) c.read_record.new.core c.in-Ok.field-0 c.in-Ok.ensures.counts (c.in-Ok.ensures.reads image read known gives)
 
 pub returns-in-Err-clause-replays : goal.returns-in-Err-clause-replays
-returns-in-Err-clause-replays g c = λ image read known.
+returns-in-Err-clause-replays g c = λ image read known gives.
     let entry = c.args.entry.now in
-    image_not_replayed c.args.product.now c.args.core.now 0 (payload_at image entry) c.read_record.new.scratch.framer.given entry.kind (either-image entry.kind c.in-OldImage.is) c.read_record.new.core c.read_record.new.core entry.at c.in-Err.why (c.in-Err.ensures.reads image read known)
+    image_not_replayed c.args.product.now c.args.core.now 0 (payload_at image entry) c.read_record.new.scratch.framer.given entry.kind (either-image entry.kind c.in-OldImage.is) c.read_record.new.core c.read_record.new.core entry.at c.in-Err.why (c.in-Err.ensures.reads image read known gives)
 
 -- ---- frames
 
@@ -46,17 +46,17 @@ returns-in-Ok-read_record-clause-few g c =
     omega (arith, counts, same, c.messages-count.ensures.count, c.in-Ok-read_record.ensures.few, c.apply_given.ensures.count)
 
 pub returns-in-Ok-read_record-clause-replays : goal.returns-in-Ok-read_record-clause-replays
-returns-in-Ok-read_record-clause-replays g c = λ image read known.
+returns-in-Ok-read_record-clause-replays g c = λ image read known gives.
     let entry = c.args.entry.now in
     frames_replayed c.args.product.now c.args.core.now c.messages-count.result (payload_at image entry) c.read_record-2.new.scratch.framer.given c.messages-count.ensures.count entry.kind c.in-Frames.is c.read_record-2.new.core c.apply_given.new.core c.in-Ok-read_record.field-0
     (c.read_record-2.ensures.frames c.in-Frames.is)
-    (c.in-Ok-read_record.ensures.reads image read known)
+    (c.in-Ok-read_record.ensures.reads image read known gives)
     c.apply_given.ensures.state
     c.apply_given.ensures.count
     c.apply_given.ensures.numbered
 
 pub returns-in-Err-read_record-clause-replays : goal.returns-in-Err-read_record-clause-replays
-returns-in-Err-read_record-clause-replays g c = λ image read known.
+returns-in-Err-read_record-clause-replays g c = λ image read known gives.
     let entry = c.args.entry.now in
     frames_not_replayed c.args.product.now c.args.core.now c.messages-count.result (payload_at image entry) c.read_record-2.new.scratch.framer.given c.messages-count.ensures.count entry.kind c.in-Frames.is c.read_record-2.new.core c.read_record-2.new.core entry.at c.in-Err-read_record.why
-    (c.in-Err-read_record.ensures.reads image read known)
+    (c.in-Err-read_record.ensures.reads image read known gives)

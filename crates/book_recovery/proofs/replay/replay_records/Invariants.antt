@@ -1,14 +1,17 @@
 use Rattle.std.proofs.Common.{◌≡◌, ◌-◌, ◌+◌, ◌<◌, ◌≤◌, List, ℕ, length, Some, Ok}
 use Rattle.match_journal.specs.Journal.{IsJournal, Record, journal_front, Header}
 use Rattle.match_journal.specs.Causes.{LooksOnly}
-use Rattle.match_journal.specs.Standing.{StandsIn, moved}
+use Rattle.match_journal.specs.Opening.{StandsIn}
+use Rattle.match_journal.specs.Standing.{moved}
+use Rattle.match_journal.specs.Texts.{last_text}
 use Rattle.match_journal.specs.Walking.{Walks}
+use Rattle.product_file.specs.ProductTexts.{product_of}
 use Rattle.order_kinds.specs.Cores.{FitsProduct}
 use Rattle.order_kinds.specs.declared.core_state.TheConstants.{MOST_MESSAGES}
 use Rattle.book_recovery.specs.Records.{before_last_image}
 use Rattle.book_recovery.specs.Recovering.{HasRoomFor}
 use Rattle.book_recovery.specs.Inner.Starting.{begins_from}
-use Rattle.book_recovery.proofs.Replaying.{IsReplaying}
+use Rattle.book_recovery.proofs.Replaying.{IsPassing, IsReplaying}
 use Rattle.book_recovery.proofs.replay.replay_records.Given as goal
 
 abbrev pub invariant-records : goal.invariant-records
@@ -24,7 +27,10 @@ invariant-records g l =
       room : HasRoomFor l.product l.scratch;
       fits : FitsProduct l.product l.core;
       few : l.core.desk.messages < MOST_MESSAGES;
+      passing : (head : Header) (image : List ℕ) (records : List Record) → m.holds l.fn.station ≡ Some image → StandsIn l.fn.journal image → IsJournal head l.fn.journal.limit records image
+          → Walks image l.fn.journal.limit (length (journal_front head (before_last_image records))) (Ok l.fn.start) → IsPassing head records l.journal.gate;
       replaying : (head : Header) (image : List ℕ) (records : List Record) → m.holds l.fn.station ≡ Some image → StandsIn l.fn.journal image → IsJournal head l.fn.journal.limit records image
+          → product_of (last_text head records).bytes ≡ Ok l.product
           → Walks image l.fn.journal.limit (length (journal_front head (before_last_image records))) (Ok l.fn.start) → IsReplaying l.product head records l.journal.gate l.core;
     }
 
