@@ -7,7 +7,7 @@ use Rattle.gx_base.specs.declared.event.Event.{Event}
 use Rattle.product_file.specs.Products.{ProductLists}
 use Rattle.order_kinds.specs.State.{State}
 use Rattle.order_kinds.specs.Step.{state_after, events_from}
-use Rattle.book_recovery.proofs.StatesBehind.{events-append}
+use Rattle.order_kinds.proofs.FurtherMessages.{events-append}
 use Rattle.exec_report.specs.Forms.{FormMeanings, LineText, behind}
 use Rattle.exec_report.specs.FormLaws.{behind-then, text-behind}
 use Rattle.journal_print.specs.Works.{WorkMeanings}

@@ -3,17 +3,17 @@ use Rattle.std.specs.Prelude.{◌≡◌, ◌⊎◌, ℕ, ◌≤◌, List, ◌++�
 use Rattle.gx_base.specs.KnownBytes.{IsKnownPrefix}
 use Rattle.gx_station.specs.Stations.{StationMeanings, sent_and}
 use Rattle.product_file.specs.Products.{ProductLists}
-use Rattle.match_journal.specs.Journal.{Header, Record, in_version}
-use Rattle.match_journal.specs.Classes.{IsForeignAt, HasBadHeader, HasOtherText}
-use Rattle.match_journal.specs.Opening.{IsOpenedOf}
+use Rattle.match_journal.specs.Journal.{Header, Record}
+use Rattle.match_journal.specs.Classes.{IsForeignAt}
+use Rattle.match_journal.specs.Opening.{IsOpenedOf, IsBadAt, HasOtherText}
 use Rattle.order_kinds.specs.declared.core_state.TheConstants.{MOST_MESSAGES}
 use Rattle.order_kinds.specs.Balance.{total_open}
 use Rattle.order_kinds.specs.Amendments.{amended_state}
 use Rattle.order_kinds.specs.Step.{events_of, events_from}
 use Rattle.order_kinds.specs.Histories.{History, of_product, amended, length_kept, state_kept, lines_kept}
 use Rattle.book_recovery.specs.Records.{messages_in}
-use Rattle.book_recovery.specs.Kept.{HasKept, IsTrueImage, CanBeRecovered}
-use Rattle.book_recovery.specs.BadPlaces.{AreFirstRecords, HasBadRecordAt, IsBadPlace}
+use Rattle.book_recovery.specs.Kept.{HasKept, IsTrueImage, CanBeRecovered, KeepsNoAmendment}
+use Rattle.book_recovery.specs.BadPlaces.{AreFirstRecords, HasAmendmentAt, HasBadRecordAt, IsBadPlace}
 use Rattle.book_print.specs.BookText.{book_text}
 use Rattle.exec_report.specs.Forms.{LineText, FormMeanings, behind}
 use Rattle.journal_print.specs.declared.unprinted.Unprinted.{Unprinted}
@@ -35,7 +35,7 @@ module _ {S : Type 0} (m : StationMeanings S) (product : ProductLists) (text ima
   abbrev pub SentNothing : Type 0
   SentNothing = m.sent new ≡ m.sent old
 
-  -- a part was sent of what is sent of the messages in the first records of a journal of this text, none of them bad
+  -- a part was sent of what is sent of the messages in the first records of a journal of this text without amendments, none of them bad
   pub record SentPart (text_of : History → List ℕ) : Type 0 where
     pub head : Header
     pub of_text : head.text ≡ text
@@ -43,36 +43,45 @@ module _ {S : Type 0} (m : StationMeanings S) (product : ProductLists) (text ima
     pub first : AreFirstRecords product head product.journal_limit records image
     pub sent : IsKnownPrefix (m.sent new) (sent_and (m.sent old) (text_of (of_product product (messages_in records))))
 
-  -- a part was sent of what is printed of the history kept, whose messages are no more than a core takes
+  -- There is no amendment, and a part was sent of what is printed of the history kept, whose messages are no more than a core takes.
   pub record SentPartOfAll (whole : History → List ℕ) : Type 0 where
     pub kept : History
     pub has : HasKept product text kept image
+    pub none : KeepsNoAmendment product.journal_limit image
     pub few : length_kept kept ≤ MOST_MESSAGES
     pub sent : IsKnownPrefix (m.sent new) (sent_and (m.sent old) (whole kept))
 
-  -- all was sent that is printed of the history kept, and its messages were counted; they are no more than a core takes
+  -- There is no amendment, and all was sent that is printed of the history kept, and its messages were counted; they are no more than a
+  -- core takes.
   pub record SentAll (whole : History → List ℕ) (count : ℕ) : Type 0 where
     pub kept : History
     pub has : HasKept product text kept image
+    pub none : KeepsNoAmendment product.journal_limit image
     pub few : length_kept kept ≤ MOST_MESSAGES
     pub sent : m.sent new ≡ sent_and (m.sent old) (whole kept)
     pub count_is : count ≡ length_kept kept
 
-  -- a record is bad, and what is sent of the messages in all records before it was sent
+  -- there is no amendment, a record is bad, and what is sent of the messages in all records before it was sent
   pub record SentToBadRecord (text_of : History → List ℕ) (at : ℕ) : Type 0 where
-    pub opened : IsOpenedOf text image
-    pub bad : HasBadRecordAt product (in_version opened.0 text) product.journal_limit image at
+    pub opened : IsOpenedOf text product.journal_limit image
+    pub none : KeepsNoAmendment product.journal_limit image
+    pub bad : HasBadRecordAt product opened.head product.journal_limit image at
     pub sent : m.sent new ≡ sent_and (m.sent old) (text_of (of_product product (messages_in bad.before)))
+
+  -- A journal with amendments is not read yet: it is bad at the gate of the last one, and nothing was sent.
+  pub record IsAmended (at : ℕ) : Type 0 where
+    pub opened : IsOpenedOf text product.journal_limit image
+    pub amendment : HasAmendmentAt opened.head product.journal_limit image at
 
   -- What was sent of all messages, record by record, and what is sent of them as a whole. No two of these answers but for a fault of
   -- the outside fit one image, so each comes exactly where it fits.
   abbrev pub PrintsMessages : (History → List ℕ) → (History → List ℕ) → Result ℕ Unprinted → Type 0
   PrintsMessages text_of whole (Ok count) = SentAll whole count
   PrintsMessages text_of whole (Err unprinted.Store) = SentNothing ⊎ SentPart text_of
-  PrintsMessages text_of whole (Err unprinted.Send) = SentPart text_of ⊎ SentPartOfAll whole
+  PrintsMessages text_of whole (Err unprinted.Send) = (IsOpenedOf text product.journal_limit image × SentPart text_of) ⊎ SentPartOfAll whole
   PrintsMessages text_of whole (Err (unprinted.NotAJournal at)) = IsForeignAt image at × SentNothing
-  PrintsMessages text_of whole (Err (unprinted.Bad at)) = (HasBadHeader image at × SentNothing) ⊎ SentToBadRecord text_of at
-  PrintsMessages text_of whole (Err (unprinted.ProductDiffers at)) = HasOtherText text image at × SentNothing
+  PrintsMessages text_of whole (Err (unprinted.Bad at)) = ((IsBadAt product.journal_limit image at ⊎ IsAmended at) × SentNothing) ⊎ SentToBadRecord text_of at
+  PrintsMessages text_of whole (Err (unprinted.ProductDiffers at)) = HasOtherText text product.journal_limit image at × SentNothing
 
   -- what was printed of the events of all messages, line by line
   abbrev pub PrintsEvents : LineText → (History → List ℕ) → Result ℕ Unprinted → Type 0
@@ -83,7 +92,7 @@ module _ {S : Type 0} (m : StationMeanings S) (product : ProductLists) (text ima
   book_kept kept = book_text product (state_kept kept)
 
   -- The image is an unfinished creation, or a journal with no bad head and no bad record from the last book image on. What is sent
-  -- and counted then, by the history kept, is said where each book image is that of the state after the messages before it.
+  -- and counted then, by the history kept, is said where each book image is that of the state there.
   pub record SentBook (Sends : History → Type 0) : Type 0 where
     pub recovered : CanBeRecovered product text product.journal_limit image
     pub sends : (kept : History) → IsTrueImage product text kept image → Sends kept
@@ -101,5 +110,6 @@ module _ {S : Type 0} (m : StationMeanings S) (product : ProductLists) (text ima
   PrintsBook (Err unprinted.Store) = SentNothing
   PrintsBook (Err unprinted.Send) = SentBook SentPartOfBook
   PrintsBook (Err (unprinted.NotAJournal at)) = IsForeignAt image at × SentNothing
-  PrintsBook (Err (unprinted.Bad at)) = (HasBadHeader image at ⊎ ((opened : IsOpenedOf text image) × IsBadPlace product (in_version opened.0 text) product.journal_limit image at)) × SentNothing
-  PrintsBook (Err (unprinted.ProductDiffers at)) = HasOtherText text image at × SentNothing
+  PrintsBook (Err (unprinted.Bad at)) =
+      (IsBadAt product.journal_limit image at ⊎ ((opened : IsOpenedOf text product.journal_limit image) × IsBadPlace product opened.head product.journal_limit image at)) × SentNothing
+  PrintsBook (Err (unprinted.ProductDiffers at)) = HasOtherText text product.journal_limit image at × SentNothing

@@ -1,6 +1,7 @@
 //! The messages that a journal keeps, printed by some work: as the reports again, the fills, or the ledger.
-ghost use Rattle.std.specs.Prelude.{◌≡◌, ℕ, ◌≤◌, List, [], length, Some, OnOk, IfOk, IsErrOf};
+ghost use Rattle.std.specs.Prelude.{◌≡◌, ℕ, ◌≤◌, List, [], length, Some, Ok, OnOk, IfOk, IsErrOf};
 ghost use Rattle.gx_station.specs.Counts.{Rose};
+ghost use Rattle.product_file.specs.ProductTexts.{product_of};
 ghost use Rattle.product_file.specs.declared.limits.TheConstants.{LONGEST_TEXT};
 ghost use Rattle.order_kinds.specs.Cores.{FitsProduct};
 ghost use Rattle.order_kinds.specs.declared.core_state.TheConstants.{MOST_MESSAGES};
@@ -29,6 +30,7 @@ fn publish_kept<W: RecordWork, B: Book, S: Station>(
     station: &mut S,
 ) -> Result<u64, Unprinted>
     requires short { length text.now ≤ LONGEST_TEXT }
+    requires gives { product_of text.now ≡ Ok product.now }
     requires new { IsNewReader product.now reader.old }
     ensures reads { ReadsAndSends S.meanings station.old station.new }
     ensures store { IsErrOf result Unprinted.Store → Rose (S.meanings.store_faults station.old) (S.meanings.store_faults station.new) }
@@ -46,6 +48,10 @@ fn publish_kept<W: RecordWork, B: Book, S: Station>(
         Ok(None) => return Ok(0),
         Err(fault) => return Err(fault),
     };
+    // Which products the messages before an amendment were taken under is not read yet.
+    if let Some(at) = journal.amended_at() {
+        return Err(Unprinted::Bad(at));
+    }
     match publish_records(work, product, &mut journal, reader, station) {
         Ok(()) => Ok(reader.core.messages()),
         Err(fault) => Err(fault),
@@ -59,7 +65,8 @@ fn publish_kept<W: RecordWork, B: Book, S: Station>(
 ///
 /// `Store` and `Send` come only if the count of store or send faults rose. `NotAJournal`, `Bad` and `ProductDiffers` come
 /// exactly if the image is none, is bad, or is of another product; if a record is bad, what is sent of the messages in
-/// those before it was sent, and else nothing was. An unfinished creation keeps no message. Nothing is written or synced.
+/// those before it was sent, and else nothing was. A journal with amendments is taken for a bad one, with the gate of the last, and
+/// nothing was sent then. An unfinished creation keeps no message. Nothing is written or synced.
 pub fn print_events<W: RecordWork, B: Book, S: Station>(
     work: &mut W,
     product: &Product,
@@ -68,6 +75,7 @@ pub fn print_events<W: RecordWork, B: Book, S: Station>(
     station: &mut S,
 ) -> Result<u64, Unprinted>
     requires short { length text.now ≤ LONGEST_TEXT }
+    requires gives { product_of text.now ≡ Ok product.now }
     requires new { IsNewReader product.now reader.old }
     ensures reads { ReadsAndSends S.meanings station.old station.new }
     ensures store { IsErrOf result Unprinted.Store → Rose (S.meanings.store_faults station.old) (S.meanings.store_faults station.new) }
