@@ -16,15 +16,11 @@ use Rattle.fix_frame.specs.Stream.{messages_of}
 use Rattle.product_file.specs.Products.{ProductLists}
 use Rattle.product_file.specs.ProductTexts.{product_of}
 use Rattle.order_kinds.specs.Histories.{History, new_reports}
-use Rattle.match_journal.specs.Journal.{Header, Record, in_version}
-use Rattle.match_journal.specs.Classes.{IsForeignAt, HasBadHeader, HasOtherText, Keeps}
-use Rattle.match_journal.specs.Opening.{IsOpenedOf}
-use Rattle.match_journal.specs.declared.faults.StartFault.TheVariants as start
-use Rattle.match_journal.proofs.Unique.{unfinished_not_opened}
-use Rattle.book_recovery.specs.Kept.{IsStartable}
-use Rattle.book_recovery.specs.BadPlaces.{HasBadRecordAt, IsBadPlace}
-use Rattle.book_recovery.proofs.OneWay.{no_bad_place, no_bad_record, one_place, one_bad_record}
-use Rattle.book_recovery.proofs.FromLastImage.{good-from-last}
+use Rattle.match_journal.specs.Journal.{Header, Record}
+use Rattle.match_journal.specs.Classes.{Keeps}
+use Rattle.match_journal.specs.Texts.{HasLastText}
+use Rattle.book_recovery.specs.Kept.{IsStartable, KeepsNoAmendment}
+use Rattle.book_recovery.proofs.OneWay.{one_place}
 use Rattle.exec_report.specs.Forms.{LineText}
 use Rattle.book_print.specs.TallyText.{no_tally}
 use Rattle.book_print.specs.Printing.{tally_form}
@@ -38,10 +34,10 @@ use Rattle.command_words.specs.declared.command.Command.{Command}
 use Rattle.command_words.specs.declared.command.Command.TheVariants.{Run, Replay, Book, Fills, Ledger, Steps, Drill, Checkpoint}
 use Rattle.globex_run.specs.Outside.{SourceAt, Outside, Streams, IsQuiet, source_at, streams_at}
 use Rattle.globex_run.specs.Outcomes.{outcome_of}
-use Rattle.globex_run.specs.Words.{IsPrinting, OpensJournal, NeverEndsWith}
+use Rattle.globex_run.specs.Words.{IsPrinting, OpensJournal, ReadsEachRecord, NeverEndsWith}
 use Rattle.globex_run.specs.ProductTexts.{TakesAtMost, IsProductText, ProductPremises}
 use Rattle.globex_run.specs.FullJournals.{IsFullJournal}
-use Rattle.globex_run.specs.Refusals.{HasBadRecordFor, IsRefusal, IsRefusedWith, RefusesExactly, CanStart}
+use Rattle.globex_run.specs.Refusals.{IsRefusal, RefusesExactly, CanStart}
 use Rattle.globex_run.specs.RunResult.{CommandResult, CommandEnded, RunEnded, EndedUnread}
 use Rattle.globex_run.specs.Journals.{AnswersImage}
 use Rattle.globex_run.specs.Headline.{Premises, InputPremises, SendsExactlyTheReports, EndsOtherwise, RunLeavesCrashPrefixes, RunBeforeTheFirstSync, KeepsEveryReported, AddsMessages, KeepsARecordPerRead, ReadsFew, CanBeServed, IsServed}
@@ -49,7 +45,7 @@ use Rattle.globex_run.specs.Drills.{made_bytes, KeepsAndSumsUp, DrillEndsOtherwi
 use Rattle.globex_run.specs.Checkpoints.{AddsImage, KeepsTheSame, CheckpointLeavesCrashPrefixes, CheckpointBeforeTheFirstSync, HasNoRoomForImage, CanBeCheckpointed}
 use Rattle.globex_run.specs.Prints.{PrintsAs, outcome_printed, outcome_sent}
 use Rattle.globex_run.specs.Inner.Drilling.{DrillResult, DrillsMade}
-use Rattle.globex_run.specs.Inner.Checkpointing.{EndsCheckpoint, CheckpointResult, IsCheckpointEnding}
+use Rattle.globex_run.specs.Inner.Checkpointing.{EndsCheckpoint, CheckpointResult}
 use Rattle.globex_run.specs.Inner.Executing.{Executes, HasCauses, Runs}
 use Rattle.globex_run.specs.Calls.{Call}
 use Rattle.globex_run.specs.Works.{Given, Reads, work_of, CanBeDone}
@@ -63,86 +59,15 @@ use Rattle.globex_run.specs.declared.ending.Ending.{Ending}
 use Rattle.globex_run.specs.declared.ending.Ending.TheVariants.{Done, ReadFault, StoreFault, SendFault, BadFrame, Truncated, NotAJournal, JournalBad, ProductDiffers, Full}
 use Rattle.globex_run.proofs.Told.{outside_of}
 use Rattle.globex_run.proofs.Executed.{quiet-reads}
-use Rattle.globex_run.proofs.Openings.{kept_not_refused}
-use Rattle.globex_run.proofs.Runs.{short-text, few-of-product, told-product, run-exactly, run-otherwise, run-every-moment, run-first-sync, run-every-message, run-full, run-record-per-read, run-reads-few, run-all}
+use Rattle.globex_run.proofs.Runs.{few-of-product, told-product, run-exactly, run-otherwise, run-every-moment, run-first-sync, run-every-message, run-full, run-record-per-read, run-reads-few, run-all}
 use Rattle.globex_run.proofs.FewReads.{drill-reads}
 use Rattle.globex_run.proofs.Drills.{empty_front, drill-all, drill-otherwise, drill-adds, drill-moments, drill-first-sync, drill-full}
 use Rattle.globex_run.proofs.CheckpointHeadlines.{not-among, not-done, adds-image as checkpoint-adds, the-same as checkpoint-keeps, every-moment as checkpoint-moments, first-sync as checkpoint-first-sync, few-read as checkpoint-reads, image-full as checkpoint-full}
 use Rattle.globex_run.proofs.Complete.{served}
 use Rattle.globex_run.proofs.Endings.{when_done}
-use Rattle.globex_run.proofs.Refused.{unfinished-of, journal-opened-as, not-refusal, none-counted, by-ending, by-book, by-events}
-
--- ---- an image from which a run can start has no fault
-
-module _ (product : ProductLists) (text image : List ℕ) (kept : History) (short : length text ≤ 65536) (can : IsStartable product text kept image) where
-  abbrev limit : ℕ
-  limit = product.journal_limit
-
-  not-foreign : (at : ℕ) → IsForeignAt image at → ⊥
-  not-foreign at foreign = kept_not_refused text can.head can.of_text image limit can.records (start.NotAJournal at) short can.keeps foreign (λ e. cc e)
-
-  not-headless : (at : ℕ) → HasBadHeader image at → ⊥
-  not-headless at bad = kept_not_refused text can.head can.of_text image limit can.records (start.Bad at) short can.keeps bad (λ e. cc e)
-
-  not-other : (at : ℕ) → HasOtherText text image at → ⊥
-  not-other at other = kept_not_refused text can.head can.of_text image limit can.records (start.ProductDiffers at) short can.keeps other (λ e. cc e)
-
-  not-bad : (at : ℕ) (opened : IsOpenedOf text image) → IsBadPlace product (in_version opened.0 text) limit image at → ⊥
-  not-bad at opened bad = ⊎_elim
-      (λ journal. no_bad_place product (in_version opened.0 text) limit can.records image at (journal-opened-as text image limit short opened can.head can.of_text can.records journal) (good-from-last product can.records can.good) bad)
-      (λ unfinished. unfinished_not_opened text image (unfinished-of text image can.head can.of_text unfinished.1) opened)
-      can.keeps
-
-  not-bad-record : (at : ℕ) (opened : IsOpenedOf text image) → HasBadRecordAt product (in_version opened.0 text) limit image at → ⊥
-  not-bad-record at opened bad = ⊎_elim
-      (λ journal. no_bad_record product (in_version opened.0 text) limit can.records image at (journal-opened-as text image limit short opened can.head can.of_text can.records journal) can.good bad)
-      (λ unfinished. unfinished_not_opened text image (unfinished-of text image can.head can.of_text unfinished.1) opened)
-      can.keeps
-
-  not-bad-for : (command : Command) (at : ℕ) (opened : IsOpenedOf text image) → HasBadRecordFor command product (in_version opened.0 text) image at → ⊥
-  not-bad-for Run at opened bad = not-bad at opened bad
-  not-bad-for (Drill first count) at opened bad = not-bad at opened bad
-  not-bad-for Checkpoint at opened bad = not-bad at opened bad
-  not-bad-for Book at opened bad = not-bad at opened bad
-  not-bad-for Replay at opened bad = not-bad-record at opened bad
-  not-bad-for Fills at opened bad = not-bad-record at opened bad
-  not-bad-for Ledger at opened bad = not-bad-record at opened bad
-  not-bad-for Steps at opened bad = absurd bad
-
-  not-refused-by : (command : Command) (status at : ℕ) → IsRefusedWith command product text image status at → ⊥
-  not-refused-by command status at refused = ⊎_elim
-      (λ foreign. not-foreign at foreign.1)
-      (λ others. ⊎_elim
-      (λ bad. ⊎_elim (λ header. not-headless at header) (λ opened. not-bad-for command at opened.0 opened.1) bad.1)
-      (λ other. not-other at other.1)
-      others)
-      refused
-
--- ---- want of memory, or not
-
-pub by-memory : {A : Type 0} (status : ℕ) → (status ≡ 1 → A) → (status ≢ 1 → A) → A
-by-memory status lacks has = elim (eqb_tells status 1) [
-  | inl one ↦ lacks one.1
-  | inr other ↦ has other.1
-]
-
--- it, or what holds of every other status
-pub unless-memory : {A : Type 0} (status : ℕ) → (status ≢ 1 → A) → (status ≡ 1) ⊎ A
-unless-memory status has = by-memory status (λ one. inl one) (λ other. inr (has other))
-
-never-prints : (status : ℕ) → (status ≡ 7) ⊎ ((status ≡ 8) ⊎ (status ≡ 12)) → status ≢ 1
-never-prints status never one = ⊎_elim (λ seven. omega (arith, seven, one)) (λ more. ⊎_elim (λ eight. omega (arith, eight, one)) (λ twelve. omega (arith, twelve, one)) more) never
-
--- a status that a command does not end with is another
-pub never-lacks : (command : Command) (status : ℕ) → NeverEndsWith command status → status ≢ 1
-never-lacks Run status never one = never
-never-lacks (Drill first count) status never one = ⊎_elim (λ seven. omega (arith, seven, one)) (λ eight. omega (arith, eight, one)) never
-never-lacks Checkpoint status never one = ⊎_elim (λ six. omega (arith, six, one)) (λ more. ⊎_elim (λ seven. omega (arith, seven, one)) (λ eight. omega (arith, eight, one)) more) never
-never-lacks Steps status never one = ⊎_elim (λ five. omega (arith, five, one)) (λ more. omega (arith, more, one)) never
-never-lacks Replay status never one = never-prints status never one
-never-lacks Book status never one = never-prints status never one
-never-lacks Fills status never one = never-prints status never one
-never-lacks Ledger status never one = never-prints status never one
+use Rattle.globex_run.proofs.Refused.{not-refusal, none-counted, one-for-one-product, by-ending, by-book, by-events}
+use Rattle.globex_run.proofs.Statuses.{by-memory, unless-memory, never-lacks, printed-not-full, sent-status, checkpoint-not-sent}
+use Rattle.globex_run.proofs.StartableImages.{not-foreign, not-bad-front, not-other, not-bad, not-bad-record, not-refused-by}
 
 -- ---- a command that can be done has a product
 
@@ -228,9 +153,9 @@ module _ {P I S : Type 0} (m : StationMeanings S) (p q : SourceAt P) (i j : Sour
         pub every-message : IsHonestNow m old → KeepsEveryReported m entry exit outcome given read
         every-message now = run-every-message m p q i j old new Any ran.then outcome text lent same product took gives ran.session given read now
 
-      pub full : (given : ProductPremises entry exit outcome.status) (read : InputPremises i j) → m.is_honest old → (image : List ℕ) (head : Header) (records : List Record) → m.holds old ≡ Some image → head.text ≡ given.text → Keeps head given.product.journal_limit records image → outcome.status ≡ 12
-          → IsFullJournal given.product head image records exit.streams.station outcome read.taken
-      full given read honest image head records known of_text keeps twelve = run-full m p q i j old new Any ran.then outcome text lent same product took gives ran.session given read honest image head records known of_text keeps twelve
+      pub full : (given : ProductPremises entry exit outcome.status) (read : InputPremises i j) → m.is_honest old → (image : List ℕ) (head : Header) (records : List Record) → m.holds old ≡ Some image → HasLastText head records given.text → Keeps head given.product.journal_limit records image → outcome.status ≡ 12
+          → IsFullJournal given.product given.text head image records exit.streams.station outcome read.taken
+      full given read honest image head records known text_is keeps twelve = run-full m p q i j old new Any ran.then outcome text lent same product took gives ran.session given read honest image head records known text_is keeps twelve
 
       pub each-read : (given : Premises m entry exit outcome.status) → KeepsARecordPerRead m entry exit outcome given
       each-read given = run-record-per-read m p q i j old new Any ran.then outcome text lent same product took gives ran.session given
@@ -270,10 +195,10 @@ module _ {P I S : Type 0} (m : StationMeanings S) (p q : SourceAt P) (i j : Sour
         pub drill-few-read : ReadsFew m entry exit outcome given
         drill-few-read = drill-reads m given.product given.text _ made.end old new outcome made.did given.image given.kept given.honest given.image_known given.startable
 
-      pub drill-has-no-room : (given : ProductPremises entry exit outcome.status) → m.is_honest old → (image : List ℕ) (head : Header) (records : List Record) → m.holds old ≡ Some image → head.text ≡ given.text → Keeps head given.product.journal_limit records image → outcome.status ≡ 12
-          → IsFullJournal given.product head image records exit.streams.station outcome (made_bytes given.product first count)
-      drill-has-no-room given honest image head records known of_text keeps twelve =
-          drill-full m given.product given.text head of_text image records first count old new outcome (drilled given.text given.product given.text_known given.gives) honest known keeps twelve
+      pub drill-has-no-room : (given : ProductPremises entry exit outcome.status) → m.is_honest old → (image : List ℕ) (head : Header) (records : List Record) → m.holds old ≡ Some image → HasLastText head records given.text → Keeps head given.product.journal_limit records image → outcome.status ≡ 12
+          → IsFullJournal given.product given.text head image records exit.streams.station outcome (made_bytes given.product first count)
+      drill-has-no-room given honest image head records known text_is keeps twelve =
+          drill-full m given.product given.text head image records text_is first count old new outcome (drilled given.text given.product given.text_known given.gives) honest known keeps twelve
 
       -- where there is room and no fault comes, all is kept and summed up
       module _ (can : CanBeDrilled m entry first count) (quiet : IsQuiet entry exit) where
@@ -469,26 +394,26 @@ module _ {P I S : Type 0} (m : StationMeanings S) (p q : SourceAt P) (i j : Sour
         quiet-print = no-fault c (causes-as c asks) quiet
 
         module _ (image : List ℕ) (kept : History) (start : IsStartable can.product can.text kept image) where
-          short : length can.text ≤ 65536
-          short = short-text can.text can.product can.gives
-
-          events-printed : (line : LineText) (whole : History → List ℕ) (answer : Result ℕ Unprinted) → outcome ≡ outcome_printed answer → PrintsEvents m can.product can.text image old new line whole answer → outcome.status ≡ 0
-          events-printed line whole (Ok n) is printed = ap (λ (o : Outcome). o.status) is
-          events-printed line whole (Err unprinted.Store) is printed = absurd (quiet-print.0 (ap (λ (o : Outcome). o.status) is))
-          events-printed line whole (Err unprinted.Send) is printed = absurd (quiet-print.1 (ap (λ (o : Outcome). o.status) is))
-          events-printed line whole (Err (unprinted.NotAJournal at)) is printed = absurd (not-foreign can.product can.text image kept short start at printed.0)
-          events-printed line whole (Err (unprinted.Bad at)) is printed =
-              absurd (⊎_elim (λ header. not-headless can.product can.text image kept short start at header.0) (λ sent. not-bad-record can.product can.text image kept short start at sent.opened sent.bad) printed)
-          events-printed line whole (Err (unprinted.ProductDiffers at)) is printed = absurd (not-other can.product can.text image kept short start at printed.0)
+          events-printed : KeepsNoAmendment can.product.journal_limit image → (line : LineText) (whole : History → List ℕ) (answer : Result ℕ Unprinted) → outcome ≡ outcome_printed answer → PrintsEvents m can.product can.text image old new line whole answer → outcome.status ≡ 0
+          events-printed none line whole (Ok n) is printed = ap (λ (o : Outcome). o.status) is
+          events-printed none line whole (Err unprinted.Store) is printed = absurd (quiet-print.0 (ap (λ (o : Outcome). o.status) is))
+          events-printed none line whole (Err unprinted.Send) is printed = absurd (quiet-print.1 (ap (λ (o : Outcome). o.status) is))
+          events-printed none line whole (Err (unprinted.NotAJournal at)) is printed = absurd (not-foreign can.product can.text image kept can.gives start at printed.0)
+          events-printed none line whole (Err (unprinted.Bad at)) is printed =
+              absurd (⊎_elim
+              (λ front. ⊎_elim (λ bad. not-bad-front can.product can.text image kept can.gives start at bad) (λ amended. not-bad-record can.product can.text image kept can.gives start none at amended.opened (inl amended.amendment)) front.0)
+              (λ sent. not-bad-record can.product can.text image kept can.gives start none at sent.opened (inr (sent.none, sent.bad)))
+              printed)
+          events-printed none line whole (Err (unprinted.ProductDiffers at)) is printed = absurd (not-other can.product can.text image kept can.gives start at printed.0)
 
           book-printed : (answer : Result ℕ Unprinted) → outcome ≡ outcome_printed answer → PrintsBook m can.product can.text image old new answer → outcome.status ≡ 0
           book-printed (Ok n) is printed = ap (λ (o : Outcome). o.status) is
           book-printed (Err unprinted.Store) is printed = absurd (quiet-print.0 (ap (λ (o : Outcome). o.status) is))
           book-printed (Err unprinted.Send) is printed = absurd (quiet-print.1 (ap (λ (o : Outcome). o.status) is))
-          book-printed (Err (unprinted.NotAJournal at)) is printed = absurd (not-foreign can.product can.text image kept short start at printed.0)
+          book-printed (Err (unprinted.NotAJournal at)) is printed = absurd (not-foreign can.product can.text image kept can.gives start at printed.0)
           book-printed (Err (unprinted.Bad at)) is printed =
-              absurd (⊎_elim (λ header. not-headless can.product can.text image kept short start at header) (λ bad. not-bad can.product can.text image kept short start at bad.0 bad.1) printed.0)
-          book-printed (Err (unprinted.ProductDiffers at)) is printed = absurd (not-other can.product can.text image kept short start at printed.0)
+              absurd (⊎_elim (λ front. not-bad-front can.product can.text image kept can.gives start at front) (λ bad. not-bad can.product can.text image kept can.gives start at bad.0 bad.1) printed.0)
+          book-printed (Err (unprinted.ProductDiffers at)) is printed = absurd (not-other can.product can.text image kept can.gives start at printed.0)
 
         steps-printed : (result : Result (Unit {0}) SendFailed) → outcome ≡ outcome_sent 0 result → outcome.status ≡ 0
         steps-printed (Ok t) is = ap (λ (o : Outcome). o.status) is
@@ -500,22 +425,25 @@ module _ {P I S : Type 0} (m : StationMeanings S) (p q : SourceAt P) (i j : Sour
         abbrev Startable : Command → Type 0
         Startable x = x ≢ Steps → (image : List ℕ) × ((entry.streams.station.image ≡ Some image) × ((kept : History) × IsStartable can.product can.text kept image))
 
-        by-command : (x : Command) → IsPrinting x → Startable x → Printed x → outcome.status ≡ 0
-        by-command Run printing startable form = absurd printing
-        by-command (Drill first count) printing startable form = absurd printing
-        by-command Checkpoint printing startable form = absurd printing
-        by-command Replay printing startable form =
-            let at = startable (λ e. cc e) in events-printed at.0 at.1.1.0 at.1.1.1 line_of _ form.answer form.outcome_is (form.prints at.0 at.1.0)
-        by-command Fills printing startable form =
-            let at = startable (λ e. cc e) in events-printed at.0 at.1.1.0 at.1.1.1 fill_line _ form.answer form.outcome_is (form.prints at.0 at.1.0)
-        by-command Ledger printing startable form =
-            let at = startable (λ e. cc e) in events-printed at.0 at.1.1.0 at.1.1.1 (λ names. ledger_line) _ form.answer form.outcome_is (form.prints at.0 at.1.0)
-        by-command Book printing startable form =
+        abbrev Plain : Command → Type 0
+        Plain x = ReadsEachRecord x → (image : List ℕ) → entry.streams.station.image ≡ Some image → KeepsNoAmendment can.product.journal_limit image
+
+        by-command : (x : Command) → IsPrinting x → Startable x → Plain x → Printed x → outcome.status ≡ 0
+        by-command Run printing startable plain form = absurd printing
+        by-command (Drill first count) printing startable plain form = absurd printing
+        by-command Checkpoint printing startable plain form = absurd printing
+        by-command Replay printing startable plain form =
+            let at = startable (λ e. cc e) in events-printed at.0 at.1.1.0 at.1.1.1 (plain tt at.0 at.1.0) line_of _ form.answer form.outcome_is (form.prints at.0 at.1.0)
+        by-command Fills printing startable plain form =
+            let at = startable (λ e. cc e) in events-printed at.0 at.1.1.0 at.1.1.1 (plain tt at.0 at.1.0) fill_line _ form.answer form.outcome_is (form.prints at.0 at.1.0)
+        by-command Ledger printing startable plain form =
+            let at = startable (λ e. cc e) in events-printed at.0 at.1.1.0 at.1.1.1 (plain tt at.0 at.1.0) (λ names. ledger_line) _ form.answer form.outcome_is (form.prints at.0 at.1.0)
+        by-command Book printing startable plain form =
             let at = startable (λ e. cc e) in book-printed at.0 at.1.1.0 at.1.1.1 form.answer form.outcome_is (form.prints at.0 at.1.0).prints
-        by-command Steps printing startable form = steps-printed form.result form.outcome_is
+        by-command Steps printing startable plain form = steps-printed form.result form.outcome_is
 
         pub all-printed : IsPrinting c → outcome.status ≡ 0
-        all-printed printing = by-command c printing can.startable (printed-as can.text can.product can.text_known can.gives)
+        all-printed printing = by-command c printing can.startable can.plain (printed-as can.text can.product can.text_known can.gives)
 
       -- ---- why it ended
 
@@ -615,9 +543,6 @@ module _ {P I S : Type 0} (m : StationMeanings S) (p q : SourceAt P) (i j : Sour
       at-image : (image : List ℕ) → entry.streams.station.image ≡ Some image → (ending : Ending) → IfSome entry.streams.station.image (λ image. AnswersText image ending) → AnswersText image ending
       at-image image known ending told = subst (λ (o : Option (List ℕ)). IfSome o (λ image. AnswersText image ending)) known told
 
-      text-short : length text ≤ 65536
-      text-short = short-text text product gives
-
       module _ (image : List ℕ) (known : entry.streams.station.image ≡ Some image) where
         abbrev Exactly : Command → Type 0
         Exactly x = RefusesExactly x product text image outcome
@@ -629,28 +554,28 @@ module _ {P I S : Type 0} (m : StationMeanings S) (p q : SourceAt P) (i j : Sour
         refuses-by : (x : Command) → OpensJournal x → Did x → outcome.status ≢ 1 → Exactly x
         refuses-by Run opens did told =
             let ended = ran-ended did in
-            by-ending Run product text image text-short (λ head. one_place product head product.journal_limit image) outcome (λ head at bad. bad) (λ head at bad. bad)
+            by-ending Run product text image gives (λ head. one_place product head product.journal_limit image) outcome (λ head at bad. bad) (λ head at bad. bad)
             ended.ending ended.is (none-counted _ _ outcome ended.ending ended.serving.taken ended.is ended.serving.ends) (at-image image known ended.ending ended.image)
         refuses-by (Drill first count) opens drilled told =
             let ended = drill-ended first count drilled.1 drilled.0 in
-            by-ending (Drill first count) product text image text-short (λ head. one_place product head product.journal_limit image) outcome (λ head at bad. bad) (λ head at bad. bad)
+            by-ending (Drill first count) product text image gives (λ head. one_place product head product.journal_limit image) outcome (λ head at bad. bad) (λ head at bad. bad)
             ended.ending ended.is ended.none (at-image image known ended.ending ended.image)
         refuses-by Checkpoint opens did told =
             let ended = checkpoint-ended did.1 did.0 in
-            by-ending Checkpoint product text image text-short (λ head. one_place product head product.journal_limit image) outcome (λ head at bad. bad) (λ head at bad. bad)
+            by-ending Checkpoint product text image gives (λ head. one_place product head product.journal_limit image) outcome (λ head at bad. bad) (λ head at bad. bad)
             ended.ending ended.is ended.none (at-image image known ended.ending ended.image)
         refuses-by Book opens did told =
             let form = formed Book did in
-            by-book Book product text image text-short (λ head. one_place product head product.journal_limit image) outcome (λ head at bad. bad) (λ head at bad. bad) m old new form.answer form.outcome_is (form.prints image known).prints
+            by-book Book product text image gives (λ head. one_place product head product.journal_limit image) outcome (λ head at bad. bad) (λ head at bad. bad) m old new form.answer form.outcome_is (form.prints image known).prints
         refuses-by Replay opens did told =
             let form = formed Replay did in
-            by-events Replay product text image text-short (λ head. one_bad_record product head product.journal_limit image) outcome tt (λ head at bad. bad) (λ head at bad. bad) m old new line_of _ form.answer form.outcome_is (form.prints image known)
+            by-events Replay product text image gives (λ head. one-for-one-product product head product.journal_limit image) outcome tt (λ head at bad. bad) (λ head at bad. bad) m old new line_of _ form.answer form.outcome_is (form.prints image known)
         refuses-by Fills opens did told =
             let form = formed Fills did in
-            by-events Fills product text image text-short (λ head. one_bad_record product head product.journal_limit image) outcome tt (λ head at bad. bad) (λ head at bad. bad) m old new fill_line _ form.answer form.outcome_is (form.prints image known)
+            by-events Fills product text image gives (λ head. one-for-one-product product head product.journal_limit image) outcome tt (λ head at bad. bad) (λ head at bad. bad) m old new fill_line _ form.answer form.outcome_is (form.prints image known)
         refuses-by Ledger opens did told =
             let form = formed Ledger did in
-            by-events Ledger product text image text-short (λ head. one_bad_record product head product.journal_limit image) outcome tt (λ head at bad. bad) (λ head at bad. bad) m old new (λ names. ledger_line) _ form.answer form.outcome_is (form.prints image known)
+            by-events Ledger product text image gives (λ head. one-for-one-product product head product.journal_limit image) outcome tt (λ head at bad. bad) (λ head at bad. bad) m old new (λ names. ledger_line) _ form.answer form.outcome_is (form.prints image known)
         refuses-by Steps opens did told = absurd opens
 
         refuses-told : OpensJournal c → outcome.status ≢ 1 → (told : List ℕ) (lists : ProductLists) → p.left ≡ Some told → product_of told ≡ Ok lists → RefusesExactly c lists told image outcome
@@ -667,7 +592,7 @@ module _ {P I S : Type 0} (m : StationMeanings S) (p q : SourceAt P) (i j : Sour
         not-started opens other =
             let at = can.startable other in
             let exactly = refuses-told at.0 at.1.0 opens (λ one. not-refusal outcome.status 1 one (λ e. cc e) (λ e. cc e) (λ e. cc e) refusal) can.text can.product can.text_known can.gives in
-            not-refused-by can.product can.text at.0 at.1.1.0 (short-text can.text can.product can.gives) at.1.1.1 c outcome.status outcome.at (exactly.answered refusal).0
+            not-refused-by can.product can.text at.0 at.1.1.0 can.gives at.1.1.1 c (λ each. can.plain each at.0 at.1.0) outcome.status outcome.at (exactly.answered refusal).0
 
         sent-not-refused : (result : Result (Unit {0}) SendFailed) → outcome ≡ outcome_sent 0 result → ⊥
         sent-not-refused (Ok t) is = not-refusal outcome.status 0 (ap (λ (o : Outcome). o.status) is) (λ e. cc e) (λ e. cc e) (λ e. cc e) refusal
@@ -688,48 +613,24 @@ module _ {P I S : Type 0} (m : StationMeanings S) (p q : SourceAt P) (i j : Sour
 
       -- ---- each command has its statuses
 
-      printed-not-full : (answer : Result ℕ Unprinted) → outcome ≡ outcome_printed answer → outcome.status ≡ 12 → ⊥
-      printed-not-full (Ok n) is twelve = omega (arith, twelve, ap (λ (o : Outcome). o.status) is)
-      printed-not-full (Err unprinted.Store) is twelve = omega (arith, twelve, ap (λ (o : Outcome). o.status) is)
-      printed-not-full (Err unprinted.Send) is twelve = omega (arith, twelve, ap (λ (o : Outcome). o.status) is)
-      printed-not-full (Err (unprinted.NotAJournal at)) is twelve = omega (arith, twelve, ap (λ (o : Outcome). o.status) is)
-      printed-not-full (Err (unprinted.Bad at)) is twelve = omega (arith, twelve, ap (λ (o : Outcome). o.status) is)
-      printed-not-full (Err (unprinted.ProductDiffers at)) is twelve = omega (arith, twelve, ap (λ (o : Outcome). o.status) is)
-
-      sent-status : (result : Result (Unit {0}) SendFailed) → outcome ≡ outcome_sent 0 result → (outcome.status ≡ 5) ⊎ (7 ≤ outcome.status) → ⊥
-      sent-status (Ok t) is never = ⊎_elim (λ five. omega (arith, five, ap (λ (o : Outcome). o.status) is)) (λ more. omega (arith, more, ap (λ (o : Outcome). o.status) is)) never
-      sent-status (Err fault) is never = ⊎_elim (λ five. omega (arith, five, ap (λ (o : Outcome). o.status) is)) (λ more. omega (arith, more, ap (λ (o : Outcome). o.status) is)) never
-
-      checkpoint-not-sent : (ending : Ending) → IsCheckpointEnding ending → outcome ≡ outcome_of ending outcome.messages → outcome.status ≡ 6 → ⊥
-      checkpoint-not-sent Done possible is six = omega (arith, six, ap (λ (o : Outcome). o.status) is)
-      checkpoint-not-sent (ReadFault place) possible is six = absurd possible
-      checkpoint-not-sent StoreFault possible is six = omega (arith, six, ap (λ (o : Outcome). o.status) is)
-      checkpoint-not-sent SendFault possible is six = absurd possible
-      checkpoint-not-sent (BadFrame place) possible is six = absurd possible
-      checkpoint-not-sent (Truncated place) possible is six = absurd possible
-      checkpoint-not-sent (NotAJournal place) possible is six = omega (arith, six, ap (λ (o : Outcome). o.status) is)
-      checkpoint-not-sent (JournalBad place) possible is six = omega (arith, six, ap (λ (o : Outcome). o.status) is)
-      checkpoint-not-sent (ProductDiffers place) possible is six = omega (arith, six, ap (λ (o : Outcome). o.status) is)
-      checkpoint-not-sent (Full place) possible is six = omega (arith, six, ap (λ (o : Outcome). o.status) is)
-
       printing-status : (x : Command) → Causes x → (answer : Result ℕ Unprinted) → outcome ≡ outcome_printed answer → (x ≡ Run → ⊥) → (outcome.status ≡ 7) ⊎ ((outcome.status ≡ 8) ⊎ (outcome.status ≡ 12)) → ⊥
       printing-status x why answer is other never = ⊎_elim
           (λ seven. other (why.frames (inl seven)))
-          (λ more. ⊎_elim (λ eight. other (why.frames (inr eight))) (λ twelve. printed-not-full answer is twelve) more)
+          (λ more. ⊎_elim (λ eight. other (why.frames (inr eight))) (λ twelve. printed-not-full outcome answer is twelve) more)
           never
 
       ending-by : (x : Command) → Did x → Causes x → NeverEndsWith x outcome.status → ⊥
       ending-by Run did why never = never
       ending-by (Drill first count) did why never = let none : Drill first count ≡ Run = why.frames never in cc none
       ending-by Checkpoint did why never = ⊎_elim
-          (λ six. checkpoint-not-sent did.0.ending did.0.possible did.0.is six)
+          (λ six. checkpoint-not-sent outcome did.0.ending did.0.possible did.0.is six)
           (λ frames. let none : Checkpoint ≡ Run = why.frames frames in cc none)
           never
       ending-by Replay did why never = printing-status Replay why did.form.answer did.form.outcome_is (λ e. cc e) never
       ending-by Book did why never = printing-status Book why did.form.answer did.form.outcome_is (λ e. cc e) never
       ending-by Fills did why never = printing-status Fills why did.form.answer did.form.outcome_is (λ e. cc e) never
       ending-by Ledger did why never = printing-status Ledger why did.form.answer did.form.outcome_is (λ e. cc e) never
-      ending-by Steps did why never = sent-status did.form.result did.form.outcome_is never
+      ending-by Steps did why never = sent-status outcome did.form.result did.form.outcome_is never
 
       pub never-ends : NeverEndsWith c outcome.status → ⊥
       never-ends never = ending-by c (did-as c asks) (causes-as c asks) never
@@ -833,14 +734,14 @@ module _ {P I S : Type 0} (m : StationMeanings S) (p q : SourceAt P) (i j : Sour
     is-full-for-image asks given twelve = image-full asked command is (did given.memory) causes asks given twelve
 
     pub is-full-for-messages : IsFullForMessages the-call
-    is-full-for-messages Run asks writing given read honest image head records known of_text keeps twelve = full asked command is (did given.memory) causes asks given read honest image head records known of_text keeps twelve
-    is-full-for-messages (Drill first count) asks writing given read honest image head records known of_text keeps twelve = drill-has-no-room asked command is (did given.memory) causes first count asks given honest image head records known of_text keeps twelve
-    is-full-for-messages Checkpoint asks writing given read honest image head records known of_text keeps twelve = absurd writing
-    is-full-for-messages Replay asks writing given read honest image head records known of_text keeps twelve = absurd writing
-    is-full-for-messages Book asks writing given read honest image head records known of_text keeps twelve = absurd writing
-    is-full-for-messages Fills asks writing given read honest image head records known of_text keeps twelve = absurd writing
-    is-full-for-messages Ledger asks writing given read honest image head records known of_text keeps twelve = absurd writing
-    is-full-for-messages Steps asks writing given read honest image head records known of_text keeps twelve = absurd writing
+    is-full-for-messages Run asks writing given read honest image head records known text_is keeps twelve = full asked command is (did given.memory) causes asks given read honest image head records known text_is keeps twelve
+    is-full-for-messages (Drill first count) asks writing given read honest image head records known text_is keeps twelve = drill-has-no-room asked command is (did given.memory) causes first count asks given honest image head records known text_is keeps twelve
+    is-full-for-messages Checkpoint asks writing given read honest image head records known text_is keeps twelve = absurd writing
+    is-full-for-messages Replay asks writing given read honest image head records known text_is keeps twelve = absurd writing
+    is-full-for-messages Book asks writing given read honest image head records known text_is keeps twelve = absurd writing
+    is-full-for-messages Fills asks writing given read honest image head records known text_is keeps twelve = absurd writing
+    is-full-for-messages Ledger asks writing given read honest image head records known text_is keeps twelve = absurd writing
+    is-full-for-messages Steps asks writing given read honest image head records known text_is keeps twelve = absurd writing
 
     pub ends-well : EndsWellWhereItCan the-call
     ends-well Run asks can quiet = unless-memory outcome.status (λ there. all-served asked command is (did there) causes asks can quiet)

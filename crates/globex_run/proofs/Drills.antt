@@ -22,7 +22,8 @@ use Rattle.order_kinds.specs.Step.{state_after, events_from}
 use Rattle.plain_book.specs.Book.{live_orders}
 use Rattle.match_journal.specs.Journal.{Record, Header}
 use Rattle.match_journal.specs.declared.limits.TheConstants.{MOST_PAYLOAD}
-use Rattle.match_journal.specs.Classes.{Keeps, KeepsOf}
+use Rattle.match_journal.specs.Classes.{Keeps}
+use Rattle.match_journal.specs.Texts.{HasLastText}
 use Rattle.book_recovery.specs.Records.{messages_in, from_last_image, count_behind_all}
 use Rattle.book_recovery.specs.Kept.{IsStartable}
 use Rattle.order_maker.specs.Stream.{MadeStream, generator_meanings, made_stream}
@@ -48,6 +49,7 @@ use Rattle.globex_run.specs.Inner.Drilling.{DrillResult, DrillsMade, SumsUp}
 use Rattle.globex_run.specs.declared.outcome.Outcome.{Outcome}
 use Rattle.globex_run.specs.declared.ending.Ending.{Ending}
 use Rattle.globex_run.specs.declared.ending.Ending.TheVariants.{Done, ReadFault, StoreFault, SendFault, BadFrame, Truncated, NotAJournal, JournalBad, ProductDiffers, Full}
+use Rattle.globex_run.proofs.KeptMore.{keeps-of}
 use Rattle.globex_run.proofs.Headlines as headline
 use Rattle.globex_run.proofs.Complete.{broken_more}
 use Rattle.globex_run.proofs.FullJournals.{session-full}
@@ -513,7 +515,7 @@ module _ {P I S : Type 0} (m : StationMeanings S) (p q : SourceAt P) (i j : Sour
       image = keeping.holds.image;
       image_known = same ∙ keeping.holds.read;
       added = keeping.more;
-      keeps = subst (λ (l : List ℕ). KeepsOf l given.product.journal_limit (given.startable.records ++ keeping.more) keeping.holds.image) given.startable.of_text keeping.holds.has;
+      keeps = keeps-of given.product given.text given.kept given.image given.startable keeping.more (whole-front keeping.more keeping.rest from.added keeping.are from.whole) keeping.holds.image keeping.holds.has;
       whole = whole-front keeping.more keeping.rest from.added keeping.are from.whole;
     }
 
@@ -564,7 +566,7 @@ module _ {P I S : Type 0} (m : StationMeanings S) (p q : SourceAt P) (i j : Sour
 
 -- ---- the next message has no room, or cannot be counted
 
-module _ {S : Type 0} (m : StationMeanings S) (product : ProductLists) (text : List ℕ) (head : Header) (of_text : head.text ≡ text) (image : List ℕ) (records : List Record) (first count : ℕ) (old new : S) (outcome : Outcome) (made : DrillsMade m product text first count old new outcome) where
+module _ {S : Type 0} (m : StationMeanings S) (product : ProductLists) (text : List ℕ) (head : Header) (image : List ℕ) (records : List Record) (text_is : HasLastText head records text) (first count : ℕ) (old new : S) (outcome : Outcome) (made : DrillsMade m product text first count old new outcome) where
   abbrev all_made : List ℕ
   all_made = made_stream product first count
 
@@ -573,7 +575,7 @@ module _ {S : Type 0} (m : StationMeanings S) (product : ProductLists) (text : L
   not-summed twelve (Err fault) is = omega (arith, twelve, ap (λ (o : Outcome). o.status) is)
 
   -- what holds of the bytes that its session took holds of all that were made
-  full-of-all : new ≡ made.did.mid → outcome ≡ made.did.served → IsFullJournal product head image records (station_at m made.did.mid) made.did.served made.did.session.serving.taken → IsFullJournal product head image records (station_at m new) outcome all_made
+  full-of-all : new ≡ made.did.mid → outcome ≡ made.did.served → IsFullJournal product text head image records (station_at m made.did.mid) made.did.served made.did.session.serving.taken → IsFullJournal product text head image records (station_at m new) outcome all_made
   full-of-all station is full =
       let served = made.did.served in
       let taken = made.did.session.serving.taken in
@@ -606,12 +608,12 @@ module _ {S : Type 0} (m : StationMeanings S) (product : ProductLists) (text : L
             full.why;
       }
 
-  pub drill-full : m.is_honest old → m.holds old ≡ Some image → Keeps head product.journal_limit records image → outcome.status ≡ 12 → IsFullJournal product head image records (station_at m new) outcome all_made
+  pub drill-full : m.is_honest old → m.holds old ≡ Some image → Keeps head product.journal_limit records image → outcome.status ≡ 12 → IsFullJournal product text head image records (station_at m new) outcome all_made
   drill-full honest known keeps twelve = elim (eqb_tells made.did.served.status 0) [
     | inl none ↦ let sums = made.did.sums_up none.1 in absurd (not-summed twelve sums.result sums.outcome_is)
     | inr other ↦
         let same = made.did.otherwise other.1 in
         full-of-all same.0 same.1
-        (session-full m (tally_form.text no_tally) product made.did.session.right head image records keeps (streams_at {S = S} generator_meanings m (record { left = all_made; reads = 0 }) old) (streams_at {S = S} generator_meanings m made.end made.did.mid) refl made.did.served made.did.session.serving.taken text of_text _ made.did.then made.did.session refl honest known
+        (session-full m (tally_form.text no_tally) product made.did.session.right text head image records text_is keeps (streams_at {S = S} generator_meanings m (record { left = all_made; reads = 0 }) old) (streams_at {S = S} generator_meanings m made.end made.did.mid) refl made.did.served made.did.session.serving.taken _ made.did.then made.did.session refl honest known
         (sym (ap (λ (o : Outcome). o.status) same.1) ∙ twelve))
   ]

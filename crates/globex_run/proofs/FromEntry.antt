@@ -8,8 +8,6 @@ use Rattle.gx_station.specs.Stations.{StationMeanings, sent_and}
 use Rattle.gx_station.specs.Moments.{AddsOnly}
 use Rattle.match_journal.specs.Journal.{Record, Header}
 use Rattle.match_journal.specs.Causes.{SendsNothing, ReadsAtMost}
-use Rattle.match_journal.specs.Classes.{KeepsOf}
-use Rattle.match_journal.specs.Opening.{IsOpening}
 use Rattle.match_journal.specs.Steps.{HoldsOne}
 use Rattle.match_journal.specs.StepLaws.{adds_then, adds_weaker}
 use Rattle.match_journal.specs.declared.standing.Standing.{Standing}
@@ -27,6 +25,7 @@ use Rattle.globex_run.specs.Outside.{Streams, AreWithinReads, streams_at}
 use Rattle.globex_run.specs.Outcomes.{outcome_of}
 use Rattle.globex_run.specs.Journals.{AnswersImage, bytes_in, most_read}
 use Rattle.globex_run.specs.RunResult.{EndsAs}
+use Rattle.globex_run.specs.Inner.OneHeader.{KeepsUnder, IsOpeningUnder}
 use Rattle.globex_run.specs.Inner.Recording.{lines_from, IsRecordCrash, Serves, AllKept, Served}
 use Rattle.globex_run.specs.Inner.Serving.{IsDone, CausedBy, HasNoRoomAt, IsLastCounted, EndsServing, ServesInput}
 use Rattle.globex_run.specs.Inner.Openings.{OpensAny, RestsAny}
@@ -39,7 +38,7 @@ use Rattle.globex_run.specs.declared.open.Unopened.TheVariants as unopened
 use Rattle.globex_run.proofs.Lists.{and_left-none}
 use Rattle.globex_run.proofs.SentReports.{known_more}
 use Rattle.globex_run.proofs.Folds.{messages_in-append}
-use Rattle.globex_run.proofs.KeptMore.{never-last}
+use Rattle.globex_run.proofs.KeptMore.{length-startable, never-last}
 use Rattle.globex_run.proofs.TakenBytes.{taken_by}
 use Rattle.globex_run.proofs.Endings.{when_done}
 use Rattle.order_kinds.specs.Histories.{History, state_kept}
@@ -62,11 +61,11 @@ module _ {I S : Type 0} (inputs : SourceMeanings I) (m : StationMeanings S) (lin
   Crash added = IsRecordCrash line product (state_kept kept) head product.journal_limit records added (length image) (m.sent old)
 
   -- while the journal is opened
-  opening_crash : (added : List Record) (left out : List ℕ) → IsOpening head.text product.journal_limit records image left → m.sent old ≡ Some out → Crash added left out
+  opening_crash : (added : List Record) (left out : List ℕ) → IsOpeningUnder head.text product.journal_limit records image left → m.sent old ≡ Some out → Crash added left out
   opening_crash added left out here sent = record {
     count = 0;
     within = omega arith;
-    keeps = subst (λ (rs : List Record). KeepsOf head.text product.journal_limit rs left) (sym (append-nil records)) here.keeps;
+    keeps = subst (λ (rs : List Record). KeepsUnder head.text product.journal_limit rs left) (sym (append-nil records)) here.keeps;
     sent_is = record {
       low = subst (λ o. IsKnownPrefix (m.sent old) o) sent (known_itself (m.sent old));
       high = subst (λ o. IsKnownPrefix o (sent_and (m.sent old) [])) sent (known_more (m.sent old) []);
@@ -74,11 +73,11 @@ module _ {I S : Type 0} (inputs : SourceMeanings I) (m : StationMeanings S) (lin
     no_longer = omega (arith, here.no_longer, large);
   }
 
-  opening_adds : (added : List Record) (new : S) → AddsOnly m old new (λ left out. IsOpening head.text product.journal_limit records image left × (m.sent old ≡ Some out)) → AddsOnly m old new (Crash added)
+  opening_adds : (added : List Record) (new : S) → AddsOnly m old new (λ left out. IsOpeningUnder head.text product.journal_limit records image left × (m.sent old ≡ Some out)) → AddsOnly m old new (Crash added)
   opening_adds added new adds = adds_weaker m old new _ _ (λ h left out pair. opening_crash added left out pair.0 pair.1) adds
 
   -- the journal was not opened
-  pub from_unopened : (input : I) (new : S) (state after : State) → Opens m product head old new image records state (Err unopened.Store) → m.sent new ≡ m.sent old
+  pub from_unopened : (input : I) (new : S) (state after : State) → Opens m product head old new image records kept state (Err unopened.Store) → m.sent new ≡ m.sent old
       → SessionFrom m line product head (streams_at inputs m input old) (streams_at inputs m input new) Published after image records kept [] StoreFault 0
   from_unopened input new state after opens silent =
       let same : records ≡ records ++ [] = sym (append-nil records) in
@@ -98,7 +97,7 @@ module _ {I S : Type 0} (inputs : SourceMeanings I) (m : StationMeanings S) (lin
           are = refl;
           one = omega arith;
           sent = silent ∙ sent_and_itself (m.sent old);
-          keeps = inl (holds_weaker m _ _ new (λ left here. subst (λ (rs : List Record). KeepsOf head.text product.journal_limit rs left) same here.keeps) opens.keeps);
+          keeps = inl (holds_weaker m _ _ new (λ left here. subst (λ (rs : List Record). KeepsUnder head.text product.journal_limit rs left) same here.keeps) opens.keeps);
           messages = refl;
         };
         at_rest = λ done. absurd done;
@@ -111,7 +110,7 @@ module _ {I S : Type 0} (inputs : SourceMeanings I) (m : StationMeanings S) (lin
       sent_and_itself (Some out) = ap Some (sym (append-nil out))
 
   -- the journal was opened, and the input served
-  module _ (mid : S) (core state : State) (Numbered : Type 0) (numbered : Numbered) (journal : Standing) (opens : Opens m product head old mid image records core (Ok journal)) (silent : m.sent mid ≡ m.sent old) (state_is : state ≡ state_kept kept) (state_count : state.desk.messages ≡ length (messages_in records))
+  module _ (mid : S) (core state : State) (Numbered : Type 0) (numbered : Numbered) (journal : Standing) (opens : Opens m product head old mid image records kept core (Ok journal)) (silent : m.sent mid ≡ m.sent old) (state_is : state ≡ state_kept kept) (state_count : state.desk.messages ≡ length (messages_in records))
       (input input' : I) (new : S) (end : ℕ) (then : State) (added : List Record) (behind : List ℕ) (serves : Serves m Numbered line product product.journal_limit mid new journal.gate state added) (count : ℕ) (counted : then.desk.messages ≡ state.desk.messages + count) where
     abbrev most : ℕ
     most = max (length image) MOST_UNFINISHED
@@ -137,7 +136,7 @@ module _ {I S : Type 0} (inputs : SourceMeanings I) (m : StationMeanings S) (lin
     adds : AddsOnly m old new (Crash added)
     adds = adds_then m old mid new _ _ (λ h left out here. crash left out here) (opening_adds added mid opens.moments) (serves.adds head records most opens.at_end numbered)
 
-    all_kept : AllKept m product.journal_limit mid new journal.gate end added → HoldsOne m (KeepsOf head.text product.journal_limit (records ++ added)) new
+    all_kept : AllKept m product.journal_limit mid new journal.gate end added → HoldsOne m (KeepsUnder head.text product.journal_limit (records ++ added)) new
     all_kept kept_all =
         let rests = kept_all.at_end head records most opens.at_end in
         record { image = rests.image; read = rests.rests.read; has = (head.version, inl rests.journal.journal) }
@@ -273,7 +272,7 @@ module _ {I S : Type 0} (inputs : SourceMeanings I) (m : StationMeanings S) (lin
     ends_unopened (unopened.Bad at) = record { none = refl; nothing = refl; input = refl }
     ends_unopened (unopened.ProductDiffers at) = record { none = refl; nothing = refl; input = refl }
 
-    pub from_unopened_by : (head : Header) (image : List ℕ) (records : List Record) (kept : History) (state after : State) (reason : Unopened) → IsRightProduct product → m.sent new ≡ m.sent old → Opens m product head old new image records state (Err reason)
+    pub from_unopened_by : (head : Header) (image : List ℕ) (records : List Record) (kept : History) (state after : State) (reason : Unopened) → IsRightProduct product → m.sent new ≡ m.sent old → Opens m product head old new image records kept state (Err reason)
         → SessionFrom m line product head (streams_at inputs m input old) (streams_at inputs m input new) Published after image records kept [] (ending_without reason) 0
     from_unopened_by head image records kept state after unopened.Store right silent opens = from_unopened inputs m line Published product head image records kept old right input new state after opens silent
     from_unopened_by head image records kept state after (unopened.NotAJournal at) right silent opens = absurd (opens.accepted tt)
@@ -347,8 +346,8 @@ module _ {I S : Type 0} (inputs : SourceMeanings I) (m : StationMeanings S) (lin
         };
         from = λ image kept honest read startable.
             subst (λ n. SessionFrom m line product startable.head (streams_at inputs m input old) (streams_at inputs m input mid) Published after image startable.records kept [] (ending_without reason) n) (sym count)
-            (from_unopened_by inputs m line Published product text old input mid silent.send_faults startable.head image startable.records kept core after reason right silent.sent (opens image startable.head startable.records honest read startable.of_text startable.keeps startable.good startable.are_true));
-        full = λ image head records honest read of_text keeps place last. absurd (never_full reason place last);
+            (from_unopened_by inputs m line Published product text old input mid silent.send_faults startable.head image startable.records kept core after reason right silent.sent (opens image kept honest read startable));
+        full = λ image head records honest read text_is keeps place last. absurd (never_full reason place last);
       }
 
   -- the next message has no room, or cannot be counted
@@ -391,11 +390,11 @@ module _ {I S : Type 0} (inputs : SourceMeanings I) (m : StationMeanings S) (lin
         image = where_told (m.holds old) _ (λ image read. answers_by inputs m line Published product text old Numbered product.journal_limit before after journal.gate end state then served.added served.behind image ending served.ends (answers image read));
         serving = record { taken = bytes_in served.added ++ served.behind; took = served.took; some = taken.0; ends = taken.1 };
         from = λ image kept honest read startable.
-            let from_image = opens image startable.head startable.records honest read startable.of_text startable.keeps startable.good startable.are_true in
+            let from_image = opens image kept honest read startable in
             let at_start = from_image.is_state in
-            from_opened inputs m line Published product startable.head image startable.records kept old right mid core state Numbered at_start.numbered journal from_image silent.sent (at_start.state_is ∙ ap state_kept (sym startable.are)) at_start.count_is input input' new end then served.added served.behind served.serves outcome.messages counted ending served.reads bytes served.published
+            from_opened inputs m line Published product startable.head image startable.records kept old right mid core state Numbered at_start.numbered journal from_image silent.sent at_start.state_is (at_start.count_is ∙ length-startable product text kept image startable) input input' new end then served.added served.behind served.serves outcome.messages counted ending served.reads bytes served.published
             served.ends;
-        full = λ image head records honest read of_text keeps place last.
-            full_opened journal image head records (rests image head records honest read of_text keeps) input' new end then served.added served.behind served.serves.whole outcome.messages counted place
+        full = λ image head records honest read text_is keeps place last.
+            full_opened journal image head records (rests image head records honest read text_is keeps) input' new end then served.added served.behind served.serves.whole outcome.messages counted place
             (subst (λ (e : Ending). EndsServing m Numbered line product product.journal_limit before after journal.gate end state then e served.added served.behind) last served.ends);
       }

@@ -10,7 +10,7 @@ use Rattle.gx_station.specs.Stations.{StationMeanings, IsBetween, sent_and}
 use Rattle.gx_station.specs.SendLaws.{sent_and_none}
 use Rattle.gx_station.specs.Honest.{IsHonestNow}
 use Rattle.fix_frame.specs.Stream.{messages_of}
-use Rattle.match_journal.specs.Classes.{Keeps, KeepsOf}
+use Rattle.match_journal.specs.Classes.{Keeps}
 use Rattle.match_journal.specs.Steps.{HoldsOne}
 use Rattle.match_journal.specs.StepLaws.{adds_weaker}
 use Rattle.order_kinds.specs.State.{State}
@@ -20,11 +20,13 @@ use Rattle.exec_report.specs.Forms.{LineText}
 use Rattle.globex_run.specs.Outside.{SourceAt, Outside}
 use Rattle.globex_run.specs.RunResult.{first_messages}
 use Rattle.globex_run.specs.Headline.{Premises, KeepsNow, KeepsCounted, IsCrashPrefix, LeavesCrashPrefixes, LeftSinceEntry, IsAsAtEntry, BeforeTheFirstSync, KeepsEverySent, HasSentBehind}
+use Rattle.globex_run.specs.Inner.OneHeader.{KeepsUnder}
 use Rattle.globex_run.specs.Inner.Recording.{lines_from, IsRecordCrash}
 use Rattle.globex_run.specs.Inner.Sessions.{IsFrontServed, SessionFrom}
 use Rattle.globex_run.specs.declared.outcome.Outcome.{Outcome}
 use Rattle.globex_run.specs.declared.ending.Ending.{Ending}
 use Rattle.match_journal.specs.Journal.{Record, IsRecord, most_payload, Header, in_version}
+use Rattle.match_journal.specs.declared.version.Version.{Version}
 use Rattle.match_journal.specs.declared.limits.TheConstants.{MOST_PAYLOAD}
 use Rattle.match_journal.specs.declared.entry.EntryKind.{EntryKind}
 use Rattle.std.specs.List.{concat, AllByRecursion}
@@ -34,7 +36,7 @@ use Rattle.globex_run.proofs.Folds.{messages_in-append}
 use Rattle.globex_run.proofs.KeptMore.{with-none, keeps-frames}
 use Rattle.globex_run.proofs.Additions.{first_served, within_served, records_joined}
 use Rattle.globex_run.proofs.Told.{outside_of}
-use Rattle.order_kinds.specs.Histories.{History, of_product, with_messages, state_kept}
+use Rattle.order_kinds.specs.Histories.{History, with_messages, state_kept}
 
 -- ---- the messages of one record at most
 
@@ -46,19 +48,19 @@ none-more n messages =
     subst (λ (l : List (List ℕ)). length (concat l) ≤ MOST_PAYLOAD) (sym none) (omega arith)
 
 -- the records added behind others are sized as records are
-sized-behind : (head : Header) (limit : ℕ) (records added : List Record) (image : List ℕ) → Keeps head limit (records ++ added) image → AllByRecursion IsRecord added
+sized-behind : (head : Header) (limit : ℕ) (records added : List Record) (image : List ℕ) → Keeps head limit (records ++ added) image → AllByRecursion (IsRecord head.version) added
 sized-behind head limit records added image keeps = ⊎_elim
-    (λ journal. all-back IsRecord records added journal.sized)
-    (λ unfinished. all-back IsRecord records added (subst (λ (l : List Record). AllByRecursion IsRecord l) (sym unfinished.0) tt))
+    (λ journal. all-back (IsRecord head.version) records added journal.sized)
+    (λ unfinished. all-back (IsRecord head.version) records added (subst (λ (l : List Record). AllByRecursion (IsRecord head.version) l) (sym unfinished.0) tt))
     keeps
 
 -- the messages of one whole record have no more bytes than it
-few-in-one : (records : List Record) → length records ≤ 1 → AreWhole records → AllByRecursion IsRecord records → length (concat (messages_in records)) ≤ MOST_PAYLOAD
-few-in-one [] one whole are = omega arith
-few-in-one (r ∷ []) one whole are =
+few-in-one : (version : Version) (records : List Record) → length records ≤ 1 → AreWhole records → AllByRecursion (IsRecord version) records → length (concat (messages_in records)) ≤ MOST_PAYLOAD
+few-in-one version [] one whole are = omega arith
+few-in-one version (r ∷ []) one whole are =
     let few : length r.payload ≤ MOST_PAYLOAD = subst (λ (k : EntryKind). length r.payload ≤ most_payload k) whole.0.frames are.0.few in
     omega (arith, few, ap (λ (l : List ℕ). length l) (records_joined (r ∷ []) whole), ap (λ (l : List ℕ). length l) (append-nil r.payload))
-few-in-one (r ∷ (s ∷ records)) one whole are = absurd (omega (arith, one))
+few-in-one version (r ∷ (s ∷ records)) one whole are = absurd (omega (arith, one))
 
 module _ {P I S : Type 0} (m : StationMeanings S) (p q : SourceAt P) (i j : SourceAt I) (old new : S) (line : LineText) (Published : List Event → Type 0) (then : State) (outcome : Outcome) where
   abbrev entry : Outside P I S
@@ -101,16 +103,13 @@ module _ {P I S : Type 0} (m : StationMeanings S) (p q : SourceAt P) (i j : Sour
         within = within_served taken from.behind from.added served others from.whole from.are parts
 
         -- an image that keeps the first records keeps their messages
-        keeps_served : (messages : List (List ℕ)) → messages ≡ messages_in served → (left : List ℕ) → KeepsOf given.startable.head.text given.product.journal_limit (given.startable.records ++ served) left → KeepsAt messages left
+        keeps_served : (messages : List (List ℕ)) → messages ≡ messages_in served → (left : List ℕ) → KeepsUnder given.startable.head.text given.product.journal_limit (given.startable.records ++ served) left → KeepsAt messages left
         keeps_served messages same left keeps =
-            keeps-frames given.product from.right given.startable.head given.text given.startable.of_text given.startable.records given.startable.good given.startable.are_true
-            served (all-front IsWhole served others (subst (λ (l : List Record). AreWhole l) parts from.whole)) left (with_messages given.kept messages) keeps
-            (ap (λ (l : List (List ℕ)). with_messages given.kept l) same
-            ∙ ap (λ (h : History). with_messages h (messages_in served)) given.startable.are
-            ∙ ap (λ (l : List (List ℕ)). of_product given.product l) (sym (messages_in-append given.startable.records served)))
+            subst (λ (l : List (List ℕ)). IsStartable given.product given.text (with_messages given.kept l) left) (sym same)
+            (keeps-frames given.product from.right given.text given.kept given.image given.startable served (all-front IsWhole served others (subst (λ (l : List Record). AreWhole l) parts from.whole)) left keeps)
 
         -- and so does what a read gives
-        pub keeps_now : (messages : List (List ℕ)) → messages ≡ messages_in served → HoldsOne m (KeepsOf given.startable.head.text given.product.journal_limit (given.startable.records ++ served)) new → KeepsNow m entry exit outcome given (messages_of taken) sends messages
+        pub keeps_now : (messages : List (List ℕ)) → messages ≡ messages_in served → HoldsOne m (KeepsUnder given.startable.head.text given.product.journal_limit (given.startable.records ++ served)) new → KeepsNow m entry exit outcome given (messages_of taken) sends messages
         keeps_now messages same holds = record { image = holds.image; image_known = holds.read; keeps = keeps_served messages same holds.image holds.has }
 
       -- all of them are the first ones
@@ -242,9 +241,9 @@ module _ {P I S : Type 0} (m : StationMeanings S) (p q : SourceAt P) (i j : Sour
                       (sym (whole ∙ ap messages_in front.are ∙ messages_in-append served others))
                       (subst (λ (l : List (List ℕ)). length (concat l) ≤ MOST_PAYLOAD)
                       (sym (ap (λ (n : ℕ). drop n (messages_in served ++ messages_in others)) front.messages ∙ drop-append_seam (messages_in served) (messages_in others)))
-                      (few-in-one others front.one
+                      (few-in-one entire.has.0 others front.one
                       (all-back IsWhole served others (subst (λ (l : List Record). AreWhole l) front.are from.whole))
-                      (all-back IsRecord served others (subst (λ (l : List Record). AllByRecursion IsRecord l) front.are
+                      (all-back (IsRecord entire.has.0) served others (subst (λ (l : List Record). AllByRecursion (IsRecord entire.has.0) l) front.are
                       (sized-behind (in_version entire.has.0 given.startable.head.text) given.product.journal_limit given.startable.records from.added entire.image entire.has.1)))));
                 }
               ];

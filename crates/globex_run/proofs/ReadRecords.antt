@@ -3,7 +3,6 @@ use Rattle.std.proofs.Common.{◌≡◌, ⊎_elim, inl, inr, ℕ, ◌≤◌, Lis
 use Rattle.std.proofs.lemmas.List.{append-nil}
 use Rattle.gx_station.specs.Stations.{StationMeanings}
 use Rattle.match_journal.specs.Journal.{Record, Header}
-use Rattle.match_journal.specs.Classes.{KeepsOf}
 use Rattle.match_journal.specs.Steps.{HoldsOne}
 use Rattle.book_recovery.specs.Records.{IsWhole, AreWhole}
 use Rattle.product_file.specs.Products.{ProductLists}
@@ -12,11 +11,13 @@ use Rattle.gx_base.specs.declared.event.Event.{Event}
 use Rattle.order_kinds.specs.State.{State}
 use Rattle.globex_run.specs.Outside.{SourceAt, Outside, Streams}
 use Rattle.globex_run.specs.Headline.{Premises, AddsMessages, KeepsARecordPerRead}
+use Rattle.globex_run.specs.Inner.OneHeader.{KeepsUnder}
 use Rattle.globex_run.specs.Inner.Sessions.{EndsSession, SessionFrom}
 use Rattle.globex_run.specs.declared.ending.Ending.{Ending}
 use Rattle.globex_run.specs.declared.ending.Ending.TheVariants.{Done, ReadFault, StoreFault, SendFault, BadFrame, Truncated, NotAJournal, JournalBad, ProductDiffers, Full}
 use Rattle.globex_run.specs.declared.outcome.Outcome.{Outcome}
 use Rattle.plain_book.proofs.Pairs.{all-front}
+use Rattle.globex_run.proofs.KeptMore.{keeps-of}
 use Rattle.globex_run.proofs.Told.{outside_of}
 use Rattle.order_kinds.specs.Histories.{History}
 
@@ -25,17 +26,17 @@ pub whole-front : (more rest added : List Record) → added ≡ more ++ rest →
 whole-front more rest added are whole = all-front IsWhole more rest (subst (λ (l : List Record). AreWhole l) are whole)
 
 -- the image keeps these records, and then the first of those added
-pub record KeepsNoMore {S : Type 0} (m : StationMeanings S) (text : List ℕ) (limit : ℕ) (now : S) (records added : List Record) : Type 0 where
+pub record KeepsNoMore {S : Type 0} (m : StationMeanings S) (first : List ℕ) (limit : ℕ) (now : S) (records added : List Record) : Type 0 where
   pub more : List Record
   pub rest : List Record
   pub are : added ≡ more ++ rest
-  pub holds : HoldsOne m (KeepsOf text limit (records ++ more)) now
+  pub holds : HoldsOne m (KeepsUnder first limit (records ++ more)) now
 
 module _ {I S : Type 0} (m : StationMeanings S) (line : LineText) (product : ProductLists) (head : Header) (before after : Streams I S) (count : ℕ) (records : List Record) (kept : History) (added : List Record) (behind : List ℕ) where
   abbrev Keeping : Type 0
   Keeping = KeepsNoMore m head.text product.journal_limit after.station.object records added
 
-  all_added : HoldsOne m (KeepsOf head.text product.journal_limit (records ++ added)) after.station.object → Keeping
+  all_added : HoldsOne m (KeepsUnder head.text product.journal_limit (records ++ added)) after.station.object → Keeping
   all_added holds = record { more = added; rest = []; are = sym (append-nil added); holds = holds }
 
   pub keeps_no_more : (ending : Ending) → EndsSession m line product head before after ending count records kept added behind → Keeping
@@ -69,7 +70,7 @@ module _ {P I S : Type 0} (m : StationMeanings S) (p q : SourceAt P) (i j : Sour
       image = keeping.holds.image;
       image_known = keeping.holds.read;
       added = keeping.more;
-      keeps = subst (λ (l : List ℕ). KeepsOf l given.product.journal_limit (given.startable.records ++ keeping.more) keeping.holds.image) given.startable.of_text keeping.holds.has;
+      keeps = keeps-of given.product given.text given.kept given.image given.startable keeping.more (whole-front keeping.more keeping.rest from.added keeping.are from.whole) keeping.holds.image keeping.holds.has;
       whole = whole-front keeping.more keeping.rest from.added keeping.are from.whole;
     }
 

@@ -3,6 +3,7 @@ use Rattle.std.specs.Prelude.{◌≡◌, ◌≢◌, ◌⊎◌, ℕ, List, Some, 
 use Rattle.gx_station.specs.Counts.{Rose}
 use Rattle.gx_station.specs.Honest.{KeepsImage}
 use Rattle.match_journal.specs.Journal.{Header, Record}
+use Rattle.match_journal.specs.Texts.{HasLastText}
 use Rattle.match_journal.specs.Classes.{Keeps}
 use Rattle.order_kinds.specs.Histories.{History, AreOfTexts, IsBalanced}
 use Rattle.report_laws.specs.Sums.{IsReadBalanced}
@@ -70,8 +71,8 @@ module _ {P I S : Type 0} (c : Call P I S) where
   abbrev pub IsFullForMessages : Type 0
   IsFullForMessages = OfEach (λ asked. Serves c asked → (given : ProductPremises c.before c.after c.outcome.status) (read : Reads c asked)
       → c.station.is_honest c.before.streams.station.object → (image : List ℕ) (head : Header) (records : List Record) → c.before.streams.station.image ≡ Some image
-      → head.text ≡ given.text → Keeps head given.product.journal_limit records image → c.outcome.status ≡ 12
-      → IsFullJournal given.product head image records c.after.streams.station c.outcome (bytes_for c given asked read))
+      → HasLastText head records given.text → Keeps head given.product.journal_limit records image → c.outcome.status ≡ 12
+      → IsFullJournal given.product given.text head image records c.after.streams.station c.outcome (bytes_for c given asked read))
 
   -- 12, of a checkpoint: the image has no room.
   abbrev pub IsFullForImage : Type 0

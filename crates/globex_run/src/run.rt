@@ -65,7 +65,8 @@ fn outcome_without(reason: NoProduct) -> Outcome
 ///
 /// The words are tried first: 2 comes exactly where they are no command. The product is tried next: 3 comes exactly where its text
 /// breaks a rule. Memory is taken only before the first call on the station and the first read of the input; want of it is status 1.
-/// Then the journal is opened: 9, 10 and 11 come exactly where it is foreign, bad, or of another text.
+/// Then the journal is opened by its last text: 9, 10 and 11 come exactly where it is foreign, bad, or of another text. `replay`, `fills`
+/// and `ledger` know one product, and take a journal with amendments for a bad one.
 pub fn globex<P: Source, I: Source, S: Station>(
     alloc: Global,
     words: &[String],
@@ -117,8 +118,8 @@ pub fn globex<P: Source, I: Source, S: Station>(
     ensures bad_product { result.status ≡ 3 → (input.new ≡ input.old) × (station.new ≡ station.old) }
 
     // 9, 10 and 11 come exactly where the image of entry is such, whatever the command. What is refused stays as it is, and commands
-    // that write send nothing then. An image from which a run can start is refused by no command: so what a crash leaves can be
-    // opened again.
+    // that write send nothing then. An image from which a run can start is refused by no command, but by `replay`, `fills` and `ledger`
+    // if it has an amendment: so what a crash leaves can be opened again.
     ensures refuses { RefusesWhatItMust (call P.meanings I.meanings S.meanings words.now product input station result) }
     ensures opens_again { OpensAgain (call P.meanings I.meanings S.meanings words.now product input station result) }
     ensures refused { LeavesWhatItRefuses (call P.meanings I.meanings S.meanings words.now product input station result) }

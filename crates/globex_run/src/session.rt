@@ -1,6 +1,7 @@
 //! What a command works with that keeps one core: its product, its state, and all its memory.
-ghost use Rattle.std.specs.Prelude.{◌≡◌, ◌≤◌, length, vec_len, IfOk};
+ghost use Rattle.std.specs.Prelude.{◌≡◌, ◌≤◌, length, vec_len, Ok, IfOk};
 ghost use Rattle.fix_frame.specs.declared.framer.TheConstants.{ROOM};
+ghost use Rattle.product_file.specs.ProductTexts.{product_of};
 ghost use Rattle.product_file.specs.declared.limits.TheConstants.{LONGEST_TEXT};
 ghost use Rattle.order_kinds.specs.State.{empty_state};
 
@@ -33,6 +34,7 @@ pub struct Session<'a, B: Book> {
     /// The bytes of one read.
     pub chunk: Vec<u8>,
     ghost short: { length text.now ≤ LONGEST_TEXT },
+    ghost gives: { product_of text.now ≡ Ok product.now },
     ghost chunk_room: { vec_len chunk ≡ ROOM },
 }
 

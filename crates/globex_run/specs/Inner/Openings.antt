@@ -1,10 +1,12 @@
 -- What opening the journal of a product does, whatever its image.
-use Rattle.std.specs.Prelude.{◌≡◌, ℕ, List, [], Some, Result, IfOk}
+use Rattle.std.specs.Prelude.{◌≡◌, ℕ, List, Some, Result, IfOk}
 use Rattle.gx_station.specs.Stations.{StationMeanings}
 use Rattle.match_journal.specs.Journal.{Header, Record}
 use Rattle.match_journal.specs.Classes.{Keeps}
 use Rattle.match_journal.specs.declared.standing.Standing.{Standing}
-use Rattle.book_recovery.specs.Records.{AreGoodRecords, AreTrueRecords}
+use Rattle.match_journal.specs.Texts.{HasLastText}
+use Rattle.book_recovery.specs.Kept.{IsStartable}
+use Rattle.order_kinds.specs.Histories.{History}
 use Rattle.product_file.specs.Products.{ProductLists}
 use Rattle.order_kinds.specs.State.{State}
 use Rattle.globex_run.specs.Inner.Sessions.{AnswersOpening, Opens, RestsBehind}
@@ -18,12 +20,11 @@ module _ {S : Type 0} (m : StationMeanings S) (product : ProductLists) (text : L
   -- from an image that keeps good and true records
   abbrev pub OpensAny : S → S → State → Result Standing Unopened → Type 0
   OpensAny old new state result =
-      (image : List ℕ) (head : Header) (records : List Record) → m.is_honest old → m.holds old ≡ Some image → head.text ≡ text
-      → Keeps head product.journal_limit records image → AreGoodRecords product 0 records → AreTrueRecords product [] records
-      → Opens m product head old new image records state result
+      (image : List ℕ) (kept : History) → m.is_honest old → m.holds old ≡ Some image → (startable : IsStartable product text kept image)
+      → Opens m product startable.head old new image startable.records kept state result
 
   -- from an image that keeps records, good or true or not
   abbrev pub RestsAny : S → S → State → Result Standing Unopened → Type 0
   RestsAny old new state result =
-      (image : List ℕ) (head : Header) (records : List Record) → m.is_honest old → m.holds old ≡ Some image → head.text ≡ text
+      (image : List ℕ) (head : Header) (records : List Record) → m.is_honest old → m.holds old ≡ Some image → HasLastText head records text
       → Keeps head product.journal_limit records image → IfOk result (λ journal. RestsBehind m product head new image records state journal)

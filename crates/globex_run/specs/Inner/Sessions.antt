@@ -5,14 +5,14 @@ use Rattle.gx_station.specs.Stations.{StationMeanings, sent_and}
 use Rattle.gx_station.specs.Honest.{IsSettled}
 use Rattle.gx_station.specs.Moments.{AddsOnly}
 use Rattle.match_journal.specs.Journal.{Header, Record, journal_front}
-use Rattle.match_journal.specs.Classes.{Keeps, KeepsOf}
+use Rattle.match_journal.specs.Classes.{Keeps}
+use Rattle.match_journal.specs.Texts.{HasLastText}
 use Rattle.match_journal.specs.Appending.{IsJournalTo}
 use Rattle.match_journal.specs.Causes.{ReadsAtMost}
-use Rattle.match_journal.specs.Opening.{IsOpening}
 use Rattle.match_journal.specs.Steps.{HoldsOne}
 use Rattle.match_journal.specs.declared.limits.TheConstants.{MOST_UNFINISHED}
 use Rattle.match_journal.specs.declared.standing.Standing.{Standing}
-use Rattle.order_kinds.specs.Histories.{History, of_product, state_kept}
+use Rattle.order_kinds.specs.Histories.{History, state_kept}
 use Rattle.book_recovery.specs.Records.{AreWhole, messages_in, from_last_image, count_behind_all}
 use Rattle.book_recovery.specs.Kept.{IsStartable, CanBeRecovered}
 use Rattle.book_recovery.specs.Recovering.{IsStateAfter}
@@ -25,6 +25,7 @@ use Rattle.globex_run.specs.Outside.{Streams, AreWithinReads}
 use Rattle.globex_run.specs.Outcomes.{outcome_of}
 use Rattle.globex_run.specs.Journals.{AnswersImage, bytes_in, length_of_records, most_read}
 use Rattle.globex_run.specs.RunResult.{ServingResult}
+use Rattle.globex_run.specs.Inner.OneHeader.{KeepsUnder, IsOpeningUnder}
 use Rattle.globex_run.specs.Inner.Recording.{lines_from, IsRecordCrash, RestsAtEnd}
 use Rattle.globex_run.specs.Inner.Serving.{CausedBy, IsDone, HasNoRoomAt, IsLastCounted}
 use Rattle.globex_run.specs.declared.outcome.Outcome.{Outcome}
@@ -56,14 +57,14 @@ IsRefusedOpening (Err (unopened.Bad at)) = Unit {0}
 IsRefusedOpening (Err (unopened.ProductDiffers at)) = Unit {0}
 
 module _ {S : Type 0} (m : StationMeanings S) (product : ProductLists) (head : Header) where
-  -- The journal of an honest station, whose image keeps these records, was opened, and the core is in the state after their
-  -- messages; or a call on the store has failed. In either case the image keeps the same records.
-  pub record Opens (old new : S) (image : List ℕ) (records : List Record) (state : State) (result : Result Standing Unopened) : Type 0 where
+  -- The journal of an honest station, whose image keeps these records, was opened, and the core is in the state after the
+  -- history in them; or a call on the store has failed. In either case the image keeps the same records.
+  pub record Opens (old new : S) (image : List ℕ) (records : List Record) (kept : History) (state : State) (result : Result Standing Unopened) : Type 0 where
     pub accepted : IsRefusedOpening result → ⊥
-    pub moments : AddsOnly m old new (λ left out. IsOpening head.text product.journal_limit records image left × (m.sent old ≡ Some out))
-    pub keeps : HoldsOne m (IsOpening head.text product.journal_limit records image) new
+    pub moments : AddsOnly m old new (λ left out. IsOpeningUnder head.text product.journal_limit records image left × (m.sent old ≡ Some out))
+    pub keeps : HoldsOne m (IsOpeningUnder head.text product.journal_limit records image) new
     pub at_end : IfOk result (λ journal. RestsAtEnd m head product.journal_limit records journal.gate (max (length image) MOST_UNFINISHED) new)
-    pub is_state : IfOk result (λ journal. IsStateAfter (of_product product (messages_in records)) state)
+    pub is_state : IfOk result (λ journal. IsStateAfter kept state)
     pub bytes : ReadsAtMost (most_read records) (m.bytes_read old) (m.bytes_read new)
 
   -- The journal of an image that keeps these records was opened, good or true or not: nothing is pending behind them, and those from the
@@ -77,7 +78,7 @@ module _ {S : Type 0} (m : StationMeanings S) (product : ProductLists) (head : H
 module _ {I S : Type 0} (m : StationMeanings S) (line : LineText) (product : ProductLists) (head : Header) (before after : Streams I S) where
   -- a read gives an image that keeps these records
   abbrev pub KeepsRecords : List Record → Type 0
-  KeepsRecords records = HoldsOne m (KeepsOf head.text product.journal_limit records) after.station.object
+  KeepsRecords records = HoldsOne m (KeepsUnder head.text product.journal_limit records) after.station.object
 
   -- of the records added all are kept, and the reports of their messages were sent
   pub record IsAllServed (records : List Record) (kept : History) (added : List Record) (count : ℕ) : Type 0 where
@@ -168,6 +169,6 @@ module _ {I S : Type 0} (m : StationMeanings S) (line : LineText) (product : Pro
     pub serving : ServingResult before after ending outcome.messages
     pub from : (image : List ℕ) (kept : History) → m.is_honest before.station.object → before.station.image ≡ Some image → (startable : IsStartable product text kept image)
         → SessionFrom m line product startable.head before after Published then image startable.records kept serving.taken ending outcome.messages
-    pub full : (image : List ℕ) (head : Header) (records : List Record) → m.is_honest before.station.object → before.station.image ≡ Some image → head.text ≡ text
+    pub full : (image : List ℕ) (head : Header) (records : List Record) → m.is_honest before.station.object → before.station.image ≡ Some image → HasLastText head records text
         → Keeps head product.journal_limit records image → (place : ℕ) → IsFullAt place ending
         → IsFullBehind m line product head before after records serving.taken place outcome.messages

@@ -1,4 +1,4 @@
-use Rattle.std.proofs.Common.{IfOk, sym, subst}
+use Rattle.std.proofs.Common.{rules, IfOk, sym, subst}
 use Rattle.command_words.specs.declared.command.Command.{Command}
 use Rattle.command_words.specs.declared.command.Command.TheVariants.{Replay, Fills, Ledger, Book}
 use Rattle.book_print.specs.declared.ledger.Totals.{Totals}
@@ -58,7 +58,7 @@ returns-in-Fills-clause-did g c =
     let after = streams_at g.I.Source.meanings m c.args.input.now c.print_each_record-in-Fills.new.station in
     subst (λ (x : Command). IfOk c.print_each_record-in-Fills.result (λ (outcome : Outcome). IsExecuted m c.args.taken.now.product.now c.args.taken.now.text.now before after outcome x)) (sym c.in-Fills.is)
     (if-ok c.print_each_record-in-Fills.result _ _ (λ outcome printed. print-executed m c.args.taken.now.product.now c.args.taken.now.text.now (source_at g.I.Source.meanings c.args.input.now) c.args.station.now c.print_each_record-in-Fills.new.station outcome c.limits.ensures Fills (λ never. never) _ printed (λ prints. prints)
-    (λ form. record { answer = form.answer; outcome_is = form.outcome_is; prints = λ image read. fills_printed m c.args.taken.now.product.now c.args.taken.now.text.now image c.args.station.now c.print_each_record-in-Fills.new.station _ form.answer (form.prints image read) })) c.print_each_record-in-Fills.ensures.prints)
+    (λ form. record { answer = form.answer; outcome_is = form.outcome_is; prints = λ image read. fills_printed m c.args.taken.now.product.now c.args.taken.now.text.now image c.args.station.now c.print_each_record-in-Fills.new.station (search rules) _ form.answer (form.prints image read) })) c.print_each_record-in-Fills.ensures.prints)
 
 pub returns-in-Ledger-clause-did : goal.returns-in-Ledger-clause-did
 returns-in-Ledger-clause-did g c =
@@ -67,4 +67,4 @@ returns-in-Ledger-clause-did g c =
     let after = streams_at g.I.Source.meanings m c.args.input.now c.print_each_record-in-Ledger.new.station in
     subst (λ (x : Command). IfOk c.print_each_record-in-Ledger.result (λ (outcome : Outcome). IsExecuted m c.args.taken.now.product.now c.args.taken.now.text.now before after outcome x)) (sym c.in-Ledger.is)
     (if-ok c.print_each_record-in-Ledger.result _ _ (λ outcome printed. print-executed m c.args.taken.now.product.now c.args.taken.now.text.now (source_at g.I.Source.meanings c.args.input.now) c.args.station.now c.print_each_record-in-Ledger.new.station outcome c.limits.ensures Ledger (λ never. never) _ printed (λ prints. prints)
-    (λ form. record { answer = form.answer; outcome_is = form.outcome_is; prints = λ image read. let lines : Lines Totals = record { form = c.new.result } in ledger_printed m c.args.taken.now.product.now c.args.taken.now.text.now image c.args.station.now c.print_each_record-in-Ledger.new.station c.limits.ensures lines c.new.ensures form.answer (form.prints image read) })) c.print_each_record-in-Ledger.ensures.prints)
+    (λ form. record { answer = form.answer; outcome_is = form.outcome_is; prints = λ image read. let lines : Lines Totals = record { form = c.new.result } in ledger_printed m c.args.taken.now.product.now c.args.taken.now.text.now image c.args.station.now c.print_each_record-in-Ledger.new.station (search rules) c.limits.ensures lines c.new.ensures form.answer (form.prints image read) })) c.print_each_record-in-Ledger.ensures.prints)

@@ -1,8 +1,10 @@
-use Rattle.std.proofs.Common.{◌≤◌, inl, ℕ, List, length, sym, subst, ◌∙◌}
+use Rattle.std.proofs.Common.{◌≤◌, inl, ℕ, List, length, sym, ap, subst, ◌∙◌}
+use Rattle.product_file.specs.ProductTexts.{product_of}
 use Rattle.std.proofs.lemmas.Option.{same_Some}
 use Rattle.globex_run.specs.Outside.{source_at}
 use Rattle.globex_run.specs.Words.{IsWriting}
-use Rattle.globex_run.proofs.Runs.{short-text, memory-without, product-early, product-none, product-taken, words-early}
+use Rattle.globex_run.proofs.ProductReads.{short-text}
+use Rattle.globex_run.proofs.Runs.{memory-without, product-early, product-none, product-taken, words-early}
 use Rattle.globex_run.proofs.Commands.{product-told, no-memory, only-reads, leaves-the-input, does-all, ends-as-told, leaves-a-front, leaves-the-entry, keeps-what-is-sent, adds-messages-alone, adds-a-record-per-read, reads-it-once, is-full-for-messages, is-full-for-image, sends-nothing-then, prints-its-text, ends-well, ends-where-told, refuses-what-it-must, opens-it-again, has-its-statuses}
 use Rattle.globex_run.proofs.Balanced.{all-balance, all-balance-as-read}
 use Rattle.globex_run.proofs.run.globex.Goals as goal
@@ -16,6 +18,7 @@ returns-in-Err-take_product-clause-all_done g c asked asks can quiet =
 pub invariant_of-lent : goal.invariant_of-lent
 invariant_of-lent g c = record {
   short = subst (λ (l : List ℕ). length l ≤ 65536) (sym c.deref.ensures.value) (short-text c.in-Ok-take_product.taken.text.items c.in-Ok-take_product.taken.product c.in-Ok-take_product.ensures.1);
+  gives = ap product_of c.deref.ensures.value ∙ c.in-Ok-take_product.ensures.1;
 }
 
 pub returns-clause-no_memory : goal.returns-clause-no_memory
