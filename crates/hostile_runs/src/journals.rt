@@ -95,7 +95,7 @@ fn gates(alloc: Global, image: &[u8]) -> Result<Vec<usize>, AllocError> {
 fn has_image(alloc: Global, image: &[u8]) -> Result<bool, AllocError> {
     for gate in gates(alloc, image)?.as_slice() {
         let kind = image.get(gate.wrapping_add(1));
-        let is_image = kind == Some(&b'C') || kind == Some(&b'D');
+        let is_image = kind == Some(&b'C') || kind == Some(&b'D') || kind == Some(&b'P');
         if image.get(*gate) == Some(&1) && is_image {
             return Ok(true);
         }

@@ -1,4 +1,5 @@
 //! Images alone, and journals that have them.
+mod amendments;
 mod checkpoints;
 mod endings;
 mod expects;

@@ -270,6 +270,16 @@ fn expect_bad_record(rt: &(impl Abort + AllocGlobal), image: &[u8], bad: u64, fi
     expect_all_lines_before(rt, image, first_bad);
 }
 
+/// Each command ends at this place, and sends nothing.
+fn expect_all_refused(rt: &(impl Abort + AllocGlobal), image: &[u8], at: u64) {
+    for line in BEGINNING {
+        expect_refused(rt, line, image, at);
+    }
+    for line in READING {
+        expect_refused(rt, line, image, at);
+    }
+}
+
 /// The commands that begin with the last image end as over the other one, and those that read each record at the first bad one.
 fn expect_hidden_record(
     rt: &(impl Abort + AllocGlobal),
@@ -293,9 +303,13 @@ fn with_closed_gate(rt: &(impl Abort + AllocGlobal), longer: &[u8], length: usiz
     bytes
 }
 
-/// Of an image and a record behind it only the first bytes are left: behind an open gate the record is bad, and a closed one hides it.
+/// Of an image and a record behind it only the first bytes are left: behind an open gate the head of the record is bad, and a closed gate
+/// hides it. In a journal of the first version the commands that read each record meet it when they come to it.
 fn expect_cut(rt: &(impl Abort + AllocGlobal), image: &[u8], longer: &[u8], length: usize) {
-    expect_bad_record(rt, front_of(rt, longer, length), 1_088, LATER_GATE);
+    let cut = front_of(rt, longer, length);
+    expect_all_refused(rt, cut, 1_088);
+    let first_version = in_first_version(rt, cut);
+    expect_bad_record(rt, first_version.as_slice(), 1_088, LATER_GATE);
     let hidden = with_closed_gate(rt, longer, length);
     expect_all_like(rt, hidden.as_slice(), image);
 }
@@ -456,7 +470,11 @@ fn bad_records_behind_others(rt: HostRuntime) {
         1_087,
     );
     let other = Added::Bytes(b"\x01X\x00\x00\x00\x01x");
-    expect_bad(&rt, first, &[Added::Image(11, 1), other], 1_088, 414);
+    let records = [Added::Image(11, 1), other];
+    let second_version = with_records(&rt, first, &records);
+    expect_all_refused(&rt, second_version.as_slice(), 1_088);
+    let first_version = in_first_version(&rt, first);
+    expect_bad(&rt, first_version.as_slice(), &records, 1_088, 414);
 }
 
 /// A right image behind a bad record: only the commands that read each record meet that.

@@ -1,6 +1,6 @@
 //! Images of small books: their bytes, and the place of each thing that is wrong with one.
 ghost use Rattle.std.specs.Prelude.{◌≡◌, ◌≢◌};
-ghost use Rattle.match_journal.specs.declared.entry.EntryKind.TheVariants.{Frames};
+ghost use Rattle.match_journal.specs.declared.entry.EntryKind.TheVariants.{Frames, Amendment};
 ghost use Rattle.order_kinds.specs.State.{empty_state};
 ghost use Rattle.order_kinds.specs.Cores.{FitsProduct};
 
@@ -164,7 +164,8 @@ fn read(
     kind: EntryKind,
     payload: &[u8],
 ) -> Result<Trading, ImageBad>
-    requires { kind ≢ Frames }
+    requires image { kind ≢ Frames }
+    requires alone { kind ≢ Amendment }
 {
     let mut core = new_core(rt, product);
     match read_image(kind, payload, product, &mut core) {
@@ -196,7 +197,8 @@ fn expect_answers(
     payload: &[u8],
     changes: &[Change<'_>],
 )
-    requires { kind ≢ Frames }
+    requires image { kind ≢ Frames }
+    requires alone { kind ≢ Amendment }
 {
     for (bytes, want) in changes {
         let mut other = payload.to_vec(rt.alloc()).expect(rt, "memory");
@@ -274,7 +276,8 @@ fn expect_cut(
     front: &[u8],
     place: u64,
 )
-    requires { kind ≢ Frames }
+    requires image { kind ≢ Frames }
+    requires alone { kind ≢ Amendment }
 {
     let got = read(rt, product, kind, front);
     expect_answer(rt, got, Err(ImageBad(place)));

@@ -1,6 +1,8 @@
 //! Journals in memory: two messages in one record, images that are opened or refused, and what failed calls leave.
-ghost use Rattle.std.specs.Prelude.{◌≤◌};
-ghost use Rattle.match_journal.specs.Journal.{least_payload, most_payload};
+ghost use Rattle.std.specs.Prelude.{◌≡◌, ◌≢◌, ◌≤◌, true};
+ghost use Rattle.match_journal.specs.Journal.{has_kind, least_payload, most_payload};
+ghost use Rattle.match_journal.specs.declared.entry.EntryKind.TheVariants.{Amendment};
+ghost use Rattle.match_journal.specs.declared.version.Version.{Version};
 
 use super::{ORDERS, failing_station, joined, journal_of, station_of};
 use gx_station::Station;
@@ -63,6 +65,8 @@ fn records_are_read_in_their_order(rt: HostRuntime) {
 fn expect_images(rt: &(impl Abort + AllocGlobal), kind: EntryKind, byte: u8)
     requires some { least_payload kind ≤ 0 }
     requires few { 9000 ≤ most_payload kind }
+    requires known { (version : Version) → has_kind version kind ≡ true }
+    requires alone { kind ≢ Amendment }
 {
     let mut station = station_of(rt, b"");
     let started = Journal::start(&mut station, PRODUCT.as_bytes(), LIMIT);

@@ -1,6 +1,9 @@
 //! Images that are refused: what each command answers and sends, and that they stay as they are.
 use super::expects::{expect_bytes, expect_outcome, expect_texts};
-use super::{ENTRIES, FILLS, HEADER, ORDERS, REPORTS, execute_over, image_of, joined, journal_of};
+use super::{
+    ENTRIES, FILLS, FIRST_HEADER, HEADER, ORDERS, REPORTS, execute_over, image_of, joined,
+    journal_of, journal_with,
+};
 use globex_run::Outcome;
 use run_fixtures::{ORDER, PRODUCT, ended};
 use std::process::Abort;
@@ -70,38 +73,66 @@ fn images_that_no_command_opens(rt: HostRuntime) {
 /// The commands that begin with the last book image, or with the first record, and send nothing where they meet a bad one.
 const BEGINNING: [&str; 4] = ["run", "book", "drill --first 1 --count 2", "checkpoint"];
 
-/// A journal of one record of both orders, with these bytes behind it.
-fn behind_orders(rt: &(impl Abort + AllocGlobal), bad: &[u8]) -> Vec<u8> {
+/// A journal with this before its text, and with one record of both orders, with these bytes after it.
+fn behind_orders(rt: &(impl Abort + AllocGlobal), header: &[u8], bad: &[u8]) -> Vec<u8> {
     let orders = joined(rt, &ORDERS);
-    journal_of(rt, &[b"\x01M\x00\x00\x00\xDD", orders.as_slice(), bad])
+    journal_with(
+        rt,
+        header,
+        &[b"\x01M\x00\x00\x00\xDD", orders.as_slice(), bad],
+    )
 }
 
-/// Each command over this image: those that begin with the heads, and those that read record by record, are refused at these places.
-fn expect_bad(rt: &(impl Abort + AllocGlobal), image: &[u8], beginning: u64, reading: u64) {
+/// Each command over this image: those that begin with the heads, and those that read record by record, are refused at these places. The
+/// latter send first what they send of the records before it, if there are any good ones.
+fn expect_bad(
+    rt: &(impl Abort + AllocGlobal),
+    image: &[u8],
+    beginning: u64,
+    reading: u64,
+    is_read: bool,
+) {
     for line in BEGINNING {
         expect_left(rt, line, image, ended(10, beginning, 0), &[]);
     }
     let read = ended(10, reading, 0);
-    expect_left(rt, "replay", image, read, &REPORTS);
-    expect_left(rt, "fills", image, read, &[FILLS]);
-    expect_left(rt, "ledger", image, read, &[ENTRIES]);
+    if is_read {
+        expect_left(rt, "replay", image, read, &REPORTS);
+        expect_left(rt, "fills", image, read, &[FILLS]);
+        expect_left(rt, "ledger", image, read, &[ENTRIES]);
+    } else {
+        expect_left(rt, "replay", image, read, &[]);
+        expect_left(rt, "fills", image, read, &[]);
+        expect_left(rt, "ledger", image, read, &[]);
+    }
     expect_left(rt, "steps", image, ended(0, 0, 0), &[STEPS]);
 }
 
-/// The same behind a record of both orders.
-fn expect_bad_behind(rt: &(impl Abort + AllocGlobal), bad: &[u8], beginning: u64, reading: u64) {
-    let image = behind_orders(rt, bad);
-    expect_bad(rt, image.as_slice(), beginning, reading);
-}
-
-/// A payload that is no frame, a head with too great a length, and one behind the other. Who begins meets a bad head before a bad
-/// payload.
+/// A payload that is no frame, a head with too great a length, and one behind the other, after a record of both orders. Who begins meets
+/// a bad head before a bad payload. In a journal of the second version each command does.
 #[test]
 fn bad_records_behind_a_good_one(rt: HostRuntime) {
-    expect_bad_behind(&rt, b"\x01M\x00\x00\x00\x05hello", 376, 376);
-    expect_bad_behind(&rt, b"\x01M\x00\x00\x20\x01", 376, 376);
+    let payload = behind_orders(&rt, HEADER, b"\x01M\x00\x00\x00\x05hello");
+    expect_bad(&rt, payload.as_slice(), 376, 376, true);
+    let head = behind_orders(&rt, HEADER, b"\x01M\x00\x00\x20\x01");
+    expect_bad(&rt, head.as_slice(), 376, 376, false);
     let both = b"\x01M\x00\x00\x00\x05hello\x01M\x00\x00\x20\x01";
-    expect_bad_behind(&rt, both, 387, 376);
+    let second = behind_orders(&rt, HEADER, both);
+    expect_bad(&rt, second.as_slice(), 387, 387, false);
+}
+
+/// In a journal of the first version the commands that read record by record meet a bad head when they come to it, and an amendment is a
+/// bad head there.
+#[test]
+fn bad_records_of_the_first_version(rt: HostRuntime) {
+    let head = behind_orders(&rt, FIRST_HEADER, b"\x01M\x00\x00\x20\x01");
+    expect_bad(&rt, head.as_slice(), 376, 376, true);
+    let both = b"\x01M\x00\x00\x00\x05hello\x01M\x00\x00\x20\x01";
+    let first = behind_orders(&rt, FIRST_HEADER, both);
+    expect_bad(&rt, first.as_slice(), 387, 376, true);
+    let amendment = b"\x01P\x00\x00\x00\x08\x00\x00\x00\x04more";
+    let amended = behind_orders(&rt, FIRST_HEADER, amendment);
+    expect_bad(&rt, amended.as_slice(), 376, 376, true);
 }
 
 /// A run over a journal of these records is refused at this place.

@@ -1,0 +1,326 @@
+//! Journals with amendments, made byte by byte: runs, books and checkpoints go on from the image of the last one under its product.
+ghost use Rattle.std.specs.Prelude.{◌≤◌, length};
+
+use super::expects::{expect_bytes, expect_count, expect_outcome, expect_success};
+use super::{execute, execute_well, front_of, station_of};
+use globex_run::Outcome;
+use gx_station::MemStation;
+use run_fixtures::{PRODUCT, ended, frames_of, product_text};
+use std::process::Abort;
+
+/// A product with few live orders, whose memory is soon taken, and which matches by FIFO.
+const FIFO: &str = product_text!("max_orders = 8", letter: "F");
+
+/// The same with pro rata.
+const PRO_RATA: &str = product_text!("max_orders = 8", letter: "C");
+
+/// And with another range for market orders.
+const THIRD: &str =
+    product_text!("max_orders = 8", name: "ESZ4", tick: 1, protection: 3, letter: "C");
+
+/// The usual product with pro rata in place of FIFO.
+const USUAL_PRO_RATA: &str = product_text!(letter: "C");
+
+/// Three lots and one, which share a price.
+const SELLS: [&str; 2] = [
+    "35=D|49=AAA|56=GX|34=1|52=20240102-09:30:00|11=a1|55=ESZ4|54=2|38=3|40=2|44=100.00|59=0|",
+    "35=D|49=BBB|56=GX|34=1|52=20240102-09:30:00|11=b1|55=ESZ4|54=2|38=1|40=2|44=100.00|59=0|",
+];
+
+/// Two lots of them are bought.
+const BUY: &str =
+    "35=D|49=CCC|56=GX|34=1|52=20240102-09:30:00|11=c1|55=ESZ4|54=1|38=2|40=2|44=100.00|59=0|";
+
+/// Under pro rata the larger order has one lot by its share, and one as the first in time.
+const REPORTS: [&str; 5] = [
+    "35=8|34=1|49=GX|52=20240102-09:30:00|56=CCC|37=3|11=c1|17=3|20=0|150=0|39=0|55=ESZ4|54=1|38=2|40=2|44=100.00|59=0|151=2|14=0|6=0|60=20240102-09:30:00|9003=0|",
+    "35=8|34=2|49=GX|52=20240102-09:30:00|56=AAA|37=1|11=a1|17=4|20=0|150=1|39=1|55=ESZ4|54=2|38=3|40=2|44=100.00|59=0|32=1|31=100.00|151=2|14=1|6=0|60=20240102-09:30:00|9001=PRORATA|9002=1|9003=0|",
+    "35=8|34=2|49=GX|52=20240102-09:30:00|56=CCC|37=3|11=c1|17=5|20=0|150=1|39=1|55=ESZ4|54=1|38=2|40=2|44=100.00|59=0|32=1|31=100.00|151=1|14=1|6=0|60=20240102-09:30:00|9001=PRORATA|9002=1|9003=0|",
+    "35=8|34=3|49=GX|52=20240102-09:30:00|56=AAA|37=1|11=a1|17=6|20=0|150=1|39=1|55=ESZ4|54=2|38=3|40=2|44=100.00|59=0|32=1|31=100.00|151=1|14=2|6=0|60=20240102-09:30:00|9001=FIFO|9002=2|9003=0|",
+    "35=8|34=3|49=GX|52=20240102-09:30:00|56=CCC|37=3|11=c1|17=7|20=0|150=2|39=2|55=ESZ4|54=1|38=2|40=2|44=100.00|59=0|32=1|31=100.00|151=0|14=2|6=0|60=20240102-09:30:00|9001=FIFO|9002=2|9003=0|",
+];
+
+/// The book of the sells, and after the buy.
+const BOOK: &str = "ESZ4 last -
+S 100.00 3/3 #1 AAA a1
+S 100.00 1/1 #2 BBB b1
+";
+
+const BOOK_THEN: &str = "ESZ4 last 100.00
+S 100.00 1/1 #1 AAA a1
+S 100.00 1/1 #2 BBB b1
+";
+
+/// The bytes of these frames.
+fn frames(rt: &(impl Abort + AllocGlobal), bodies: &[&str]) -> Vec<u8> {
+    frames_of(rt.alloc(), bodies).expect(rt, "memory")
+}
+
+/// The image after a command under the product of this text, which does all it should.
+fn image_then(
+    rt: &(impl Abort + AllocGlobal),
+    text: &str,
+    line: &str,
+    bodies: &[&str],
+    image: &[u8],
+) -> Vec<u8> {
+    let mut station = station_of(rt, image);
+    let got = execute(rt, text, line, bodies, &mut station);
+    expect_success(rt, line, got);
+    station.image().to_vec(rt.alloc()).expect(rt, "memory")
+}
+
+/// The journal of the sells under FIFO, which has one record of frames, and then its closed gate.
+fn journal_of_sells(rt: &(impl Abort + AllocGlobal)) -> Vec<u8> {
+    image_then(rt, FIFO, "run", &SELLS, b"")
+}
+
+/// The payload of the book image that a checkpoint under this product adds to a journal.
+fn book_image(rt: &(impl Abort + AllocGlobal), text: &str, journal: &[u8]) -> Vec<u8> {
+    let longer = image_then(rt, text, "checkpoint", &[], journal);
+    let first = journal.len() + 5;
+    assert!(rt; first < longer.len());
+    let payload = &longer[first..longer.len() - 1];
+    payload.to_vec(rt.alloc()).expect(rt, "memory")
+}
+
+/// Adds some bytes to others.
+fn push(rt: &(impl Abort + AllocGlobal), bytes: &mut Vec<u8>, part: &[u8]) {
+    bytes.extend_from_slice(part).expect(rt, "memory");
+}
+
+/// A journal whose last gate is closed, with an amendment that has a size, a text, and an image.
+fn with_amendment(
+    rt: &(impl Abort + AllocGlobal),
+    journal: &[u8],
+    size: u32,
+    text: &str,
+    image: &[u8],
+) -> Vec<u8> {
+    assert!(rt; !journal.is_empty() && text.len() < 1_000 && image.len() < 10_000);
+    let front = front_of(rt, journal, journal.len() - 1);
+    let length = (4 + text.len() + image.len()) as u32;
+    let mut bytes = front.to_vec(rt.alloc()).expect(rt, "memory");
+    push(rt, &mut bytes, b"\x01P");
+    push(rt, &mut bytes, &length.to_be_bytes());
+    push(rt, &mut bytes, &size.to_be_bytes());
+    push(rt, &mut bytes, text.as_bytes());
+    push(rt, &mut bytes, image);
+    push(rt, &mut bytes, b"\x00");
+    bytes
+}
+
+/// A journal of a product, amended to another one: the image is that of the state there, in which no order is TOP.
+fn amended(rt: &(impl Abort + AllocGlobal), journal: &[u8], from: &str, to: &str) -> Vec<u8> {
+    assert!(rt; to.len() < 1_000);
+    let image = book_image(rt, from, journal);
+    let size = to.len() as u32;
+    with_amendment(rt, journal, size, to, image.as_slice())
+}
+
+/// The journal of the sells, amended to pro rata.
+fn amended_sells(rt: &(impl Abort + AllocGlobal)) -> Vec<u8> {
+    let journal = amended(rt, journal_of_sells(rt).as_slice(), FIFO, PRO_RATA);
+    expect_count(rt, "the amended journal", journal.len(), 1_302);
+    journal
+}
+
+/// A command under the product of this text ends so over this image, sends these bytes, and leaves the image as it is.
+fn expect_left(
+    rt: &(impl Abort + AllocGlobal),
+    text: &str,
+    line: &str,
+    image: &[u8],
+    outcome: Outcome,
+    sent: &[u8],
+) {
+    let mut station = station_of(rt, image);
+    let got = execute(rt, text, line, &[BUY], &mut station);
+    expect_outcome(rt, line, got, outcome);
+    expect_bytes(rt, line, station.output(), sent);
+    expect_bytes(rt, line, station.image(), image);
+}
+
+/// Each command that opens the journal, and begins with the last image.
+const BEGINNING: [&str; 4] = ["run", "book", "drill --first 1 --count 2", "checkpoint"];
+
+/// Each command that reads record by record.
+const READING: [&str; 3] = ["replay", "fills", "ledger"];
+
+/// Each command that opens the journal is refused so under the product of this text.
+fn expect_refused(rt: &(impl Abort + AllocGlobal), text: &str, image: &[u8], status: u8, at: u64) {
+    for line in BEGINNING {
+        expect_left(rt, text, line, image, ended(status, at, 0), b"");
+    }
+    for line in READING {
+        expect_left(rt, text, line, image, ended(status, at, 0), b"");
+    }
+}
+
+/// A run of the buy goes on from this journal of the sells, under the product of this text, which shares by pro rata; so does one from a
+/// checkpoint, and the books are those before and after it.
+fn expect_going_on(rt: &(impl Abort + AllocGlobal), text: &str, journal: &[u8]) {
+    expect_left(rt, text, "book", journal, ended(0, 0, 2), BOOK.as_bytes());
+    let reports = frames(rt, &REPORTS);
+    let mut station = station_of(rt, journal);
+    execute_well(rt, &mut station, text, "run", &[BUY], 1);
+    expect_bytes(rt, "run", station.output(), reports.as_slice());
+    let then = station.image();
+    let book = BOOK_THEN.as_bytes();
+    expect_left(rt, text, "book", then, ended(0, 0, 3), book);
+    let checkpointed = image_then(rt, text, "checkpoint", &[], journal);
+    let mut station = station_of(rt, checkpointed.as_slice());
+    execute_well(rt, &mut station, text, "run", &[BUY], 1);
+    expect_bytes(rt, "run", station.output(), reports.as_slice());
+}
+
+/// From the amendment on orders match by the steps of its product. Another text is not that of the journal.
+#[test]
+fn run_behind_an_amendment(rt: HostRuntime) {
+    let journal = amended_sells(&rt);
+    let journal = journal.as_slice();
+    expect_going_on(&rt, PRO_RATA, journal);
+    expect_refused(&rt, FIFO, journal, 11, 548);
+    for line in READING {
+        expect_left(&rt, PRO_RATA, line, journal, ended(10, 390, 0), b"");
+    }
+}
+
+/// The same with the usual product.
+#[test]
+fn usual_product_amended(rt: HostRuntime) {
+    let sells = image_then(&rt, PRODUCT, "run", &SELLS, b"");
+    expect_count(&rt, "the journal", sells.len(), 376);
+    let journal = amended(&rt, sells.as_slice(), PRODUCT, USUAL_PRO_RATA);
+    let journal = journal.as_slice();
+    expect_count(&rt, "the amended journal", journal.len(), 1_272);
+    expect_left(&rt, PRODUCT, "run", journal, ended(11, 518, 0), b"");
+    let mut station = station_of(&rt, journal);
+    execute_well(&rt, &mut station, USUAL_PRO_RATA, "run", &[BUY], 1);
+    let reports = frames(&rt, &REPORTS);
+    expect_bytes(&rt, "run", station.output(), reports.as_slice());
+}
+
+/// Two amendments, one after the other; an image after an amendment, and an amendment after an image.
+#[test]
+fn amendments_and_images(rt: HostRuntime) {
+    let once = amended_sells(&rt);
+    let twice = amended(&rt, once.as_slice(), PRO_RATA, THIRD);
+    expect_going_on(&rt, THIRD, twice.as_slice());
+    expect_refused(&rt, PRO_RATA, twice.as_slice(), 11, 1_444);
+    let behind = image_then(&rt, PRO_RATA, "checkpoint", &[], once.as_slice());
+    expect_going_on(&rt, PRO_RATA, behind.as_slice());
+    let image = image_then(
+        &rt,
+        FIFO,
+        "checkpoint",
+        &[],
+        journal_of_sells(&rt).as_slice(),
+    );
+    let before = amended(&rt, image.as_slice(), FIFO, PRO_RATA);
+    expect_going_on(&rt, PRO_RATA, before.as_slice());
+}
+
+/// A drill over an amended journal adds its messages, and a replay of its book goes on.
+#[test]
+fn drill_behind_an_amendment(rt: HostRuntime) {
+    let journal = amended_sells(&rt);
+    let mut station = station_of(&rt, journal.as_slice());
+    execute_well(
+        &rt,
+        &mut station,
+        PRO_RATA,
+        "drill --first 1 --count 3",
+        &[],
+        3,
+    );
+    assert!(rt; station.image().len() > journal.len());
+    let sent = station.output().len();
+    execute_well(&rt, &mut station, PRO_RATA, "book", &[], 5);
+    assert!(rt; station.output().len() > sent);
+}
+
+/// The bytes with another one at a place.
+fn with_byte(rt: &(impl Abort + AllocGlobal), bytes: &[u8], at: usize, byte: u8) -> Vec<u8> {
+    let mut bytes = bytes.to_vec(rt.alloc()).expect(rt, "memory");
+    assert!(rt; at < bytes.len());
+    bytes[at] = byte;
+    bytes
+}
+
+/// An image that is not right, in the last amendment and in an earlier one. Who begins with the last image does not see the earlier one.
+#[test]
+fn bad_image_of_an_amendment(rt: HostRuntime) {
+    let once = amended_sells(&rt);
+    // The last byte of the image is the session.
+    let bad = with_byte(&rt, once.as_slice(), 1_300, 2);
+    for line in BEGINNING {
+        expect_left(&rt, PRO_RATA, line, bad.as_slice(), ended(10, 390, 0), b"");
+    }
+    let twice = amended(&rt, once.as_slice(), PRO_RATA, THIRD);
+    let earlier = with_byte(&rt, twice.as_slice(), 1_300, 2);
+    expect_going_on(&rt, THIRD, earlier.as_slice());
+    assert!(rt; twice.len() >= 2);
+    let last = with_byte(&rt, twice.as_slice(), twice.len() - 2, 2);
+    for line in BEGINNING {
+        expect_left(&rt, THIRD, line, last.as_slice(), ended(10, 1_301, 0), b"");
+    }
+}
+
+/// A text that does not end in the payload of the last amendment is bad under each product, and in an earlier one it is not seen. So is a
+/// payload that has no image after its text.
+#[test]
+fn bad_text_of_an_amendment(rt: HostRuntime) {
+    let journal = journal_of_sells(&rt);
+    let image = book_image(&rt, FIFO, journal.as_slice());
+    let long = with_amendment(&rt, journal.as_slice(), 902, PRO_RATA, image.as_slice());
+    expect_refused(&rt, PRO_RATA, long.as_slice(), 10, 390);
+    expect_refused(&rt, FIFO, long.as_slice(), 10, 390);
+    let size = THIRD.len() as u32;
+    let behind = with_amendment(&rt, long.as_slice(), size, THIRD, image.as_slice());
+    expect_going_on(&rt, THIRD, behind.as_slice());
+    let bare = with_amendment(&rt, journal.as_slice(), 151, PRO_RATA, b"");
+    for line in BEGINNING {
+        expect_left(&rt, PRO_RATA, line, bare.as_slice(), ended(10, 390, 0), b"");
+    }
+}
+
+/// The call that writes the gate of the buy's record; the next one syncs it.
+const GATE: usize = 16;
+
+/// The image that a crash at a call leaves is one of the amended journal, with the buy or without it. Without it a run goes on.
+fn expect_kept_after_a_crash(
+    rt: &(impl Abort + AllocGlobal),
+    station: &MemStation,
+    call: usize,
+    fill: u8,
+)
+    requires { call ≤ length station.now.done }
+{
+    let left = station
+        .crash_image(rt.alloc(), call, fill)
+        .expect(rt, "memory");
+    let left = left.as_slice();
+    expect_left(rt, FIFO, "run", left, ended(11, 548, 0), b"");
+    if call > GATE || call == GATE && fill == 1 {
+        let book = BOOK_THEN.as_bytes();
+        expect_left(rt, PRO_RATA, "book", left, ended(0, 0, 3), book);
+    } else {
+        let mut then = station_of(rt, left);
+        execute_well(rt, &mut then, PRO_RATA, "run", &[BUY], 1);
+        let want = frames(rt, &REPORTS);
+        expect_bytes(rt, "after a crash", then.output(), want.as_slice());
+    }
+}
+
+/// A run behind an amendment that crashes at a call keeps the buy or not, and always the amendment.
+#[test]
+fn crash_at_each_call_of_a_run_behind_an_amendment(rt: HostRuntime) {
+    let mut station = station_of(&rt, amended_sells(&rt).as_slice());
+    execute_well(&rt, &mut station, PRO_RATA, "run", &[BUY], 1);
+    for call in 0..=station.calls() {
+        expect_kept_after_a_crash(&rt, &station, call, 0);
+        expect_kept_after_a_crash(&rt, &station, call, 1);
+        expect_kept_after_a_crash(&rt, &station, call, 200);
+    }
+}
