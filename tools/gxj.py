@@ -13,8 +13,13 @@ MOST_PAYLOAD = 8_192
 MOST_MESSAGES = 1 << 24
 HEAD = 6
 TEXT_AT = 13
+# of the length of a text, at the front of an amendment
+SIZE_BYTES = 4
+MOST_LIMIT = session_rules.JOURNAL_LIMITS[2]
 
-MESSAGES, OLD_IMAGE, IMAGE = b"M", b"C", b"D"
+MESSAGES, OLD_IMAGE, IMAGE, AMENDMENT = b"M", b"C", b"D", b"P"
+# of each version; an amendment has an image too
+KINDS = {1: (MESSAGES, OLD_IMAGE, IMAGE), 2: (MESSAGES, OLD_IMAGE, IMAGE, AMENDMENT)}
 OPEN, CLOSED = b"\x01", b"\x00"
 
 IMAGE_FRONT = 552
@@ -22,8 +27,8 @@ INSTRUMENT_BYTES = 25
 ORDER_BYTES = 82
 LIFE_AT = 12
 UNTIL_CANCELLED = 1
-# of each kind of image; an old one stands for an open market
-SESSION_BYTES = {OLD_IMAGE: 0, IMAGE: 1}
+# of an image in each kind of record; an old one stands for an open market
+SESSION_BYTES = {OLD_IMAGE: 0, IMAGE: 1, AMENDMENT: 1}
 MARKET_CLOSED, MARKET_OPEN = 0, 1
 
 
@@ -36,10 +41,28 @@ class Bad(Exception):
         self.why = why
 
 
+class ProductText:
+    """A product text, by the place of its first byte. It gives a product, or `fault` says why it gives none. That of an amendment
+    has no `data` if it is not whole."""
+
+    def __init__(self, at, data, fault=None):
+        self.at = at
+        self.data = data
+        self.product = None
+        self.fault = fault
+        if data is None:
+            return
+        try:
+            self.product = session_rules.Product(data)
+        except session_rules.BadProduct as wrong:
+            self.fault = f"no product: {wrong}"
+
+
 @dataclasses.dataclass
 class Record:
     """A record with a good head. `fault` says why its payload is not good, or is nothing. `count` is how many messages it has,
-    `before` how many are before it, and `counted` the count after it, which an image sets to its own."""
+    `before` how many are before it, and `counted` the count after it, which an image sets to its own. `text` is the text under
+    whose product it is read; that of an amendment is its own."""
 
     gate: int
     kind: bytes
@@ -48,6 +71,7 @@ class Record:
     before: int
     counted: int
     fault: str | None
+    text: ProductText
 
     @property
     def end(self):
@@ -56,6 +80,10 @@ class Record:
     @property
     def is_image(self):
         return self.kind in SESSION_BYTES
+
+    @property
+    def is_amendment(self):
+        return self.kind == AMENDMENT
 
 
 def number_at(data, place, width):
@@ -97,16 +125,16 @@ def foreign_place(data):
 
 
 class Journal:
-    """A journal file: its class, its version, its product text, and its records up to the first closed gate or the first bad head."""
+    """A journal file: its class, its version, the text of its header, its last text, and its records up to the first closed gate or
+    the first bad head."""
 
     def __init__(self, data):
         self.data = data
         self.kind = class_of(data)
         self.records = []
         self.version = None
-        self.text = None
-        self.product = None
-        self.product_fault = None
+        self.header_text = None
+        self.last_text = None
         self.bad_head = None
         self.gate = None
         if self.kind == "foreign":
@@ -116,81 +144,131 @@ class Journal:
         if not has_header(data):
             raise Bad(9, "the length of the product text in the header cannot be")
         self.version = 1 + MAGICS.index(data[1:9])
-        self.text = data[TEXT_AT : first_gate(data)]
-        try:
-            self.product = session_rules.Product(self.text)
-        except session_rules.BadProduct as fault:
-            self.product_fault = str(fault)
+        self.header_text = self.last_text = ProductText(TEXT_AT, data[TEXT_AT : first_gate(data)])
         if self.kind == "journal":
+            self.find_last_text()
             self.walk()
 
     @property
     def limit(self):
-        return self.product.journal_limit if self.product else session_rules.JOURNAL_LIMITS[2]
+        """That of the last product, to which all heads are held."""
+        product = self.last_text.product
+        return product.journal_limit if product else MOST_LIMIT
+
+    def kind_at(self, gate):
+        return self.data[gate + 1 : gate + 2]
+
+    def payload_at(self, gate):
+        return self.data[gate + HEAD : gate + HEAD + number_at(self.data, gate + 2, 4)]
+
+    def gates(self, limit):
+        """The gates of the records, up to a closed gate, or to a bad head, which is refused. Heads are held to this limit. `gate` is
+        the one that is at hand."""
+        self.gate = first_gate(self.data)
+        while self.data[self.gate : self.gate + 1] == OPEN:
+            self.hold_head(self.gate, limit)
+            yield self.gate
+            self.gate += HEAD + number_at(self.data, self.gate + 2, 4)
+
+    def find_last_text(self):
+        """Takes the text of the last amendment, if there is one. Its product says the limit, so no head is held to that yet."""
+        last = None
+        try:
+            for gate in self.gates(MOST_LIMIT):
+                if self.kind_at(gate) == AMENDMENT:
+                    last = gate
+        except Bad:
+            pass
+        if last is not None:
+            self.last_text = amended_text(last, self.payload_at(last))
 
     def walk(self):
         """Reads the records."""
-        self.gate, before, counted = first_gate(self.data), 0, 0
-        while self.data[self.gate : self.gate + 1] == OPEN:
-            try:
-                self.hold_head()
-            except Bad as fault:
-                self.bad_head = fault
-                return
-            record = self.record_at(before, counted)
-            self.records.append(record)
-            self.gate, before, counted = record.end, before + record.count, record.counted
+        before, counted, text = 0, 0, self.header_text
+        try:
+            for gate in self.gates(self.limit):
+                record = self.record_at(gate, before, counted, text)
+                self.records.append(record)
+                before, counted, text = before + record.count, record.counted, record.text
+        except Bad as fault:
+            self.bad_head = fault
 
-    def hold_head(self):
-        """Refuses a bad head at the gate."""
-        gate, data = self.gate, self.data
+    def hold_head(self, gate, limit):
+        """Refuses a bad head at a gate."""
+        data = self.data
         if len(data) < gate + HEAD:
             raise Bad(gate, "the file ends inside the head of a record")
-        kind, length = data[gate + 1 : gate + 2], number_at(data, gate + 2, 4)
-        if kind not in (MESSAGES, OLD_IMAGE, IMAGE):
-            raise Bad(gate, f"the kind of the record is the byte {data[gate + 1]}, and none of M, C and D")
+        kind, length = self.kind_at(gate), number_at(data, gate + 2, 4)
+        if kind not in KINDS[self.version]:
+            *first, last = (known.decode() for known in KINDS[self.version])
+            raise Bad(gate, f"the kind of the record is the byte {data[gate + 1]}, and none of {', '.join(first)} and {last}")
         if kind == MESSAGES and not 1 <= length <= MOST_PAYLOAD:
             raise Bad(gate, f"a record of messages has {length:,} bytes, and not 1 to {MOST_PAYLOAD:,}")
         if gate + HEAD + 1 + length > len(data):
             raise Bad(gate, f"a record of {length:,} bytes goes past the end of the file")
-        if gate + HEAD + 1 + length > self.limit:
-            raise Bad(gate, f"a record of {length:,} bytes goes past journal_limit, {self.limit:,}")
+        if gate + HEAD + 1 + length > limit:
+            raise Bad(gate, f"a record of {length:,} bytes goes past journal_limit, {limit:,}")
 
-    def record_at(self, before, counted):
-        gate, data = self.gate, self.data
-        kind, length = data[gate + 1 : gate + 2], number_at(data, gate + 2, 4)
-        payload = data[gate + HEAD : gate + HEAD + length]
+    def record_at(self, gate, before, counted, text):
+        """The record at a gate, by the counts and the text before it."""
+        kind, payload = self.kind_at(gate), self.payload_at(gate)
         if kind in SESSION_BYTES:
-            fault = image_fault(kind, payload, self.product)
-            own = number_at(payload, 0, 8) if fault is None else counted
-            return Record(gate, kind, length, 0, before, own, fault)
+            image, fault = payload, None
+            if kind == AMENDMENT:
+                text = amended_text(gate, payload)
+                image, fault = amended_image(payload), text_fault(text)
+            if fault is None:
+                fault = image_fault(kind, image, text.product)
+            own = number_at(image, 0, 8) if fault is None else counted
+            return Record(gate, kind, len(payload), 0, before, own, fault, text)
         count, fault = count_of(payload)
         counted += count
         if fault is None and counted >= MOST_MESSAGES:
             fault = f"{counted:,} messages are counted with it, and not fewer than {MOST_MESSAGES:,}"
-        return Record(gate, kind, length, count, before, counted, fault)
-
-    def payload(self, record):
-        return self.data[record.gate + HEAD : record.end]
+        return Record(gate, kind, len(payload), count, before, counted, fault, text)
 
     def frames(self, record):
         """The messages of a good record."""
-        return fix42.whole_frames(self.payload(record)) if record.kind == MESSAGES else []
+        return fix42.whole_frames(self.payload_at(record.gate)) if record.kind == MESSAGES else []
 
     # ---- what is wrong with it, and its messages
 
+    def last_amendment(self):
+        """The last amendment, or nothing."""
+        amendments = [record for record in self.records if record.is_amendment]
+        return amendments[-1] if amendments else None
+
+    def bad_at_opening(self):
+        """What each command refuses when it opens the journal, or nothing. In the second version it is the first bad head, else the
+        last amendment if its text is not whole; in the first no head is read then."""
+        if self.version != 2:
+            return None
+        last = self.last_amendment()
+        if self.bad_head is None and last is not None and last.text.data is None:
+            return Bad(last.gate, last.fault)
+        return self.bad_head
+
     def first_bad(self):
-        """What `replay`, `fills` and `ledger` refuse, or nothing: the first bad record."""
+        """What `replay`, `fills` and `ledger` refuse, or nothing: what is bad at the opening, else the last amendment, else the first
+        bad record."""
+        bad, last = self.bad_at_opening(), self.last_amendment()
+        if bad is None and last is not None:
+            return Bad(last.gate, "amendments are not read yet")
+        return bad or self.first_not_good()
+
+    def first_not_good(self):
+        """The first bad record of all, each read under its own product, or nothing."""
         for record in self.records:
             if record.fault is not None:
                 return Bad(record.gate, record.fault)
         return self.bad_head
 
     def bad_for_runs(self):
-        """What `run`, `drill`, `checkpoint` and `book` refuse, or nothing: the first bad head, else the first bad record from the
-        last image on."""
-        if self.bad_head is not None:
-            return self.bad_head
+        """What `run`, `drill`, `checkpoint` and `book` refuse, or nothing: the first bad head, else the last amendment if its text is
+        not whole, else the first bad record from the last image on."""
+        bad = self.bad_head or self.bad_at_opening()
+        if bad is not None:
+            return bad
         images = [number for number, record in enumerate(self.records) if record.is_image]
         for record in self.records[images[-1] if images else 0 :]:
             if record.fault is not None:
@@ -229,6 +307,32 @@ def count_of(payload):
         return len(fix42.whole_frames(payload)), None
     except fix42.Stopped as stopped:
         return stopped.count, f"its payload is not whole frames: at its byte {stopped.offset} {stopped.why}"
+
+
+def text_size(payload):
+    """The length of the text of an amendment."""
+    return number_at(payload, 0, SIZE_BYTES)
+
+
+def amended_text(gate, payload):
+    """The text of an amendment. It is no longer than the text of a header may be, and ends in the payload."""
+    size, at = text_size(payload), gate + HEAD + SIZE_BYTES
+    if len(payload) < SIZE_BYTES:
+        return ProductText(at, None, f"its payload has {len(payload)} bytes, and the length of a product text is not there")
+    if size > MOST_TEXT:
+        return ProductText(at, None, f"its product text has {size:,} bytes, and not at most {MOST_TEXT:,}")
+    if SIZE_BYTES + size > len(payload):
+        return ProductText(at, None, f"its product text of {size:,} bytes goes past its payload of {len(payload):,}")
+    return ProductText(at, payload[SIZE_BYTES : SIZE_BYTES + size])
+
+
+def text_fault(text):
+    """What is wrong with the text of an amendment, or nothing."""
+    return f"its product text gives {text.fault}" if text.data is not None and text.fault else text.fault
+
+
+def amended_image(payload):
+    return payload[SIZE_BYTES + text_size(payload) :]
 
 
 def image_fault(kind, image, product):
@@ -280,7 +384,7 @@ def front_of(journal):
 
 
 def cut(journal, count):
-    """A journal that keeps the first messages, and the images up to the next message."""
+    """A journal that keeps the first messages, and the images and amendments up to the next message."""
     if journal.kind != "journal":
         if count > 0:
             raise Bad(0, "the creation of the journal is unfinished, and no messages are kept")
@@ -289,13 +393,13 @@ def cut(journal, count):
     for record in journal.good_records():
         if record.before > count or (record.before == count and record.kind == MESSAGES):
             break
-        payload, left = journal.payload(record), count - kept
+        payload, left = journal.payload_at(record.gate), count - kept
         if record.count > left:
             payload = b"".join(journal.frames(record)[:left])
         parts.append(record_bytes(record.kind, payload))
         kept += min(record.count, left)
     if kept < count:
-        bad = journal.first_bad()
+        bad = journal.first_not_good()
         if bad is not None:
             raise Bad(bad.place, f"only {kept} messages are before a bad record: {bad.why}")
         raise Bad(journal.gate, f"only {kept} messages are kept")
@@ -311,6 +415,8 @@ def drop(journal, gate):
         raise journal.bad_head or Bad(gate, "no record has its gate there")
     if found.kind == MESSAGES:
         raise Bad(gate, "the record is of messages, and only an image can be taken out")
+    if found.is_amendment:
+        raise Bad(gate, "the record is an amendment, whose product would be lost, and only an image can be taken out")
     if journal.bad_head is not None:
         raise journal.bad_head
     return journal.data[:gate] + journal.data[found.end : journal.gate] + CLOSED
