@@ -1,13 +1,16 @@
 -- Offered to the crates above: what they may cite.
 pub mod FromLastImage
 pub mod GoodRecords
+pub mod GoodHistories
 pub mod OneWay
 pub mod Histories
 pub mod PlainJournals
+pub mod ProductLists
 pub mod KeptHistories
 pub mod Standings
 pub mod StatesBehind
 pub mod TrueImages
+pub mod AmendmentPayloads
 -- What the proofs of this crate alone cite.
 mod LastImages
 mod Applied
@@ -24,3 +27,8 @@ mod ReplayedOne
 mod Payloads
 mod NewCores
 mod Reading
+mod ProductsTaken
+mod LastAmendments
+mod AmendmentFronts
+mod KeepingAll
+mod EarlierProducts

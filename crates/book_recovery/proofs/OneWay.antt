@@ -1,20 +1,19 @@
--- One answer of a recovery fits an image.
-use Rattle.std.proofs.Common.{◌≡◌, inl, inr, ⊎_elim, ℕ, List, [], ◌∷◌, ◌++◌, length, Result, Ok, Err, refl, sym, subst, ◌∙◌, ap, ap₂, append_assoc, append-nil}
-use Rattle.std.proofs.lemmas.List.{append_cancel_left}
+-- One answer of a recovery fits an image, and a journal has one first bad place.
+use Rattle.std.proofs.Common.{◌≡◌, ◌⊎◌, inl, inr, ℕ, List, [], ◌∷◌, ◌++◌, length, Result, Ok, Err, refl, sym, subst, ◌∙◌, ap, ap₂, append_assoc}
 use Rattle.match_journal.specs.Journal.{IsJournal, Record, journal_front, Header}
-use Rattle.match_journal.specs.BadRecords.{BeginsWithRecords}
-use Rattle.match_journal.specs.Walking.{IsBadHead}
-use Rattle.match_journal.proofs.Walked.{all-behind}
-use Rattle.match_journal.proofs.Heads.{IsBehind, journal_begins, gate_closed, good_head, not_both, begins_along, followed, one_bad_head, no_bad_head, one_journal}
+use Rattle.match_journal.proofs.Heads.{one_bad_head, no_bad_head, one_journal}
 use Rattle.product_file.specs.Products.{ProductLists}
+use Rattle.product_file.specs.ProductTexts.{product_of}
 use Rattle.order_kinds.specs.State.{State}
 use Rattle.book_recovery.specs.Records.{from_last_image, before_last_image, image_gate, count_behind, count_behind_all, IsGoodRecord, AreGoodRecords}
-use Rattle.book_recovery.specs.Histories.{IsNoAmendment, HaveNoAmendment}
-use Rattle.book_recovery.specs.BadPlaces.{AreFirstRecords, HasBadPayloadAt, IsBadPlace, HasBadPayloadBehind, HasBadRecordAt}
+use Rattle.book_recovery.specs.Histories.{AreGoodFrom, HaveProducts}
+use Rattle.book_recovery.specs.BadPlaces.{HasBadPayloadAt, IsBadPlace, GivesNoProduct, HasBadTextBehind, HasBadTextAt, HasBadRecordAt, IsBadForEachRecord}
 use Rattle.book_recovery.specs.Recovering.{IsRecovered, Recovers}
 use Rattle.book_recovery.specs.declared.recovery.Recovered.{Recovered}
 use Rattle.book_recovery.specs.declared.recovery.RecoverFault.{RecoverFault}
 use Rattle.book_recovery.specs.declared.recovery.RecoverFault.TheVariants as fault
+use Rattle.book_recovery.proofs.GoodHistories.{good-front, good-have, have-front}
+use Rattle.book_recovery.proofs.Histories.{one-product}
 
 -- ---- the place of a record that is not good
 
@@ -80,53 +79,93 @@ module _ (product : ProductLists) (head : Header) (image : List ℕ) (limit gate
   one_recovery (Err (fault.Bad at)) (Ok r) x y told told' = absurd (no_bad_place product head limit y.records image at y.journal.journal y.good x)
   one_recovery (Err (fault.Bad at)) (Err (fault.Bad at')) x y told told' = ap (λ k. Err (fault.Bad k)) (one_place product head limit image at at' x y)
 
--- ---- the first bad record, for who reads each whole
+-- ---- the first bad place, for who takes the products of all texts and then reads each record whole
 
--- one of several records, none of which is an amendment
-plain_within : (before : List Record) (r : Record) (more : List Record) → HaveNoAmendment (before ++ r ∷ more) → IsNoAmendment r
-plain_within before r more plain = (all-behind IsNoAmendment before (r ∷ more) plain).0
+-- the first list up to one with which something holds no more, where it holds of each front of what it holds of
+one_front : (P : List Record → Type 0) → ((xs ys : List Record) → P (xs ++ ys) → P xs) → (xs ys : List Record) (p q : Record) (more more' : List Record) → P xs → P ys → (P (xs ++ p ∷ []) → ⊥) → (P (ys ++ q ∷ []) → ⊥)
+    → xs ++ p ∷ more ≡ ys ++ q ∷ more' → xs ≡ ys
+one_front P front [] [] p q more more' holds holds' ends ends' e = refl
+one_front P front [] (y ∷ ys) p q more more' holds holds' ends ends' e =
+    let same : y ≡ p = cc e in
+    absurd (ends (subst (λ (r : Record). P (r ∷ [])) same (front (y ∷ []) ys holds')))
+one_front P front (x ∷ xs) [] p q more more' holds holds' ends ends' e =
+    let same : x ≡ q = cc e in
+    absurd (ends' (subst (λ (r : Record). P (r ∷ [])) same (front (x ∷ []) xs holds)))
+one_front P front (x ∷ xs) (y ∷ ys) p q more more' holds holds' ends ends' e =
+    let same : y ≡ x = cc e in
+    let rest : xs ++ p ∷ more ≡ ys ++ q ∷ more' = cc e in
+    let behind = one_front (λ (l : List Record). P (x ∷ l)) (λ (us vs : List Record). front (x ∷ us) vs) xs ys p q more more' holds
+    (subst (λ (r : Record). P (r ∷ ys)) same holds') ends
+    (λ more_holds. ends' (subst (λ (r : Record). P (r ∷ (ys ++ q ∷ []))) (sym same) more_holds)) rest in
+    cc (same, behind)
 
--- a journal of good records without amendments has no bad record
-pub no_bad_record : (product : ProductLists) (head : Header) (limit : ℕ) (ps : List Record) (image : List ℕ) (at : ℕ) → IsJournal head limit ps image → AreGoodRecords product 0 ps → HaveNoAmendment ps
-    → HasBadRecordAt product head limit image at → ⊥
-no_bad_record product head limit ps image at journal good plain bad =
-    ⊎_elim
-    (λ at_head. no_bad_head head limit ps image at journal (record { before = bad.before; begins = bad.first.begins; bad = subst (λ (g : ℕ). IsBadHead image limit g at) bad.place at_head }))
-    (λ behind. ⊎_elim (λ more. past behind more) (λ more. not_last behind more.0 (sym more.1)) (begins_along head limit ps (bad.before ++ behind.bad ∷ []) image (journal_begins head limit ps image journal) behind.begins))
-    bad.bad
-  where
-    not_last : (behind : HasBadPayloadBehind product head limit bad.before image) (more : List Record) → (bad.before ++ behind.bad ∷ []) ++ more ≡ ps → ⊥
-    not_last behind more is =
-        let same = sym is ∙ append_assoc bad.before (behind.bad ∷ []) more in
-        behind.not_good (good_within product 0 bad.before behind.bad more (subst (AreGoodRecords product 0) same good)) (plain_within bad.before behind.bad more (subst HaveNoAmendment same plain))
+-- what holds of a list of records holds of its front with one record more
+front_holds : (P : List Record → Type 0) → ((xs ys : List Record) → P (xs ++ ys) → P xs) → (records before : List Record) (r : Record) (behind : List Record) → records ≡ before ++ r ∷ behind → P records → P (before ++ r ∷ [])
+front_holds P front records before r behind are holds = front (before ++ r ∷ []) behind (subst P (are ∙ sym (append_assoc before (r ∷ []) behind)) holds)
 
-    past : (behind : HasBadPayloadBehind product head limit bad.before image) → IsBehind ps (bad.before ++ behind.bad ∷ []) → ⊥
-    past behind ([], is) = not_last behind [] (append-nil (bad.before ++ behind.bad ∷ []) ∙ is ∙ append-nil ps)
-    past behind (p ∷ more, is) = not_both image limit (length (journal_front head ps)) _ (good_head head limit ps p more image (subst (λ (l : List Record). BeginsWithRecords head limit l image) is behind.begins)) (gate_closed head limit ps image journal)
+module _ (head : Header) (limit : ℕ) (image : List ℕ) where
+  -- a journal whose texts give products that may follow each other has no bad text
+  pub no_bad_text : (records : List Record) (first : ProductLists) (at : ℕ) → IsJournal head limit records image → product_of head.text ≡ Ok first → HaveProducts first records → HasBadTextAt head limit image at → ⊥
+  no_bad_text records first at journal gives have bad = none bad.bad
+    where
+      same : records ≡ bad.records
+      same = one_journal head limit image records bad.records journal bad.heads
 
--- behind the good records before the first bad one no good record follows
-bad_then_good : (product : ProductLists) (head : Header) (limit : ℕ) (image : List ℕ) (at : ℕ) (bad : HasBadRecordAt product head limit image at) (p : Record) (more : List Record) → AreFirstRecords product head limit (bad.before ++ p ∷ more) image → ⊥
-bad_then_good product head limit image at bad p more first =
-    ⊎_elim
-    (λ at_head. followed head limit image at (record { before = bad.before; begins = bad.first.begins; bad = subst (λ (g : ℕ). IsBadHead image limit g at) bad.place at_head }) p more first.begins)
-    (λ behind. ⊎_elim
-    (λ t. not_one behind t.0 more (sym (append_assoc bad.before (behind.bad ∷ []) t.0) ∙ sym t.1))
-    (λ t. not_one behind [] (more ++ t.0) (t.1 ∙ append_assoc bad.before (p ∷ more) t.0))
-    (begins_along head limit (bad.before ++ behind.bad ∷ []) (bad.before ++ p ∷ more) image behind.begins first.begins))
-    bad.bad
-  where
-    not_one : (behind : HasBadPayloadBehind product head limit bad.before image) (rest tail : List Record) → bad.before ++ behind.bad ∷ rest ≡ bad.before ++ p ∷ tail → ⊥
-    not_one behind rest tail is =
-        let same : behind.bad ≡ p = cc (append_cancel_left bad.before (behind.bad ∷ rest) (p ∷ tail) is) in
-        behind.not_good (subst (IsGoodRecord product (count_behind_all 0 bad.before)) (sym same) (good_within product 0 bad.before p more first.good))
-        (subst IsNoAmendment (sym same) (plain_within bad.before p more first.plain))
+      none : (GivesNoProduct head.text × (at ≡ 9)) ⊎ ((other : ProductLists) × (product_of head.text ≡ Ok other) × HasBadTextBehind head other bad.records at) → ⊥
+      none (inl never) = never.0 first gives
+      none (inr there) =
+          let behind = there.2 in
+          behind.have_no_more
+          (front_holds (HaveProducts there.0) (have-front there.0) bad.records behind.before behind.bad behind.behind behind.are
+          (subst (λ (p : ProductLists). HaveProducts p bad.records) (one-product first there.0 head.text gives there.1) (subst (HaveProducts first) same have)))
 
-same_bad_record : (product : ProductLists) (head : Header) (limit : ℕ) (image : List ℕ) (at at' : ℕ) (a : HasBadRecordAt product head limit image at) (b : HasBadRecordAt product head limit image at') → IsBehind a.before b.before → at ≡ at'
-same_bad_record product head limit image at at' a b ([], is) = a.place ∙ ap (λ (l : List Record). length (journal_front head l)) (sym (is ∙ append-nil a.before)) ∙ sym b.place
-same_bad_record product head limit image at at' a b (p ∷ more, is) =
-    absurd (bad_then_good product head limit image at a p more (subst (λ (l : List Record). AreFirstRecords product head limit l image) is b.first))
+  -- nor has a journal of good records a bad record
+  pub no_bad_record : (records : List Record) (first : ProductLists) (at : ℕ) → IsJournal head limit records image → product_of head.text ≡ Ok first → AreGoodFrom first 0 records → HasBadRecordAt head limit image at → ⊥
+  no_bad_record records first at journal gives good bad =
+      let same = one_journal head limit image records bad.records journal bad.heads in
+      bad.not_good
+      (front_holds (AreGoodFrom bad.first 0) (good-front bad.first 0) bad.records bad.before bad.bad bad.behind bad.are
+      (subst (λ (p : ProductLists). AreGoodFrom p 0 bad.records) (one-product first bad.first head.text gives bad.gives) (subst (AreGoodFrom first 0) same good)))
 
--- there is one first bad record
-pub one_bad_record : (product : ProductLists) (head : Header) (limit : ℕ) (image : List ℕ) (at at' : ℕ) → HasBadRecordAt product head limit image at → HasBadRecordAt product head limit image at' → at ≡ at'
-one_bad_record product head limit image at at' a b =
-    ⊎_elim (λ t. same_bad_record product head limit image at at' a b t) (λ t. sym (same_bad_record product head limit image at' at b a t)) (begins_along head limit a.before b.before image a.first.begins b.first.begins)
+  pub no_bad_for_each : (records : List Record) (first : ProductLists) (at : ℕ) → IsJournal head limit records image → product_of head.text ≡ Ok first → AreGoodFrom first 0 records → IsBadForEachRecord head limit image at → ⊥
+  no_bad_for_each records first at journal gives good (inl (inl bad)) = no_bad_head head limit records image at journal bad
+  no_bad_for_each records first at journal gives good (inl (inr bad)) = no_bad_text records first at journal gives (good-have first 0 records good) bad
+  no_bad_for_each records first at journal gives good (inr bad) = no_bad_record records first at journal gives good bad
+
+  pub one_bad_text : (at at' : ℕ) → HasBadTextAt head limit image at → HasBadTextAt head limit image at' → at ≡ at'
+  one_bad_text at at' a b = one a.bad b.bad
+    where
+      all : a.records ≡ b.records
+      all = one_journal head limit image a.records b.records a.heads b.heads
+
+      one : (GivesNoProduct head.text × (at ≡ 9)) ⊎ ((p : ProductLists) × (product_of head.text ≡ Ok p) × HasBadTextBehind head p a.records at)
+          → (GivesNoProduct head.text × (at' ≡ 9)) ⊎ ((p : ProductLists) × (product_of head.text ≡ Ok p) × HasBadTextBehind head p b.records at') → at ≡ at'
+      one (inl x) (inl y) = x.1 ∙ sym y.1
+      one (inl x) (inr y) = absurd (x.0 y.0 y.1)
+      one (inr x) (inl y) = absurd (y.0 x.0 x.1)
+      one (inr x) (inr y) =
+          let left = x.2 in
+          let right = subst (λ (p : ProductLists). HasBadTextBehind head p b.records at') (one-product y.0 x.0 head.text y.1 x.1) y.2 in
+          let same = one_front (HaveProducts x.0) (have-front x.0) left.before right.before left.bad right.bad left.behind right.behind left.have right.have left.have_no_more right.have_no_more
+          (sym left.are ∙ all ∙ right.are) in
+          left.place ∙ ap (λ (l : List Record). length (journal_front head l)) same ∙ sym right.place
+
+  pub one_bad_record : (at at' : ℕ) → HasBadRecordAt head limit image at → HasBadRecordAt head limit image at' → at ≡ at'
+  one_bad_record at at' a b =
+      let all = one_journal head limit image a.records b.records a.heads b.heads in
+      let first = one-product b.first a.first head.text b.gives a.gives in
+      let same = one_front (AreGoodFrom a.first 0) (good-front a.first 0) a.before b.before a.bad b.bad a.behind b.behind a.good
+      (subst (λ (p : ProductLists). AreGoodFrom p 0 b.before) first b.good) a.not_good
+      (λ good. b.not_good (subst (λ (p : ProductLists). AreGoodFrom p 0 (b.before ++ b.bad ∷ [])) (sym first) good)) (sym a.are ∙ all ∙ b.are) in
+      a.place ∙ ap (λ (l : List Record). length (journal_front head l)) same ∙ sym b.place
+
+  pub one_bad_for_each : (at at' : ℕ) → IsBadForEachRecord head limit image at → IsBadForEachRecord head limit image at' → at ≡ at'
+  one_bad_for_each at at' (inl (inl a)) (inl (inl b)) = one_bad_head head limit image at at' a b
+  one_bad_for_each at at' (inl (inl a)) (inl (inr b)) = absurd (no_bad_head head limit b.records image at b.heads a)
+  one_bad_for_each at at' (inl (inl a)) (inr b) = absurd (no_bad_head head limit b.records image at b.heads a)
+  one_bad_for_each at at' (inl (inr a)) (inl (inl b)) = absurd (no_bad_head head limit a.records image at' a.heads b)
+  one_bad_for_each at at' (inl (inr a)) (inl (inr b)) = one_bad_text at at' a b
+  one_bad_for_each at at' (inl (inr a)) (inr b) = absurd (no_bad_text b.records b.first at b.heads b.gives b.have a)
+  one_bad_for_each at at' (inr a) (inl (inl b)) = absurd (no_bad_head head limit a.records image at' a.heads b)
+  one_bad_for_each at at' (inr a) (inl (inr b)) = absurd (no_bad_text a.records a.first at' a.heads a.gives a.have b)
+  one_bad_for_each at at' (inr a) (inr b) = one_bad_record at at' a b

@@ -10,7 +10,7 @@ use Rattle.match_journal.specs.Standing.{moved}
 use Rattle.match_journal.specs.Walking.{IsNext, Walks}
 use Rattle.match_journal.specs.declared.entry.Entry.{Entry}
 use Rattle.match_journal.specs.declared.standing.Standing.{Standing}
-use Rattle.book_recovery.specs.Recovering.{IsRecovered, Recovers}
+use Rattle.book_recovery.specs.Recovering.{IsRecovered, ChecksHeads, Recovers}
 use Rattle.book_recovery.specs.Inner.Counting.{AreRecords, Counts}
 use Rattle.book_recovery.specs.Inner.Replays.{record_at, ReplaysOne, ReplaysAll, AreReplayed}
 use Rattle.book_recovery.specs.declared.recovery.Heads.{Heads}
@@ -18,6 +18,11 @@ use Rattle.book_recovery.specs.declared.recovery.RecoverFault.{RecoverFault}
 use Rattle.book_recovery.specs.declared.recovery.RecoverFault.TheVariants as fault
 use Rattle.book_recovery.proofs.Replaying.{IsReplaying, before, replaying_bad}
 use Rattle.book_recovery.proofs.Standings.{stands_moved}
+
+-- the pass over the heads has ended at a bad one
+pub heads_checked : (head : Header) (image : List ℕ) (limit gate : ℕ) (why : RecoverFault) → Counts head limit image gate (Err why) → ChecksHeads head limit image (Err why)
+heads_checked head image limit gate fault.Store told = tt
+heads_checked head image limit gate (fault.Bad at) told = told
 
 module _ (product : ProductLists) (head : Header) (image : List ℕ) (limit : ℕ) where
   -- the first pass has ended at a bad head

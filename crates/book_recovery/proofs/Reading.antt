@@ -1,28 +1,30 @@
 -- Reading one record more of an image.
-use Rattle.std.proofs.Common.{◌≡◌, ◌≢◌, inl, inr, ℕ, ◌+◌, ◌≤◌, true, false, List, [], ◌∷◌, ◌++◌, length, get_or, take, drop, Err, refl, sym, subst, ◌∙◌, ap, arith}
+use Rattle.std.proofs.Common.{◌≡◌, ℕ, ◌+◌, ◌<◌, ◌≤◌, true, false, List, [], ◌∷◌, ◌++◌, length, get_or, take, drop, Option, Some, None, Ok, Err, refl, sym, subst, ◌∙◌, ap, arith, append_assoc, append-nil, length-append, length-drop}
 use Rattle.std.specs.List.{concat}
-use Rattle.gx_base.proofs.Tests.{not-both}
 use Rattle.fix_frame.specs.Stream.{messages_of, rest_of}
 use Rattle.fix_frame.specs.StreamLaws.{concat-messages_of-whole}
 use Rattle.product_file.specs.Products.{ProductLists}
 use Rattle.order_kinds.specs.State.{State}
-use Rattle.match_journal.specs.Journal.{IsJournal, Record, journal_front, Header}
+use Rattle.order_kinds.specs.Histories.{History, of_product, last_product}
+use Rattle.match_journal.specs.Journal.{IsJournal, Record, Header}
+use Rattle.match_journal.specs.Walking.{IsNext, InOrder}
+use Rattle.match_journal.specs.declared.entry.Entry.{Entry}
 use Rattle.match_journal.specs.declared.entry.EntryKind.{EntryKind}
 use Rattle.match_journal.specs.declared.entry.EntryKind.TheVariants.{Frames, OldImage, Image, Amendment}
-use Rattle.match_journal.specs.Walking.{IsHead, IsBadHead}
-use Rattle.match_journal.specs.declared.entry.Entry.{Entry}
-use Rattle.book_recovery.specs.Records.{record_messages, count_as, count_behind, count_behind_all, IsGoodAs, IsGoodRecord, GivesAs}
-use Rattle.match_journal.specs.BadRecords.{BeginsWithRecords}
-use Rattle.match_journal.proofs.Records.{all-push}
-use Rattle.match_journal.proofs.Heads.{length-push, payload_size, begins_more, begins_closed}
-use Rattle.book_recovery.specs.Histories.{is_amendment, IsNoAmendment}
-use Rattle.book_recovery.specs.BadPlaces.{AreFirstRecords}
-use Rattle.book_recovery.specs.Inner.Replays.{payload_at, record_at}
+use Rattle.match_journal.specs.declared.faults.WalkFault.{WalkFault}
+use Rattle.match_journal.specs.declared.faults.WalkFault.TheVariants as walk
+use Rattle.book_recovery.specs.Records.{count_behind_all, IsGoodAs, GivesAs}
+use Rattle.book_recovery.specs.Histories.{IsProductBehind, HaveProducts, products_as, products_in, history_behind, is_amendment}
+use Rattle.book_recovery.specs.Products.{product_behind, IsReadTo, IsOneMore, ReadsRecord}
+use Rattle.book_recovery.specs.Inner.Replays.{payload_at}
 use Rattle.book_recovery.specs.Inner.Contents.{IsContent, ReadsContent}
-use Rattle.book_recovery.specs.Inner.Reading.{IsOneMore, IsBadBehind, ReadsRecord}
+use Rattle.book_recovery.specs.declared.records.Passed.{Passed}
 use Rattle.book_recovery.specs.declared.recovery.RecoverFault.{RecoverFault}
 use Rattle.book_recovery.specs.declared.recovery.RecoverFault.TheVariants as fault
-use Rattle.book_recovery.proofs.GoodRecords.{count_push, good_push, payload-messages}
+use Rattle.book_recovery.proofs.GoodRecords.{count_push, payload-messages}
+use Rattle.book_recovery.proofs.GoodHistories.{good-more, good-last}
+use Rattle.book_recovery.proofs.Histories.{behind-append, as-last}
+use Rattle.book_recovery.proofs.ProductLists.{get-drop, drop-next}
 
 -- ---- the frames of a payload
 
@@ -41,78 +43,183 @@ module _ (payload : List ℕ) (given behind : List (List ℕ)) (none_before : gi
   pub given_are_all : rest_of payload ≡ [] → behind ≡ messages_of (concat behind)
   given_are_all whole = messages_given ∙ ap messages_of (sym (payload_given whole))
 
--- ---- records that are no amendments
+-- ---- which product holds after a record
 
-pub none-amends : (kind : EntryKind) → (kind ≡ Amendment → ⊥) → is_amendment kind ≡ false
-none-amends Frames never = refl
-none-amends OldImage never = refl
-none-amends Image never = refl
-none-amends Amendment never = absurd (never refl)
+-- its text gives it, if the record has one
+gives-behind : (product behind : ProductLists) (kind : EntryKind) (payload : List ℕ) → IsProductBehind product kind payload behind → GivesAs behind kind payload
+gives-behind product behind Frames payload is = tt
+gives-behind product behind OldImage payload is = tt
+gives-behind product behind Image payload is = tt
+gives-behind product behind Amendment payload is = is.0
 
--- no text of theirs has to give a product
-pub none-gives : (product : ProductLists) (kind : EntryKind) (payload : List ℕ) → is_amendment kind ≡ false → GivesAs product kind payload
-none-gives product Frames payload none = tt
-none-gives product OldImage payload none = tt
-none-gives product Image payload none = tt
-none-gives product Amendment payload none = absurd (cc none)
+-- the products from it on
+left-behind : (products later : List ProductLists) (number : ℕ) (now behind : ProductLists) (kind : EntryKind) (payload : List ℕ) → drop number products ≡ now ∷ products_as kind behind later
+    → IsProductBehind now kind payload behind → drop (product_behind number kind) products ≡ behind ∷ later
+left-behind products later number now behind Frames payload left is = left ∙ ap (λ (p : ProductLists). p ∷ later) (sym is)
+left-behind products later number now behind OldImage payload left is = left ∙ ap (λ (p : ProductLists). p ∷ later) (sym is)
+left-behind products later number now behind Image payload left is = left ∙ ap (λ (p : ProductLists). p ∷ later) (sym is)
+left-behind products later number now behind Amendment payload left is = drop-next products number now (behind ∷ later) left
+
+-- the number of the product after an amendment, of those of which the last is known, is one that there is
+few-before : (earlier : List ProductLists) (last now next : ProductLists) (later : List ProductLists) (number : ℕ) → drop number (earlier ++ last ∷ []) ≡ now ∷ next ∷ later → number < length earlier
+few-before earlier last now next later number left =
+    omega (arith, ap length left, length-drop number (earlier ++ last ∷ []), length-append earlier (last ∷ []))
+
+-- what is answered to one who asks for the number after this one
+pub number-behind : (earlier : List ProductLists) (last now behind : ProductLists) (later : List ProductLists) (number after : ℕ) (kind : EntryKind) (payload : List ℕ)
+    → drop number (earlier ++ last ∷ []) ≡ now ∷ products_as kind behind later → (is_amendment kind ≡ true → number < length earlier → after ≡ number + 1) → (is_amendment kind ≡ false → after ≡ number)
+    → after ≡ product_behind number kind
+number-behind earlier last now behind later number after Frames payload left amends stays = stays refl
+number-behind earlier last now behind later number after OldImage payload left amends stays = stays refl
+number-behind earlier last now behind later number after Image payload left amends stays = stays refl
+number-behind earlier last now behind later number after Amendment payload left amends stays = amends refl (few-before earlier last now behind later number left)
 
 -- ---- the record behind some good ones
 
-module _ (product : ProductLists) (head : Header) (limit : ℕ) (image : List ℕ) (before : List Record) (first : AreFirstRecords product head limit before image) (gate : ℕ) (place : gate ≡ length (journal_front head before)) where
-  pub closed_behind : get_or image gate 0 ≢ 1 → IsJournal head limit before image
-  closed_behind shut = begins_closed head limit before image first.begins (subst (λ k. get_or image k 0 ≢ 1) place shut)
+module _ (head : Header) (limit : ℕ) (image : List ℕ) (products : List ProductLists) (records before : List Record) (passed : Passed) (read : IsReadTo head limit image products records before passed) where
+  -- they are followed by those that are left
+  pub journal_on : IsJournal head limit (before ++ read.rest) image
+  journal_on = subst (λ (l : List Record). IsJournal head limit l image) read.are read.heads
 
-  pub bad_head_behind : (at : ℕ) → IsBadHead image limit gate at → IsBadBehind product head limit image before at
-  bad_head_behind at bad = record {
-    bad = record { before = before; first = first; place = bad.at_is ∙ place; bad = inl (subst (λ k. IsBadHead image limit k at) (sym bad.at_is) bad) };
-    behind = refl;
-  }
+  -- none is left
+  pub none_left : (gate : ℕ) (found : Option Entry) → found ≡ None → InOrder head image before read.rest gate (Ok found) → records ≡ before
+  none_left gate found is order =
+      let none : read.rest ≡ [] = subst (λ (o : Option Entry). InOrder head image before read.rest gate (Ok o)) is order in
+      read.are ∙ ap (λ (l : List Record). before ++ l) none ∙ append-nil before
 
-  module _ (entry : Entry) (at_head : IsHead image limit gate entry) where
-    head_behind : IsHead image limit (length (journal_front head before)) entry
-    head_behind = subst (λ k. IsHead image limit k entry) place at_head
+  -- no head is bad
+  pub none_bad : (gate at : ℕ) (why : WalkFault) → why ≡ walk.Bad at → InOrder head image before read.rest gate (Err why) → ⊥
+  none_bad gate at why is order = subst (λ (e : WalkFault). InOrder head image before read.rest gate (Err e)) is order
 
-    at_gate : length (journal_front head before) ≡ entry.at
-    at_gate = sym (at_head.at_is ∙ place)
+  -- one is
+  pub one_left : (gate : ℕ) (found : Option Entry) (entry : Entry) → found ≡ Some entry → InOrder head image before read.rest gate (Ok found) → IsNext head image before read.rest gate entry
+  one_left gate found entry is order = subst (λ (o : Option Entry). InOrder head image before read.rest gate (Ok o)) is order
 
-    more : BeginsWithRecords head limit (before ++ record_at image entry ∷ []) image
-    more = subst (λ (k : ℕ). BeginsWithRecords head limit (before ++ (record { kind = entry.kind; payload = take entry.length (drop (k + 6) image) }) ∷ []) image) at_gate (begins_more head limit before image first.begins entry head_behind)
+  module _ (entry : Entry) (gate : ℕ) (next : IsNext head image before read.rest gate entry) where
+    abbrev found : Record
+    found = next.found
 
-    size : length (payload_at image entry) ≡ entry.length
-    size = subst (λ (k : ℕ). length (take entry.length (drop (k + 6) image)) ≡ entry.length) at_gate (payload_size head limit before image first.begins entry head_behind)
+    abbrev HasLeft : List Record → Type 0
+    HasLeft rest = (have : HaveProducts read.now rest) × (drop passed.product products ≡ read.now ∷ products_in read.now rest have)
 
-    one_more : (next count : ℕ) (messages : List (List ℕ)) → IsNoAmendment (record_at image entry) → IsGoodRecord product (count_behind_all 0 before) (record_at image entry) → next ≡ gate + 6 + entry.length → messages ≡ record_messages (record_at image entry)
-        → count ≡ count_behind (count_behind_all 0 before) (record_at image entry) → IsOneMore product head limit image before next messages count
-    one_more next count messages plain good next_is messages_are count_is = record {
-      found = record_at image entry;
-      first = record { begins = more; good = good_push product 0 before (record_at image entry) first.good good; plain = all-push IsNoAmendment before (record_at image entry) first.plain plain };
-      gate_is = omega (arith, next_is, place, size, length-push head before (record_at image entry));
-      messages_are = messages_are;
-      count_is = count_is ∙ sym (count_push 0 before (record_at image entry));
-    }
+    abbrev there : HasLeft (found ∷ next.more)
+    there = subst HasLeft next.is (read.have, read.left)
 
-    bad_there : (IsGoodRecord product (count_behind_all 0 before) (record_at image entry) → IsNoAmendment (record_at image entry) → ⊥) → IsBadBehind product head limit image before entry.at
-    bad_there not_good = record {
-      bad = record { before = before; first = first; place = at_head.at_is ∙ place; bad = inr (record { bad = record_at image entry; begins = more; not_good = not_good }) };
-      behind = refl;
-    }
+    abbrev pub behind : ProductLists
+    behind = there.0.0
 
-    -- an amendment is bad to him who knows one product
-    pub amendment_there : is_amendment entry.kind ≡ true → IsBadBehind product head limit image before entry.at
-    amendment_there amends = bad_there (λ good plain. not-both (is_amendment entry.kind) amends plain)
+    behind_is : IsProductBehind read.now found.kind found.payload behind
+    behind_is = there.0.1
 
-    -- what the record holds was read, and so many messages are counted before it
-    module _ (count : ℕ) (counted : count ≡ count_behind_all 0 before) (given : List (List ℕ)) (core : State) where
-      pub content_more : (next behind : ℕ) → IsNoAmendment (record_at image entry) → next ≡ gate + 6 + entry.length → IsContent product count entry.kind (payload_at image entry) given core behind → IsOneMore product head limit image before next given behind
-      content_more next behind plain next_is content =
-          one_more next behind given plain
-          (subst (λ (n : ℕ). IsGoodAs product n entry.kind (payload_at image entry)) counted content.good)
-          next_is
-          content.given_are
-          (content.behind_is ∙ ap (λ (n : ℕ). count_as n entry.kind (payload_at image entry)) counted)
+    abbrev later : List ProductLists
+    later = products_in behind next.more there.0.3
 
-      pub content_unread : (next : ℕ) (why : RecoverFault) → ReadsContent product count entry.kind (payload_at image entry) entry.at given core (Err why) → ReadsRecord product head limit image before next given (Err why)
-      content_unread next fault.Store told = tt
-      content_unread next (fault.Bad at) told =
-          subst (IsBadBehind product head limit image before) (sym told.1)
-          (bad_there (λ good plain. told.0 (subst (λ (n : ℕ). IsGoodAs product n entry.kind (payload_at image entry)) (sym counted) good)))
+    left_there : drop passed.product products ≡ read.now ∷ products_as found.kind behind later
+    left_there = there.1
+
+    left_more : drop (product_behind passed.product found.kind) products ≡ behind ∷ later
+    left_more = left-behind products later passed.product read.now behind found.kind found.payload left_there behind_is
+
+    payload_is : payload_at image entry ≡ found.payload
+    payload_is = ap (λ (n : ℕ). take n (drop (entry.at + 6) image)) next.count ∙ next.stands
+
+    abbrev pub kept : History
+    kept = history_behind (of_product read.all.first []) before
+
+    behind_kept : IsProductBehind (last_product kept) found.kind found.payload behind
+    behind_kept = subst (λ (p : ProductLists). IsProductBehind p found.kind found.payload behind) read.now_is behind_is
+
+    are_more : records ≡ before ++ found ∷ next.more
+    are_more = read.are ∙ ap (λ (l : List Record). before ++ l) next.is
+
+    -- so many messages come before it
+    abbrev count : ℕ
+    count = count_behind_all 0 before
+
+    now_more : behind ≡ last_product (history_behind (of_product read.all.first []) (before ++ found ∷ []))
+    now_more =
+        sym (as-last (last_product kept) behind kept found.kind found.payload refl behind_kept)
+        ∙ ap last_product (sym (behind-append (of_product read.all.first []) before (found ∷ [])))
+
+    -- the number that is answered for it is that of the product behind it
+    pub number_there : (earlier : List ProductLists) (last : ProductLists) → products ≡ earlier ++ last ∷ [] → (number : ℕ) → (is_amendment entry.kind ≡ true → passed.product < length earlier → number ≡ passed.product + 1)
+        → (is_amendment entry.kind ≡ false → number ≡ passed.product) → number ≡ product_behind passed.product found.kind
+    number_there earlier last are number amends stays =
+        number-behind earlier last read.now behind later passed.product number found.kind found.payload
+        (subst (λ (l : List ProductLists). drop passed.product l ≡ read.now ∷ products_as found.kind behind later) are left_there)
+        (λ is. amends (ap is_amendment next.kind ∙ is)) (λ is. stays (ap is_amendment next.kind ∙ is))
+
+    -- and this product has that number
+    pub product_there : (number : ℕ) (last product : ProductLists) → number ≡ product_behind passed.product found.kind → product ≡ get_or products number last → product ≡ behind
+    product_there number last product number_is product_is =
+        product_is ∙ ap (λ (k : ℕ). get_or products k last) number_is ∙ get-drop products (product_behind passed.product found.kind) behind later left_more last
+
+    -- ---- what it holds was read under the product behind it
+
+    module _ (product : ProductLists) (same : product ≡ behind) where
+      -- an amendment gives this product
+      pub gives_there : GivesAs product entry.kind (payload_at image entry)
+      gives_there =
+          subst (λ (p : ProductLists). GivesAs p entry.kind (payload_at image entry)) (sym same)
+          (subst (λ (k : EntryKind). GivesAs behind k (payload_at image entry)) (sym next.kind)
+          (subst (GivesAs behind found.kind) (sym payload_is) (gives-behind read.now behind found.kind found.payload behind_is)))
+
+      -- it is good as that of the entry is
+      good_as : IsGoodAs behind count found.kind found.payload → IsGoodAs product passed.messages entry.kind (payload_at image entry)
+      good_as good =
+          subst (λ (p : ProductLists). IsGoodAs p passed.messages entry.kind (payload_at image entry)) (sym same)
+          (subst (λ (n : ℕ). IsGoodAs behind n entry.kind (payload_at image entry)) (sym read.messages)
+          (subst (λ (k : EntryKind). IsGoodAs behind count k (payload_at image entry)) (sym next.kind)
+          (subst (IsGoodAs behind count found.kind) (sym payload_is) good)))
+
+      module _ (given : List (List ℕ)) (core : State) where
+        content_as : (messages : ℕ) → IsContent product passed.messages entry.kind (payload_at image entry) given core messages → IsContent behind count found.kind found.payload given core messages
+        content_as messages content =
+            subst (λ (p : ProductLists). IsContent p count found.kind found.payload given core messages) same
+            (subst (λ (n : ℕ). IsContent product n found.kind found.payload given core messages) read.messages
+            (subst (λ (k : EntryKind). IsContent product passed.messages k found.payload given core messages) next.kind
+            (subst (λ (l : List ℕ). IsContent product passed.messages entry.kind l given core messages) payload_is content)))
+
+        pub content_more : (last : ℕ) (more : Passed) → last ≡ gate → more.product ≡ product_behind passed.product found.kind → IsContent product passed.messages entry.kind (payload_at image entry) given core more.messages
+            → IsOneMore head limit image products records before passed.product last given more
+        content_more last more last_is number content =
+            let holds = content_as more.messages content in
+            record {
+              found = found;
+              read = record {
+                heads = read.heads;
+                all = read.all;
+                rest = next.more;
+                are = are_more ∙ sym (append_assoc before (found ∷ []) next.more);
+                good = good-more found behind read.all.first 0 (of_product read.all.first []) before refl read.good behind_kept holds.good;
+                messages = holds.behind_is ∙ sym (count_push 0 before found);
+                now = behind;
+                now_is = now_more;
+                have = there.0.3;
+                left = subst (λ (k : ℕ). drop k products ≡ behind ∷ later) (sym number) left_more;
+              };
+              gate_is = last_is ∙ next.gate_is;
+              messages_are = holds.given_are;
+              product_is = number;
+            }
+
+        pub content_unread : (last : ℕ) (why : RecoverFault) → ReadsContent product passed.messages entry.kind (payload_at image entry) entry.at given core (Err why)
+            → ReadsRecord head limit image products records before passed.product last given (Err why)
+        content_unread last fault.Store told = tt
+        content_unread last (fault.Bad at) told = record {
+          bad = record {
+            records = records;
+            heads = read.heads;
+            first = read.all.first;
+            gives = read.all.gives;
+            have = read.all.have;
+            before = before;
+            bad = found;
+            behind = next.more;
+            are = are_more;
+            good = read.good;
+            not_good = λ good. told.0 (good_as (good-last found behind read.all.first 0 (of_product read.all.first []) before refl good behind_kept));
+            place = told.1 ∙ next.at_is;
+          };
+          behind = refl;
+        }

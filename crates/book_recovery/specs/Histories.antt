@@ -38,6 +38,27 @@ HaveProducts product [] = Unit {0}
 HaveProducts product (r ∷ records) =
     (behind : ProductLists) × IsProductBehind product r.kind r.payload behind × (r.kind ≡ Amendment → HasText r.payload) × HaveProducts behind records
 
+-- the products from that of a payload of a kind on, by those after it: an amendment has one of its own
+abbrev pub products_as : EntryKind → ProductLists → List ProductLists → List ProductLists
+products_as Frames behind later = later
+products_as OldImage behind later = later
+products_as Image behind later = later
+products_as Amendment behind later = behind ∷ later
+
+-- the products of the amendments in these records, in their order
+abbrev pub products_in : (product : ProductLists) (records : List Record) → HaveProducts product records → List ProductLists
+products_in product [] have = []
+products_in product (r ∷ records) have = products_as r.kind have.0 (products_in have.0 records have.3)
+
+-- each product may follow the one before it
+abbrev pub FollowFrom : ProductLists → List ProductLists → Type 0
+FollowFrom product [] = Unit {0}
+FollowFrom product (next ∷ later) = (may_follow product next ≡ Ok tt) × FollowFrom next later
+
+abbrev pub FollowEachOther : List ProductLists → Type 0
+FollowEachOther [] = Unit {0}
+FollowEachOther (first ∷ later) = FollowFrom first later
+
 -- ---- the history
 
 -- a history goes on under a product, if a text gives one

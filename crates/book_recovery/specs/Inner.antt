@@ -4,4 +4,5 @@ pub mod Starting
 pub mod Counting
 pub mod Replays
 pub mod Contents
-pub mod Reading
+pub mod Following
+pub mod Keeping

@@ -8,22 +8,26 @@ use Rattle.match_journal.specs.Journal.{Header, IsJournal, Record}
 use Rattle.match_journal.specs.Texts.{HasLastText}
 use Rattle.match_journal.specs.declared.limits.TheConstants.{MOST_TEXT}
 use Rattle.book_recovery.specs.Records.{from_last_image, AreGoodRecords}
-use Rattle.book_recovery.specs.Histories.{AreGoodFrom, AreTrueFrom, HaveNoAmendment, history_behind}
+use Rattle.book_recovery.specs.Histories.{AreGoodFrom, AreTrueFrom, HaveProducts, history_behind}
 
--- A run of the product can start from the image, and this is the history that it keeps: the product of the header's text, the messages in
--- the records after open gates, up to the first closed gate, and the products of the amendments between them. It is a journal whose last
+-- A command can go on from the image, within a limit, and this is the history that it keeps: the product of the header's text, the messages
+-- in the records after open gates, up to the first closed gate, and the products of the amendments between them. It is a journal whose last
 -- text is this one, with no bad record, and each book image in it is that of the state there; or an unfinished creation of at most
 -- 65,550 bytes, which keeps no message.
-pub record IsStartable (product : ProductLists) (text : List ℕ) (kept : History) (image : List ℕ) : Type 0 where
+pub record IsStartableWithin (limit : ℕ) (text : List ℕ) (kept : History) (image : List ℕ) : Type 0 where
   pub head : Header
   pub records : List Record
-  pub keeps : Keeps head product.journal_limit records image
+  pub keeps : Keeps head limit records image
   pub last : HasLastText head records text
   pub first : ProductLists
   pub gives : product_of head.text ≡ Ok first
   pub good : AreGoodFrom first 0 records
   pub are_true : AreTrueFrom (of_product first []) records
   pub are : kept ≡ history_behind (of_product first []) records
+
+-- a run of the product can start from the image: within the product's limit
+abbrev pub IsStartable : ProductLists → List ℕ → History → List ℕ → Type 0
+IsStartable product text kept image = IsStartableWithin product.journal_limit text kept image
 
 -- a journal whose last text is this one, with no bad record
 pub record IsGoodJournal (text : List ℕ) (limit : ℕ) (image : List ℕ) : Type 0 where
@@ -46,9 +50,15 @@ HasKept product text kept image =
     ((IsBlank image ⊎ IsSealedOf text image) × (kept ≡ of_product product []))
     ⊎ ((good : IsGoodJournal text product.journal_limit image) × (kept ≡ history_of_journal good))
 
--- the journal in the image, if there is one, has no amendment
-abbrev pub KeepsNoAmendment : ℕ → List ℕ → Type 0
-KeepsNoAmendment limit image = (head : Header) (records : List Record) → IsJournal head limit records image → HaveNoAmendment records
+-- a journal whose last text is this one, with no bad head, and each of whose texts gives a product that may follow the one before
+pub record HasGoodTexts (text : List ℕ) (limit : ℕ) (image : List ℕ) : Type 0 where
+  pub head : Header
+  pub records : List Record
+  pub journal : IsJournal head limit records image
+  pub last : HasLastText head records text
+  pub first : ProductLists
+  pub gives : product_of head.text ≡ Ok first
+  pub have : HaveProducts first records
 
 -- ---- for who begins with the last book image
 

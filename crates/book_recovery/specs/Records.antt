@@ -1,7 +1,8 @@
 -- The records of a journal, which are messages, book images and amendments: what stands after each, and when they are good. Our own
 -- rule. An amendment has a product text and a book image; so it is an image record too.
-use Rattle.std.specs.Prelude.{◌≡◌, ℕ, ◌+◌, ◌<◌, Bool, true, false, if◌then◌else◌, List, [], ◌∷◌, flat_map, length, Option, Some, None, Ok}
+use Rattle.std.specs.Prelude.{◌≡◌, ℕ, ◌+◌, ◌<◌, Bool, true, false, if◌then◌else◌, List, [], ◌∷◌, ◌++◌, flat_map, length, Option, Some, None, Ok}
 use Rattle.std.specs.List.{list_any, AllByRecursion}
+use Rattle.std.specs.Int.{w32, to_be_bytes}
 use Rattle.fix_frame.specs.Stream.{messages_of, rest_of}
 use Rattle.product_file.specs.Products.{ProductLists}
 use Rattle.product_file.specs.ProductTexts.{product_of}
@@ -57,6 +58,10 @@ image_kind Frames = Frames
 image_kind OldImage = OldImage
 image_kind Image = Image
 image_kind Amendment = Image
+
+-- the payload of an amendment with this text and this image
+abbrev pub amendment_of : List ℕ → List ℕ → List ℕ
+amendment_of text image = to_be_bytes w32 (length text) ++ (text ++ image)
 
 -- the text of an amendment ends in its payload; other payloads have none
 abbrev pub HasTextAs : EntryKind → List ℕ → Type 0

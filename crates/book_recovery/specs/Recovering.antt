@@ -7,7 +7,8 @@ use Rattle.order_kinds.specs.State.{State, state_numbered}
 use Rattle.order_kinds.specs.Cores.{AreNumbered}
 use Rattle.order_kinds.specs.Histories.{History, of_product, length_kept, state_kept}
 use Rattle.book_image.specs.Image.{image_len}
-use Rattle.match_journal.specs.Journal.{Header, Record, open_record}
+use Rattle.match_journal.specs.Journal.{Header, IsJournal, Record, open_record}
+use Rattle.match_journal.specs.BadRecords.{HasBadHeadAt}
 use Rattle.match_journal.specs.Appending.{IsJournalTo}
 use Rattle.match_journal.specs.declared.limits.TheConstants.{MOST_TEXT}
 use Rattle.book_recovery.specs.Records.{from_last_image, image_gate, count_behind_all, AreGoodRecords}
@@ -54,6 +55,12 @@ pub record IsRecovered (product : ProductLists) (head : Header) (limit : ℕ) (i
   pub entries : recovered.entries ≡ length records
   pub image_at : recovered.image_at ≡ image_gate head records
   pub kept : KeptFrom head records state
+
+-- what is answered to one who goes over the heads alone
+abbrev pub ChecksHeads : Header → ℕ → List ℕ → Result (Unit {0}) RecoverFault → Type 0
+ChecksHeads head limit image (Ok t) = (records : List Record) × IsJournal head limit records image
+ChecksHeads head limit image (Err fault.Store) = Unit {0}
+ChecksHeads head limit image (Err (fault.Bad at)) = HasBadHeadAt head limit image at
 
 -- What is answered over an image whose first gate and header are good. Ok and Bad do not hold together, nor does Bad at two
 -- places (`an_image_is_recovered_one_way`), so each comes exactly where it holds.

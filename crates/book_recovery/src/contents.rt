@@ -17,7 +17,7 @@ ghost use Rattle.order_kinds.specs.declared.core_state.TheConstants.{MOST_MESSAG
 ghost use Rattle.book_recovery.specs.Records.{is_image_kind, image_kind, GivesAs};
 ghost use Rattle.book_recovery.specs.Recovering.{HasRoomFor};
 ghost use Rattle.book_recovery.specs.Inner.Replays.{payload_at, ReadsImage};
-ghost use Rattle.book_recovery.specs.Inner.Contents.{CountsBehind, FindsImage, ReadsFrames, ReadsContent};
+ghost use Rattle.book_recovery.specs.Inner.Contents.{CountsBehind, FindsImage, FindsText, ReadsFrames, ReadsContent};
 
 use crate::recovery::RecoverFault;
 use crate::scratch::{Scratch, TEXT_SIZE};
@@ -65,6 +65,20 @@ fn read_frames<S: Station>(
     Ok(())
 }
 
+/// The text in the payload of an amendment. `None` exactly if it is longer than a product text may be, or does not end in the payload.
+pub(crate) fn text_in(payload: &[u8]) -> Option<&[u8]>
+    ensures { FindsText payload.now (option_map (λ text. text.now) result) }
+{
+    if payload.len() < TEXT_SIZE {
+        return None;
+    }
+    let size = u32::from_be_bytes([payload[0], payload[1], payload[2], payload[3]]) as usize;
+    if size > MOST_TEXT || payload.len() - TEXT_SIZE < size {
+        return None;
+    }
+    Some(&payload[TEXT_SIZE..TEXT_SIZE + size])
+}
+
 /// The book image in a payload of a kind; of an amendment, what comes after its text. `None` exactly if the text of an amendment is longer
 /// than a product text may be, or does not end in the payload.
 fn image_in(kind: EntryKind, payload: &[u8]) -> Option<&[u8]>
@@ -72,16 +86,8 @@ fn image_in(kind: EntryKind, payload: &[u8]) -> Option<&[u8]>
 {
     match kind {
         EntryKind::Amendment => {
-            if payload.len() < TEXT_SIZE {
-                return None;
-            }
-            let size = u32::from_be_bytes([
-                payload[0], payload[1], payload[2], payload[3],
-            ]) as usize;
-            if size > MOST_TEXT || payload.len() - TEXT_SIZE < size {
-                return None;
-            }
-            Some(&payload[TEXT_SIZE + size..])
+            let text = text_in(payload)?;
+            Some(&payload[TEXT_SIZE + text.len()..])
         }
         EntryKind::Frames | EntryKind::OldImage | EntryKind::Image => Some(payload),
     }

@@ -1,9 +1,11 @@
 //! Laws of the definitions. The functions do nothing; what their contracts say is proved.
-ghost use Rattle.std.specs.Prelude.{◌≡◌, ℕ, List, Result, Err};
+ghost use Rattle.std.specs.Prelude.{◌≡◌, ℕ, List, Result, Ok, Err};
 ghost use Rattle.product_file.specs.Products.{ProductLists};
-ghost use Rattle.match_journal.specs.Journal.{Header};
+ghost use Rattle.product_file.specs.ProductTexts.{product_of};
+ghost use Rattle.match_journal.specs.Journal.{Header, IsJournal, Record};
 ghost use Rattle.order_kinds.specs.State.{State};
-ghost use Rattle.book_recovery.specs.BadPlaces.{HasBadRecordAt};
+ghost use Rattle.book_recovery.specs.BadPlaces.{IsBadForEachRecord};
+ghost use Rattle.book_recovery.specs.Histories.{AreGoodFrom};
 ghost use Rattle.book_recovery.specs.Recovering.{Recovers};
 ghost use Rattle.book_recovery.specs.declared.recovery.Recovered.{Recovered};
 ghost use Rattle.book_recovery.specs.declared.recovery.RecoverFault.{RecoverFault};
@@ -17,8 +19,11 @@ pub fn an_image_is_recovered_one_way()
         → (second ≡ Err fault.Store → ⊥) → first ≡ second }
 {}
 
-/// A journal has one first bad record, for who reads each record whole when he comes to it.
-pub fn one_record_is_the_first_bad_one()
-    ensures { (product : ProductLists) (head : Header) (image : List ℕ) (limit at at' : ℕ) → HasBadRecordAt product head limit image at
-        → HasBadRecordAt product head limit image at' → at ≡ at' }
+/// A journal has one first bad place, for who takes the products of all texts and then reads each record whole; and none if each record
+/// is good under the product of its time.
+pub fn one_place_is_the_first_bad_one()
+    ensures one { (head : Header) (image : List ℕ) (limit at at' : ℕ) → IsBadForEachRecord head limit image at
+        → IsBadForEachRecord head limit image at' → at ≡ at' }
+    ensures none { (head : Header) (image : List ℕ) (records : List Record) (first : ProductLists) (limit at : ℕ) → IsJournal head limit records image
+        → product_of head.text ≡ Ok first → AreGoodFrom first 0 records → IsBadForEachRecord head limit image at → ⊥ }
 {}

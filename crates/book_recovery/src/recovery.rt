@@ -12,7 +12,7 @@ ghost use Rattle.match_journal.specs.declared.limits.TheConstants.{LEAST_LIMIT};
 ghost use Rattle.order_kinds.specs.State.{empty_state};
 ghost use Rattle.order_kinds.specs.Cores.{FitsProduct};
 ghost use Rattle.order_kinds.specs.declared.core_state.TheConstants.{MOST_MESSAGES};
-ghost use Rattle.book_recovery.specs.Recovering.{HasRoomFor, first_read, most_to_recover, Recovers};
+ghost use Rattle.book_recovery.specs.Recovering.{ChecksHeads, HasRoomFor, first_read, most_to_recover, Recovers};
 ghost use Rattle.book_recovery.specs.Inner.Starting.{BeginsAt};
 ghost use Rattle.book_recovery.specs.Inner.Counting.{Counts};
 
@@ -45,7 +45,7 @@ pub enum RecoverFault {
 
 /// What the first pass tells the second.
 #[derive(Clone, Copy)]
-struct Heads {
+pub(crate) struct Heads {
     /// How many records there are.
     entries: u64,
     /// The gate of the last book image.
@@ -74,7 +74,10 @@ impl Heads {
 }
 
 /// Goes over the heads of all records, from the first on. `Ok` leaves the journal at its end.
-fn read_heads<S: Station>(station: &mut S, journal: &mut Journal) -> Result<Heads, RecoverFault>
+pub(crate) fn read_heads<S: Station>(
+    station: &mut S,
+    journal: &mut Journal,
+) -> Result<Heads, RecoverFault>
     requires reach { journal.old.known ≤ S.meanings.reach station.old }
     requires not_lost { journal.old.is_lost ≡ false }
     ensures reads { ReadsOnly S.meanings station.old station.new }
@@ -107,6 +110,28 @@ fn read_heads<S: Station>(station: &mut S, journal: &mut Journal) -> Result<Head
             Err(WalkFault::Store) => return Err(RecoverFault::Store),
             Err(WalkFault::Bad(at)) => return Err(RecoverFault::Bad(at)),
         }
+    }
+}
+
+/// Goes over the heads of all records, wherever the journal stands. `Bad` comes exactly if a head is bad, with the gate of the first record
+/// that has one, and `Store` only if the count of store faults rose. `Ok` leaves the journal at its end. Nothing is written, synced or
+/// sent.
+pub fn check_heads<S: Station>(station: &mut S, journal: &mut Journal) -> Result<(), RecoverFault>
+    requires reach { journal.old.known ≤ S.meanings.reach station.old }
+    requires not_lost { journal.old.is_lost ≡ false }
+    requires in_limit { journal.old.first < journal.old.limit }
+    ensures reads { ReadsOnly S.meanings station.old station.new }
+    ensures reach { S.meanings.reach station.new ≡ S.meanings.reach station.old }
+    ensures store { IsErrOf result RecoverFault.Store → Rose (S.meanings.store_faults station.old) (S.meanings.store_faults station.new) }
+    ensures none { (IsErrOf result RecoverFault.Store → ⊥) → S.meanings.store_faults station.new ≡ S.meanings.store_faults station.old }
+    ensures stands { IsStanding journal.new }
+    ensures same { journal.new ≡ moved journal.old journal.new.gate journal.new.is_at_end }
+    ensures checks { (head : Header) (text : PlacedText) (image : List ℕ) → S.meanings.holds station.old ≡ Some image → StandsIn journal.old image
+        → LEAST_LIMIT ≤ journal.old.limit → IsOpened head journal.old.limit text image → ChecksHeads head journal.old.limit image result }
+{
+    match read_heads(station, journal) {
+        Ok(_) => Ok(()),
+        Err(why) => Err(why),
     }
 }
 

@@ -4,6 +4,7 @@ use Rattle.fix_frame.specs.Stream.{messages_of}
 use Rattle.product_file.specs.Products.{ProductLists}
 use Rattle.order_kinds.specs.State.{State, state_numbered}
 use Rattle.book_image.specs.Reading.{state_of_image}
+use Rattle.match_journal.specs.Texts.{HasText, amended_text}
 use Rattle.match_journal.specs.declared.entry.EntryKind.{EntryKind}
 use Rattle.match_journal.specs.declared.entry.EntryKind.TheVariants.{Frames, OldImage, Image, Amendment}
 use Rattle.book_recovery.specs.Records.{is_image_kind, image_in, image_kind, HasTextAs, messages_as, count_as, AreGoodFrames, IsGoodAs}
@@ -35,6 +36,11 @@ abbrev pub ReadsContent : ProductLists → ℕ → EntryKind → List ℕ → �
 ReadsContent product count kind payload gate given core (Ok behind) = IsContent product count kind payload given core behind
 ReadsContent product count kind payload gate given core (Err fault.Store) = Unit {0}
 ReadsContent product count kind payload gate given core (Err (fault.Bad at)) = (IsGoodAs product count kind payload → ⊥) × (at ≡ gate)
+
+-- what is answered to one who asks for the text in the payload of an amendment
+abbrev pub FindsText : List ℕ → Option (List ℕ) → Type 0
+FindsText payload None = HasText payload → ⊥
+FindsText payload (Some text) = HasText payload × (text ≡ amended_text payload)
 
 -- what is answered to one who asks for the book image in a payload of a kind
 abbrev pub FindsImage : EntryKind → List ℕ → Option (List ℕ) → Type 0
