@@ -1,27 +1,29 @@
 -- What is printed of all messages, from what was gone through.
-use Rattle.std.proofs.Common.{◌≡◌, ◌⊎◌, inl, inr, ℕ, List, [], Option, Some, Ok, Err, refl, sym, subst, ◌∙◌, ap}
+use Rattle.std.proofs.Common.{◌≡◌, ◌⊎◌, inl, inr, ℕ, List, [], Option, Some, Err, refl, sym, subst, ◌∙◌, ap}
 use Rattle.std.specs.Prelude.{IfSome}
 use Rattle.gx_base.specs.KnownBytes.{IsKnownPrefix}
 use Rattle.gx_station.specs.Stations.{StationMeanings, sent_and}
 use Rattle.gx_station.specs.SendLaws.{sent_and_none, sent_and-append}
 use Rattle.product_file.specs.Products.{ProductLists}
-use Rattle.product_file.specs.ProductTexts.{product_of}
 use Rattle.match_journal.specs.Classes.{IsBlank, IsSealedOf}
+use Rattle.match_journal.specs.Journal.{IsJournal, Record}
 use Rattle.match_journal.specs.Opening.{IsOpenedOf}
 use Rattle.order_kinds.specs.Balance.{total_open}
 use Rattle.order_kinds.specs.State.{State, state_numbered, empty_state}
 use Rattle.order_kinds.specs.Histories.{History, of_product, state_kept}
-use Rattle.book_recovery.specs.Records.{messages_in}
-use Rattle.book_recovery.specs.Kept.{KeepsNoAmendment}
-use Rattle.book_recovery.specs.BadPlaces.{HasAmendmentAt}
+use Rattle.book_recovery.specs.Histories.{history_behind}
+use Rattle.book_recovery.specs.Kept.{HasGoodTexts}
+use Rattle.book_recovery.specs.Products.{AreProducts, TakesProducts}
+use Rattle.book_recovery.specs.declared.products.NoProducts.{NoProducts}
+use Rattle.book_recovery.specs.declared.products.NoProducts.TheVariants as none
 use Rattle.book_print.specs.BookLaws.{total_open-numbered}
 use Rattle.journal_print.specs.Works.{WorkMeanings, work_text, work_after, work_whole}
 use Rattle.journal_print.specs.Printed.{SentPart, PrintsMessages}
 use Rattle.journal_print.specs.Inner.Opening.{IsUnopened}
-use Rattle.journal_print.specs.Inner.Publishing.{ArePublished, AllPublished, Publishes, KeptPublished, PublishesKept}
+use Rattle.journal_print.specs.Inner.Publishing.{ArePublished, AllPublished, PartPublished, Publishes, KeptPublished, PublishesKept}
 use Rattle.journal_print.specs.declared.unprinted.Unprinted.{Unprinted}
 use Rattle.journal_print.specs.declared.unprinted.Unprinted.TheVariants as unprinted
-use Rattle.journal_print.proofs.PlainImages.{unfinished_plain, opened_text, plain_journal}
+use Rattle.journal_print.proofs.OpenedImages.{opened_last}
 
 -- what holds of what was found
 pub some_found : {A : Type 0} (P : A → Type 0) (found : Option A) (x : A) → found ≡ Some x → IfSome found P → P x
@@ -32,6 +34,7 @@ module _ {S W : Type 0} (m : StationMeanings S) (w : WorkMeanings W) (product : 
   pub unopened : (old new : S) (work then : W) (state : State) (why : Unprinted) → IsUnopened text product.journal_limit image why → m.sent new ≡ m.sent old → PublishesKept m w product text image old new work then state (Err why)
   unopened old new work then state unprinted.Store told sent = inl sent
   unopened old new work then state unprinted.Send told sent = absurd told
+  unopened old new work then state unprinted.NoMemory told sent = absurd told
   unopened old new work then state (unprinted.NotAJournal at) told sent = (told, sent)
   unopened old new work then state (unprinted.Bad at) told sent = inl (inl told, sent)
   unopened old new work then state (unprinted.ProductDiffers at) told sent = (told, sent)
@@ -41,7 +44,6 @@ module _ {S W : Type 0} (m : StationMeanings S) (w : WorkMeanings W) (product : 
   none_kept old new work state unfinished sent is = record {
     kept = of_product product [];
     has = inl (unfinished, refl);
-    none = unfinished_plain text product.journal_limit image unfinished;
     published = record {
       sent = sent ∙ sym (ap (sent_and (m.sent old)) (w.text_none work product (empty_state product)) ∙ sent_and_none (m.sent old));
       work_is = sym (w.after_none work product (empty_state product));
@@ -51,46 +53,87 @@ module _ {S W : Type 0} (m : StationMeanings S) (w : WorkMeanings W) (product : 
     count_is = refl;
   }
 
-  module _ (old mid new : S) (looked : m.sent mid ≡ m.sent old) (work then : W) (state : State) where
-    from_start : (its : List ℕ) → its ≡ text → (text_of : History → List ℕ) → SentPart m product its image mid new text_of → SentPart m product text image old new text_of
-    from_start its same text_of part = record { head = part.head; of_text = part.of_text ∙ same; records = part.records; first = part.first; sent = subst (λ s. IsKnownPrefix (m.sent new) (sent_and s (text_of (of_product product (messages_in part.records))))) looked part.sent }
+  -- its products were not taken, for want of memory
+  pub not_taken : (old new : S) (work then : W) (state : State) (limit : ℕ) (opened : IsOpenedOf text product.journal_limit image) (why : NoProducts) → limit ≡ product.journal_limit → why ≡ none.NoMemory
+      → TakesProducts opened.head limit image (Err why) → m.sent new ≡ m.sent old → PublishesKept m w product text image old new work then state (Err unprinted.NoMemory)
+  not_taken old new work then state limit opened why limit_is is told sent =
+      let taken : TakesProducts opened.head product.journal_limit image (Err none.NoMemory) =
+      subst (λ (k : ℕ). TakesProducts opened.head k image (Err none.NoMemory)) limit_is (subst (λ (e : NoProducts). TakesProducts opened.head limit image (Err e)) is told) in
+      ((opened, taken), sent)
 
-    -- it has an amendment
-    pub amended : (at : ℕ) (opened : IsOpenedOf text product.journal_limit image) → HasAmendmentAt opened.head product.journal_limit image at → PublishesKept m w product text image old mid work then state (Err (unprinted.Bad at))
-    amended at opened amendment = inl (inr record { opened = opened; amendment = amendment }, looked)
+  -- or since a head or a text is bad
+  pub bad_unread : (old new : S) (work then : W) (state : State) (limit at : ℕ) (opened : IsOpenedOf text product.journal_limit image) (why : NoProducts) → limit ≡ product.journal_limit → why ≡ none.Bad at
+      → TakesProducts opened.head limit image (Err why) → m.sent new ≡ m.sent old → PublishesKept m w product text image old new work then state (Err (unprinted.Bad at))
+  bad_unread old new work then state limit at opened why limit_is is told sent =
+      let taken : TakesProducts opened.head product.journal_limit image (Err (none.Bad at)) =
+      subst (λ (k : ℕ). TakesProducts opened.head k image (Err (none.Bad at))) limit_is (subst (λ (e : NoProducts). TakesProducts opened.head limit image (Err e)) is told) in
+      inl (inr (opened, taken), sent)
 
-    pub stopped : (why : Unprinted) (opened : IsOpenedOf text product.journal_limit image) → KeepsNoAmendment product.journal_limit image → Publishes m w product opened.head image mid new work then state (Err why)
-        → PublishesKept m w product text image old new work then state (Err why)
-    stopped unprinted.Store opened none told = inr (from_start opened.head.text (opened_text text product.journal_limit image opened none) (work_text w work) told)
-    stopped unprinted.Send opened none told = (opened, from_start opened.head.text (opened_text text product.journal_limit image opened none) (work_text w work) told)
-    stopped (unprinted.NotAJournal at) opened none told = absurd told
-    stopped (unprinted.Bad at) opened none told = inr record {
-      opened = opened;
-      none = none;
-      bad = told.bad;
-      sent = told.sent ∙ ap (λ s. sent_and s (work_text w work (of_product product (messages_in told.bad.before)))) looked;
+  -- the records of the journal were gone through, from the first one on
+  module _ (old mid new : S) (looked : m.sent mid ≡ m.sent old) (work then : W) (state : State) (opened : IsOpenedOf text product.journal_limit image) (products : List ProductLists) (records : List Record)
+      (journal : IsJournal opened.head product.journal_limit records image) (all : AreProducts opened.head records products) where
+    abbrev texts : HasGoodTexts text product.journal_limit image
+    texts = record {
+      head = opened.head;
+      records = records;
+      journal = journal;
+      last = opened_last text product.journal_limit image opened records journal;
+      first = all.first;
+      gives = all.gives;
+      have = all.have;
     }
-    stopped (unprinted.ProductDiffers at) opened none told = absurd told
 
-    pub all_kept : (count : ℕ) (opened : IsOpenedOf text product.journal_limit image) → KeepsNoAmendment product.journal_limit image → product_of text ≡ Ok product
-        → AllPublished m w product opened.head product.journal_limit image mid new work then state → count ≡ state.desk.messages → KeptPublished m w product text image old new work then state count
-    all_kept count opened none gives all is = record {
-      kept = of_product product (messages_in all.records);
-      has = inr (plain_journal text product.journal_limit image product opened all.records none gives all.journal all.good);
-      none = none;
+    part_sent : PartPublished m w opened.head product.journal_limit image products records mid new work then state all → SentPart m product text image old new (work_text w work)
+    part_sent part = record {
+      texts = texts;
+      before = part.before;
+      behind = part.behind;
+      are = part.are;
+      good = part.good;
+      sent = subst (λ s. IsKnownPrefix (m.sent new) (sent_and s (work_text w work (history_behind (of_product all.first []) part.before)))) looked part.sent;
+    }
+
+    pub stopped : (why : Unprinted) → Publishes m w opened.head product.journal_limit image products records mid new work then state all (Err why) → PublishesKept m w product text image old new work then state (Err why)
+    stopped unprinted.Store told = inr (part_sent told)
+    stopped unprinted.Send told = (opened, part_sent told)
+    stopped unprinted.NoMemory told = absurd told
+    stopped (unprinted.NotAJournal at) told = absurd told
+    stopped (unprinted.Bad at) told = inr record {
+      opened = opened;
+      bad = told.bad;
+      sent = told.sent ∙ ap (λ s. sent_and s (work_text w work (history_behind (of_product told.bad.first []) told.bad.before))) looked;
+    }
+    stopped (unprinted.ProductDiffers at) told = absurd told
+
+    pub all_kept : (count : ℕ) → AllPublished m w opened.head product.journal_limit image products records mid new work then state all → count ≡ state.desk.messages → KeptPublished m w product text image old new work then state count
+    all_kept count done is = record {
+      kept = history_behind (of_product all.first []) records;
+      has = inr (
+        record {
+          head = opened.head;
+          records = records;
+          journal = journal;
+          last = texts.last;
+          first = all.first;
+          gives = all.gives;
+          good = done.good;
+        },
+        refl,
+      );
       published = record {
-        sent = all.published.sent ∙ ap (λ s. sent_and s (work_text w work (of_product product (messages_in all.records)))) looked;
-        work_is = all.published.work_is;
-        state_is = all.published.state_is;
-        count_is = all.published.count_is;
+        sent = done.published.sent ∙ ap (λ s. sent_and s (work_text w work (history_behind (of_product all.first []) records))) looked;
+        work_is = done.published.work_is;
+        state_is = done.published.state_is;
+        count_is = done.published.count_is;
       };
-      count_is = is ∙ all.published.count_is;
+      count_is = is ∙ done.published.count_is;
     }
 
   -- not all messages were gone through
   pub not_printed : (old new : S) (work then : W) (state : State) (whole : History → List ℕ) (why : Unprinted) → PublishesKept m w product text image old new work then state (Err why) → PrintsMessages m product text image old new (work_text w work) whole (Err why)
   not_printed old new work then state whole unprinted.Store told = told
   not_printed old new work then state whole unprinted.Send told = inl told
+  not_printed old new work then state whole unprinted.NoMemory told = told
   not_printed old new work then state whole (unprinted.NotAJournal at) told = told
   not_printed old new work then state whole (unprinted.Bad at) told = told
   not_printed old new work then state whole (unprinted.ProductDiffers at) told = told

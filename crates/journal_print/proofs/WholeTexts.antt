@@ -8,7 +8,6 @@ use Rattle.gx_base.specs.Line.{line_of}
 use Rattle.gx_base.specs.declared.event.Event.{Event}
 use Rattle.gx_station.specs.Stations.{StationMeanings, sent_and}
 use Rattle.product_file.specs.Products.{ProductLists, IsRightProduct}
-use Rattle.product_file.specs.ProductTexts.{product_of}
 use Rattle.order_kinds.specs.declared.core_state.TheConstants.{MOST_MESSAGES}
 use Rattle.order_kinds.specs.Amendments.{amended_state}
 use Rattle.order_kinds.specs.Balance.{total_open}
@@ -16,12 +15,13 @@ use Rattle.order_kinds.specs.Histories.{History, of_product, amended, AreRightPr
 use Rattle.order_kinds.specs.Step.{events_from, events_of}
 use Rattle.balance_laws.specs.Bounds.{AreWithin, asked_in}
 use Rattle.balance_laws.proofs.Bounds.{history-within, total-below}
-use Rattle.book_recovery.specs.Kept.{HasKept, KeepsNoAmendment}
+use Rattle.book_recovery.specs.Kept.{HasKept}
+use Rattle.book_recovery.proofs.Histories.{good-amended, under-first, under-behind}
 use Rattle.exec_report.specs.Forms.{FormMeanings, LineText, behind}
 use Rattle.exec_report.specs.FormLaws.{noted-nothing, text-behind}
 use Rattle.exec_report.specs.ReportLines.{report_form}
 use Rattle.exec_report.specs.declared.line_form.ReportForm.{ReportForm}
-use Rattle.book_print.specs.FillText.{fill_line, fill_text}
+use Rattle.book_print.specs.FillText.{fill_line}
 use Rattle.book_print.specs.LedgerText.{ledger_line, total_line, ledger_text, no_totals, totals_with, totals_after}
 use Rattle.book_print.specs.TotalsLaws.{exact_totals, totals-exact}
 use Rattle.book_print.specs.Printing.{fill_form, ledger_form}
@@ -29,11 +29,10 @@ use Rattle.book_print.specs.declared.fills.FillForm.{FillForm}
 use Rattle.book_print.specs.declared.ledger.Totals.{Totals}
 use Rattle.journal_print.specs.Works.{work_after, work_text, work_whole}
 use Rattle.journal_print.specs.LineWorks.{lines_after, line_work}
-use Rattle.journal_print.specs.Printed.{form_after, printed_whole, PrintsMessages, PrintsEvents}
+use Rattle.journal_print.specs.Printed.{form_after, printed_whole, fills_kept, PrintsMessages, PrintsEvents}
 use Rattle.journal_print.specs.declared.work.Lines.{Lines}
 use Rattle.journal_print.specs.declared.unprinted.Unprinted.{Unprinted}
 use Rattle.journal_print.specs.declared.unprinted.Unprinted.TheVariants as unprinted
-use Rattle.journal_print.proofs.PlainImages.{one_product}
 
 -- ---- the work on lines, over a history
 
@@ -69,9 +68,8 @@ module _ {F : Type 0} (f : FormMeanings F) where
 pub report_whole : (form : ReportForm) (kept : History) → printed_whole report_form form kept ≡ reports_kept kept
 report_whole form kept = append-nil (reports_kept kept)
 
-pub fill_whole : (form : FillForm) (product : ProductLists) (messages : List (List ℕ))
-    → printed_whole fill_form form (of_product product messages) ≡ fill_text product (events_kept (of_product product messages))
-fill_whole form product messages = append-nil (fill_text product (events_kept (of_product product messages)))
+pub fill_whole : (form : FillForm) (kept : History) → printed_whole fill_form form kept ≡ fills_kept kept
+fill_whole form kept = append-nil (fills_kept kept)
 
 -- the lines of the ledger do not name the product
 ledger-lines : (kept : History) → lines_kept (λ names. ledger_line) kept ≡ flat_map ledger_line (events_kept kept)
@@ -113,10 +111,18 @@ module _ (kept : History) (right : AreRightProducts kept) (few : length_kept kep
 
 -- ---- what was printed
 
+-- each product of a history kept is right
+right-kept : (product : ProductLists) (text image : List ℕ) (kept : History) → IsRightProduct product → HasKept product text kept image → AreRightProducts kept
+right-kept product text image kept right (inl (unfinished, is)) = subst AreRightProducts (sym is) right
+right-kept product text image kept right (inr (good, is)) =
+    let first : History = of_product good.first [] in
+    let under = under-behind good.first first good.records (under-first good.head.text good.first [] good.gives) (good-amended good.first 0 good.records good.good) in
+    subst AreRightProducts (sym is) under.right
+
 module _ {S : Type 0} (m : StationMeanings S) (product : ProductLists) (text image : List ℕ) (old new : S) where
   -- what is sent of the messages, and of all of them, said in other words
   printed_as : (parts lines : History → List ℕ) (whole same : History → List ℕ) → ((kept : History) → parts kept ≡ lines kept)
-      → ((kept : History) → HasKept product text kept image → KeepsNoAmendment product.journal_limit image → length_kept kept ≤ MOST_MESSAGES → whole kept ≡ same kept)
+      → ((kept : History) → HasKept product text kept image → length_kept kept ≤ MOST_MESSAGES → whole kept ≡ same kept)
       → (r : Result ℕ Unprinted) → PrintsMessages m product text image old new parts whole r → PrintsMessages m product text image old new lines same r
   printed_as parts lines whole same part_is is r told = whole_as r (subst (λ (t : History → List ℕ). PrintsMessages m product text image old new t whole r) (λ i. λ (kept : History). part_is kept i) told)
     where
@@ -124,9 +130,8 @@ module _ {S : Type 0} (m : StationMeanings S) (product : ProductLists) (text ima
       whole_as (Ok count) told = record {
         kept = told.kept;
         has = told.has;
-        none = told.none;
         few = told.few;
-        sent = told.sent ∙ ap (sent_and (m.sent old)) (is told.kept told.has told.none told.few);
+        sent = told.sent ∙ ap (sent_and (m.sent old)) (is told.kept told.has told.few);
         count_is = told.count_is;
       }
       whole_as (Err unprinted.Store) told = told
@@ -135,38 +140,32 @@ module _ {S : Type 0} (m : StationMeanings S) (product : ProductLists) (text ima
           (λ all. inr record {
             kept = all.kept;
             has = all.has;
-            none = all.none;
             few = all.few;
-            sent = subst (λ (l : List ℕ). IsKnownPrefix (m.sent new) (sent_and (m.sent old) l)) (is all.kept all.has all.none all.few) all.sent;
+            sent = subst (λ (l : List ℕ). IsKnownPrefix (m.sent new) (sent_and (m.sent old) l)) (is all.kept all.has all.few) all.sent;
           })
           told
+      whole_as (Err unprinted.NoMemory) told = told
       whole_as (Err (unprinted.NotAJournal at)) told = told
       whole_as (Err (unprinted.Bad at)) told = told
       whole_as (Err (unprinted.ProductDiffers at)) told = told
-
-  -- what an image without amendments keeps is of one product
-  of_one : product_of text ≡ Ok product → (P : History → Type 0) → ((messages : List (List ℕ)) → P (of_product product messages)) → (kept : History) → HasKept product text kept image → KeepsNoAmendment product.journal_limit image → P kept
-  of_one gives P all kept has none =
-      let one = one_product product text image kept gives none has in
-      subst P (sym one.1) (all one.0)
 
   -- the reports are printed again
   pub reports_printed : (lines : Lines ReportForm) (r : Result ℕ Unprinted) → PrintsMessages m product text image old new (work_text (line_work report_form) lines) (work_whole (line_work report_form) lines) r
       → PrintsEvents m product text image old new line_of reports_kept r
   reports_printed lines =
       printed_as (work_text (line_work report_form) lines) (lines_kept line_of) (work_whole (line_work report_form) lines) reports_kept (lines-kept report_form lines)
-      (λ kept has none few. whole-kept report_form lines kept ∙ report_whole lines.form kept)
+      (λ kept has few. whole-kept report_form lines kept ∙ report_whole lines.form kept)
 
-  pub fills_printed : product_of text ≡ Ok product → (lines : Lines FillForm) (r : Result ℕ Unprinted) → PrintsMessages m product text image old new (work_text (line_work fill_form) lines) (work_whole (line_work fill_form) lines) r
-      → PrintsEvents m product text image old new fill_line (λ kept. fill_text product (events_kept kept)) r
-  fills_printed gives lines =
-      printed_as (work_text (line_work fill_form) lines) (lines_kept fill_line) (work_whole (line_work fill_form) lines) (λ kept. fill_text product (events_kept kept)) (lines-kept fill_form lines)
-      (λ kept has none few. whole-kept fill_form lines kept
-      ∙ of_one gives (λ (h : History). printed_whole fill_form lines.form h ≡ fill_text product (events_kept h)) (λ messages. fill_whole lines.form product messages) kept has none)
+  -- each fill with the names of its product
+  pub fills_printed : (lines : Lines FillForm) (r : Result ℕ Unprinted) → PrintsMessages m product text image old new (work_text (line_work fill_form) lines) (work_whole (line_work fill_form) lines) r
+      → PrintsEvents m product text image old new fill_line fills_kept r
+  fills_printed lines =
+      printed_as (work_text (line_work fill_form) lines) (lines_kept fill_line) (work_whole (line_work fill_form) lines) fills_kept (lines-kept fill_form lines)
+      (λ kept has few. whole-kept fill_form lines kept ∙ fill_whole lines.form kept)
 
   -- the ledger, from totals of which all are 0
-  pub ledger_printed : product_of text ≡ Ok product → IsRightProduct product → (lines : Lines Totals) → lines.form ≡ no_totals → (r : Result ℕ Unprinted)
+  pub ledger_printed : IsRightProduct product → (lines : Lines Totals) → lines.form ≡ no_totals → (r : Result ℕ Unprinted)
       → PrintsMessages m product text image old new (work_text (line_work ledger_form) lines) (work_whole (line_work ledger_form) lines) r → PrintsEvents m product text image old new (λ names. ledger_line) ledger_text r
-  ledger_printed gives right lines new_totals =
+  ledger_printed right lines new_totals =
       printed_as (work_text (line_work ledger_form) lines) (lines_kept (λ names. ledger_line)) (work_whole (line_work ledger_form) lines) ledger_text (lines-kept ledger_form lines)
-      (λ kept has none few. whole-kept ledger_form lines kept ∙ ap (λ (t : Totals). printed_whole ledger_form t kept) new_totals ∙ ledger_whole kept (of_one gives AreRightProducts (λ messages. right) kept has none) few)
+      (λ kept has few. whole-kept ledger_form lines kept ∙ ap (λ (t : Totals). printed_whole ledger_form t kept) new_totals ∙ ledger_whole kept (right-kept product text image kept right has) few)

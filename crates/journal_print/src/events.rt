@@ -5,6 +5,7 @@ ghost use Rattle.product_file.specs.ProductTexts.{product_of};
 ghost use Rattle.product_file.specs.declared.limits.TheConstants.{LONGEST_TEXT};
 ghost use Rattle.order_kinds.specs.Cores.{FitsProduct};
 ghost use Rattle.order_kinds.specs.declared.core_state.TheConstants.{MOST_MESSAGES};
+ghost use Rattle.match_journal.specs.Causes.{ReadsOnly};
 ghost use Rattle.journal_print.specs.Reading.{ReadsAndSends};
 ghost use Rattle.journal_print.specs.Readers.{IsNewReader};
 ghost use Rattle.journal_print.specs.Works.{work_text, work_whole};
@@ -17,12 +18,16 @@ use crate::records::publish_records;
 use crate::unprinted::Unprinted;
 use crate::work::RecordWork;
 use book_print::open_lots;
+use book_recovery::{NoProducts, read_products};
 use gx_station::Station;
 use plain_book::Book;
 use product_file::Product;
+use std::alloc::Global;
 
-/// Has a work take the messages that the journal of a product keeps, by a new reader, and answers how many they are.
+/// Has a work take the messages that the journal of a product keeps, by a new reader, and answers how many they are. The products of
+/// all its texts are taken first.
 fn publish_kept<W: RecordWork, B: Book, S: Station>(
+    alloc: Global,
     work: &mut W,
     product: &Product,
     text: &[u8],
@@ -37,6 +42,7 @@ fn publish_kept<W: RecordWork, B: Book, S: Station>(
     ensures no_store { (IsErrOf result Unprinted.Store → ⊥) → S.meanings.store_faults station.new ≡ S.meanings.store_faults station.old }
     ensures send { IsErrOf result Unprinted.Send → Rose (S.meanings.send_faults station.old) (S.meanings.send_faults station.new) }
     ensures no_send { (IsErrOf result Unprinted.Send → ⊥) → S.meanings.send_faults station.new ≡ S.meanings.send_faults station.old }
+    ensures memory { IsErrOf result Unprinted.NoMemory → ReadsOnly S.meanings station.old station.new }
     ensures empty { OnOk result (reader.new.reports ≡ []) }
     ensures fits { OnOk result (FitsProduct product.now reader.new.core) }
     ensures few { IfOk result (λ count. count ≤ MOST_MESSAGES) }
@@ -48,26 +54,32 @@ fn publish_kept<W: RecordWork, B: Book, S: Station>(
         Ok(None) => return Ok(0),
         Err(fault) => return Err(fault),
     };
-    // Which products the messages before an amendment were taken under is not read yet.
-    if let Some(at) = journal.amended_at() {
-        return Err(Unprinted::Bad(at));
-    }
-    match publish_records(work, product, &mut journal, reader, station) {
+    let products = match read_products(alloc, station, &mut journal, product, &mut reader.scratch) {
+        Ok(products) => products,
+        Err(NoProducts::Store) => return Err(Unprinted::Store),
+        Err(NoProducts::NoMemory) => return Err(Unprinted::NoMemory),
+        Err(NoProducts::Bad(at)) => return Err(Unprinted::Bad(at)),
+    };
+    match publish_records(work, &products, &mut journal, reader, station) {
         Ok(()) => Ok(reader.core.messages()),
         Err(fault) => Err(fault),
     }
 }
 
-/// Has a work take the messages of each record that the journal of a product keeps, and then finish, and answers how many messages
-/// these are: what is printed is what the work sends of them. `Lines` sends the lines of their events in some form. Each record is
-/// read whole before its messages are taken, and a book image is held to its form and passed by; a part of what comes after all
-/// messages is sent only if all messages kept were read. The reader is to be new.
+/// Has a work take the messages of each record that the journal of a product keeps, each under the product of its time, and then finish,
+/// and answers how many messages these are: what is printed is what the work sends of them. `Lines` sends the lines of their events in some
+/// form. The products of all texts are taken before anything is sent: the last one is that handed in, and only a journal with amendments
+/// needs memory for others. Each record is read whole before its messages are taken, and a book image is held to its form and passed by; a
+/// part of what comes after all messages is sent only if all messages kept were read. The reader is to be new.
 ///
-/// `Store` and `Send` come only if the count of store or send faults rose. `NotAJournal`, `Bad` and `ProductDiffers` come
-/// exactly if the image is none, is bad, or is of another product; if a record is bad, what is sent of the messages in
-/// those before it was sent, and else nothing was. A journal with amendments is taken for a bad one, with the gate of the last, and
-/// nothing was sent then. An unfinished creation keeps no message. Nothing is written or synced.
+/// `Store` and `Send` come only if the count of store or send faults rose, and `NoMemory` only if the journal has an amendment; nothing was
+/// sent then. `NotAJournal`, `Bad` and `ProductDiffers` come exactly if the image is none, is bad, or is of another product. `Bad` has the
+/// gate of the first record with a bad head; else 9 if the header's text gives no product; else the gate of the first amendment with a bad
+/// text, or a product that may not follow the one before; else that of the first bad record. What is sent of the messages before a bad
+/// record was sent, and before any other fault of the journal nothing was. An unfinished creation keeps no message. Nothing is written or
+/// synced.
 pub fn print_events<W: RecordWork, B: Book, S: Station>(
+    alloc: Global,
     work: &mut W,
     product: &Product,
     text: &[u8],
@@ -82,10 +94,11 @@ pub fn print_events<W: RecordWork, B: Book, S: Station>(
     ensures no_store { (IsErrOf result Unprinted.Store → ⊥) → S.meanings.store_faults station.new ≡ S.meanings.store_faults station.old }
     ensures send { IsErrOf result Unprinted.Send → Rose (S.meanings.send_faults station.old) (S.meanings.send_faults station.new) }
     ensures no_send { (IsErrOf result Unprinted.Send → ⊥) → S.meanings.send_faults station.new ≡ S.meanings.send_faults station.old }
+    ensures memory { IsErrOf result Unprinted.NoMemory → ReadsOnly S.meanings station.old station.new }
     ensures prints { (image : List ℕ) → S.meanings.holds station.old ≡ Some image → PrintsMessages S.meanings product.now text.now image station.old station.new
         (work_text W.meanings work.old) (work_whole W.meanings work.old) result }
 {
-    let count = match publish_kept(work, product, text, reader, station) {
+    let count = match publish_kept(alloc, work, product, text, reader, station) {
         Ok(count) => count,
         Err(why) => return Err(why),
     };

@@ -15,7 +15,6 @@ returns-in-Ok-finish-clause-prints g c = λ image read.
     record {
       kept = kept.kept;
       has = kept.has;
-      none = kept.none;
       few = few;
       sent = c.in-Ok-finish.ensures.all ∙ whole;
       count_is = kept.count_is;
@@ -31,7 +30,6 @@ returns-in-Err-finish-clause-prints g c = λ image read.
     inr record {
       kept = kept.kept;
       has = kept.has;
-      none = kept.none;
       few = few;
       sent = subst (λ s. IsKnownPrefix (m.sent c.finish.new.station) s) whole c.in-Err-finish.ensures.part;
     }
