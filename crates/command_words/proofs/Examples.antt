@@ -1,7 +1,7 @@
 -- What the definition says of some words: it computes.
 use Rattle.std.proofs.Common.{◌≡◌, [], ◌∷◌, Some, None, refl, codes}
 use Rattle.clap.proofs.OnLiterals.{clap_on_literals}
-use Rattle.command_words.specs.declared.command.Command.TheVariants.{Checkpoint, Drill, Ledger, Run}
+use Rattle.command_words.specs.declared.command.Command.TheVariants.{Amend, Checkpoint, Drill, Ledger, Run}
 use Rattle.command_words.specs.Commands.{command_of}
 
 pub run_alone : command_of (codes "run" ∷ []) ≡ Some Run
@@ -11,6 +11,10 @@ run_alone = refl
 pub checkpoint_alone : command_of (codes "checkpoint" ∷ []) ≡ Some Checkpoint
 unfolding command_of clap_on_literals
 checkpoint_alone = refl
+
+pub amend_alone : command_of (codes "amend" ∷ []) ≡ Some Amend
+unfolding command_of clap_on_literals
+amend_alone = refl
 
 pub behind_hyphens : command_of (codes "--" ∷ codes "ledger" ∷ []) ≡ Some Ledger
 unfolding command_of clap_on_literals

@@ -25,6 +25,8 @@ pub enum Command {
     Steps,
     /// `checkpoint`
     Checkpoint,
+    /// `amend`
+    Amend,
     /// `drill`, with the numbers of `--first` (at most 2,147,483,647) and `--count` (at most 1,000,000).
     Drill { first: u32, count: u32 },
 }

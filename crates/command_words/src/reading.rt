@@ -48,6 +48,7 @@ fn plain_command(name: &str) -> Option<Command>
         "ledger" => Some(Command::Ledger),
         "steps" => Some(Command::Steps),
         "checkpoint" => Some(Command::Checkpoint),
+        "amend" => Some(Command::Amend),
         _ => None,
     }
 }
