@@ -10,7 +10,6 @@ use Rattle.book_print.specs.LedgerText.{ledger_line}
 use Rattle.gx_base.specs.declared.event.Event.{Event}
 use Rattle.gx_station.specs.Stations.{StationMeanings}
 use Rattle.gx_station.specs.Honest.{IsHonestNow}
-use Rattle.gx_station.specs.Quiet.{quiet_itself}
 use Rattle.fix_frame.specs.Grammar.{IsFrameFront}
 use Rattle.fix_frame.specs.Stream.{messages_of}
 use Rattle.product_file.specs.Products.{ProductLists}
@@ -19,23 +18,21 @@ use Rattle.order_kinds.specs.Histories.{History, new_reports}
 use Rattle.match_journal.specs.Journal.{Header, Record}
 use Rattle.match_journal.specs.Classes.{Keeps}
 use Rattle.match_journal.specs.Texts.{HasLastText}
-use Rattle.book_recovery.specs.Kept.{IsStartable, KeepsNoAmendment}
-use Rattle.book_recovery.proofs.OneWay.{one_place}
-use Rattle.exec_report.specs.Forms.{LineText}
+use Rattle.book_recovery.specs.Kept.{IsStartable}
+use Rattle.book_recovery.proofs.OneWay.{one_place, one_bad_for_each}
 use Rattle.book_print.specs.TallyText.{no_tally}
 use Rattle.book_print.specs.Printing.{tally_form}
 use Rattle.order_maker.specs.Stream.{MadeStream, generator_meanings, made_stream}
 use Rattle.exec_report.specs.declared.texts.SendFault.{SendFault as SendFailed}
 use Rattle.journal_print.specs.Reading.{ReadsAndSends}
-use Rattle.journal_print.specs.Printed.{PrintsEvents, PrintsBook}
 use Rattle.journal_print.specs.declared.unprinted.Unprinted.{Unprinted}
-use Rattle.journal_print.specs.declared.unprinted.Unprinted.TheVariants as unprinted
 use Rattle.command_words.specs.declared.command.Command.{Command}
-use Rattle.command_words.specs.declared.command.Command.TheVariants.{Run, Replay, Book, Fills, Ledger, Steps, Drill, Checkpoint}
+use Rattle.command_words.specs.declared.command.Command.TheVariants.{Run, Replay, Book, Fills, Ledger, Steps, Drill, Checkpoint, Amend}
 use Rattle.globex_run.specs.Outside.{SourceAt, Outside, Streams, IsQuiet, source_at, streams_at}
 use Rattle.globex_run.specs.Outcomes.{outcome_of}
-use Rattle.globex_run.specs.Words.{IsPrinting, OpensJournal, ReadsEachRecord, NeverEndsWith}
-use Rattle.globex_run.specs.ProductTexts.{TakesAtMost, IsProductText, ProductPremises}
+use Rattle.globex_run.specs.Words.{IsPrinting, OpensByText, NeverEndsWith}
+use Rattle.globex_run.specs.ProductTexts.{IsProductText, ProductPremises}
+use Rattle.globex_run.specs.Memory.{StopsAtProducts}
 use Rattle.globex_run.specs.FullJournals.{IsFullJournal}
 use Rattle.globex_run.specs.Refusals.{IsRefusal, RefusesExactly, CanStart}
 use Rattle.globex_run.specs.RunResult.{CommandResult, CommandEnded, RunEnded, EndedUnread}
@@ -46,28 +43,36 @@ use Rattle.globex_run.specs.Checkpoints.{AddsImage, KeepsTheSame, CheckpointLeav
 use Rattle.globex_run.specs.Prints.{PrintsAs, outcome_printed, outcome_sent}
 use Rattle.globex_run.specs.Inner.Drilling.{DrillResult, DrillsMade}
 use Rattle.globex_run.specs.Inner.Checkpointing.{EndsCheckpoint, CheckpointResult}
+use Rattle.globex_run.specs.Inner.Amending.{AmendResult}
 use Rattle.globex_run.specs.Inner.Executing.{Executes, HasCauses, Runs}
 use Rattle.globex_run.specs.Calls.{Call}
-use Rattle.globex_run.specs.Works.{Given, Reads, work_of, CanBeDone}
+use Rattle.globex_run.specs.Steps.{LeavesFronts, LeavesEntryOrFronts}
+use Rattle.globex_run.specs.Amends.{AmendPremises, CanBeAmended}
+use Rattle.globex_run.specs.Works.{GivenFor, Reads, work_of, DoneBy, EndedBy, CanBeDone, bytes_for}
 use Rattle.globex_run.specs.Drills.{summary, made_messages, summary_of_all}
 use Rattle.globex_run.specs.Checkpoints.{sends_nothing}
-use Rattle.globex_run.specs.Promises.{DoesAll, EndsAsTold, LeavesAFront, LeavesTheEntry, KeepsWhatIsSent, AddsMessagesAlone, AddsARecordPerRead, ReadsItOnce, IsFullForMessages, IsFullForImage, SendsNothing, EndsWellWhereItCan, PrintsItsText, EndsWhereTold, RefusesWhatItMust, OpensAgain, HasItsStatuses}
+use Rattle.globex_run.specs.Promises.{DoesAll, EndsAsTold, LeavesAFront, LeavesTheEntry, KeepsWhatIsSent, AddsMessagesAlone, AddsARecordPerRead, ReadsItOnce, IsFullForMessages, IsFullForImage, IsFullForAmendment, SendsNothing, EndsWellWhereItCan, PrintsItsText, EndsWhereTold, LeavesAllAtNoMemory, RefusesWhatItMust, RefusesAmendments, OpensAgain, HasItsStatuses}
 use Rattle.globex_run.specs.declared.outcome.Outcome.{Outcome}
 use Rattle.globex_run.proofs.EverySent.{every-sent, all-grows, fronts-of, entry-or-fronts}
 use Rattle.globex_run.proofs.Reported.{fewer-reports}
 use Rattle.globex_run.specs.declared.ending.Ending.{Ending}
 use Rattle.globex_run.specs.declared.ending.Ending.TheVariants.{Done, ReadFault, StoreFault, SendFault, BadFrame, Truncated, NotAJournal, JournalBad, ProductDiffers, Full}
 use Rattle.globex_run.proofs.Told.{outside_of}
-use Rattle.globex_run.proofs.Executed.{quiet-reads}
 use Rattle.globex_run.proofs.Runs.{few-of-product, told-product, run-exactly, run-otherwise, run-every-moment, run-first-sync, run-every-message, run-full, run-record-per-read, run-reads-few, run-all}
 use Rattle.globex_run.proofs.FewReads.{drill-reads}
 use Rattle.globex_run.proofs.Drills.{empty_front, drill-all, drill-otherwise, drill-adds, drill-moments, drill-first-sync, drill-full}
 use Rattle.globex_run.proofs.CheckpointHeadlines.{not-among, not-done, adds-image as checkpoint-adds, the-same as checkpoint-keeps, every-moment as checkpoint-moments, first-sync as checkpoint-first-sync, few-read as checkpoint-reads, image-full as checkpoint-full}
 use Rattle.globex_run.proofs.Complete.{served}
 use Rattle.globex_run.proofs.Endings.{when_done}
-use Rattle.globex_run.proofs.Refused.{not-refusal, none-counted, one-for-one-product, by-ending, by-book, by-events}
-use Rattle.globex_run.proofs.Statuses.{by-memory, unless-memory, never-lacks, printed-not-full, sent-status, checkpoint-not-sent}
-use Rattle.globex_run.proofs.StartableImages.{not-foreign, not-bad-front, not-other, not-bad, not-bad-record, not-refused-by}
+use Rattle.globex_run.proofs.Refused.{not-refusal, none-counted, by-ending, by-book, by-events}
+use Rattle.globex_run.proofs.Statuses.{by-memory, unless-memory, never-lacks, printed-low, ending-low, sent-status, checkpoint-not-sent}
+use Rattle.globex_run.proofs.Executed.{drill-low}
+use Rattle.globex_run.proofs.ByCommand.{by-going-on, by-writing, by-serving, by-serving-none}
+use Rattle.globex_run.proofs.AmendHeadlines.{amend-does, amend-ends, amend-every-moment, amend-first-sync, amend-full, amend-done, amend-counts, amend-statuses}
+use Rattle.globex_run.proofs.AmendRefused.{amend-refuses}
+use Rattle.globex_run.proofs.AmendExecuted.{amend-opens}
+use Rattle.globex_run.proofs.StartableImages.{not-refused-by}
+use Rattle.globex_run.proofs.Printed.{events-printed, book-printed, steps-printed}
 
 -- ---- a command that can be done has a product
 
@@ -79,6 +84,7 @@ pub product-told : {P I S : Type 0} (m : StationMeanings S) (before : Outside P 
 product-told m before Run can = (can.start.text, can.start.product, can.start.text_known, can.start.gives)
 product-told m before (Drill first count) can = (can.start.text, can.start.product, can.start.text_known, can.start.gives)
 product-told m before Checkpoint can = (can.start.text, can.start.product, can.start.text_known, can.start.gives)
+product-told m before Amend can = (can.start.text, can.start.product, can.start.text_known, can.start.gives)
 product-told m before Replay can = (can.text, can.product, can.text_known, can.gives)
 product-told m before Book can = (can.text, can.product, can.text_known, can.gives)
 product-told m before Fills can = (can.text, can.product, can.text_known, can.gives)
@@ -104,20 +110,20 @@ module _ {P I S : Type 0} (m : StationMeanings S) (p q : SourceAt P) (i j : Sour
   no-fault : (command : Command) → Causes command → IsQuiet entry exit → (outcome.status ≢ 5) × (outcome.status ≢ 6)
   no-fault command causes quiet = (λ five. quiet.store (causes.store five), λ six. quiet.sends (causes.send six))
 
-  -- want of memory left all but the product's source as it was
-  pub no-memory : (command : Command) → Causes command → outcome.status ≡ 1 → (j.object ≡ i.object) × (new ≡ old) × TakesAtMost 65536 p q
-  no-memory command causes one =
-      let streams : exit.streams ≡ entry.streams = (causes.memory one).0 in
-      (ap (λ (s : Streams I S). s.input.object) streams, ap (λ (s : Streams I S). s.station.object) streams, few-of-product p q text product took gives)
+  -- a command for which there was no memory left the input as it was
+  pub input-left : (command : Command) → Causes command → outcome.status ≡ 1 → j.object ≡ i.object
+  input-left command causes one = ⊎_elim
+      (λ untouched. ap (λ (s : Streams I S). s.input.object) untouched)
+      (λ stopped. ap (λ (s : SourceAt I). s.object) stopped.1.input)
+      (causes.memory one).0
 
-  -- a command for which there was no memory only read
+  -- only read
   pub reads-none : (command : Command) → Causes command → outcome.status ≡ 1 → ReadsAndSends m old new
-  reads-none command causes one =
-      subst (λ (s : S). ReadsAndSends m old s) (sym (no-memory command causes one).1) (quiet-reads m old old (quiet_itself m old))
+  reads-none command causes one = causes.memory_reads one
 
   -- and sent nothing
-  pub sends-none : (command : Command) → Causes command → outcome.status ≡ 1 → (m.sent new ≡ m.sent old) × (outcome.status ≢ 6)
-  sends-none command causes one = (ap m.sent (no-memory command causes one).1, λ six. omega (arith, six, one))
+  pub sends-none : (command : Command) → Causes command → outcome.status ≡ 1 → m.sent new ≡ m.sent old
+  sends-none command causes one = ⊎_elim (λ untouched. ap (λ (s : Streams I S). s.station.sent) untouched) (λ stopped. stopped.1.reads.looks.silent.sent) (causes.memory one).0
 
   -- ---- the command that the words ask for
 
@@ -340,6 +346,30 @@ module _ {P I S : Type 0} (m : StationMeanings S) (p q : SourceAt P) (i j : Sour
         pub all-checkpointed : outcome.status ≡ 0
         all-checkpointed = done-by checkpoint-can.ending checkpoint-can.is (checkpoint-can.from can.start.image can.start.kept can.start.honest can.start.image_known can.start.startable).ends
 
+    -- ---- an amendment
+
+    module _ (asks : asked ≡ Some Amend) where
+      amended : AmendResult m product lent old new outcome
+      amended = (did-as Amend asks).0
+
+      -- it sends nothing, and unless it was done no message is counted
+      pub amend-sends-nothing : m.sent new ≡ m.sent old
+      amend-sends-nothing = amended.did.silent.sent
+
+      pub amend-counts-none : outcome.status ≢ 0 → outcome.messages ≡ 0
+      amend-counts-none other = amend-counts m product lent i old new outcome amended other
+
+      pub amended-as : (told : List ℕ) (lists : ProductLists) → p.left ≡ Some told → product_of told ≡ Ok lists → AmendResult m lists told old new outcome
+      amended-as told lists known are =
+          told-product p q text lent same product took gives (λ (l : ProductLists) (bytes : List ℕ). AmendResult m l bytes old new outcome) told lists known are amended
+
+      -- that of the product of the premises
+      pub amended-from : (given : AmendPremises m entry exit outcome.status) → AmendResult m given.start.product given.start.text old new outcome
+      amended-from given = amended-as given.start.text given.start.product given.start.text_known given.start.gives
+
+      pub all-amended : (can : CanBeAmended m entry) → IsQuiet entry exit → (outcome.status ≡ 1) ⊎ (outcome.status ≡ 0)
+      all-amended can quiet = amend-done m p q i j old new outcome can quiet (amended-as can.start.text can.start.product can.start.text_known can.start.gives)
+
     -- ---- what was printed
 
     module _ (c : Command) (asks : asked ≡ Some c) where
@@ -347,6 +377,7 @@ module _ {P I S : Type 0} (m : StationMeanings S) (p q : SourceAt P) (i j : Sour
       reads-by Run printing did = absurd printing
       reads-by (Drill first count) printing did = absurd printing
       reads-by Checkpoint printing did = absurd printing
+      reads-by Amend printing did = absurd printing
       reads-by Replay printing did = did.reads
       reads-by Book printing did = did.reads
       reads-by Fills printing did = did.reads
@@ -361,6 +392,7 @@ module _ {P I S : Type 0} (m : StationMeanings S) (p q : SourceAt P) (i j : Sour
       input-by Run other did = absurd (other refl)
       input-by (Drill first count) other did = did.1
       input-by Checkpoint other did = did.1
+      input-by Amend other did = did.1
       input-by Replay other did = did.input
       input-by Book other did = did.input
       input-by Fills other did = did.input
@@ -375,6 +407,7 @@ module _ {P I S : Type 0} (m : StationMeanings S) (p q : SourceAt P) (i j : Sour
       form-of Run any = tt
       form-of (Drill first count) drilled = tt
       form-of Checkpoint did = tt
+      form-of Amend did = tt
       form-of Replay printed = printed.form
       form-of Book printed = printed.form
       form-of Fills printed = printed.form
@@ -393,57 +426,29 @@ module _ {P I S : Type 0} (m : StationMeanings S) (p q : SourceAt P) (i j : Sour
         quiet-print : (outcome.status ≢ 5) × (outcome.status ≢ 6)
         quiet-print = no-fault c (causes-as c asks) quiet
 
-        module _ (image : List ℕ) (kept : History) (start : IsStartable can.product can.text kept image) where
-          events-printed : KeepsNoAmendment can.product.journal_limit image → (line : LineText) (whole : History → List ℕ) (answer : Result ℕ Unprinted) → outcome ≡ outcome_printed answer → PrintsEvents m can.product can.text image old new line whole answer → outcome.status ≡ 0
-          events-printed none line whole (Ok n) is printed = ap (λ (o : Outcome). o.status) is
-          events-printed none line whole (Err unprinted.Store) is printed = absurd (quiet-print.0 (ap (λ (o : Outcome). o.status) is))
-          events-printed none line whole (Err unprinted.Send) is printed = absurd (quiet-print.1 (ap (λ (o : Outcome). o.status) is))
-          events-printed none line whole (Err (unprinted.NotAJournal at)) is printed = absurd (not-foreign can.product can.text image kept can.gives start at printed.0)
-          events-printed none line whole (Err (unprinted.Bad at)) is printed =
-              absurd (⊎_elim
-              (λ front. ⊎_elim (λ bad. not-bad-front can.product can.text image kept can.gives start at bad) (λ amended. not-bad-record can.product can.text image kept can.gives start none at amended.opened (inl amended.amendment)) front.0)
-              (λ sent. not-bad-record can.product can.text image kept can.gives start none at sent.opened (inr (sent.none, sent.bad)))
-              printed)
-          events-printed none line whole (Err (unprinted.ProductDiffers at)) is printed = absurd (not-other can.product can.text image kept can.gives start at printed.0)
-
-          book-printed : (answer : Result ℕ Unprinted) → outcome ≡ outcome_printed answer → PrintsBook m can.product can.text image old new answer → outcome.status ≡ 0
-          book-printed (Ok n) is printed = ap (λ (o : Outcome). o.status) is
-          book-printed (Err unprinted.Store) is printed = absurd (quiet-print.0 (ap (λ (o : Outcome). o.status) is))
-          book-printed (Err unprinted.Send) is printed = absurd (quiet-print.1 (ap (λ (o : Outcome). o.status) is))
-          book-printed (Err (unprinted.NotAJournal at)) is printed = absurd (not-foreign can.product can.text image kept can.gives start at printed.0)
-          book-printed (Err (unprinted.Bad at)) is printed =
-              absurd (⊎_elim (λ front. not-bad-front can.product can.text image kept can.gives start at front) (λ bad. not-bad can.product can.text image kept can.gives start at bad.0 bad.1) printed.0)
-          book-printed (Err (unprinted.ProductDiffers at)) is printed = absurd (not-other can.product can.text image kept can.gives start at printed.0)
-
-        steps-printed : (result : Result (Unit {0}) SendFailed) → outcome ≡ outcome_sent 0 result → outcome.status ≡ 0
-        steps-printed (Ok t) is = ap (λ (o : Outcome). o.status) is
-        steps-printed (Err fault) is = absurd (quiet-print.1 (ap (λ (o : Outcome). o.status) is))
-
         abbrev Printed : Command → Type 0
         Printed x = PrintsAs m can.product can.text entry.streams.station exit.streams.station outcome x
 
         abbrev Startable : Command → Type 0
         Startable x = x ≢ Steps → (image : List ℕ) × ((entry.streams.station.image ≡ Some image) × ((kept : History) × IsStartable can.product can.text kept image))
 
-        abbrev Plain : Command → Type 0
-        Plain x = ReadsEachRecord x → (image : List ℕ) → entry.streams.station.image ≡ Some image → KeepsNoAmendment can.product.journal_limit image
+        by-command : (x : Command) → IsPrinting x → outcome.status ≢ 1 → Startable x → Printed x → outcome.status ≡ 0
+        by-command Run printing lacks startable form = absurd printing
+        by-command (Drill first count) printing lacks startable form = absurd printing
+        by-command Checkpoint printing lacks startable form = absurd printing
+        by-command Amend printing lacks startable form = absurd printing
+        by-command Replay printing lacks startable form =
+            let at = startable (λ e. cc e) in events-printed m can.product can.text old new outcome quiet-print can.gives at.0 at.1.1.0 at.1.1.1 line_of _ form.answer form.outcome_is lacks (form.prints at.0 at.1.0)
+        by-command Fills printing lacks startable form =
+            let at = startable (λ e. cc e) in events-printed m can.product can.text old new outcome quiet-print can.gives at.0 at.1.1.0 at.1.1.1 fill_line _ form.answer form.outcome_is lacks (form.prints at.0 at.1.0)
+        by-command Ledger printing lacks startable form =
+            let at = startable (λ e. cc e) in events-printed m can.product can.text old new outcome quiet-print can.gives at.0 at.1.1.0 at.1.1.1 (λ names. ledger_line) _ form.answer form.outcome_is lacks (form.prints at.0 at.1.0)
+        by-command Book printing lacks startable form =
+            let at = startable (λ e. cc e) in book-printed m can.product can.text old new outcome quiet-print can.gives at.0 at.1.1.0 at.1.1.1 form.answer form.outcome_is (form.prints at.0 at.1.0).prints
+        by-command Steps printing lacks startable form = steps-printed outcome quiet-print form.result form.outcome_is
 
-        by-command : (x : Command) → IsPrinting x → Startable x → Plain x → Printed x → outcome.status ≡ 0
-        by-command Run printing startable plain form = absurd printing
-        by-command (Drill first count) printing startable plain form = absurd printing
-        by-command Checkpoint printing startable plain form = absurd printing
-        by-command Replay printing startable plain form =
-            let at = startable (λ e. cc e) in events-printed at.0 at.1.1.0 at.1.1.1 (plain tt at.0 at.1.0) line_of _ form.answer form.outcome_is (form.prints at.0 at.1.0)
-        by-command Fills printing startable plain form =
-            let at = startable (λ e. cc e) in events-printed at.0 at.1.1.0 at.1.1.1 (plain tt at.0 at.1.0) fill_line _ form.answer form.outcome_is (form.prints at.0 at.1.0)
-        by-command Ledger printing startable plain form =
-            let at = startable (λ e. cc e) in events-printed at.0 at.1.1.0 at.1.1.1 (plain tt at.0 at.1.0) (λ names. ledger_line) _ form.answer form.outcome_is (form.prints at.0 at.1.0)
-        by-command Book printing startable plain form =
-            let at = startable (λ e. cc e) in book-printed at.0 at.1.1.0 at.1.1.1 form.answer form.outcome_is (form.prints at.0 at.1.0).prints
-        by-command Steps printing startable plain form = steps-printed form.result form.outcome_is
-
-        pub all-printed : IsPrinting c → outcome.status ≡ 0
-        all-printed printing = by-command c printing can.startable can.plain (printed-as can.text can.product can.text_known can.gives)
+        pub all-printed : IsPrinting c → outcome.status ≢ 1 → outcome.status ≡ 0
+        all-printed printing lacks = by-command c printing lacks can.startable (printed-as can.text can.product can.text_known can.gives)
 
       -- ---- why it ended
 
@@ -526,6 +531,7 @@ module _ {P I S : Type 0} (m : StationMeanings S) (p q : SourceAt P) (i j : Sour
       ended Run did told = ran-ended did
       ended (Drill first count) drilled told = drill-ended first count drilled.1 drilled.0
       ended Checkpoint did told = checkpoint-ended did.1 did.0
+      ended Amend did told = did.1
       ended Replay printed told = printed.input
       ended Book printed told = printed.input
       ended Fills printed told = printed.input
@@ -551,81 +557,94 @@ module _ {P I S : Type 0} (m : StationMeanings S) (p q : SourceAt P) (i j : Sour
         formed : (x : Command) → Did x → PrintsAs m product text entry.streams.station exit.streams.station outcome x
         formed x did = subst (λ (l : List ℕ). PrintsAs m product l entry.streams.station exit.streams.station outcome x) same (form-of x did)
 
-        refuses-by : (x : Command) → OpensJournal x → Did x → outcome.status ≢ 1 → Exactly x
+        refuses-by : (x : Command) → OpensByText x → Did x → outcome.status ≢ 1 → Exactly x
         refuses-by Run opens did told =
             let ended = ran-ended did in
-            by-ending Run product text image gives (λ head. one_place product head product.journal_limit image) outcome (λ head at bad. bad) (λ head at bad. bad)
+            by-ending Run product text image (λ head. one_place product head product.journal_limit image) outcome (λ head at bad. bad) (λ head at bad. bad)
             ended.ending ended.is (none-counted _ _ outcome ended.ending ended.serving.taken ended.is ended.serving.ends) (at-image image known ended.ending ended.image)
         refuses-by (Drill first count) opens drilled told =
             let ended = drill-ended first count drilled.1 drilled.0 in
-            by-ending (Drill first count) product text image gives (λ head. one_place product head product.journal_limit image) outcome (λ head at bad. bad) (λ head at bad. bad)
+            by-ending (Drill first count) product text image (λ head. one_place product head product.journal_limit image) outcome (λ head at bad. bad) (λ head at bad. bad)
             ended.ending ended.is ended.none (at-image image known ended.ending ended.image)
         refuses-by Checkpoint opens did told =
             let ended = checkpoint-ended did.1 did.0 in
-            by-ending Checkpoint product text image gives (λ head. one_place product head product.journal_limit image) outcome (λ head at bad. bad) (λ head at bad. bad)
+            by-ending Checkpoint product text image (λ head. one_place product head product.journal_limit image) outcome (λ head at bad. bad) (λ head at bad. bad)
             ended.ending ended.is ended.none (at-image image known ended.ending ended.image)
         refuses-by Book opens did told =
             let form = formed Book did in
-            by-book Book product text image gives (λ head. one_place product head product.journal_limit image) outcome (λ head at bad. bad) (λ head at bad. bad) m old new form.answer form.outcome_is (form.prints image known).prints
+            by-book Book product text image (λ head. one_place product head product.journal_limit image) outcome (λ head at bad. bad) (λ head at bad. bad) m old new form.answer form.outcome_is (form.prints image known).prints
         refuses-by Replay opens did told =
             let form = formed Replay did in
-            by-events Replay product text image gives (λ head. one-for-one-product product head product.journal_limit image) outcome tt (λ head at bad. bad) (λ head at bad. bad) m old new line_of _ form.answer form.outcome_is (form.prints image known)
+            by-events Replay product text image (λ head. one_bad_for_each head product.journal_limit image) outcome tt (λ head at bad. bad) (λ head at bad. bad) m old new line_of _ form.answer form.outcome_is told (form.prints image known)
         refuses-by Fills opens did told =
             let form = formed Fills did in
-            by-events Fills product text image gives (λ head. one-for-one-product product head product.journal_limit image) outcome tt (λ head at bad. bad) (λ head at bad. bad) m old new fill_line _ form.answer form.outcome_is (form.prints image known)
+            by-events Fills product text image (λ head. one_bad_for_each head product.journal_limit image) outcome tt (λ head at bad. bad) (λ head at bad. bad) m old new fill_line _ form.answer form.outcome_is told (form.prints image known)
         refuses-by Ledger opens did told =
             let form = formed Ledger did in
-            by-events Ledger product text image gives (λ head. one-for-one-product product head product.journal_limit image) outcome tt (λ head at bad. bad) (λ head at bad. bad) m old new (λ names. ledger_line) _ form.answer form.outcome_is (form.prints image known)
+            by-events Ledger product text image (λ head. one_bad_for_each head product.journal_limit image) outcome tt (λ head at bad. bad) (λ head at bad. bad) m old new (λ names. ledger_line) _ form.answer form.outcome_is told (form.prints image known)
         refuses-by Steps opens did told = absurd opens
+        refuses-by Amend opens did told = absurd opens
 
-        refuses-told : OpensJournal c → outcome.status ≢ 1 → (told : List ℕ) (lists : ProductLists) → p.left ≡ Some told → product_of told ≡ Ok lists → RefusesExactly c lists told image outcome
+        refuses-told : OpensByText c → outcome.status ≢ 1 → (told : List ℕ) (lists : ProductLists) → p.left ≡ Some told → product_of told ≡ Ok lists → RefusesExactly c lists told image outcome
         refuses-told opens ended told lists known' are =
             told-product p q text text refl product took gives (λ (l : ProductLists) (bytes : List ℕ). RefusesExactly c l bytes image outcome) told lists known' are (refuses-by c opens (did-as c asks) ended)
 
       -- the journal is refused exactly where its image is such
-      pub refuses : OpensJournal c → (given : ProductPremises entry exit outcome.status) → (image : List ℕ) → entry.streams.station.image ≡ Some image → RefusesExactly c given.product given.text image outcome
+      pub refuses : OpensByText c → (given : ProductPremises entry exit outcome.status) → (image : List ℕ) → entry.streams.station.image ≡ Some image → RefusesExactly c given.product given.text image outcome
       refuses opens given image known = refuses-told image known opens given.memory given.text given.product given.text_known given.gives
 
       -- it is not where a run can start
       module _ (can : CanStart entry c) (refusal : IsRefusal outcome.status) where
-        not-started : OpensJournal c → c ≢ Steps → ⊥
+        not-started : OpensByText c → c ≢ Steps → ⊥
         not-started opens other =
             let at = can.startable other in
             let exactly = refuses-told at.0 at.1.0 opens (λ one. not-refusal outcome.status 1 one (λ e. cc e) (λ e. cc e) (λ e. cc e) refusal) can.text can.product can.text_known can.gives in
-            not-refused-by can.product can.text at.0 at.1.1.0 can.gives at.1.1.1 c (λ each. can.plain each at.0 at.1.0) outcome.status outcome.at (exactly.answered refusal).0
+            not-refused-by can.product can.text at.0 at.1.1.0 can.gives at.1.1.1 c outcome.status outcome.at (exactly.answered refusal).0
 
         sent-not-refused : (result : Result (Unit {0}) SendFailed) → outcome ≡ outcome_sent 0 result → ⊥
         sent-not-refused (Ok t) is = not-refusal outcome.status 0 (ap (λ (o : Outcome). o.status) is) (λ e. cc e) (λ e. cc e) (λ e. cc e) refusal
         sent-not-refused (Err fault) is = not-refusal outcome.status 6 (ap (λ (o : Outcome). o.status) is) (λ e. cc e) (λ e. cc e) (λ e. cc e) refusal
 
-        started-by : (x : Command) → Did x → (OpensJournal x → x ≢ Steps → ⊥) → ⊥
-        started-by Run did not = not tt (λ e. cc e)
-        started-by (Drill first count) did not = not tt (λ e. cc e)
-        started-by Checkpoint did not = not tt (λ e. cc e)
-        started-by Book did not = not tt (λ e. cc e)
-        started-by Replay did not = not tt (λ e. cc e)
-        started-by Fills did not = not tt (λ e. cc e)
-        started-by Ledger did not = not tt (λ e. cc e)
-        started-by Steps did not = sent-not-refused did.form.result did.form.outcome_is
+        amend-not-refused : c ≡ Amend → c ≢ Steps → ⊥
+        amend-not-refused is other =
+            let at = can.startable other in
+            amend-opens can.product can.text at.0 can.gives at.1.1.0 at.1.1.1 m old new outcome (amended-as (asks ∙ ap (λ (x : Command). Some x) is) can.text can.product can.text_known can.gives) at.1.0 refusal
+
+        started-by : (x : Command) → c ≡ x → Did x → ⊥
+        started-by Run is did = not-started (subst OpensByText (sym is) tt) (λ e. cc (e, is))
+        started-by (Drill first count) is did = not-started (subst OpensByText (sym is) tt) (λ e. cc (e, is))
+        started-by Checkpoint is did = not-started (subst OpensByText (sym is) tt) (λ e. cc (e, is))
+        started-by Amend is did = amend-not-refused is (λ e. cc (e, is))
+        started-by Book is did = not-started (subst OpensByText (sym is) tt) (λ e. cc (e, is))
+        started-by Replay is did = not-started (subst OpensByText (sym is) tt) (λ e. cc (e, is))
+        started-by Fills is did = not-started (subst OpensByText (sym is) tt) (λ e. cc (e, is))
+        started-by Ledger is did = not-started (subst OpensByText (sym is) tt) (λ e. cc (e, is))
+        started-by Steps is did = sent-not-refused did.form.result did.form.outcome_is
 
         pub opens-again : ⊥
-        opens-again = started-by c (did-as c asks) not-started
+        opens-again = started-by c refl (did-as c asks)
 
       -- ---- each command has its statuses
 
-      printing-status : (x : Command) → Causes x → (answer : Result ℕ Unprinted) → outcome ≡ outcome_printed answer → (x ≡ Run → ⊥) → (outcome.status ≡ 7) ⊎ ((outcome.status ≡ 8) ⊎ (outcome.status ≡ 12)) → ⊥
-      printing-status x why answer is other never = ⊎_elim
-          (λ seven. other (why.frames (inl seven)))
-          (λ more. ⊎_elim (λ eight. other (why.frames (inr eight))) (λ twelve. printed-not-full outcome answer is twelve) more)
-          never
+      -- 7 and 8 come of a run alone
+      no-frames : (x : Command) → Causes x → (x ≡ Run → ⊥) → {Others : Type 0} → (Others → ⊥) → (outcome.status ≡ 7) ⊎ ((outcome.status ≡ 8) ⊎ Others) → ⊥
+      no-frames x why other none never = ⊎_elim (λ seven. other (why.frames (inl seven))) (λ more. ⊎_elim (λ eight. other (why.frames (inr eight))) none more) never
+
+      printing-status : (x : Command) → Causes x → (answer : Result ℕ Unprinted) → outcome ≡ outcome_printed answer → (x ≡ Run → ⊥) → NeverEndsWith Replay outcome.status → ⊥
+      printing-status x why answer is other never =
+          let low = printed-low outcome answer is in
+          no-frames x why other (λ high. ⊎_elim (λ e. omega (arith, e, low)) (λ e. omega (arith, e, low)) high) never
 
       ending-by : (x : Command) → Did x → Causes x → NeverEndsWith x outcome.status → ⊥
-      ending-by Run did why never = never
-      ending-by (Drill first count) did why never = let none : Drill first count ≡ Run = why.frames never in cc none
+      ending-by Run did why never = omega (arith, never, ending-low outcome did.session.ending outcome.messages did.session.is)
+      ending-by (Drill first count) did why never =
+          let low = drill-low m product lent i old new outcome first count did.0 in
+          no-frames (Drill first count) why (λ e. cc e) (λ e. omega (arith, e, low)) never
       ending-by Checkpoint did why never = ⊎_elim
           (λ six. checkpoint-not-sent outcome did.0.ending did.0.possible did.0.is six)
-          (λ frames. let none : Checkpoint ≡ Run = why.frames frames in cc none)
+          (λ frames. let low = ending-low outcome did.0.ending outcome.messages did.0.is in no-frames Checkpoint why (λ e. cc e) (λ e. omega (arith, e, low)) frames)
           never
+      ending-by Amend did why never = amend-statuses m product lent i old new outcome did.0 never
       ending-by Replay did why never = printing-status Replay why did.form.answer did.form.outcome_is (λ e. cc e) never
       ending-by Book did why never = printing-status Book why did.form.answer did.form.outcome_is (λ e. cc e) never
       ending-by Fills did why never = printing-status Fills why did.form.answer did.form.outcome_is (λ e. cc e) never
@@ -641,117 +660,111 @@ module _ {P I S : Type 0} (m : StationMeanings S) (p q : SourceAt P) (i j : Sour
     abbrev pub the-call : Call P I S
     the-call = record { station = m; asked = asked; before = entry; after = exit; outcome = outcome }
 
+    -- want of memory leaves all but the product's source as it was, or what was read of a journal whose products it takes
+    pub leaves-all : LeavesAllAtNoMemory the-call
+    leaves-all one = (
+      few-of-product p q text product took gives,
+      ⊎_elim
+          (λ untouched. inl untouched)
+          (λ stopped. inr (command, is, stopped.0, λ told lists known are. told-product p q text lent same product took gives (λ (l : ProductLists) (bytes : List ℕ). StopsAtProducts m entry.streams exit.streams command l bytes) told lists known are stopped.1))
+          (causes.memory one).0,
+    )
+
     pub does-all : DoesAll the-call
-    does-all Run asks writing given read none = exactly asked command is (did given.memory) causes asks given read none
-    does-all (Drill first count) asks writing given read none = sums-up asked command is (did given.memory) causes first count asks given none
-    does-all Checkpoint asks writing given read none = record { adds = adds-image asked command is (did given.memory) causes asks given none; keeps = keeps-the-same asked command is (did given.memory) causes asks given }
-    does-all Replay asks writing given read none = absurd writing
-    does-all Book asks writing given read none = absurd writing
-    does-all Fills asks writing given read none = absurd writing
-    does-all Ledger asks writing given read none = absurd writing
-    does-all Steps asks writing given read none = absurd writing
+    does-all c asks writing = by-writing (λ x. asked ≡ Some x → (given : GivenFor the-call x) (read : Reads the-call x) → outcome.status ≡ 0 → DoneBy the-call x given read)
+        (λ asks given read none. exactly asked command is (did given.memory) causes asks given read none)
+        (λ first count asks given read none. sums-up asked command is (did given.memory) causes first count asks given none)
+        (λ asks given read none. record { adds = adds-image asked command is (did given.memory) causes asks given none; keeps = keeps-the-same asked command is (did given.memory) causes asks given })
+        (λ asks given read none. amend-does m p q i j old new outcome given (amended-from asked command is (did given.memory) causes asks given) none)
+        c writing asks
 
     pub ends-as-told : EndsAsTold the-call
-    ends-as-told Run asks writing given read other = otherwise asked command is (did given.memory) causes asks given read
-    ends-as-told (Drill first count) asks writing given read other = drill-ends asked command is (did given.memory) causes first count asks given other
-    ends-as-told Checkpoint asks writing given read other = keeps-the-same asked command is (did given.memory) causes asks given
-    ends-as-told Replay asks writing given read other = absurd writing
-    ends-as-told Book asks writing given read other = absurd writing
-    ends-as-told Fills asks writing given read other = absurd writing
-    ends-as-told Ledger asks writing given read other = absurd writing
-    ends-as-told Steps asks writing given read other = absurd writing
+    ends-as-told c asks writing = by-writing (λ x. asked ≡ Some x → (given : GivenFor the-call x) (read : Reads the-call x) → outcome.status ≢ 0 → EndedBy the-call x given read)
+        (λ asks given read other. otherwise asked command is (did given.memory) causes asks given read)
+        (λ first count asks given read other. drill-ends asked command is (did given.memory) causes first count asks given other)
+        (λ asks given read other. keeps-the-same asked command is (did given.memory) causes asks given)
+        (λ asks given read other. amend-ends m p q i j old new outcome given (amended-from asked command is (did given.memory) causes asks given) other)
+        c writing asks
 
     pub leaves-a-front : LeavesAFront the-call
-    leaves-a-front Run asks writing given read = fronts-of the-call given (messages_of read.taken) (λ messages. new_reports given.kept messages) (every-moment asked command is (did given.memory) causes asks given read)
-    leaves-a-front (Drill first count) asks writing given read = fronts-of the-call given (made_messages given.product first count) (λ messages. summary_of_all given.product given.kept (made_messages given.product first count) messages) (drill-every-moment asked command is (did given.memory) causes first count asks given)
-    leaves-a-front Checkpoint asks writing given read = fronts-of the-call given [] sends_nothing (checkpoint-every-moment asked command is (did given.memory) causes asks given)
-    leaves-a-front Replay asks writing given read = absurd writing
-    leaves-a-front Book asks writing given read = absurd writing
-    leaves-a-front Fills asks writing given read = absurd writing
-    leaves-a-front Ledger asks writing given read = absurd writing
-    leaves-a-front Steps asks writing given read = absurd writing
+    leaves-a-front c asks writing = by-writing (λ x. asked ≡ Some x → (given : GivenFor the-call x) (read : Reads the-call x) → LeavesFronts the-call (work_of the-call x given read))
+        (λ asks given read. fronts-of the-call given (messages_of read.taken) (λ messages. new_reports given.kept messages) (every-moment asked command is (did given.memory) causes asks given read))
+        (λ first count asks given read. fronts-of the-call given (made_messages given.product first count) (λ messages. summary_of_all given.product given.kept (made_messages given.product first count) messages) (drill-every-moment asked command is (did given.memory) causes first count asks given))
+        (λ asks given read. fronts-of the-call given [] sends_nothing (checkpoint-every-moment asked command is (did given.memory) causes asks given))
+        (λ asks given read. amend-every-moment m p q i j old new outcome given.start (amended-from asked command is (did given.memory) causes asks given) asked)
+        c writing asks
 
     pub leaves-the-entry : (m.is_honest old → IsHonestNow m old) → LeavesTheEntry the-call
-    leaves-the-entry now Run asks writing given read = entry-or-fronts the-call given (messages_of read.taken) (λ messages. new_reports given.kept messages) (first-sync asked command is (did given.memory) causes asks given read (now given.honest))
-    leaves-the-entry now (Drill first count) asks writing given read = entry-or-fronts the-call given (made_messages given.product first count) (λ messages. summary_of_all given.product given.kept (made_messages given.product first count) messages) (drill-before-sync asked command is (did given.memory) causes first count asks given (now given.honest))
-    leaves-the-entry now Checkpoint asks writing given read = entry-or-fronts the-call given [] sends_nothing (checkpoint-before-sync asked command is (did given.memory) causes asks given (now given.honest))
-    leaves-the-entry now Replay asks writing given read = absurd writing
-    leaves-the-entry now Book asks writing given read = absurd writing
-    leaves-the-entry now Fills asks writing given read = absurd writing
-    leaves-the-entry now Ledger asks writing given read = absurd writing
-    leaves-the-entry now Steps asks writing given read = absurd writing
+    leaves-the-entry now c asks writing = by-writing (λ x. asked ≡ Some x → (given : GivenFor the-call x) (read : Reads the-call x) → LeavesEntryOrFronts the-call (work_of the-call x given read))
+        (λ asks given read. entry-or-fronts the-call given (messages_of read.taken) (λ messages. new_reports given.kept messages) (first-sync asked command is (did given.memory) causes asks given read (now given.honest)))
+        (λ first count asks given read. entry-or-fronts the-call given (made_messages given.product first count) (λ messages. summary_of_all given.product given.kept (made_messages given.product first count) messages) (drill-before-sync asked command is (did given.memory) causes first count asks given (now given.honest)))
+        (λ asks given read. entry-or-fronts the-call given [] sends_nothing (checkpoint-before-sync asked command is (did given.memory) causes asks given (now given.honest)))
+        (λ asks given read. amend-first-sync m p q i j old new outcome given.start (amended-from asked command is (did given.memory) causes asks given) asked (now given.start.honest))
+        c writing asks
 
     -- more is sent of more messages
-    sends-grow : (given : Given the-call) (c : Command) (read : Reads the-call c) (a b : ℕ) → a ≤ b → length ((work_of the-call given c read).sends a) ≤ length ((work_of the-call given c read).sends b)
-    sends-grow given Run read a b le = fewer-reports given.kept (messages_of read.taken) a b le
-    sends-grow given (Drill first count) read a b le = let made = made_messages given.product first count in all-grows (summary given.product given.kept made) made a b le
-    sends-grow given Checkpoint read a b le = omega arith
-    sends-grow given Replay read a b le = omega arith
-    sends-grow given Book read a b le = omega arith
-    sends-grow given Fills read a b le = omega arith
-    sends-grow given Ledger read a b le = omega arith
-    sends-grow given Steps read a b le = omega arith
+    sends-grow : (c : Command) (given : GivenFor the-call c) (read : Reads the-call c) (a b : ℕ) → a ≤ b → length ((work_of the-call c given read).sends a) ≤ length ((work_of the-call c given read).sends b)
+    sends-grow Run given read a b le = fewer-reports given.kept (messages_of read.taken) a b le
+    sends-grow (Drill first count) given read a b le = let made = made_messages given.product first count in all-grows (summary given.product given.kept made) made a b le
+    sends-grow Checkpoint given read a b le = omega arith
+    sends-grow Amend given read a b le = omega arith
+    sends-grow Replay given read a b le = omega arith
+    sends-grow Book given read a b le = omega arith
+    sends-grow Fills given read a b le = omega arith
+    sends-grow Ledger given read a b le = omega arith
+    sends-grow Steps given read a b le = omega arith
 
     pub keeps-what-is-sent : (m.is_honest old → IsHonestNow m old) → KeepsWhatIsSent the-call
-    keeps-what-is-sent now c asks writing given read = every-sent the-call (work_of the-call given c read) (sends-grow given c read) (leaves-the-entry now c asks writing given read)
+    keeps-what-is-sent now c asks writing given read = every-sent the-call (work_of the-call c given read) (sends-grow c given read) (leaves-the-entry now c asks writing given read)
 
     pub reads-it-once : ReadsItOnce the-call
-    reads-it-once Run asks writing given = few-read asked command is (did given.memory) causes asks given
-    reads-it-once (Drill first count) asks writing given = drill-few-read asked command is (did given.memory) causes first count asks given
-    reads-it-once Checkpoint asks writing given = checkpoint-few-read asked command is (did given.memory) causes asks given
-    reads-it-once Replay asks writing given = absurd writing
-    reads-it-once Book asks writing given = absurd writing
-    reads-it-once Fills asks writing given = absurd writing
-    reads-it-once Ledger asks writing given = absurd writing
-    reads-it-once Steps asks writing given = absurd writing
+    reads-it-once c asks goes = by-going-on (λ x. asked ≡ Some x → (given : Premises m entry exit outcome.status) → ReadsFew m entry exit outcome given)
+        (λ asks given. few-read asked command is (did given.memory) causes asks given)
+        (λ first count asks given. drill-few-read asked command is (did given.memory) causes first count asks given)
+        (λ asks given. checkpoint-few-read asked command is (did given.memory) causes asks given)
+        c goes asks
 
     pub adds-messages-alone : AddsMessagesAlone the-call
-    adds-messages-alone Run asks serves given = (each-read asked command is (did given.memory) causes asks given).adds
-    adds-messages-alone (Drill first count) asks serves given = drill-adds-messages asked command is (did given.memory) causes first count asks given
-    adds-messages-alone Checkpoint asks serves given = absurd serves
-    adds-messages-alone Replay asks serves given = absurd serves
-    adds-messages-alone Book asks serves given = absurd serves
-    adds-messages-alone Fills asks serves given = absurd serves
-    adds-messages-alone Ledger asks serves given = absurd serves
-    adds-messages-alone Steps asks serves given = absurd serves
+    adds-messages-alone c asks serves = by-serving (λ x. asked ≡ Some x → (given : Premises m entry exit outcome.status) → AddsMessages m entry exit outcome given)
+        (λ asks given. (each-read asked command is (did given.memory) causes asks given).adds)
+        (λ first count asks given. drill-adds-messages asked command is (did given.memory) causes first count asks given)
+        the-call c serves asks
 
     pub adds-a-record-per-read : AddsARecordPerRead the-call
     adds-a-record-per-read asks given = each-read asked command is (did given.memory) causes asks given
 
     pub sends-nothing-then : SendsNothing the-call
-    sends-nothing-then Checkpoint asks serves = by-memory outcome.status
-        (λ one. ((sends-none command causes one).0, λ other. (causes.memory one).1))
-        (λ there. ((checkpoint-sends-nothing asked command is (did there) causes asks).0, λ other. checkpoint-counts asked command is (did there) causes asks other))
-    sends-nothing-then Run asks serves = absurd serves
-    sends-nothing-then (Drill first count) asks serves = absurd serves
-    sends-nothing-then Replay asks serves = absurd serves
-    sends-nothing-then Book asks serves = absurd serves
-    sends-nothing-then Fills asks serves = absurd serves
-    sends-nothing-then Ledger asks serves = absurd serves
-    sends-nothing-then Steps asks serves = absurd serves
+    sends-nothing-then c asks serves = by-memory outcome.status
+        (λ one. (sends-none command causes one, λ other. (causes.memory one).1))
+        (λ there. by-serving-none the-call (λ x. asked ≡ Some x → (m.sent new ≡ m.sent old) × (outcome.status ≢ 0 → outcome.messages ≡ 0))
+        (λ asks. ((checkpoint-sends-nothing asked command is (did there) causes asks).0, λ other. checkpoint-counts asked command is (did there) causes asks other))
+        (λ asks. (amend-sends-nothing asked command is (did there) causes asks, λ other. amend-counts-none asked command is (did there) causes asks other))
+        c serves asks)
 
     pub is-full-for-image : IsFullForImage the-call
     is-full-for-image asks given twelve = image-full asked command is (did given.memory) causes asks given twelve
 
+    pub is-full-for-amendment : IsFullForAmendment the-call
+    is-full-for-amendment asks given twelve = amend-full m p q i j old new outcome given (amended-from asked command is (did given.memory) causes asks given) twelve
+
     pub is-full-for-messages : IsFullForMessages the-call
-    is-full-for-messages Run asks writing given read honest image head records known text_is keeps twelve = full asked command is (did given.memory) causes asks given read honest image head records known text_is keeps twelve
-    is-full-for-messages (Drill first count) asks writing given read honest image head records known text_is keeps twelve = drill-has-no-room asked command is (did given.memory) causes first count asks given honest image head records known text_is keeps twelve
-    is-full-for-messages Checkpoint asks writing given read honest image head records known text_is keeps twelve = absurd writing
-    is-full-for-messages Replay asks writing given read honest image head records known text_is keeps twelve = absurd writing
-    is-full-for-messages Book asks writing given read honest image head records known text_is keeps twelve = absurd writing
-    is-full-for-messages Fills asks writing given read honest image head records known text_is keeps twelve = absurd writing
-    is-full-for-messages Ledger asks writing given read honest image head records known text_is keeps twelve = absurd writing
-    is-full-for-messages Steps asks writing given read honest image head records known text_is keeps twelve = absurd writing
+    is-full-for-messages c asks serves given = by-serving
+        (λ x. asked ≡ Some x → (read : Reads the-call x) → m.is_honest old → (image : List ℕ) (head : Header) (records : List Record) → m.holds old ≡ Some image → HasLastText head records given.text → Keeps head given.product.journal_limit records image → outcome.status ≡ 12
+        → IsFullJournal given.product given.text head image records exit.streams.station outcome (bytes_for the-call given x read))
+        (λ asks read honest image head records known text_is keeps twelve. full asked command is (did given.memory) causes asks given read honest image head records known text_is keeps twelve)
+        (λ first count asks read honest image head records known text_is keeps twelve. drill-has-no-room asked command is (did given.memory) causes first count asks given honest image head records known text_is keeps twelve)
+        the-call c serves asks
 
     pub ends-well : EndsWellWhereItCan the-call
     ends-well Run asks can quiet = unless-memory outcome.status (λ there. all-served asked command is (did there) causes asks can quiet)
     ends-well (Drill first count) asks can quiet = unless-memory outcome.status (λ there. all-drilled asked command is (did there) causes first count asks can quiet)
     ends-well Checkpoint asks can quiet = unless-memory outcome.status (λ there. all-checkpointed asked command is (did there) causes asks can quiet)
-    ends-well Replay asks can quiet = unless-memory outcome.status (λ there. all-printed asked command is (did there) causes Replay asks can quiet tt)
-    ends-well Book asks can quiet = unless-memory outcome.status (λ there. all-printed asked command is (did there) causes Book asks can quiet tt)
-    ends-well Fills asks can quiet = unless-memory outcome.status (λ there. all-printed asked command is (did there) causes Fills asks can quiet tt)
-    ends-well Ledger asks can quiet = unless-memory outcome.status (λ there. all-printed asked command is (did there) causes Ledger asks can quiet tt)
-    ends-well Steps asks can quiet = unless-memory outcome.status (λ there. all-printed asked command is (did there) causes Steps asks can quiet tt)
+    ends-well Amend asks can quiet = by-memory outcome.status (λ one. inl one) (λ there. all-amended asked command is (did there) causes asks can quiet)
+    ends-well Replay asks can quiet = unless-memory outcome.status (λ there. all-printed asked command is (did there) causes Replay asks can quiet tt there)
+    ends-well Book asks can quiet = unless-memory outcome.status (λ there. all-printed asked command is (did there) causes Book asks can quiet tt there)
+    ends-well Fills asks can quiet = unless-memory outcome.status (λ there. all-printed asked command is (did there) causes Fills asks can quiet tt there)
+    ends-well Ledger asks can quiet = unless-memory outcome.status (λ there. all-printed asked command is (did there) causes Ledger asks can quiet tt there)
+    ends-well Steps asks can quiet = unless-memory outcome.status (λ there. all-printed asked command is (did there) causes Steps asks can quiet tt there)
 
     pub prints-its-text : PrintsItsText the-call
     prints-its-text c asks given = prints asked command is (did given.memory) causes c asks given
@@ -761,6 +774,10 @@ module _ {P I S : Type 0} (m : StationMeanings S) (p q : SourceAt P) (i j : Sour
 
     pub refuses-what-it-must : RefusesWhatItMust the-call
     refuses-what-it-must c asks opens given image known = refuses asked command is (did given.memory) causes c asks opens given image known
+
+    pub refuses-amendments : RefusesAmendments the-call
+    refuses-amendments asks given image known =
+        amend-refuses m given.product given.text old new outcome (amended-as asked command is (did given.memory) causes asks given.text given.product given.text_known given.gives) given.memory image known
 
     pub opens-it-again : OpensAgain the-call
     opens-it-again c asks can refusal = opens-again asked command is (did (λ one. not-refusal outcome.status 1 one (λ e. cc e) (λ e. cc e) (λ e. cc e) refusal)) causes c asks can refusal
@@ -777,5 +794,5 @@ module _ {P I S : Type 0} (m : StationMeanings S) (p q : SourceAt P) (i j : Sour
 
     pub leaves-the-input : (c : Command) → asked ≡ Some c → (c ≡ Run → ⊥) → j.object ≡ i.object
     leaves-the-input c asks other = by-memory outcome.status
-        (λ one. (no-memory command causes one).0)
+        (λ one. input-left command causes one)
         (λ there. input-untouched asked command is (did there) causes c asks other)

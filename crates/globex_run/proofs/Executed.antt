@@ -6,8 +6,9 @@ use Rattle.std.proofs.lemmas.Option.{same_Some}
 use Rattle.gx_base.specs.declared.event.Event.{Event}
 use Rattle.gx_station.specs.Counts.{Rose, HasCause}
 use Rattle.gx_station.specs.Stations.{StationMeanings}
-use Rattle.gx_station.specs.Quiet.{Quiet}
+use Rattle.gx_station.specs.Quiet.{Quiet, quiet_itself}
 use Rattle.gx_station.specs.Honest.{KeepsImage}
+use Rattle.match_journal.specs.Causes.{ReadsOnly}
 use Rattle.fix_frame.specs.Grammar.{IsFrameFront}
 use Rattle.fix_frame.specs.Stream.{rest_of}
 use Rattle.product_file.specs.Products.{ProductLists, IsRightProduct}
@@ -19,12 +20,13 @@ use Rattle.journal_print.specs.Reading.{ReadsAndSends}
 use Rattle.journal_print.specs.declared.unprinted.Unprinted.{Unprinted}
 use Rattle.journal_print.specs.declared.unprinted.Unprinted.TheVariants as unprinted
 use Rattle.command_words.specs.declared.command.Command.{Command}
-use Rattle.command_words.specs.declared.command.Command.TheVariants.{Run, Steps, Drill, Checkpoint}
+use Rattle.command_words.specs.declared.command.Command.TheVariants.{Run, Book, Steps, Drill, Checkpoint}
 use Rattle.globex_run.specs.Outside.{SourceAt, Streams, streams_at, station_at}
 use Rattle.globex_run.specs.Outcomes.{outcome_of, is_outcome}
-use Rattle.globex_run.specs.Words.{IsWriting}
+use Rattle.globex_run.specs.Words.{IsWriting, TakesKeptProducts}
+use Rattle.globex_run.specs.Memory.{HasKeptProducts, LeavesAtNoMemory}
 use Rattle.globex_run.specs.Refusals.{IsRefusal}
-use Rattle.globex_run.specs.Prints.{PrintsAs, PrintsJournal, PrintsSteps, outcome_sent, outcome_printed}
+use Rattle.globex_run.specs.Prints.{PrintsAs, PrintsBookOnce, PrintsJournal, PrintsSteps, outcome_sent, outcome_printed}
 use Rattle.globex_run.specs.RunResult.{EndsAs}
 use Rattle.globex_run.specs.Inner.Serving.{CausedBy}
 use Rattle.globex_run.specs.Inner.Sessions.{SessionResult}
@@ -37,6 +39,7 @@ use Rattle.globex_run.specs.declared.ending.Ending.{Ending}
 use Rattle.globex_run.specs.declared.ending.Ending.TheVariants.{Done, ReadFault, StoreFault, SendFault, BadFrame, Truncated, NotAJournal, JournalBad, ProductDiffers, Full}
 use Rattle.globex_run.proofs.Complete.{broken_more}
 use Rattle.globex_run.proofs.Drills.{empty_front}
+use Rattle.globex_run.proofs.Statuses.{ending-low, sent-low}
 
 -- a session, whatever was published
 pub any-published : {I S : Type 0} (m : StationMeanings S) (line : LineText) (product : ProductLists) (text : List ℕ) (before after : Streams I S) (Published : List Event → Type 0) (then : State) (outcome : Outcome)
@@ -83,8 +86,8 @@ quiet-reads m old new quiet = record {
 -- ---- an outcome that speaks of the station alone
 
 -- the statuses of such an outcome
-abbrev is_of_station : ℕ → Bool
-is_of_station n = (n == 0) || (n == 5) || (n == 6) || (n == 9) || (n == 10) || (n == 11) || (n == 12)
+abbrev pub is_of_station : ℕ → Bool
+is_of_station n = (n == 0) || (n == 5) || (n == 6) || (n == 9) || (n == 10) || (n == 11) || (n == 12) || (n == 13)
 
 -- an ending that says nothing of the input
 abbrev IsOfStation : Ending → Type 0
@@ -95,7 +98,7 @@ IsOfStation ending = Unit {0}
 
 module _ {I S : Type 0} (m : StationMeanings S) (product : ProductLists) (text : List ℕ) (before after : Streams I S) (outcome : Outcome) (command : Command) (right : IsRightProduct product) where
   -- it tells of faults of the station alone
-  station-causes : after.input.faults ≡ before.input.faults → (n : ℕ) → outcome.status ≡ n → is_of_station n ≡ true → is_outcome outcome ≡ true
+  pub station-causes : after.input.faults ≡ before.input.faults → (n : ℕ) → outcome.status ≡ n → is_of_station n ≡ true → is_outcome outcome ≡ true
       → (n ≡ 5 → Rose before.station.store_faults after.station.store_faults) → (n ≢ 5 → after.station.store_faults ≡ before.station.store_faults)
       → (n ≡ 6 → Rose before.station.send_faults after.station.send_faults) → (n ≢ 6 → after.station.send_faults ≡ before.station.send_faults)
       → HasCauses m product text before after outcome command
@@ -105,6 +108,7 @@ module _ {I S : Type 0} (m : StationMeanings S) (product : ProductLists) (text :
     words = other 2 refl;
     product_right = other 3 refl;
     memory = λ e. absurd (other 1 refl e);
+    memory_reads = λ e. absurd (other 1 refl e);
     read = λ e. absurd (other 4 refl e);
     no_read = λ no. unread;
     store = λ e. store (sym is ∙ e);
@@ -117,24 +121,32 @@ module _ {I S : Type 0} (m : StationMeanings S) (product : ProductLists) (text :
       other : (k : ℕ) → is_of_station k ≡ false → outcome.status ≡ k → ⊥
       other k off e = let on : is_of_station k ≡ true = subst (λ (x : ℕ). is_of_station x ≡ true) (sym is ∙ e) told in cc (off, on)
 
-  -- there was no memory, and nothing was touched
-  pub lacks-causes : outcome ≡ record { status = 1; at = 0; messages = 0 } → after ≡ before → HasCauses m product text before after outcome command
-  lacks-causes is same =
+  -- there was no memory, and no fault came
+  pub memory-causes : outcome ≡ record { status = 1; at = 0; messages = 0 } → LeavesAtNoMemory m before after product text command → ReadsAndSends m before.station.object after.station.object
+      → after.input.faults ≡ before.input.faults → (after.station.store_faults ≡ before.station.store_faults) × (after.station.send_faults ≡ before.station.send_faults) → HasCauses m product text before after outcome command
+  memory-causes is leaves reads unread same =
       let status : outcome.status ≡ 1 = ap (λ (o : Outcome). o.status) is in
       record {
         right = right;
         outcome_is = ap is_outcome is;
         words = λ e. omega (arith, e, status);
         product_right = λ e. omega (arith, e, status);
-        memory = λ e. (same, ap (λ (o : Outcome). o.messages) is);
+        memory = λ e. (leaves, ap (λ (o : Outcome). o.messages) is);
+        memory_reads = λ e. reads;
         read = λ e. absurd (omega (arith, e, status));
-        no_read = λ other. ap (λ (s : Streams I S). s.input.faults) same;
+        no_read = λ other. unread;
         store = λ e. absurd (omega (arith, e, status));
-        no_store = λ other. ap (λ (s : Streams I S). s.station.store_faults) same;
+        no_store = λ other. same.0;
         send = λ e. absurd (omega (arith, e, status));
-        no_send = λ other. ap (λ (s : Streams I S). s.station.send_faults) same;
+        no_send = λ other. same.1;
         frames = λ either. absurd (⊎_elim (λ e. omega (arith, e, status)) (λ e. omega (arith, e, status)) either);
       }
+
+  -- and nothing was touched
+  pub lacks-causes : outcome ≡ record { status = 1; at = 0; messages = 0 } → after ≡ before → HasCauses m product text before after outcome command
+  lacks-causes is same =
+      memory-causes is (inl same) (subst (λ (s : Streams I S). ReadsAndSends m before.station.object s.station.object) (sym same) (quiet-reads m _ _ (quiet_itself m before.station.object))) (ap (λ (s : Streams I S). s.input.faults) same)
+      (ap (λ (s : Streams I S). s.station.store_faults) same, ap (λ (s : Streams I S). s.station.send_faults) same)
 
   -- a refusal, or a full journal: no call has failed
   stored : after.input.faults ≡ before.input.faults → (n : ℕ) → outcome.status ≡ n → is_of_station n ≡ true → is_outcome outcome ≡ true → (n ≢ 5) × (n ≢ 6)
@@ -166,6 +178,7 @@ run-stopped m product text before after outcome right n is placed either same = 
   words = λ e. absurd (low (omega (arith, e, is)));
   product_right = λ e. absurd (low (omega (arith, e, is)));
   memory = λ e. absurd (low (omega (arith, e, is)));
+  memory_reads = λ e. absurd (low (omega (arith, e, is)));
   read = λ e. absurd (low (omega (arith, e, is)));
   no_read = λ other. same.0;
   store = λ e. absurd (low (omega (arith, e, is)));
@@ -188,6 +201,7 @@ run-causes m product text before after outcome right (ReadFault place) is cause 
       words = λ e. omega (arith, e, status);
       product_right = λ e. omega (arith, e, status);
       memory = λ e. absurd (omega (arith, e, status));
+      memory_reads = λ e. absurd (omega (arith, e, status));
       read = λ e. (refl, cause.0);
       no_read = λ other. absurd (other status);
       store = λ e. absurd (omega (arith, e, status));
@@ -207,13 +221,19 @@ run-causes m product text before after outcome right (ProductDiffers place) is c
 run-causes m product text before after outcome right (Full place) is cause = ending-causes m product text before after outcome Run right (Full place) tt outcome.messages is cause
 
 module _ {I S : Type 0} (m : StationMeanings S) (product : ProductLists) (text : List ℕ) (source : SourceAt I) (old new : S) (outcome : Outcome) (command : Command) (right : IsRightProduct product) where
+  abbrev was : Streams I S
+  was = record { input = source; station = station_at m old }
+
+  abbrev now : Streams I S
+  now = record { input = source; station = station_at m new }
+
   abbrev Causes : Type 0
-  Causes = HasCauses m product text (record { input = source; station = station_at m old }) (record { input = source; station = station_at m new }) outcome command
+  Causes = HasCauses m product text was now outcome command
 
   causes-at : (n : ℕ) → outcome.status ≡ n → is_of_station n ≡ true → is_outcome outcome ≡ true
       → (n ≡ 5 → Rose (m.store_faults old) (m.store_faults new)) → (n ≢ 5 → m.store_faults new ≡ m.store_faults old)
       → (n ≡ 6 → Rose (m.send_faults old) (m.send_faults new)) → (n ≢ 6 → m.send_faults new ≡ m.send_faults old) → Causes
-  causes-at = station-causes m product text (record { input = source; station = station_at m old }) (record { input = source; station = station_at m new }) outcome command right refl
+  causes-at = station-causes m product text was now outcome command right refl
 
   -- of the sending of a text, behind which nothing else happened
   pub sent-causes : (count : ℕ) (result : Result (Unit {0}) SendFailed) → outcome ≡ outcome_sent count result → HasCause (m.send_faults old) (m.send_faults new) result → m.store_faults new ≡ m.store_faults old → Causes
@@ -223,25 +243,28 @@ module _ {I S : Type 0} (m : StationMeanings S) (product : ProductLists) (text :
       causes-at 6 (ap (λ (o : Outcome). o.status) is) refl (ap is_outcome is) (λ e. cc e) (λ no. same) (λ e. cause.failed) (λ no. absurd (no refl))
 
   -- of printing a journal
-  pub printed-causes : (Printed : List ℕ → Result ℕ Unprinted → Type 0) → PrintsKept m old new outcome Printed → Causes
-  printed-causes Printed printed = by-answer printed.answer printed.outcome_is printed.store printed.no_store printed.send printed.no_send
+  pub printed-causes : (AtNoMemory : Type 0) (Printed : List ℕ → Result ℕ Unprinted → Type 0) (printed : PrintsKept m old new outcome AtNoMemory Printed)
+      → (printed.answer ≡ Err unprinted.NoMemory → LeavesAtNoMemory m was now product text command) → Causes
+  printed-causes AtNoMemory Printed printed lacks = by-answer printed.answer printed.outcome_is lacks printed.store printed.no_store printed.send printed.no_send
     where
       refused : (n place : ℕ) (why : Unprinted) → outcome ≡ record { status = n; at = place; messages = 0 } → is_of_station n ≡ true → is_outcome (record { status = n; at = place; messages = 0 }) ≡ true → (n ≢ 5) × (n ≢ 6) → (why ≢ unprinted.Store) × (why ≢ unprinted.Send)
           → ((◌≡◌ {A = Result ℕ Unprinted} (Err why) (Err unprinted.Store) → ⊥) → m.store_faults new ≡ m.store_faults old) → ((◌≡◌ {A = Result ℕ Unprinted} (Err why) (Err unprinted.Send) → ⊥) → m.send_faults new ≡ m.send_faults old) → Causes
       refused n place why is told placed some other no_store no_send =
           causes-at n (ap (λ (o : Outcome). o.status) is) told (ap is_outcome is ∙ placed) (λ e. absurd (some.0 e)) (λ no. no_store (λ e. other.0 (cc e))) (λ e. absurd (some.1 e)) (λ no. no_send (λ e. other.1 (cc e)))
 
-      by-answer : (answer : Result ℕ Unprinted) → outcome ≡ outcome_printed answer → (answer ≡ Err unprinted.Store → Rose (m.store_faults old) (m.store_faults new)) → ((answer ≡ Err unprinted.Store → ⊥) → m.store_faults new ≡ m.store_faults old)
+      by-answer : (answer : Result ℕ Unprinted) → outcome ≡ outcome_printed answer → (answer ≡ Err unprinted.NoMemory → LeavesAtNoMemory m was now product text command) → (answer ≡ Err unprinted.Store → Rose (m.store_faults old) (m.store_faults new)) → ((answer ≡ Err unprinted.Store → ⊥) → m.store_faults new ≡ m.store_faults old)
           → (answer ≡ Err unprinted.Send → Rose (m.send_faults old) (m.send_faults new)) → ((answer ≡ Err unprinted.Send → ⊥) → m.send_faults new ≡ m.send_faults old) → Causes
-      by-answer (Ok count) is store no_store send no_send =
+      by-answer (Ok count) is lacks store no_store send no_send =
           causes-at 0 (ap (λ (o : Outcome). o.status) is) refl (ap is_outcome is) (λ e. cc e) (λ no. no_store (λ e. cc e)) (λ e. cc e) (λ no. no_send (λ e. cc e))
-      by-answer (Err unprinted.Store) is store no_store send no_send =
+      by-answer (Err unprinted.Store) is lacks store no_store send no_send =
           causes-at 5 (ap (λ (o : Outcome). o.status) is) refl (ap is_outcome is) (λ e. store refl) (λ no. absurd (no refl)) (λ e. cc e) (λ no. no_send (λ e. cc e))
-      by-answer (Err unprinted.Send) is store no_store send no_send =
+      by-answer (Err unprinted.Send) is lacks store no_store send no_send =
           causes-at 6 (ap (λ (o : Outcome). o.status) is) refl (ap is_outcome is) (λ e. cc e) (λ no. no_store (λ e. cc e)) (λ e. send refl) (λ no. absurd (no refl))
-      by-answer (Err (unprinted.NotAJournal place)) is store no_store send no_send = refused 9 place (unprinted.NotAJournal place) is refl refl (λ e. cc e, λ e. cc e) (λ e. cc e, λ e. cc e) no_store no_send
-      by-answer (Err (unprinted.Bad place)) is store no_store send no_send = refused 10 place (unprinted.Bad place) is refl refl (λ e. cc e, λ e. cc e) (λ e. cc e, λ e. cc e) no_store no_send
-      by-answer (Err (unprinted.ProductDiffers place)) is store no_store send no_send = refused 11 place (unprinted.ProductDiffers place) is refl refl (λ e. cc e, λ e. cc e) (λ e. cc e, λ e. cc e) no_store no_send
+      by-answer (Err unprinted.NoMemory) is lacks store no_store send no_send =
+          memory-causes m product text was now outcome command right is (lacks refl) printed.reads refl (no_store (λ e. cc e), no_send (λ e. cc e))
+      by-answer (Err (unprinted.NotAJournal place)) is lacks store no_store send no_send = refused 9 place (unprinted.NotAJournal place) is refl refl (λ e. cc e, λ e. cc e) (λ e. cc e, λ e. cc e) no_store no_send
+      by-answer (Err (unprinted.Bad place)) is lacks store no_store send no_send = refused 10 place (unprinted.Bad place) is refl refl (λ e. cc e, λ e. cc e) (λ e. cc e, λ e. cc e) no_store no_send
+      by-answer (Err (unprinted.ProductDiffers place)) is lacks store no_store send no_send = refused 11 place (unprinted.ProductDiffers place) is refl refl (λ e. cc e, λ e. cc e) (λ e. cc e, λ e. cc e) no_store no_send
 
 -- ---- which fault a drill's outcome tells of
 
@@ -334,13 +357,19 @@ module _ {I S : Type 0} (m : StationMeanings S) (product : ProductLists) (text :
   abbrev pub UnsentRefused : Type 0
   UnsentRefused = IsRefusal outcome.status → after.station.sent ≡ before.station.sent
 
+  -- 13 is a refusal of `amend` alone
+  pub low-refusal : outcome.status < 13 → IsRefusal outcome.status ⊎ (outcome.status ≡ 13) → IsRefusal outcome.status
+  low-refusal low either = ⊎_elim (λ refusal. refusal) (λ e. absurd (omega (arith, e, low))) either
+
   pub run-executed : Runs m product text before after outcome → StaysRefused → UnsentRefused → IsExecuted m product text before after outcome Run
-  run-executed runs stays refused = record {
-    executes = runs;
-    causes = run-causes m product text before after outcome runs.session.right runs.session.ending runs.session.is runs.session.cause;
-    stays = λ image writes. stays image;
-    refused = λ writes. refused;
-  }
+  run-executed runs stays refused =
+      let low : outcome.status < 13 = ending-low outcome runs.session.ending outcome.messages runs.session.is in
+      record {
+        executes = runs;
+        causes = run-causes m product text before after outcome runs.session.right runs.session.ending runs.session.is runs.session.cause;
+        stays = λ image writes known either. stays image known (low-refusal low either);
+        refused = λ writes either. refused (low-refusal low either);
+      }
 
   pub only-printed : (command : Command) → (IsWriting command → ⊥) → Executes m product text before after outcome command → HasCauses m product text before after outcome command → IsExecuted m product text before after outcome command
   only-printed command never executes causes = record {
@@ -357,13 +386,23 @@ module _ {I S : Type 0} (m : StationMeanings S) (product : ProductLists) (text :
   abbrev to : Streams I S
   to = record { input = source; station = station_at m new }
 
+  pub drill-low : (first count : ℕ) → DrillsMade m product text first count old new outcome → outcome.status < 13
+  drill-low first count drilled = elim (eqb_tells drilled.did.served.status 0) [
+    | inl none ↦ let sums = drilled.did.sums_up none.1 in sent-low outcome drilled.did.served.messages sums.result sums.outcome_is
+    | inr some ↦
+        let same = drilled.did.otherwise some.1 in
+        subst (λ (o : Outcome). o.status < 13) (sym same.1) (ending-low drilled.did.served drilled.did.session.ending drilled.did.served.messages drilled.did.session.is)
+  ]
+
   pub drill-executed : (first count : ℕ) → DrillsMade m product text first count old new outcome → StaysRefused m product text from to outcome → UnsentRefused m product text from to outcome → IsExecuted m product text from to outcome (Drill first count)
-  drill-executed first count drilled stays refused = record {
-    executes = (drilled, refl);
-    causes = drill-causes m product text source first count old new outcome drilled;
-    stays = λ image writes. stays image;
-    refused = λ writes. refused;
-  }
+  drill-executed first count drilled stays refused =
+      let low = drill-low first count drilled in
+      record {
+        executes = (drilled, refl);
+        causes = drill-causes m product text source first count old new outcome drilled;
+        stays = λ image writes known either. stays image known (low-refusal m product text from to outcome low either);
+        refused = λ writes either. refused (low-refusal m product text from to outcome low either);
+      }
 
   checkpoint-told : (ending : Ending) → IsCheckpointEnding ending → (ending ≡ StoreFault → Rose (m.store_faults old) (m.store_faults new)) → ((ending ≡ StoreFault → ⊥) → m.store_faults new ≡ m.store_faults old) → m.send_faults new ≡ m.send_faults old → IsOfStation ending × CausedBy ending from to
   checkpoint-told Done possible store no_store send = (tt, (refl, no_store (λ e. cc e), send))
@@ -383,7 +422,7 @@ module _ {I S : Type 0} (m : StationMeanings S) (product : ProductLists) (text :
       record {
         executes = (did, refl);
         causes = ending-causes m product text from to outcome Checkpoint did.right did.ending told.0 outcome.messages did.is told.1;
-        stays = λ image writes. stays image;
+        stays = λ image writes known either. stays image known (low-refusal m product text from to outcome (ending-low outcome did.ending outcome.messages did.is) either);
         refused = λ writes refusal. did.silent.sent;
       }
 
@@ -393,8 +432,22 @@ module _ {I S : Type 0} (m : StationMeanings S) (product : ProductLists) (text :
       (sent-causes m product text source old new outcome Steps right 0 printed.result printed.outcome_is printed.sends.cause printed.sends.quiet.store_faults)
 
   -- a journal was printed in the form of a command
-  pub print-executed : IsRightProduct product → (command : Command) → (IsWriting command → ⊥) → (Printed : List ℕ → Result ℕ Unprinted → Type 0) → PrintsKept m old new outcome Printed
-      → (Prints m product text from to outcome command → Executes m product text from to outcome command) → (PrintsJournal (station_at m old) outcome Printed → PrintsAs m product text (station_at m old) (station_at m new) outcome command) → IsExecuted m product text from to outcome command
-  print-executed right command never Printed printed lift form =
-      only-printed m product text from to outcome command never (lift (record { form = form (record { answer = printed.answer; outcome_is = printed.outcome_is; prints = printed.prints }); reads = printed.reads; input = refl }))
-      (printed-causes m product text source old new outcome command right Printed printed)
+  journal-executed : IsRightProduct product → (command : Command) → (IsWriting command → ⊥) → (AtNoMemory : Type 0) (Printed : List ℕ → Result ℕ Unprinted → Type 0) (printed : PrintsKept m old new outcome AtNoMemory Printed)
+      → (printed.answer ≡ Err unprinted.NoMemory → LeavesAtNoMemory m from to product text command)
+      → (Prints m product text from to outcome command → Executes m product text from to outcome command) → PrintsAs m product text (station_at m old) (station_at m new) outcome command → IsExecuted m product text from to outcome command
+  journal-executed right command never AtNoMemory Printed printed lacks lift form =
+      only-printed m product text from to outcome command never (lift (record { form = form; reads = printed.reads; input = refl })) (printed-causes m product text source old new outcome command right AtNoMemory Printed printed lacks)
+
+  -- by a command that begins with the last book image: it takes all its memory before
+  pub book-executed : IsRightProduct product → PrintsKept m old new outcome ⊥ (PrintsBookOnce m product text (station_at m old) (station_at m new) outcome) → IsExecuted m product text from to outcome Book
+  book-executed right printed =
+      journal-executed right Book (λ never. never) _ _ printed (λ e. absurd (printed.memory e)) (λ prints. prints) (record { answer = printed.answer; outcome_is = printed.outcome_is; prints = printed.prints })
+
+  -- By a command that reads each record. Where there is no memory for the products, the journal has an amendment.
+  pub each-executed : IsRightProduct product → (command : Command) → (IsWriting command → ⊥) → (Printed : List ℕ → Result ℕ Unprinted → Type 0) → PrintsKept m old new outcome (ReadsOnly m old new) Printed
+      → TakesKeptProducts command → ((image : List ℕ) → Printed image (Err unprinted.NoMemory) → HasKeptProducts command product text image)
+      → (Prints m product text from to outcome command → Executes m product text from to outcome command)
+      → (PrintsJournal (station_at m old) outcome Printed → PrintsAs m product text (station_at m old) (station_at m new) outcome command) → IsExecuted m product text from to outcome command
+  each-executed right command never Printed printed takes needs lift form =
+      journal-executed right command never _ Printed printed (λ e. inr (takes, record { input = refl; reads = printed.memory e; has = λ image known. needs image (subst (Printed image) e (printed.prints image known)) })) lift
+      (form (record { answer = printed.answer; outcome_is = printed.outcome_is; prints = printed.prints }))

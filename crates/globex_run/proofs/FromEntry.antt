@@ -77,7 +77,7 @@ module _ {I S : Type 0} (inputs : SourceMeanings I) (m : StationMeanings S) (lin
   opening_adds added new adds = adds_weaker m old new _ _ (λ h left out pair. opening_crash added left out pair.0 pair.1) adds
 
   -- the journal was not opened
-  pub from_unopened : (input : I) (new : S) (state after : State) → Opens m product head old new image records kept state (Err unopened.Store) → m.sent new ≡ m.sent old
+  pub from_unopened : (input : I) (new : S) (state after : State) → Opens m product.journal_limit head old new image records kept state (Err unopened.Store) → m.sent new ≡ m.sent old
       → SessionFrom m line product head (streams_at inputs m input old) (streams_at inputs m input new) Published after image records kept [] StoreFault 0
   from_unopened input new state after opens silent =
       let same : records ≡ records ++ [] = sym (append-nil records) in
@@ -110,7 +110,7 @@ module _ {I S : Type 0} (inputs : SourceMeanings I) (m : StationMeanings S) (lin
       sent_and_itself (Some out) = ap Some (sym (append-nil out))
 
   -- the journal was opened, and the input served
-  module _ (mid : S) (core state : State) (Numbered : Type 0) (numbered : Numbered) (journal : Standing) (opens : Opens m product head old mid image records kept core (Ok journal)) (silent : m.sent mid ≡ m.sent old) (state_is : state ≡ state_kept kept) (state_count : state.desk.messages ≡ length (messages_in records))
+  module _ (mid : S) (core state : State) (Numbered : Type 0) (numbered : Numbered) (journal : Standing) (opens : Opens m product.journal_limit head old mid image records kept core (Ok journal)) (silent : m.sent mid ≡ m.sent old) (state_is : state ≡ state_kept kept) (state_count : state.desk.messages ≡ length (messages_in records))
       (input input' : I) (new : S) (end : ℕ) (then : State) (added : List Record) (behind : List ℕ) (serves : Serves m Numbered line product product.journal_limit mid new journal.gate state added) (count : ℕ) (counted : then.desk.messages ≡ state.desk.messages + count) where
     abbrev most : ℕ
     most = max (length image) MOST_UNFINISHED
@@ -272,7 +272,7 @@ module _ {I S : Type 0} (inputs : SourceMeanings I) (m : StationMeanings S) (lin
     ends_unopened (unopened.Bad at) = record { none = refl; nothing = refl; input = refl }
     ends_unopened (unopened.ProductDiffers at) = record { none = refl; nothing = refl; input = refl }
 
-    pub from_unopened_by : (head : Header) (image : List ℕ) (records : List Record) (kept : History) (state after : State) (reason : Unopened) → IsRightProduct product → m.sent new ≡ m.sent old → Opens m product head old new image records kept state (Err reason)
+    pub from_unopened_by : (head : Header) (image : List ℕ) (records : List Record) (kept : History) (state after : State) (reason : Unopened) → IsRightProduct product → m.sent new ≡ m.sent old → Opens m product.journal_limit head old new image records kept state (Err reason)
         → SessionFrom m line product head (streams_at inputs m input old) (streams_at inputs m input new) Published after image records kept [] (ending_without reason) 0
     from_unopened_by head image records kept state after unopened.Store right silent opens = from_unopened inputs m line Published product head image records kept old right input new state after opens silent
     from_unopened_by head image records kept state after (unopened.NotAJournal at) right silent opens = absurd (opens.accepted tt)
@@ -320,6 +320,13 @@ no_fewer m Numbered line product limit mid after gate end state then added behin
 no_fewer m Numbered line product limit mid after gate end state then added behind (ProductDiffers place) ends = absurd ends
 no_fewer m Numbered line product limit mid after gate end state then added behind (Full place) ends = omega (arith, ends.0.count)
 
+-- what is told of an image that was not opened within the product's limit is what the ending tells of it
+pub answers_ending : (product : ProductLists) (text image : List ℕ) (reason : Unopened) → AnswersOpening product product.journal_limit text image (Err reason) → AnswersImage product text image (ending_without reason)
+answers_ending product text image unopened.Store told = told
+answers_ending product text image (unopened.NotAJournal at) told = told
+answers_ending product text image (unopened.Bad at) told = told
+answers_ending product text image (unopened.ProductDiffers at) told = told
+
 -- a run whose journal was not opened is not full
 never_full : (reason : Unopened) (place : ℕ) → ending_without reason ≡ Full place → ⊥
 never_full unopened.Store place e = cc e
@@ -329,7 +336,7 @@ never_full (unopened.ProductDiffers at) place e = cc e
 
 module _ {I S : Type 0} (inputs : SourceMeanings I) (m : StationMeanings S) (line : LineText) (Published : List Event → Type 0) (product : ProductLists) (text : List ℕ) (old mid : S) (input : I) (core : State) (right : IsRightProduct product) (silent : SendsNothing m old mid) where
   pub unopened_session : (after : State) (reason : Unopened) (outcome : Outcome) → outcome ≡ outcome_of (ending_without reason) 0 → (reason ≡ unopened.Store → Rose (m.store_faults old) (m.store_faults mid)) → ((reason ≡ unopened.Store → ⊥) → m.store_faults mid ≡ m.store_faults old)
-      → ((image : List ℕ) → m.holds old ≡ Some image → AnswersImage product text image (ending_without reason)) → OpensAny m product text old mid core (Err reason) → SessionResult m line product text (streams_at inputs m input old) (streams_at inputs m input mid) Published after outcome
+      → ((image : List ℕ) → m.holds old ≡ Some image → AnswersOpening product product.journal_limit text image (Err reason)) → OpensAny m product.journal_limit text old mid core (Err reason) → SessionResult m line product text (streams_at inputs m input old) (streams_at inputs m input mid) Published after outcome
   unopened_session after reason outcome is store none answers opens =
       let count = count_is outcome (ending_without reason) 0 is in
       record {
@@ -337,7 +344,7 @@ module _ {I S : Type 0} (inputs : SourceMeanings I) (m : StationMeanings S) (lin
         ending = ending_without reason;
         is = is ∙ ap (outcome_of (ending_without reason)) (sym count);
         cause = caused_unopened inputs m line Published product text old input mid silent.send_faults reason store none;
-        image = where_told (m.holds old) _ answers;
+        image = where_told (m.holds old) _ (λ image read. answers_ending product text image reason (answers image read));
         serving = record {
           taken = [];
           took = and_left-none (inputs.left input);
@@ -351,7 +358,7 @@ module _ {I S : Type 0} (inputs : SourceMeanings I) (m : StationMeanings S) (lin
       }
 
   -- the next message has no room, or cannot be counted
-  full_opened : (journal : Standing) (image : List ℕ) (head : Header) (records : List Record) → RestsBehind m product head mid image records core journal → (input' : I) (new : S) (end : ℕ) (then : State) (added : List Record) (behind : List ℕ) → AreWhole added → (count : ℕ) → then.desk.messages ≡ (state_numbered core).desk.messages + count → (place : ℕ)
+  full_opened : (journal : Standing) (image : List ℕ) (head : Header) (records : List Record) → RestsBehind m product.journal_limit head mid image records core journal → (input' : I) (new : S) (end : ℕ) (then : State) (added : List Record) (behind : List ℕ) → AreWhole added → (count : ℕ) → then.desk.messages ≡ (state_numbered core).desk.messages + count → (place : ℕ)
       → EndsServing m (AreNumbered core) line product product.journal_limit (streams_at inputs m input mid) (streams_at inputs m input' new) journal.gate end (state_numbered core) then (Full place) added behind
       → IsFullBehind m line product head (streams_at inputs m input old) (streams_at inputs m input' new) records (bytes_in added ++ behind) place count
   full_opened journal image head records rests input' new end then added behind whole count counted place ends =
@@ -369,7 +376,7 @@ module _ {I S : Type 0} (inputs : SourceMeanings I) (m : StationMeanings S) (lin
         why = ⊎_elim (λ long. inl long) (λ most. inr (omega (arith, most.0, counted, rests.count), most.1)) ends.2;
       }
 
-  pub opened_session : (journal : Standing) (limit_is : journal.limit ≡ product.journal_limit) (store : m.store_faults mid ≡ m.store_faults old) (answers : (image : List ℕ) → m.holds old ≡ Some image → AnswersOpening product text image (Ok journal)) (opens : OpensAny m product text old mid core (Ok journal)) (rests : RestsAny m product text old mid core (Ok journal)) (input' : I) (new : S) (end : ℕ)
+  pub opened_session : (journal : Standing) (limit_is : journal.limit ≡ product.journal_limit) (store : m.store_faults mid ≡ m.store_faults old) (answers : (image : List ℕ) → m.holds old ≡ Some image → AnswersOpening product product.journal_limit text image (Ok journal)) (opens : OpensAny m product.journal_limit text old mid core (Ok journal)) (rests : RestsAny m product.journal_limit text old mid core (Ok journal)) (input' : I) (new : S) (end : ℕ)
       (then : State) (ending : Ending) → ServesInput m (AreNumbered core) line product journal.limit (streams_at inputs m input mid) (streams_at inputs m input' new) journal.gate end (state_numbered core) then Published ending → CausedBy ending (streams_at inputs m input mid) (streams_at inputs m input' new) → m.bytes_read new ≡ m.bytes_read mid
       → (outcome : Outcome) (counts : ℕ) → counts ≡ then.desk.messages - core.desk.messages → outcome ≡ outcome_of ending counts → SessionResult m line product text (streams_at inputs m input old) (streams_at inputs m input' new) Published then outcome
   opened_session journal limit_is store answers opens rests input' new end then ending serves cause bytes outcome counts more is =
@@ -392,7 +399,7 @@ module _ {I S : Type 0} (inputs : SourceMeanings I) (m : StationMeanings S) (lin
         from = λ image kept honest read startable.
             let from_image = opens image kept honest read startable in
             let at_start = from_image.is_state in
-            from_opened inputs m line Published product startable.head image startable.records kept old right mid core state Numbered at_start.numbered journal from_image silent.sent at_start.state_is (at_start.count_is ∙ length-startable product text kept image startable) input input' new end then served.added served.behind served.serves outcome.messages counted ending served.reads bytes served.published
+            from_opened inputs m line Published product startable.head image startable.records kept old right mid core state Numbered at_start.numbered journal from_image silent.sent at_start.state_is (at_start.count_is ∙ length-startable product.journal_limit text kept image startable) input input' new end then served.added served.behind served.serves outcome.messages counted ending served.reads bytes served.published
             served.ends;
         full = λ image head records honest read text_is keeps place last.
             full_opened journal image head records (rests image head records honest read text_is keeps) input' new end then served.added served.behind served.serves.whole outcome.messages counted place

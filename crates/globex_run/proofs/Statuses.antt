@@ -1,11 +1,11 @@
 -- The statuses of commands: want of memory, and with which ones a command does not end.
-use Rattle.std.proofs.Common.{◌≡◌, ◌≢◌, ◌⊎◌, inl, inr, ⊎_elim, ℕ, ◌≤◌, Result, Ok, Err, ap, arith}
+use Rattle.std.proofs.Common.{◌≡◌, ◌≢◌, ◌⊎◌, inl, inr, ⊎_elim, ℕ, ◌<◌, ◌≤◌, Result, Ok, Err, sym, ap, ◌∙◌, arith}
 use Rattle.std.proofs.lemmas.Bool.Decides.{eqb_tells}
 use Rattle.exec_report.specs.declared.texts.SendFault.{SendFault as SendFailed}
 use Rattle.journal_print.specs.declared.unprinted.Unprinted.{Unprinted}
 use Rattle.journal_print.specs.declared.unprinted.Unprinted.TheVariants as unprinted
 use Rattle.command_words.specs.declared.command.Command.{Command}
-use Rattle.command_words.specs.declared.command.Command.TheVariants.{Run, Replay, Book, Fills, Ledger, Steps, Drill, Checkpoint}
+use Rattle.command_words.specs.declared.command.Command.TheVariants.{Run, Replay, Book, Fills, Ledger, Steps, Drill, Checkpoint, Amend}
 use Rattle.globex_run.specs.Outcomes.{outcome_of}
 use Rattle.globex_run.specs.Words.{NeverEndsWith}
 use Rattle.globex_run.specs.Prints.{outcome_printed, outcome_sent}
@@ -26,14 +26,23 @@ by-memory status lacks has = elim (eqb_tells status 1) [
 pub unless-memory : {A : Type 0} (status : ℕ) → (status ≢ 1 → A) → (status ≡ 1) ⊎ A
 unless-memory status has = by-memory status (λ one. inl one) (λ other. inr (has other))
 
-never-prints : (status : ℕ) → (status ≡ 7) ⊎ ((status ≡ 8) ⊎ (status ≡ 12)) → status ≢ 1
-never-prints status never one = ⊎_elim (λ seven. omega (arith, seven, one)) (λ more. ⊎_elim (λ eight. omega (arith, eight, one)) (λ twelve. omega (arith, twelve, one)) more) never
+-- one of several statuses is another than 1
+lacks-four : (status a b c d : ℕ) → a ≢ 1 → b ≢ 1 → c ≢ 1 → d ≢ 1 → (status ≡ a) ⊎ ((status ≡ b) ⊎ ((status ≡ c) ⊎ (status ≡ d))) → status ≢ 1
+lacks-four status a b c d first second third fourth never one =
+    ⊎_elim (λ e. first (sym e ∙ one)) (λ more. ⊎_elim (λ e. second (sym e ∙ one)) (λ more. ⊎_elim (λ e. third (sym e ∙ one)) (λ e. fourth (sym e ∙ one)) more) more) never
+
+lacks-three : (status a b c : ℕ) → a ≢ 1 → b ≢ 1 → c ≢ 1 → (status ≡ a) ⊎ ((status ≡ b) ⊎ (status ≡ c)) → status ≢ 1
+lacks-three status a b c first second third never one = ⊎_elim (λ e. first (sym e ∙ one)) (λ more. ⊎_elim (λ e. second (sym e ∙ one)) (λ e. third (sym e ∙ one)) more) never
+
+never-prints : (status : ℕ) → (status ≡ 7) ⊎ ((status ≡ 8) ⊎ ((status ≡ 12) ⊎ (status ≡ 13))) → status ≢ 1
+never-prints status never = lacks-four status 7 8 12 13 (λ e. cc e) (λ e. cc e) (λ e. cc e) (λ e. cc e) never
 
 -- a status that a command does not end with is another
 pub never-lacks : (command : Command) (status : ℕ) → NeverEndsWith command status → status ≢ 1
-never-lacks Run status never one = never
-never-lacks (Drill first count) status never one = ⊎_elim (λ seven. omega (arith, seven, one)) (λ eight. omega (arith, eight, one)) never
-never-lacks Checkpoint status never one = ⊎_elim (λ six. omega (arith, six, one)) (λ more. ⊎_elim (λ seven. omega (arith, seven, one)) (λ eight. omega (arith, eight, one)) more) never
+never-lacks Run status never one = omega (arith, never, one)
+never-lacks (Drill first count) status never one = lacks-three status 7 8 13 (λ e. cc e) (λ e. cc e) (λ e. cc e) never one
+never-lacks Checkpoint status never one = lacks-four status 6 7 8 13 (λ e. cc e) (λ e. cc e) (λ e. cc e) (λ e. cc e) never one
+never-lacks Amend status never one = lacks-three status 6 7 8 (λ e. cc e) (λ e. cc e) (λ e. cc e) never one
 never-lacks Steps status never one = ⊎_elim (λ five. omega (arith, five, one)) (λ more. omega (arith, more, one)) never
 never-lacks Replay status never one = never-prints status never one
 never-lacks Book status never one = never-prints status never one
@@ -43,13 +52,15 @@ never-lacks Ledger status never one = never-prints status never one
 -- ---- with which statuses a command does not end
 
 module _ (outcome : Outcome) where
-  pub printed-not-full : (answer : Result ℕ Unprinted) → outcome ≡ outcome_printed answer → outcome.status ≡ 12 → ⊥
-  printed-not-full (Ok n) is twelve = omega (arith, twelve, ap (λ (o : Outcome). o.status) is)
-  printed-not-full (Err unprinted.Store) is twelve = omega (arith, twelve, ap (λ (o : Outcome). o.status) is)
-  printed-not-full (Err unprinted.Send) is twelve = omega (arith, twelve, ap (λ (o : Outcome). o.status) is)
-  printed-not-full (Err (unprinted.NotAJournal at)) is twelve = omega (arith, twelve, ap (λ (o : Outcome). o.status) is)
-  printed-not-full (Err (unprinted.Bad at)) is twelve = omega (arith, twelve, ap (λ (o : Outcome). o.status) is)
-  printed-not-full (Err (unprinted.ProductDiffers at)) is twelve = omega (arith, twelve, ap (λ (o : Outcome). o.status) is)
+  -- 12 and 13 come of no printing
+  pub printed-low : (answer : Result ℕ Unprinted) → outcome ≡ outcome_printed answer → outcome.status < 12
+  printed-low (Ok n) is = omega (arith, ap (λ (o : Outcome). o.status) is)
+  printed-low (Err unprinted.NoMemory) is = omega (arith, ap (λ (o : Outcome). o.status) is)
+  printed-low (Err unprinted.Store) is = omega (arith, ap (λ (o : Outcome). o.status) is)
+  printed-low (Err unprinted.Send) is = omega (arith, ap (λ (o : Outcome). o.status) is)
+  printed-low (Err (unprinted.NotAJournal at)) is = omega (arith, ap (λ (o : Outcome). o.status) is)
+  printed-low (Err (unprinted.Bad at)) is = omega (arith, ap (λ (o : Outcome). o.status) is)
+  printed-low (Err (unprinted.ProductDiffers at)) is = omega (arith, ap (λ (o : Outcome). o.status) is)
 
   pub sent-status : (result : Result (Unit {0}) SendFailed) → outcome ≡ outcome_sent 0 result → (outcome.status ≡ 5) ⊎ (7 ≤ outcome.status) → ⊥
   sent-status (Ok t) is never = ⊎_elim (λ five. omega (arith, five, ap (λ (o : Outcome). o.status) is)) (λ more. omega (arith, more, ap (λ (o : Outcome). o.status) is)) never
@@ -66,3 +77,21 @@ module _ (outcome : Outcome) where
   checkpoint-not-sent (JournalBad place) possible is six = omega (arith, six, ap (λ (o : Outcome). o.status) is)
   checkpoint-not-sent (ProductDiffers place) possible is six = omega (arith, six, ap (λ (o : Outcome). o.status) is)
   checkpoint-not-sent (Full place) possible is six = omega (arith, six, ap (λ (o : Outcome). o.status) is)
+
+  -- 13 comes of no ending
+  pub ending-low : (ending : Ending) (count : ℕ) → outcome ≡ outcome_of ending count → outcome.status < 13
+  ending-low Done count is = omega (arith, ap (λ (o : Outcome). o.status) is)
+  ending-low (ReadFault place) count is = omega (arith, ap (λ (o : Outcome). o.status) is)
+  ending-low StoreFault count is = omega (arith, ap (λ (o : Outcome). o.status) is)
+  ending-low SendFault count is = omega (arith, ap (λ (o : Outcome). o.status) is)
+  ending-low (BadFrame place) count is = omega (arith, ap (λ (o : Outcome). o.status) is)
+  ending-low (Truncated place) count is = omega (arith, ap (λ (o : Outcome). o.status) is)
+  ending-low (NotAJournal place) count is = omega (arith, ap (λ (o : Outcome). o.status) is)
+  ending-low (JournalBad place) count is = omega (arith, ap (λ (o : Outcome). o.status) is)
+  ending-low (ProductDiffers place) count is = omega (arith, ap (λ (o : Outcome). o.status) is)
+  ending-low (Full place) count is = omega (arith, ap (λ (o : Outcome). o.status) is)
+
+  -- nor of the sending of a text
+  pub sent-low : (count : ℕ) (result : Result (Unit {0}) SendFailed) → outcome ≡ outcome_sent count result → outcome.status < 13
+  sent-low count (Ok t) is = ending-low Done count is
+  sent-low count (Err fault) is = ending-low SendFault count is

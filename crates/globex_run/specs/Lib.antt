@@ -2,6 +2,7 @@ pub mod ProductTexts
 pub mod Words
 pub mod Outside
 pub mod Outcomes
+pub mod Memory
 pub mod Journals
 pub mod RunResult
 pub mod Headline
@@ -13,9 +14,9 @@ pub mod FullJournals
 pub mod Calls
 pub mod CallsLent
 pub mod Steps
+pub mod Amends
 pub mod Works
 pub mod Promises
 pub mod OfRuns
-pub mod Amending
 pub mod Reopening
 pub mod Inner

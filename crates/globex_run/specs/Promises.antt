@@ -1,5 +1,5 @@
 -- What `globex` promises, clause by clause, of a call.
-use Rattle.std.specs.Prelude.{◌≡◌, ◌≢◌, ◌⊎◌, ℕ, List, Some, None}
+use Rattle.std.specs.Prelude.{◌≡◌, ◌≢◌, ◌⊎◌, ℕ, List, Some, None, Ok}
 use Rattle.gx_station.specs.Counts.{Rose}
 use Rattle.gx_station.specs.Honest.{KeepsImage}
 use Rattle.match_journal.specs.Journal.{Header, Record}
@@ -8,50 +8,55 @@ use Rattle.match_journal.specs.Classes.{Keeps}
 use Rattle.order_kinds.specs.Histories.{History, AreOfTexts, IsBalanced}
 use Rattle.report_laws.specs.Sums.{IsReadBalanced}
 use Rattle.command_words.specs.declared.command.Command.{Command}
-use Rattle.command_words.specs.declared.command.Command.TheVariants.{Run, Checkpoint}
+use Rattle.command_words.specs.declared.command.Command.TheVariants.{Run, Checkpoint, Amend}
 use Rattle.globex_run.specs.Calls.{Call}
+use Rattle.product_file.specs.Products.{ProductLists}
+use Rattle.product_file.specs.ProductTexts.{product_of}
+use Rattle.product_file.specs.declared.limits.TheConstants.{LONGEST_TEXT}
 use Rattle.globex_run.specs.Outside.{IsQuiet}
-use Rattle.globex_run.specs.Words.{IsWriting, OpensJournal, NeverEndsWith}
-use Rattle.globex_run.specs.ProductTexts.{ProductPremises, AnswersProduct}
+use Rattle.globex_run.specs.Words.{IsWriting, GoesOn, OpensByText, TakesKeptProducts, NeverEndsWith}
+use Rattle.globex_run.specs.ProductTexts.{ProductPremises, AnswersProduct, TakesAtMost}
 use Rattle.globex_run.specs.RunResult.{CommandResult}
 use Rattle.globex_run.specs.Steps.{LeavesFronts, LeavesEntryOrFronts, KeepsEverySent}
 use Rattle.globex_run.specs.Headline.{AddsMessages, KeepsARecordPerRead, ReadsFew}
 use Rattle.globex_run.specs.Checkpoints.{HasNoRoomForImage}
+use Rattle.globex_run.specs.Amends.{HasNoRoomForAmendment, RefusesToAmend}
+use Rattle.globex_run.specs.Memory.{StopsAtProducts}
 use Rattle.globex_run.specs.Prints.{PrintsAs}
 use Rattle.globex_run.specs.Refusals.{IsRefusal, RefusesExactly, CanStart}
 use Rattle.globex_run.specs.FullJournals.{IsFullJournal}
-use Rattle.globex_run.specs.Works.{Given, Reads, work_of, DoneBy, EndedBy, Serves, ServesNone, bytes_for, CanBeDone, EndsWell}
+use Rattle.globex_run.specs.Works.{Given, GivenFor, Reads, work_of, DoneBy, EndedBy, Serves, ServesNone, bytes_for, CanBeDone, EndsWell}
 
 module _ {P I S : Type 0} (c : Call P I S) where
   -- of each command, if it was asked for
   abbrev pub OfEach : (Command → Type 0) → Type 0
   OfEach Holds = (asked : Command) → c.asked ≡ Some asked → Holds asked
 
-  -- of each command that writes, under the premises
-  abbrev pub OfEachWriting : ((given : Given c) (asked : Command) → Reads c asked → Type 0) → Type 0
-  OfEachWriting Holds = OfEach (λ asked. IsWriting asked → (given : Given c) (read : Reads c asked) → Holds given asked read)
+  -- of each command that writes, under its premises
+  abbrev pub OfEachWriting : ((asked : Command) → GivenFor c asked → Reads c asked → Type 0) → Type 0
+  OfEachWriting Holds = OfEach (λ asked. IsWriting asked → (given : GivenFor c asked) (read : Reads c asked) → Holds asked given read)
 
   -- ---- the headline, sentence by sentence, of `run` and of each other command that writes
 
-  -- Status 0: what is sent of all messages was sent, and all of them are kept, or an image was added.
+  -- Status 0: what is sent of all messages was sent, and all of them are kept, or an image was added, or a product.
   abbrev pub DoesAll : Type 0
-  DoesAll = OfEachWriting (λ given asked read. c.outcome.status ≡ 0 → DoneBy c given asked read)
+  DoesAll = OfEachWriting (λ asked given read. c.outcome.status ≡ 0 → DoneBy c asked given read)
 
   -- Any other ending: of which messages something was sent, and which are kept.
   abbrev pub EndsAsTold : Type 0
-  EndsAsTold = OfEachWriting (λ given asked read. c.outcome.status ≢ 0 → EndedBy c given asked read)
+  EndsAsTold = OfEachWriting (λ asked given read. c.outcome.status ≢ 0 → EndedBy c asked given read)
 
   -- At every moment: a crash leaves a front of the steps, kept, and what had been sent is a front of what is sent of them.
   abbrev pub LeavesAFront : Type 0
-  LeavesAFront = OfEachWriting (λ given asked read. LeavesFronts c (work_of c given asked read))
+  LeavesAFront = OfEachWriting (λ asked given read. LeavesFronts c (work_of c asked given read))
 
   -- Before the first sync: or what a crash at entry could leave already, with the output of entry.
   abbrev pub LeavesTheEntry : Type 0
-  LeavesTheEntry = OfEachWriting (λ given asked read. LeavesEntryOrFronts c (work_of c given asked read))
+  LeavesTheEntry = OfEachWriting (λ asked given read. LeavesEntryOrFronts c (work_of c asked given read))
 
   -- With every message: where a byte of what is sent of a step was sent, it is kept.
   abbrev pub KeepsWhatIsSent : Type 0
-  KeepsWhatIsSent = OfEachWriting (λ given asked read. KeepsEverySent c (work_of c given asked read))
+  KeepsWhatIsSent = OfEachWriting (λ asked given read. KeepsEverySent c (work_of c asked given read))
 
   -- ---- what else holds of commands that write
 
@@ -65,7 +70,7 @@ module _ {P I S : Type 0} (c : Call P I S) where
 
   -- How much of the journal is read.
   abbrev pub ReadsItOnce : Type 0
-  ReadsItOnce = OfEach (λ asked. IsWriting asked → (given : Given c) → ReadsFew c.station c.before c.after c.outcome given)
+  ReadsItOnce = OfEach (λ asked. GoesOn asked → (given : Given c) → ReadsFew c.station c.before c.after c.outcome given)
 
   -- 12, of a command that serves messages: the next one has no room in the journal, or cannot be counted; whatever the journal keeps.
   abbrev pub IsFullForMessages : Type 0
@@ -77,6 +82,10 @@ module _ {P I S : Type 0} (c : Call P I S) where
   -- 12, of a checkpoint: the image has no room.
   abbrev pub IsFullForImage : Type 0
   IsFullForImage = c.asked ≡ Some Checkpoint → (given : Given c) → c.outcome.status ≡ 12 → HasNoRoomForImage c.station c.before c.after c.outcome given
+
+  -- 12, of an amendment: its record has no room.
+  abbrev pub IsFullForAmendment : Type 0
+  IsFullForAmendment = c.asked ≡ Some Amend → (given : GivenFor c Amend) → c.outcome.status ≡ 12 → HasNoRoomForAmendment c.station c.before c.after c.outcome given
 
   -- A command that writes, and serves no message, sends nothing, and counts messages at status 0 alone.
   abbrev pub SendsNothing : Type 0
@@ -102,14 +111,27 @@ module _ {P I S : Type 0} (c : Call P I S) where
   abbrev pub BalancesAsRead : Type 0
   BalancesAsRead = (kept : History) → AreOfTexts kept → IsReadBalanced kept
 
+  -- Want of memory leaves the input and the station untouched, and no more was taken of the product than its text may have. Only commands
+  -- that take products of the journal may have read it then, and nothing else was touched.
+  abbrev pub LeavesAllAtNoMemory : Type 0
+  LeavesAllAtNoMemory = c.outcome.status ≡ 1 → TakesAtMost LONGEST_TEXT c.before.product c.after.product
+      × ((c.after.streams ≡ c.before.streams) ⊎ ((asked : Command) × (c.asked ≡ Some asked) × TakesKeptProducts asked
+      × ((text : List ℕ) (product : ProductLists) → c.before.product.left ≡ Some text → product_of text ≡ Ok product
+      → StopsAtProducts c.station c.before.streams c.after.streams asked product text)))
+
   -- What was taken from the product's source and the input, and why it ended there, for all statuses but 1.
   abbrev pub EndsWhereTold : Type 0
   EndsWhereTold = OfEach (λ asked. c.outcome.status ≢ 1 → CommandResult c.before c.after c.outcome asked)
 
   -- 9, 10 and 11 come exactly where the image of entry is such.
   abbrev pub RefusesWhatItMust : Type 0
-  RefusesWhatItMust = OfEach (λ asked. OpensJournal asked → (given : ProductPremises c.before c.after c.outcome.status) (image : List ℕ)
+  RefusesWhatItMust = OfEach (λ asked. OpensByText asked → (given : ProductPremises c.before c.after c.outcome.status) (image : List ℕ)
       → c.before.streams.station.image ≡ Some image → RefusesExactly asked given.product given.text image c.outcome)
+
+  -- So do 9, 10, 11 and 13 of `amend`.
+  abbrev pub RefusesAmendments : Type 0
+  RefusesAmendments = c.asked ≡ Some Amend → (given : ProductPremises c.before c.after c.outcome.status) (image : List ℕ)
+      → c.before.streams.station.image ≡ Some image → RefusesToAmend given.product given.text image c.outcome
 
   -- An image from which a run can start is refused by no command.
   abbrev pub OpensAgain : Type 0
@@ -128,7 +150,7 @@ module _ {P I S : Type 0} (c : Call P I S) where
 
   -- What is refused stays as it is, and a command that writes sends nothing then.
   abbrev pub LeavesWhatItRefuses : Type 0
-  LeavesWhatItRefuses = OfEach (λ asked. IsWriting asked → IsRefusal c.outcome.status → (c.after.streams.station.sent ≡ c.before.streams.station.sent)
+  LeavesWhatItRefuses = OfEach (λ asked. IsWriting asked → IsRefusal c.outcome.status ⊎ (c.outcome.status ≡ 13) → (c.after.streams.station.sent ≡ c.before.streams.station.sent)
       × ((image : List ℕ) → c.before.streams.station.image ≡ Some image → KeepsImage c.station c.before.streams.station.object c.after.streams.station.object))
 
   -- ---- a fault of the outside is answered only where its count rose, and else no count does

@@ -1,5 +1,5 @@
 //! Executing a command over a product that was taken.
-ghost use Rattle.std.specs.Prelude.{◌≡◌, ◌≢◌, ℕ, List, Some, IfOk, OnErr};
+ghost use Rattle.std.specs.Prelude.{◌≡◌, ◌≢◌, ◌⊎◌, ℕ, List, Some, IfOk, OnErr};
 ghost use Rattle.gx_station.specs.Honest.{KeepsImage};
 ghost use Rattle.command_words.specs.declared.command.Command.TheVariants as command;
 ghost use Rattle.globex_run.specs.Outside.{streams_at};
@@ -9,6 +9,7 @@ ghost use Rattle.globex_run.specs.Inner.Checkpointing.{CheckpointResult};
 ghost use Rattle.globex_run.specs.Inner.Drilling.{DrillsMade};
 ghost use Rattle.globex_run.specs.Inner.Executing.{Executes, HasCauses, IsExecuted};
 
+use crate::amend::amend;
 use crate::outcome::{Outcome, Status};
 use crate::printing::{list_steps, print_each_record, print_last_book};
 use crate::session::Session;
@@ -21,7 +22,8 @@ use journal_print::Lines;
 use std::alloc::{AllocError, Global};
 
 /// Takes the memory of a command, and executes it over a product and its text. Want of memory is status 1, and nothing is touched
-/// then; no memory is taken later.
+/// then. No memory is taken later, but for products that the journal keeps: by a command that reads each record of a journal with
+/// amendments, before it sends anything, and by `amend`, before it writes anything.
 pub fn execute<I: Source, S: Station>(
     alloc: Global,
     command: Command,
@@ -33,9 +35,9 @@ pub fn execute<I: Source, S: Station>(
         (streams_at I.meanings S.meanings input.old station.old) (streams_at I.meanings S.meanings input.new station.new) result command }
     ensures causes { HasCauses S.meanings taken.now.product.now taken.now.text.now (streams_at I.meanings S.meanings input.old station.old)
         (streams_at I.meanings S.meanings input.new station.new) result command }
-    ensures stays { (image : List ℕ) → IsWriting command → S.meanings.holds station.old ≡ Some image → IsRefusal result.status
+    ensures stays { (image : List ℕ) → IsWriting command → S.meanings.holds station.old ≡ Some image → IsRefusal result.status ⊎ (result.status ≡ 13)
         → KeepsImage S.meanings station.old station.new }
-    ensures refused { IsWriting command → IsRefusal result.status → S.meanings.sent station.new ≡ S.meanings.sent station.old }
+    ensures refused { IsWriting command → IsRefusal result.status ⊎ (result.status ≡ 13) → S.meanings.sent station.new ≡ S.meanings.sent station.old }
 {
     taken.product.limits();
     match executed(alloc, command, taken, input, station) {
@@ -44,8 +46,8 @@ pub fn execute<I: Source, S: Station>(
     }
 }
 
-/// Executes a command. `run` alone reads the input. `run`, `drill` and `checkpoint` add to the journal; the others print, and write
-/// nothing. An `Err` is want of memory, and nothing was touched then.
+/// Executes a command. `run` alone reads the input. `run`, `drill`, `checkpoint` and `amend` add to the journal; the others print, and
+/// write nothing. An `Err` is want of memory, and nothing was touched then.
 fn executed<I: Source, S: Station>(
     alloc: Global,
     command: Command,
@@ -63,6 +65,7 @@ fn executed<I: Source, S: Station>(
         Command::Run => run(alloc, taken, input, station),
         Command::Drill { first, count } => drill(alloc, taken, first, count, station),
         Command::Checkpoint => checkpoint(alloc, taken, station),
+        Command::Amend => amend(alloc, taken, station),
         Command::Replay => print_each_record(
             alloc,
             &mut Lines { form: ReportForm },

@@ -11,12 +11,12 @@ pub fn opens_journal(command: Command) -> bool
     !matches!(command, Command::Steps)
 }
 
-/// Whether a command writes the journal, so that no other may write it meanwhile: `run`, `drill` and `checkpoint`.
+/// Whether a command writes the journal, so that no other may write it meanwhile: `run`, `drill`, `checkpoint` and `amend`.
 pub fn writes_journal(command: Command) -> bool
     ensures { IsTrue result ↔ IsWriting command }
 {
     matches!(
         command,
-        Command::Run | Command::Drill { .. } | Command::Checkpoint
+        Command::Run | Command::Drill { .. } | Command::Checkpoint | Command::Amend
     )
 }

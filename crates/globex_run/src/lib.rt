@@ -1,6 +1,7 @@
 //! A run: messages in, reports out, and each message kept in a journal before it is answered. The other commands stand beside it.
 #![tactic(auto)]
 
+mod amend;
 mod checkpoint;
 mod drill;
 mod ending;
@@ -18,6 +19,7 @@ mod serve;
 mod serve_record;
 mod session;
 mod taken;
+mod unamended;
 
 pub use headline::globex_for_run;
 pub use journal_use::{opens_journal, writes_journal};

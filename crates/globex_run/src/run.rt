@@ -6,16 +6,14 @@ ghost use Rattle.journal_print.specs.Reading.{ReadsAndSends};
 ghost use Rattle.command_words.specs.declared.command.Command.{Command};
 ghost use Rattle.command_words.specs.declared.command.Command.TheVariants as command;
 ghost use Rattle.globex_run.specs.Words.{AsksFor, AsksForNone, IsWriting, IsPrinting};
-ghost use Rattle.globex_run.specs.Outside.{source_at};
 ghost use Rattle.globex_run.specs.Outcomes.{is_outcome};
-ghost use Rattle.globex_run.specs.ProductTexts.{TakesAtMost};
 ghost use Rattle.globex_run.specs.Refusals.{IsRefusal};
 ghost use Rattle.globex_run.specs.Calls.{call};
 ghost use Rattle.globex_run.specs.Promises.{DoesAll, EndsAsTold, LeavesAFront, LeavesTheEntry, KeepsWhatIsSent};
-ghost use Rattle.globex_run.specs.Promises.{AddsMessagesAlone, AddsARecordPerRead, ReadsItOnce, IsFullForMessages, IsFullForImage, SendsNothing};
+ghost use Rattle.globex_run.specs.Promises.{AddsMessagesAlone, AddsARecordPerRead, ReadsItOnce, IsFullForMessages, IsFullForImage, IsFullForAmendment, SendsNothing};
 ghost use Rattle.globex_run.specs.Promises.{EndsWellWhereItCan, AnswersWords, AnswersProductText, LeavesWhatItRefuses};
 ghost use Rattle.globex_run.specs.Promises.{TellsReadFaults, TellsStoreFaults, TellsSendFaults};
-ghost use Rattle.globex_run.specs.Promises.{PrintsItsText, Balances, BalancesAsRead, EndsWhereTold, RefusesWhatItMust, OpensAgain, HasItsStatuses};
+ghost use Rattle.globex_run.specs.Promises.{PrintsItsText, Balances, BalancesAsRead, EndsWhereTold, LeavesAllAtNoMemory, RefusesWhatItMust, RefusesAmendments, OpensAgain, HasItsStatuses};
 ghost use Rattle.globex_run.specs.Inner.Statuses.{outcome_without, outcome_of_words};
 
 use crate::ending::Ending;
@@ -25,7 +23,6 @@ use crate::product_text::{NoProduct, take_product};
 use crate::taken::Taken;
 use command_words::{WordsFault, read_command};
 use gx_station::{Source, Station};
-use product_file::LONGEST_TEXT;
 use report_laws::reports_balance;
 use std::alloc::Global;
 
@@ -50,7 +47,7 @@ fn outcome_without(reason: NoProduct) -> Outcome
     }
 }
 
-/// Executes the command of the words: `run`, `drill`, `checkpoint`, or one of those that only print: `replay`, `book`, `fills`,
+/// Executes the command of the words: `run`, `drill`, `checkpoint`, `amend`, or one of those that only print: `replay`, `book`, `fills`,
 /// `ledger`, `steps`.
 ///
 /// `run` takes the product, opens its journal and recovers the state of the messages kept there, and serves the input: all whole
@@ -60,13 +57,15 @@ fn outcome_without(reason: NoProduct) -> Outcome
 /// every moment, inside a write or a send too, a crash leaves a journal that keeps the earlier messages and then a prefix of
 /// those read, with every message of whose reports a byte was sent. `drill` serves messages that are made by rule in the same
 /// way, but that it reports none of them and sends one line that sums them up, once all are kept. `checkpoint` adds one book image to
-/// the journal, from which these commands and `book` begin then, and sends nothing. The others send what they print, and write
-/// nothing. `Outcome` lists the statuses.
+/// the journal, from which these commands and `book` begin then, and sends nothing. `amend` has the journal go on under the product handed
+/// in, and sends nothing: it adds one record with the product's text, unless the journal has that text already. The others send what they
+/// print, and write nothing. `Outcome` lists the statuses.
 ///
 /// The words are tried first: 2 comes exactly where they are no command. The product is tried next: 3 comes exactly where its text
-/// breaks a rule. Memory is taken only before the first call on the station and the first read of the input; want of it is status 1.
-/// Then the journal is opened by its last text: 9, 10 and 11 come exactly where it is foreign, bad, or of another text. `replay`, `fills`
-/// and `ledger` know one product, and take a journal with amendments for a bad one.
+/// breaks a rule. Memory is taken before the first call on the station and the first read of the input, and want of it is status 1. Only
+/// `replay`, `fills`, `ledger` and `amend` take more, for products that the journal keeps, once their texts were read and before anything
+/// is sent or written. Then the journal is opened by its last text: 9, 10 and 11 come exactly where it is foreign, bad, or of another text.
+/// `amend` takes a journal of another text, if the product may follow its own: 13 comes exactly where it may not.
 pub fn globex<P: Source, I: Source, S: Station>(
     alloc: Global,
     words: &[String],
@@ -96,6 +95,7 @@ pub fn globex<P: Source, I: Source, S: Station>(
     ensures few_bytes { ReadsItOnce (call P.meanings I.meanings S.meanings words.now product input station result) }
     ensures full { IsFullForMessages (call P.meanings I.meanings S.meanings words.now product input station result) }
     ensures image_full { IsFullForImage (call P.meanings I.meanings S.meanings words.now product input station result) }
+    ensures amendment_full { IsFullForAmendment (call P.meanings I.meanings S.meanings words.now product input station result) }
     ensures sends_nothing { SendsNothing (call P.meanings I.meanings S.meanings words.now product input station result) }
 
     // Commands that print, and that they only read.
@@ -109,18 +109,18 @@ pub fn globex<P: Source, I: Source, S: Station>(
     ensures did { EndsWhereTold (call P.meanings I.meanings S.meanings words.now product input station result) }
     ensures untouched_input { (asked : Command) → AsksFor words.now asked → (asked ≡ command.Run → ⊥) → input.new ≡ input.old }
 
-    // Want of memory, words that are no command, or a product that is refused, leave the input and the station untouched.
-    // At want of memory no more was taken of the product than its text may have.
+    // Words that are no command, or a product that is refused, leave the input and the station untouched. So does want of memory, but that
+    // commands which take products of the journal may have read it.
     ensures none { (result.status ≡ 1) ⊎ ((result.status ≡ 2) ⊎ (result.status ≡ 3)) → result.messages ≡ 0 }
-    ensures no_memory { result.status ≡ 1 → (input.new ≡ input.old) × (station.new ≡ station.old)
-        × TakesAtMost LONGEST_TEXT (source_at P.meanings product.old) (source_at P.meanings product.new) }
+    ensures no_memory { LeavesAllAtNoMemory (call P.meanings I.meanings S.meanings words.now product input station result) }
     ensures bad_words { result.status ≡ 2 → (product.new ≡ product.old) × (input.new ≡ input.old) × (station.new ≡ station.old) }
     ensures bad_product { result.status ≡ 3 → (input.new ≡ input.old) × (station.new ≡ station.old) }
 
     // 9, 10 and 11 come exactly where the image of entry is such, whatever the command. What is refused stays as it is, and commands
-    // that write send nothing then. An image from which a run can start is refused by no command, but by `replay`, `fills` and `ledger`
-    // if it has an amendment: so what a crash leaves can be opened again.
+    // that write send nothing then. An image from which a run can start is refused by no command: so what a crash leaves can be opened
+    // again.
     ensures refuses { RefusesWhatItMust (call P.meanings I.meanings S.meanings words.now product input station result) }
+    ensures amendments { RefusesAmendments (call P.meanings I.meanings S.meanings words.now product input station result) }
     ensures opens_again { OpensAgain (call P.meanings I.meanings S.meanings words.now product input station result) }
     ensures refused { LeavesWhatItRefuses (call P.meanings I.meanings S.meanings words.now product input station result) }
 

@@ -9,8 +9,8 @@ use Rattle.globex_run.specs.Prints.{outcome_printed}
 use Rattle.globex_run.specs.declared.outcome.Outcome.{Outcome}
 
 -- The journal was printed, or not to its end, and the outcome tells which; what was sent fits the image of entry. A fault is
--- answered only if its count rose.
-pub record PrintsKept {S : Type 0} (m : StationMeanings S) (old new : S) (outcome : Outcome) (Prints : List ℕ → Result ℕ Unprinted → Type 0) : Type 0 where
+-- answered only if its count rose, and want of memory only with this fact.
+pub record PrintsKept {S : Type 0} (m : StationMeanings S) (old new : S) (outcome : Outcome) (AtNoMemory : Type 0) (Prints : List ℕ → Result ℕ Unprinted → Type 0) : Type 0 where
   pub answer : Result ℕ Unprinted
   pub outcome_is : outcome ≡ outcome_printed answer
   pub reads : ReadsAndSends m old new
@@ -18,4 +18,5 @@ pub record PrintsKept {S : Type 0} (m : StationMeanings S) (old new : S) (outcom
   pub no_store : (IsErrOf answer unprinted.Store → ⊥) → m.store_faults new ≡ m.store_faults old
   pub send : IsErrOf answer unprinted.Send → Rose (m.send_faults old) (m.send_faults new)
   pub no_send : (IsErrOf answer unprinted.Send → ⊥) → m.send_faults new ≡ m.send_faults old
+  pub memory : IsErrOf answer unprinted.NoMemory → AtNoMemory
   pub prints : (image : List ℕ) → m.holds old ≡ Some image → Prints image answer

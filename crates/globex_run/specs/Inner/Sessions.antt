@@ -5,7 +5,9 @@ use Rattle.gx_station.specs.Stations.{StationMeanings, sent_and}
 use Rattle.gx_station.specs.Honest.{IsSettled}
 use Rattle.gx_station.specs.Moments.{AddsOnly}
 use Rattle.match_journal.specs.Journal.{Header, Record, journal_front}
-use Rattle.match_journal.specs.Classes.{Keeps}
+use Rattle.match_journal.specs.Classes.{Keeps, IsForeignAt}
+use Rattle.match_journal.specs.Opening.{IsOpenedOf, IsBadAt, HasOtherText}
+use Rattle.book_recovery.specs.BadPlaces.{IsBadPlace}
 use Rattle.match_journal.specs.Texts.{HasLastText}
 use Rattle.match_journal.specs.Appending.{IsJournalTo}
 use Rattle.match_journal.specs.Causes.{ReadsAtMost}
@@ -44,9 +46,13 @@ ending_without (unopened.Bad at) = ending.JournalBad at
 ending_without (unopened.ProductDiffers at) = ending.ProductDiffers at
 
 -- what the image is, by the answer
-abbrev pub AnswersOpening : ProductLists → List ℕ → List ℕ → Result Standing Unopened → Type 0
-AnswersOpening product text image (Ok journal) = CanBeRecovered product text product.journal_limit image
-AnswersOpening product text image (Err reason) = AnswersImage product text image (ending_without reason)
+abbrev pub AnswersOpening : ProductLists → ℕ → List ℕ → List ℕ → Result Standing Unopened → Type 0
+AnswersOpening product limit text image (Ok journal) = CanBeRecovered product text limit image
+AnswersOpening product limit text image (Err unopened.Store) = Unit {0}
+AnswersOpening product limit text image (Err (unopened.NotAJournal at)) = IsForeignAt image at
+AnswersOpening product limit text image (Err (unopened.Bad at)) =
+    IsBadAt limit image at ⊎ ((opened : IsOpenedOf text limit image) × IsBadPlace product opened.head limit image at)
+AnswersOpening product limit text image (Err (unopened.ProductDiffers at)) = HasOtherText text limit image at
 
 -- the image was refused
 abbrev pub IsRefusedOpening : {J : Type 0} → Result J Unopened → Type 0
@@ -56,21 +62,21 @@ IsRefusedOpening (Err (unopened.NotAJournal at)) = Unit {0}
 IsRefusedOpening (Err (unopened.Bad at)) = Unit {0}
 IsRefusedOpening (Err (unopened.ProductDiffers at)) = Unit {0}
 
-module _ {S : Type 0} (m : StationMeanings S) (product : ProductLists) (head : Header) where
+module _ {S : Type 0} (m : StationMeanings S) (limit : ℕ) (head : Header) where
   -- The journal of an honest station, whose image keeps these records, was opened, and the core is in the state after the
   -- history in them; or a call on the store has failed. In either case the image keeps the same records.
   pub record Opens (old new : S) (image : List ℕ) (records : List Record) (kept : History) (state : State) (result : Result Standing Unopened) : Type 0 where
     pub accepted : IsRefusedOpening result → ⊥
-    pub moments : AddsOnly m old new (λ left out. IsOpeningUnder head.text product.journal_limit records image left × (m.sent old ≡ Some out))
-    pub keeps : HoldsOne m (IsOpeningUnder head.text product.journal_limit records image) new
-    pub at_end : IfOk result (λ journal. RestsAtEnd m head product.journal_limit records journal.gate (max (length image) MOST_UNFINISHED) new)
+    pub moments : AddsOnly m old new (λ left out. IsOpeningUnder head.text limit records image left × (m.sent old ≡ Some out))
+    pub keeps : HoldsOne m (IsOpeningUnder head.text limit records image) new
+    pub at_end : IfOk result (λ journal. RestsAtEnd m head limit records journal.gate (max (length image) MOST_UNFINISHED) new)
     pub is_state : IfOk result (λ journal. IsStateAfter kept state)
     pub bytes : ReadsAtMost (most_read records) (m.bytes_read old) (m.bytes_read new)
 
   -- The journal of an image that keeps these records was opened, good or true or not: nothing is pending behind them, and those from the
   -- last book image on are counted.
   pub record RestsBehind (new : S) (image : List ℕ) (records : List Record) (state : State) (journal : Standing) : Type 0 where
-    pub at_end : RestsAtEnd m head product.journal_limit records journal.gate (max (length image) MOST_UNFINISHED) new
+    pub at_end : RestsAtEnd m head limit records journal.gate (max (length image) MOST_UNFINISHED) new
     pub count : state.desk.messages ≡ count_behind_all 0 (from_last_image records)
 
 -- ---- a session, from its opening on

@@ -1,13 +1,14 @@
-use Rattle.std.proofs.Common.{rules, IfOk, sym, subst}
+use Rattle.std.proofs.Common.{IfOk, sym, subst}
 use Rattle.command_words.specs.declared.command.Command.{Command}
-use Rattle.command_words.specs.declared.command.Command.TheVariants.{Replay, Fills, Ledger, Book}
+use Rattle.command_words.specs.declared.command.Command.TheVariants.{Replay, Fills, Ledger}
 use Rattle.book_print.specs.declared.ledger.Totals.{Totals}
 use Rattle.journal_print.specs.declared.work.Lines.{Lines}
 use Rattle.journal_print.proofs.WholeTexts.{reports_printed, fills_printed, ledger_printed}
 use Rattle.globex_run.specs.Outside.{source_at, streams_at}
 use Rattle.globex_run.specs.Inner.Executing.{IsExecuted}
 use Rattle.globex_run.specs.declared.outcome.Outcome.{Outcome}
-use Rattle.globex_run.proofs.Executed.{if-ok, if-ok-three, drill-executed, checkpoint-executed, steps-executed, print-executed}
+use Rattle.globex_run.proofs.AmendExecuted.{amend-executed}
+use Rattle.globex_run.proofs.Executed.{if-ok, if-ok-three, drill-executed, checkpoint-executed, steps-executed, book-executed, each-executed}
 use Rattle.globex_run.proofs.execute.executed.Goals as goal
 
 pub returns-in-Drill-clause-did : goal.returns-in-Drill-clause-did
@@ -40,7 +41,7 @@ returns-in-Book-clause-did g c =
     let before = streams_at g.I.Source.meanings m c.args.input.now c.args.station.now in
     let after = streams_at g.I.Source.meanings m c.args.input.now c.print_last_book.new.station in
     subst (λ (x : Command). IfOk c.print_last_book.result (λ (outcome : Outcome). IsExecuted m c.args.taken.now.product.now c.args.taken.now.text.now before after outcome x)) (sym c.in-Book.is)
-    (if-ok c.print_last_book.result _ _ (λ outcome printed. print-executed m c.args.taken.now.product.now c.args.taken.now.text.now (source_at g.I.Source.meanings c.args.input.now) c.args.station.now c.print_last_book.new.station outcome c.limits.ensures Book (λ never. never) _ printed (λ prints. prints) (λ form. form)) c.print_last_book.ensures.prints)
+    (if-ok c.print_last_book.result _ _ (λ outcome printed. book-executed m c.args.taken.now.product.now c.args.taken.now.text.now (source_at g.I.Source.meanings c.args.input.now) c.args.station.now c.print_last_book.new.station outcome c.limits.ensures printed) c.print_last_book.ensures.prints)
 
 pub returns-in-Replay-clause-did : goal.returns-in-Replay-clause-did
 returns-in-Replay-clause-did g c =
@@ -48,7 +49,7 @@ returns-in-Replay-clause-did g c =
     let before = streams_at g.I.Source.meanings m c.args.input.now c.args.station.now in
     let after = streams_at g.I.Source.meanings m c.args.input.now c.print_each_record.new.station in
     subst (λ (x : Command). IfOk c.print_each_record.result (λ (outcome : Outcome). IsExecuted m c.args.taken.now.product.now c.args.taken.now.text.now before after outcome x)) (sym c.in-Replay.is)
-    (if-ok c.print_each_record.result _ _ (λ outcome printed. print-executed m c.args.taken.now.product.now c.args.taken.now.text.now (source_at g.I.Source.meanings c.args.input.now) c.args.station.now c.print_each_record.new.station outcome c.limits.ensures Replay (λ never. never) _ printed (λ prints. prints)
+    (if-ok c.print_each_record.result _ _ (λ outcome printed. each-executed m c.args.taken.now.product.now c.args.taken.now.text.now (source_at g.I.Source.meanings c.args.input.now) c.args.station.now c.print_each_record.new.station outcome c.limits.ensures Replay (λ never. never) _ printed tt (λ image told. told.0) (λ prints. prints)
     (λ form. record { answer = form.answer; outcome_is = form.outcome_is; prints = λ image read. reports_printed m c.args.taken.now.product.now c.args.taken.now.text.now image c.args.station.now c.print_each_record.new.station _ form.answer (form.prints image read) })) c.print_each_record.ensures.prints)
 
 pub returns-in-Fills-clause-did : goal.returns-in-Fills-clause-did
@@ -57,8 +58,8 @@ returns-in-Fills-clause-did g c =
     let before = streams_at g.I.Source.meanings m c.args.input.now c.args.station.now in
     let after = streams_at g.I.Source.meanings m c.args.input.now c.print_each_record-in-Fills.new.station in
     subst (λ (x : Command). IfOk c.print_each_record-in-Fills.result (λ (outcome : Outcome). IsExecuted m c.args.taken.now.product.now c.args.taken.now.text.now before after outcome x)) (sym c.in-Fills.is)
-    (if-ok c.print_each_record-in-Fills.result _ _ (λ outcome printed. print-executed m c.args.taken.now.product.now c.args.taken.now.text.now (source_at g.I.Source.meanings c.args.input.now) c.args.station.now c.print_each_record-in-Fills.new.station outcome c.limits.ensures Fills (λ never. never) _ printed (λ prints. prints)
-    (λ form. record { answer = form.answer; outcome_is = form.outcome_is; prints = λ image read. fills_printed m c.args.taken.now.product.now c.args.taken.now.text.now image c.args.station.now c.print_each_record-in-Fills.new.station (search rules) _ form.answer (form.prints image read) })) c.print_each_record-in-Fills.ensures.prints)
+    (if-ok c.print_each_record-in-Fills.result _ _ (λ outcome printed. each-executed m c.args.taken.now.product.now c.args.taken.now.text.now (source_at g.I.Source.meanings c.args.input.now) c.args.station.now c.print_each_record-in-Fills.new.station outcome c.limits.ensures Fills (λ never. never) _ printed tt (λ image told. told.0) (λ prints. prints)
+    (λ form. record { answer = form.answer; outcome_is = form.outcome_is; prints = λ image read. fills_printed m c.args.taken.now.product.now c.args.taken.now.text.now image c.args.station.now c.print_each_record-in-Fills.new.station _ form.answer (form.prints image read) })) c.print_each_record-in-Fills.ensures.prints)
 
 pub returns-in-Ledger-clause-did : goal.returns-in-Ledger-clause-did
 returns-in-Ledger-clause-did g c =
@@ -66,5 +67,13 @@ returns-in-Ledger-clause-did g c =
     let before = streams_at g.I.Source.meanings m c.args.input.now c.args.station.now in
     let after = streams_at g.I.Source.meanings m c.args.input.now c.print_each_record-in-Ledger.new.station in
     subst (λ (x : Command). IfOk c.print_each_record-in-Ledger.result (λ (outcome : Outcome). IsExecuted m c.args.taken.now.product.now c.args.taken.now.text.now before after outcome x)) (sym c.in-Ledger.is)
-    (if-ok c.print_each_record-in-Ledger.result _ _ (λ outcome printed. print-executed m c.args.taken.now.product.now c.args.taken.now.text.now (source_at g.I.Source.meanings c.args.input.now) c.args.station.now c.print_each_record-in-Ledger.new.station outcome c.limits.ensures Ledger (λ never. never) _ printed (λ prints. prints)
-    (λ form. record { answer = form.answer; outcome_is = form.outcome_is; prints = λ image read. let lines : Lines Totals = record { form = c.new.result } in ledger_printed m c.args.taken.now.product.now c.args.taken.now.text.now image c.args.station.now c.print_each_record-in-Ledger.new.station (search rules) c.limits.ensures lines c.new.ensures form.answer (form.prints image read) })) c.print_each_record-in-Ledger.ensures.prints)
+    (if-ok c.print_each_record-in-Ledger.result _ _ (λ outcome printed. each-executed m c.args.taken.now.product.now c.args.taken.now.text.now (source_at g.I.Source.meanings c.args.input.now) c.args.station.now c.print_each_record-in-Ledger.new.station outcome c.limits.ensures Ledger (λ never. never) _ printed tt (λ image told. told.0) (λ prints. prints)
+    (λ form. record { answer = form.answer; outcome_is = form.outcome_is; prints = λ image read. let lines : Lines Totals = record { form = c.new.result } in ledger_printed m c.args.taken.now.product.now c.args.taken.now.text.now image c.args.station.now c.print_each_record-in-Ledger.new.station c.limits.ensures lines c.new.ensures form.answer (form.prints image read) })) c.print_each_record-in-Ledger.ensures.prints)
+
+pub returns-in-Amend-clause-did : goal.returns-in-Amend-clause-did
+returns-in-Amend-clause-did g c =
+    let m = g.S.Station.meanings in
+    let before = streams_at g.I.Source.meanings m c.args.input.now c.args.station.now in
+    let after = streams_at g.I.Source.meanings m c.args.input.now c.amend.new.station in
+    subst (λ (x : Command). IfOk c.amend.result (λ (outcome : Outcome). IsExecuted m c.args.taken.now.product.now c.args.taken.now.text.now before after outcome x)) (sym c.in-Amend.is)
+    (if-ok c.amend.result _ _ (λ outcome did. amend-executed m c.args.taken.now.product.now c.args.taken.now.text.now (source_at g.I.Source.meanings c.args.input.now) c.args.station.now c.amend.new.station outcome did) c.amend.ensures.did)

@@ -9,5 +9,6 @@ returns-clause-prints g c = record {
   no_store = c.print_events-printed.ensures.no_store;
   send = c.print_events-printed.ensures.send;
   no_send = c.print_events-printed.ensures.no_send;
+  memory = c.print_events-printed.ensures.memory;
   prints = c.print_events-printed.ensures.prints;
 }

@@ -9,5 +9,6 @@ returns-clause-prints g c = record {
   no_store = c.print_kept_book-printed.ensures.no_store;
   send = c.print_kept_book-printed.ensures.send;
   no_send = c.print_kept_book-printed.ensures.no_send;
+  memory = c.print_kept_book-printed.ensures.memory;
   prints = λ image read. record { prints = c.print_kept_book-printed.ensures.prints image read; bytes = c.print_kept_book-printed.ensures.bytes image read };
 }

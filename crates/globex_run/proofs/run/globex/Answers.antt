@@ -1,11 +1,11 @@
-use Rattle.std.proofs.Common.{◌≤◌, inl, ℕ, List, length, sym, ap, subst, ◌∙◌}
+use Rattle.std.proofs.Common.{◌≤◌, inl, ℕ, List, length, refl, sym, ap, subst, ◌∙◌}
 use Rattle.product_file.specs.ProductTexts.{product_of}
 use Rattle.std.proofs.lemmas.Option.{same_Some}
 use Rattle.globex_run.specs.Outside.{source_at}
 use Rattle.globex_run.specs.Words.{IsWriting}
-use Rattle.globex_run.proofs.ProductReads.{short-text}
-use Rattle.globex_run.proofs.Runs.{memory-without, product-early, product-none, product-taken, words-early}
-use Rattle.globex_run.proofs.Commands.{product-told, no-memory, only-reads, leaves-the-input, does-all, ends-as-told, leaves-a-front, leaves-the-entry, keeps-what-is-sent, adds-messages-alone, adds-a-record-per-read, reads-it-once, is-full-for-messages, is-full-for-image, sends-nothing-then, prints-its-text, ends-well, ends-where-told, refuses-what-it-must, opens-it-again, has-its-statuses}
+use Rattle.globex_run.proofs.ProductReads.{none-taken, short-text}
+use Rattle.globex_run.proofs.Runs.{memory-without, few-without, product-early, product-none, product-taken, words-early, early-words, early-product, not-begun}
+use Rattle.globex_run.proofs.Commands.{product-told, leaves-all, only-reads, leaves-the-input, does-all, ends-as-told, leaves-a-front, leaves-the-entry, keeps-what-is-sent, adds-messages-alone, adds-a-record-per-read, reads-it-once, is-full-for-messages, is-full-for-image, is-full-for-amendment, sends-nothing-then, prints-its-text, ends-well, ends-where-told, refuses-what-it-must, refuses-amendments, opens-it-again, has-its-statuses}
 use Rattle.globex_run.proofs.Balanced.{all-balance, all-balance-as-read}
 use Rattle.globex_run.proofs.run.globex.Goals as goal
 
@@ -21,10 +21,16 @@ invariant_of-lent g c = record {
   gives = ap product_of c.deref.ensures.value ∙ c.in-Ok-take_product.ensures.1;
 }
 
+pub returns-in-Err-clause-no_memory : goal.returns-in-Err-clause-no_memory
+returns-in-Err-clause-no_memory g c one = (none-taken (source_at g.P.Source.meanings c.args.product.now), inl refl)
+
+pub returns-in-Err-take_product-clause-no_memory : goal.returns-in-Err-take_product-clause-no_memory
+returns-in-Err-take_product-clause-no_memory g c one =
+    (few-without (source_at g.P.Source.meanings c.args.product.now) (source_at g.P.Source.meanings c.take_product.new.source) c.in-Err-take_product.reason _ c.in-Err-take_product.ensures c.outcome_without.ensures one, inl refl)
+
 pub returns-clause-no_memory : goal.returns-clause-no_memory
-returns-clause-no_memory g c one =
-    no-memory g.S.Station.meanings (source_at g.P.Source.meanings c.args.product.now) (source_at g.P.Source.meanings c.take_product.new.source) (source_at g.I.Source.meanings c.args.input.now) (source_at g.I.Source.meanings c.execute.new.input)
-    c.args.station.now c.execute.new.station c.execute.result _ _ c.deref.ensures.value c.in-Ok-take_product.taken.product c.in-Ok-take_product.ensures.0 c.in-Ok-take_product.ensures.1 _ c.execute.ensures.causes one
+returns-clause-no_memory g c = leaves-all g.S.Station.meanings (source_at g.P.Source.meanings c.args.product.now) (source_at g.P.Source.meanings c.take_product.new.source) (source_at g.I.Source.meanings c.args.input.now) (source_at g.I.Source.meanings c.execute.new.input)
+    c.args.station.now c.execute.new.station c.execute.result _ _ c.deref.ensures.value c.in-Ok-take_product.taken.product c.in-Ok-take_product.ensures.0 c.in-Ok-take_product.ensures.1 _ _ c.in-Ok.ensures.given c.execute.ensures.executes c.execute.ensures.causes
 
 pub returns-clause-only_reads : goal.returns-clause-only_reads
 returns-clause-only_reads g c = only-reads g.S.Station.meanings (source_at g.P.Source.meanings c.args.product.now) (source_at g.P.Source.meanings c.take_product.new.source) (source_at g.I.Source.meanings c.args.input.now) (source_at g.I.Source.meanings c.execute.new.input)
@@ -79,6 +85,10 @@ pub returns-clause-image_full : goal.returns-clause-image_full
 returns-clause-image_full g c = is-full-for-image g.S.Station.meanings (source_at g.P.Source.meanings c.args.product.now) (source_at g.P.Source.meanings c.take_product.new.source) (source_at g.I.Source.meanings c.args.input.now) (source_at g.I.Source.meanings c.execute.new.input)
     c.args.station.now c.execute.new.station c.execute.result _ _ c.deref.ensures.value c.in-Ok-take_product.taken.product c.in-Ok-take_product.ensures.0 c.in-Ok-take_product.ensures.1 _ _ c.in-Ok.ensures.given c.execute.ensures.executes c.execute.ensures.causes
 
+pub returns-clause-amendment_full : goal.returns-clause-amendment_full
+returns-clause-amendment_full g c = is-full-for-amendment g.S.Station.meanings (source_at g.P.Source.meanings c.args.product.now) (source_at g.P.Source.meanings c.take_product.new.source) (source_at g.I.Source.meanings c.args.input.now) (source_at g.I.Source.meanings c.execute.new.input)
+    c.args.station.now c.execute.new.station c.execute.result _ _ c.deref.ensures.value c.in-Ok-take_product.taken.product c.in-Ok-take_product.ensures.0 c.in-Ok-take_product.ensures.1 _ _ c.in-Ok.ensures.given c.execute.ensures.executes c.execute.ensures.causes
+
 pub returns-clause-sends_nothing : goal.returns-clause-sends_nothing
 returns-clause-sends_nothing g c = sends-nothing-then g.S.Station.meanings (source_at g.P.Source.meanings c.args.product.now) (source_at g.P.Source.meanings c.take_product.new.source) (source_at g.I.Source.meanings c.args.input.now) (source_at g.I.Source.meanings c.execute.new.input)
     c.args.station.now c.execute.new.station c.execute.result _ _ c.deref.ensures.value c.in-Ok-take_product.taken.product c.in-Ok-take_product.ensures.0 c.in-Ok-take_product.ensures.1 _ _ c.in-Ok.ensures.given c.execute.ensures.executes c.execute.ensures.causes
@@ -106,6 +116,10 @@ returns-clause-did g c = ends-where-told g.S.Station.meanings (source_at g.P.Sou
 
 pub returns-clause-refuses : goal.returns-clause-refuses
 returns-clause-refuses g c = refuses-what-it-must g.S.Station.meanings (source_at g.P.Source.meanings c.args.product.now) (source_at g.P.Source.meanings c.take_product.new.source) (source_at g.I.Source.meanings c.args.input.now) (source_at g.I.Source.meanings c.execute.new.input)
+    c.args.station.now c.execute.new.station c.execute.result _ _ c.deref.ensures.value c.in-Ok-take_product.taken.product c.in-Ok-take_product.ensures.0 c.in-Ok-take_product.ensures.1 _ _ c.in-Ok.ensures.given c.execute.ensures.executes c.execute.ensures.causes
+
+pub returns-clause-amendments : goal.returns-clause-amendments
+returns-clause-amendments g c = refuses-amendments g.S.Station.meanings (source_at g.P.Source.meanings c.args.product.now) (source_at g.P.Source.meanings c.take_product.new.source) (source_at g.I.Source.meanings c.args.input.now) (source_at g.I.Source.meanings c.execute.new.input)
     c.args.station.now c.execute.new.station c.execute.result _ _ c.deref.ensures.value c.in-Ok-take_product.taken.product c.in-Ok-take_product.ensures.0 c.in-Ok-take_product.ensures.1 _ _ c.in-Ok.ensures.given c.execute.ensures.executes c.execute.ensures.causes
 
 pub returns-clause-opens_again : goal.returns-clause-opens_again
@@ -136,3 +150,68 @@ returns-in-Err-take_product-clause-reports_balanced g c = all-balance-as-read c.
 
 pub returns-clause-reports_balanced : goal.returns-clause-reports_balanced
 returns-clause-reports_balanced g c = all-balance-as-read c.reports_balance.ensures
+
+pub returns-in-Err-clause-does_all : goal.returns-in-Err-clause-does_all
+returns-in-Err-clause-does_all g c asked asks writing given =
+    let product = source_at g.P.Source.meanings c.args.product.now in
+    let input = source_at g.I.Source.meanings c.args.input.now in
+    absurd (not-begun g.S.Station.meanings product product input input c.args.station.now c.args.station.now c.outcome_of_words.result (early-words product product c.in-Err.fault c.outcome_of_words.result c.outcome_of_words.ensures) _ asked asks given)
+
+pub returns-in-Err-take_product-clause-does_all : goal.returns-in-Err-take_product-clause-does_all
+returns-in-Err-take_product-clause-does_all g c asked asks writing given =
+    let before = source_at g.P.Source.meanings c.args.product.now in
+    let after = source_at g.P.Source.meanings c.take_product.new.source in
+    let input = source_at g.I.Source.meanings c.args.input.now in
+    absurd (not-begun g.S.Station.meanings before after input input c.args.station.now c.args.station.now c.outcome_without.result (early-product before after c.in-Err-take_product.reason c.outcome_without.result c.in-Err-take_product.ensures c.outcome_without.ensures) _ asked asks given)
+
+pub returns-in-Err-clause-ends_otherwise : goal.returns-in-Err-clause-ends_otherwise
+returns-in-Err-clause-ends_otherwise g c asked asks writing given =
+    let product = source_at g.P.Source.meanings c.args.product.now in
+    let input = source_at g.I.Source.meanings c.args.input.now in
+    absurd (not-begun g.S.Station.meanings product product input input c.args.station.now c.args.station.now c.outcome_of_words.result (early-words product product c.in-Err.fault c.outcome_of_words.result c.outcome_of_words.ensures) _ asked asks given)
+
+pub returns-in-Err-take_product-clause-ends_otherwise : goal.returns-in-Err-take_product-clause-ends_otherwise
+returns-in-Err-take_product-clause-ends_otherwise g c asked asks writing given =
+    let before = source_at g.P.Source.meanings c.args.product.now in
+    let after = source_at g.P.Source.meanings c.take_product.new.source in
+    let input = source_at g.I.Source.meanings c.args.input.now in
+    absurd (not-begun g.S.Station.meanings before after input input c.args.station.now c.args.station.now c.outcome_without.result (early-product before after c.in-Err-take_product.reason c.outcome_without.result c.in-Err-take_product.ensures c.outcome_without.ensures) _ asked asks given)
+
+pub returns-in-Err-clause-at_every_moment : goal.returns-in-Err-clause-at_every_moment
+returns-in-Err-clause-at_every_moment g c asked asks writing given =
+    let product = source_at g.P.Source.meanings c.args.product.now in
+    let input = source_at g.I.Source.meanings c.args.input.now in
+    absurd (not-begun g.S.Station.meanings product product input input c.args.station.now c.args.station.now c.outcome_of_words.result (early-words product product c.in-Err.fault c.outcome_of_words.result c.outcome_of_words.ensures) _ asked asks given)
+
+pub returns-in-Err-take_product-clause-at_every_moment : goal.returns-in-Err-take_product-clause-at_every_moment
+returns-in-Err-take_product-clause-at_every_moment g c asked asks writing given =
+    let before = source_at g.P.Source.meanings c.args.product.now in
+    let after = source_at g.P.Source.meanings c.take_product.new.source in
+    let input = source_at g.I.Source.meanings c.args.input.now in
+    absurd (not-begun g.S.Station.meanings before after input input c.args.station.now c.args.station.now c.outcome_without.result (early-product before after c.in-Err-take_product.reason c.outcome_without.result c.in-Err-take_product.ensures c.outcome_without.ensures) _ asked asks given)
+
+pub returns-in-Err-clause-before_the_first_sync : goal.returns-in-Err-clause-before_the_first_sync
+returns-in-Err-clause-before_the_first_sync g c asked asks writing given =
+    let product = source_at g.P.Source.meanings c.args.product.now in
+    let input = source_at g.I.Source.meanings c.args.input.now in
+    absurd (not-begun g.S.Station.meanings product product input input c.args.station.now c.args.station.now c.outcome_of_words.result (early-words product product c.in-Err.fault c.outcome_of_words.result c.outcome_of_words.ensures) _ asked asks given)
+
+pub returns-in-Err-take_product-clause-before_the_first_sync : goal.returns-in-Err-take_product-clause-before_the_first_sync
+returns-in-Err-take_product-clause-before_the_first_sync g c asked asks writing given =
+    let before = source_at g.P.Source.meanings c.args.product.now in
+    let after = source_at g.P.Source.meanings c.take_product.new.source in
+    let input = source_at g.I.Source.meanings c.args.input.now in
+    absurd (not-begun g.S.Station.meanings before after input input c.args.station.now c.args.station.now c.outcome_without.result (early-product before after c.in-Err-take_product.reason c.outcome_without.result c.in-Err-take_product.ensures c.outcome_without.ensures) _ asked asks given)
+
+pub returns-in-Err-clause-with_every_message : goal.returns-in-Err-clause-with_every_message
+returns-in-Err-clause-with_every_message g c asked asks writing given =
+    let product = source_at g.P.Source.meanings c.args.product.now in
+    let input = source_at g.I.Source.meanings c.args.input.now in
+    absurd (not-begun g.S.Station.meanings product product input input c.args.station.now c.args.station.now c.outcome_of_words.result (early-words product product c.in-Err.fault c.outcome_of_words.result c.outcome_of_words.ensures) _ asked asks given)
+
+pub returns-in-Err-take_product-clause-with_every_message : goal.returns-in-Err-take_product-clause-with_every_message
+returns-in-Err-take_product-clause-with_every_message g c asked asks writing given =
+    let before = source_at g.P.Source.meanings c.args.product.now in
+    let after = source_at g.P.Source.meanings c.take_product.new.source in
+    let input = source_at g.I.Source.meanings c.args.input.now in
+    absurd (not-begun g.S.Station.meanings before after input input c.args.station.now c.args.station.now c.outcome_without.result (early-product before after c.in-Err-take_product.reason c.outcome_without.result c.in-Err-take_product.ensures c.outcome_without.ensures) _ asked asks given)
