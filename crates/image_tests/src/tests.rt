@@ -1,5 +1,4 @@
 //! Images alone, and journals that have them.
-mod amendments;
 mod checkpoints;
 mod endings;
 mod expects;

@@ -9,7 +9,7 @@ fn answer(rt: &(impl Abort + AllocGlobal), line: &str) -> Result<Command, WordsF
     read_command(rt.alloc(), words.as_slice())
 }
 
-const REFUSED: [&str; 30] = [
+const REFUSED: [&str; 35] = [
     "",
     "Run",
     "runs",
@@ -38,6 +38,11 @@ const REFUSED: [&str; 30] = [
     "run -x",
     "drill --first 1 --count 1 --third 1",
     "checkpoint --count 1",
+    "amend --first 1",
+    "amend run",
+    "Amend",
+    "amends",
+    "amen",
     "--first 1",
     "drill --firs 1 --count 1",
 ];
@@ -55,6 +60,8 @@ fn words_of_commands(rt: HostRuntime) {
     expect_answer(&rt, "fills", Ok(Command::Fills));
     expect_answer(&rt, "steps", Ok(Command::Steps));
     expect_answer(&rt, "checkpoint", Ok(Command::Checkpoint));
+    expect_answer(&rt, "amend", Ok(Command::Amend));
+    expect_answer(&rt, "-- amend", Ok(Command::Amend));
     expect_answer(&rt, "-- ledger", Ok(Command::Ledger));
     expect_answer(
         &rt,

@@ -1,38 +1,21 @@
-//! Journals with amendments, made byte by byte: runs, books and checkpoints go on from the image of the last one under its product.
+//! Runs, books and checkpoints go on from the image of the last amendment, under its product.
 ghost use Rattle.std.specs.Prelude.{◌≤◌, length};
 
-use super::expects::{expect_bytes, expect_count, expect_outcome, expect_success};
-use super::{execute, execute_well, front_of, station_of};
-use globex_run::Outcome;
+use super::expects::{expect_bytes, expect_count};
+use super::{
+    BEGINNING, BUY, FIFO, PRO_RATA, READING, SELLS, THIRD, amended, amended_sells, amended_to,
+    book_image, execute_well, expect_left, frames, image_then, journal_of_sells, station_of,
+    with_amendment, with_byte,
+};
 use gx_station::MemStation;
-use run_fixtures::{PRODUCT, ended, frames_of, product_text};
+use run_fixtures::{PRODUCT, ended, product_text};
 use std::process::Abort;
 
-/// A product with few live orders, whose memory is soon taken, and which matches by FIFO.
-const FIFO: &str = product_text!("max_orders = 8", letter: "F");
-
-/// The same with pro rata.
-const PRO_RATA: &str = product_text!("max_orders = 8", letter: "C");
-
-/// And with another range for market orders.
-const THIRD: &str =
-    product_text!("max_orders = 8", name: "ESZ4", tick: 1, protection: 3, letter: "C");
-
 /// The usual product with pro rata in place of FIFO.
-const USUAL_PRO_RATA: &str = product_text!(letter: "C");
-
-/// Three lots and one, which share a price.
-const SELLS: [&str; 2] = [
-    "35=D|49=AAA|56=GX|34=1|52=20240102-09:30:00|11=a1|55=ESZ4|54=2|38=3|40=2|44=100.00|59=0|",
-    "35=D|49=BBB|56=GX|34=1|52=20240102-09:30:00|11=b1|55=ESZ4|54=2|38=1|40=2|44=100.00|59=0|",
-];
-
-/// Two lots of them are bought.
-const BUY: &str =
-    "35=D|49=CCC|56=GX|34=1|52=20240102-09:30:00|11=c1|55=ESZ4|54=1|38=2|40=2|44=100.00|59=0|";
+pub const USUAL_PRO_RATA: &str = product_text!(letter: "C");
 
 /// Under pro rata the larger order has one lot by its share, and one as the first in time.
-const REPORTS: [&str; 5] = [
+pub const REPORTS: [&str; 5] = [
     "35=8|34=1|49=GX|52=20240102-09:30:00|56=CCC|37=3|11=c1|17=3|20=0|150=0|39=0|55=ESZ4|54=1|38=2|40=2|44=100.00|59=0|151=2|14=0|6=0|60=20240102-09:30:00|9003=0|",
     "35=8|34=2|49=GX|52=20240102-09:30:00|56=AAA|37=1|11=a1|17=4|20=0|150=1|39=1|55=ESZ4|54=2|38=3|40=2|44=100.00|59=0|32=1|31=100.00|151=2|14=1|6=0|60=20240102-09:30:00|9001=PRORATA|9002=1|9003=0|",
     "35=8|34=2|49=GX|52=20240102-09:30:00|56=CCC|37=3|11=c1|17=5|20=0|150=1|39=1|55=ESZ4|54=1|38=2|40=2|44=100.00|59=0|32=1|31=100.00|151=1|14=1|6=0|60=20240102-09:30:00|9001=PRORATA|9002=1|9003=0|",
@@ -51,104 +34,14 @@ S 100.00 1/1 #1 AAA a1
 S 100.00 1/1 #2 BBB b1
 ";
 
-/// The bytes of these frames.
-fn frames(rt: &(impl Abort + AllocGlobal), bodies: &[&str]) -> Vec<u8> {
-    frames_of(rt.alloc(), bodies).expect(rt, "memory")
-}
-
-/// The image after a command under the product of this text, which does all it should.
-fn image_then(
-    rt: &(impl Abort + AllocGlobal),
-    text: &str,
-    line: &str,
-    bodies: &[&str],
-    image: &[u8],
-) -> Vec<u8> {
-    let mut station = station_of(rt, image);
-    let got = execute(rt, text, line, bodies, &mut station);
-    expect_success(rt, line, got);
-    station.image().to_vec(rt.alloc()).expect(rt, "memory")
-}
-
-/// The journal of the sells under FIFO, which has one record of frames, and then its closed gate.
-fn journal_of_sells(rt: &(impl Abort + AllocGlobal)) -> Vec<u8> {
-    image_then(rt, FIFO, "run", &SELLS, b"")
-}
-
-/// The payload of the book image that a checkpoint under this product adds to a journal.
-fn book_image(rt: &(impl Abort + AllocGlobal), text: &str, journal: &[u8]) -> Vec<u8> {
-    let longer = image_then(rt, text, "checkpoint", &[], journal);
-    let first = journal.len() + 5;
-    assert!(rt; first < longer.len());
-    let payload = &longer[first..longer.len() - 1];
-    payload.to_vec(rt.alloc()).expect(rt, "memory")
-}
-
-/// Adds some bytes to others.
-fn push(rt: &(impl Abort + AllocGlobal), bytes: &mut Vec<u8>, part: &[u8]) {
-    bytes.extend_from_slice(part).expect(rt, "memory");
-}
-
-/// A journal whose last gate is closed, with an amendment that has a size, a text, and an image.
-fn with_amendment(
-    rt: &(impl Abort + AllocGlobal),
-    journal: &[u8],
-    size: u32,
-    text: &str,
-    image: &[u8],
-) -> Vec<u8> {
-    assert!(rt; !journal.is_empty() && text.len() < 1_000 && image.len() < 10_000);
-    let front = front_of(rt, journal, journal.len() - 1);
-    let length = (4 + text.len() + image.len()) as u32;
-    let mut bytes = front.to_vec(rt.alloc()).expect(rt, "memory");
-    push(rt, &mut bytes, b"\x01P");
-    push(rt, &mut bytes, &length.to_be_bytes());
-    push(rt, &mut bytes, &size.to_be_bytes());
-    push(rt, &mut bytes, text.as_bytes());
-    push(rt, &mut bytes, image);
-    push(rt, &mut bytes, b"\x00");
-    bytes
-}
-
-/// A journal of a product, amended to another one: the image is that of the state there, in which no order is TOP.
-fn amended(rt: &(impl Abort + AllocGlobal), journal: &[u8], from: &str, to: &str) -> Vec<u8> {
-    assert!(rt; to.len() < 1_000);
-    let image = book_image(rt, from, journal);
-    let size = to.len() as u32;
-    with_amendment(rt, journal, size, to, image.as_slice())
-}
-
-/// The journal of the sells, amended to pro rata.
-fn amended_sells(rt: &(impl Abort + AllocGlobal)) -> Vec<u8> {
-    let journal = amended(rt, journal_of_sells(rt).as_slice(), FIFO, PRO_RATA);
-    expect_count(rt, "the amended journal", journal.len(), 1_302);
-    journal
-}
-
-/// A command under the product of this text ends so over this image, sends these bytes, and leaves the image as it is.
-fn expect_left(
-    rt: &(impl Abort + AllocGlobal),
-    text: &str,
-    line: &str,
-    image: &[u8],
-    outcome: Outcome,
-    sent: &[u8],
-) {
-    let mut station = station_of(rt, image);
-    let got = execute(rt, text, line, &[BUY], &mut station);
-    expect_outcome(rt, line, got, outcome);
-    expect_bytes(rt, line, station.output(), sent);
-    expect_bytes(rt, line, station.image(), image);
-}
-
-/// Each command that opens the journal, and begins with the last image.
-const BEGINNING: [&str; 4] = ["run", "book", "drill --first 1 --count 2", "checkpoint"];
-
-/// Each command that reads record by record.
-const READING: [&str; 3] = ["replay", "fills", "ledger"];
-
 /// Each command that opens the journal is refused so under the product of this text.
-fn expect_refused(rt: &(impl Abort + AllocGlobal), text: &str, image: &[u8], status: u8, at: u64) {
+pub fn expect_refused(
+    rt: &(impl Abort + AllocGlobal),
+    text: &str,
+    image: &[u8],
+    status: u8,
+    at: u64,
+) {
     for line in BEGINNING {
         expect_left(rt, text, line, image, ended(status, at, 0), b"");
     }
@@ -159,7 +52,7 @@ fn expect_refused(rt: &(impl Abort + AllocGlobal), text: &str, image: &[u8], sta
 
 /// A run of the buy goes on from this journal of the sells, under the product of this text, which shares by pro rata; so does one from a
 /// checkpoint, and the books are those before and after it.
-fn expect_going_on(rt: &(impl Abort + AllocGlobal), text: &str, journal: &[u8]) {
+pub fn expect_going_on(rt: &(impl Abort + AllocGlobal), text: &str, journal: &[u8]) {
     expect_left(rt, text, "book", journal, ended(0, 0, 2), BOOK.as_bytes());
     let reports = frames(rt, &REPORTS);
     let mut station = station_of(rt, journal);
@@ -181,9 +74,6 @@ fn run_behind_an_amendment(rt: HostRuntime) {
     let journal = journal.as_slice();
     expect_going_on(&rt, PRO_RATA, journal);
     expect_refused(&rt, FIFO, journal, 11, 548);
-    for line in READING {
-        expect_left(&rt, PRO_RATA, line, journal, ended(10, 390, 0), b"");
-    }
 }
 
 /// The same with the usual product.
@@ -240,14 +130,6 @@ fn drill_behind_an_amendment(rt: HostRuntime) {
     assert!(rt; station.output().len() > sent);
 }
 
-/// The bytes with another one at a place.
-fn with_byte(rt: &(impl Abort + AllocGlobal), bytes: &[u8], at: usize, byte: u8) -> Vec<u8> {
-    let mut bytes = bytes.to_vec(rt.alloc()).expect(rt, "memory");
-    assert!(rt; at < bytes.len());
-    bytes[at] = byte;
-    bytes
-}
-
 /// An image that is not right, in the last amendment and in an earlier one. Who begins with the last image does not see the earlier one.
 #[test]
 fn bad_image_of_an_amendment(rt: HostRuntime) {
@@ -273,13 +155,18 @@ fn bad_image_of_an_amendment(rt: HostRuntime) {
 fn bad_text_of_an_amendment(rt: HostRuntime) {
     let journal = journal_of_sells(&rt);
     let image = book_image(&rt, FIFO, journal.as_slice());
-    let long = with_amendment(&rt, journal.as_slice(), 902, PRO_RATA, image.as_slice());
+    let long = with_amendment(
+        &rt,
+        journal.as_slice(),
+        902,
+        PRO_RATA.as_bytes(),
+        image.as_slice(),
+    );
     expect_refused(&rt, PRO_RATA, long.as_slice(), 10, 390);
     expect_refused(&rt, FIFO, long.as_slice(), 10, 390);
-    let size = THIRD.len() as u32;
-    let behind = with_amendment(&rt, long.as_slice(), size, THIRD, image.as_slice());
+    let behind = amended_to(&rt, long.as_slice(), THIRD.as_bytes(), image.as_slice());
     expect_going_on(&rt, THIRD, behind.as_slice());
-    let bare = with_amendment(&rt, journal.as_slice(), 151, PRO_RATA, b"");
+    let bare = amended_to(&rt, journal.as_slice(), PRO_RATA.as_bytes(), b"");
     for line in BEGINNING {
         expect_left(&rt, PRO_RATA, line, bare.as_slice(), ended(10, 390, 0), b"");
     }
