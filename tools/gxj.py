@@ -12,6 +12,8 @@ MOST_UNFINISHED = 65_550
 MOST_PAYLOAD = 8_192
 MOST_MESSAGES = 1 << 24
 HEAD = 6
+# of the product text in the header: its length, and its first byte
+SIZE_AT = 9
 TEXT_AT = 13
 # of the length of a text, at the front of an amendment
 SIZE_BYTES = 4
@@ -60,9 +62,10 @@ class ProductText:
 
 @dataclasses.dataclass
 class Record:
-    """A record with a good head. `fault` says why its payload is not good, or is nothing. `count` is how many messages it has,
-    `before` how many are before it, and `counted` the count after it, which an image sets to its own. `text` is the text under
-    whose product it is read; that of an amendment is its own."""
+    """A record with a good head. `fault` says why its payload is not good, or is nothing. `unfit` says why the text of an amendment
+    is bad for who reads all texts: it has a fault, or its product may not follow the one before. `count` is how many messages the
+    record has, `before` how many are before it, and `counted` the count after it, which an image sets to its own. `text` is the text
+    under whose product it is read; that of an amendment is its own."""
 
     gate: int
     kind: bytes
@@ -71,11 +74,17 @@ class Record:
     before: int
     counted: int
     fault: str | None
+    unfit: str | None
     text: ProductText
 
     @property
     def end(self):
         return self.gate + HEAD + self.length
+
+    @property
+    def wrong(self):
+        """Why it is not good under the product of its time, or nothing."""
+        return self.unfit or self.fault
 
     @property
     def is_image(self):
@@ -100,13 +109,13 @@ def record_bytes(kind, payload):
 
 def has_header(data):
     """Whether GXJOURN1 or GXJOURN2, a length, a text and a gate follow the first gate."""
-    length = number_at(data, 9, 4)
-    return data[1:9] in MAGICS and len(data) >= TEXT_AT and length <= MOST_TEXT and len(data) > TEXT_AT + length
+    length = number_at(data, SIZE_AT, 4)
+    return data[1:SIZE_AT] in MAGICS and len(data) >= TEXT_AT and length <= MOST_TEXT and len(data) > TEXT_AT + length
 
 
 def first_gate(data):
     """The gate of the first record, if there is a header."""
-    return TEXT_AT + number_at(data, 9, 4)
+    return TEXT_AT + number_at(data, SIZE_AT, 4)
 
 
 def class_of(data):
@@ -114,7 +123,7 @@ def class_of(data):
         return "blank"
     if data[:1] not in (CLOSED, OPEN) and has_header(data) and data[first_gate(data)] == 0:
         return "sealed"
-    if data[:1] == OPEN and data[1:9] in MAGICS:
+    if data[:1] == OPEN and data[1:SIZE_AT] in MAGICS:
         return "journal"
     return "foreign"
 
@@ -142,7 +151,7 @@ class Journal:
         if self.kind == "blank":
             return
         if not has_header(data):
-            raise Bad(9, "the length of the product text in the header cannot be")
+            raise Bad(SIZE_AT, "the length of the product text in the header cannot be")
         self.version = 1 + MAGICS.index(data[1:9])
         self.header_text = self.last_text = ProductText(TEXT_AT, data[TEXT_AT : first_gate(data)])
         if self.kind == "journal":
@@ -213,19 +222,20 @@ class Journal:
         """The record at a gate, by the counts and the text before it."""
         kind, payload = self.kind_at(gate), self.payload_at(gate)
         if kind in SESSION_BYTES:
-            image, fault = payload, None
+            image, fault, unfit = payload, None, None
             if kind == AMENDMENT:
-                text = amended_text(gate, payload)
+                earlier, text = text, amended_text(gate, payload)
                 image, fault = amended_image(payload), text_fault(text)
+                unfit = fault or follow_fault(earlier, text)
             if fault is None:
                 fault = image_fault(kind, image, text.product)
             own = number_at(image, 0, 8) if fault is None else counted
-            return Record(gate, kind, len(payload), 0, before, own, fault, text)
+            return Record(gate, kind, len(payload), 0, before, own, fault, unfit, text)
         count, fault = count_of(payload)
         counted += count
         if fault is None and counted >= MOST_MESSAGES:
             fault = f"{counted:,} messages are counted with it, and not fewer than {MOST_MESSAGES:,}"
-        return Record(gate, kind, len(payload), count, before, counted, fault, text)
+        return Record(gate, kind, len(payload), count, before, counted, fault, None, text)
 
     def frames(self, record):
         """The messages of a good record."""
@@ -249,23 +259,31 @@ class Journal:
         return self.bad_head
 
     def first_bad(self):
-        """What `replay`, `fills` and `ledger` refuse, or nothing: what is bad at the opening, else the last amendment, else the first
-        bad record."""
-        bad, last = self.bad_at_opening(), self.last_amendment()
-        if bad is None and last is not None:
-            return Bad(last.gate, "amendments are not read yet")
-        return bad or self.first_not_good()
+        """What `replay`, `fills` and `ledger` refuse, or nothing: the first bad head, else the last amendment if its text is not
+        whole, else the first bad text of all, else the first bad record."""
+        return self.bad_head or self.bad_at_opening() or self.bad_text() or self.first_not_good()
+
+    def bad_text(self):
+        """The first bad text of a journal with amendments, or nothing: that of the header if it gives no product, and else that of
+        the first amendment whose text has a fault, or whose product may not follow the one before."""
+        amendments = [record for record in self.records if record.is_amendment]
+        if amendments and self.header_text.product is None:
+            return Bad(SIZE_AT, f"the product text in the header gives {self.header_text.fault}")
+        for record in amendments:
+            if record.unfit is not None:
+                return Bad(record.gate, record.unfit)
+        return None
 
     def first_not_good(self):
-        """The first bad record of all, each read under its own product, or nothing."""
+        """The first bad record of all, each read under the product of its time, or nothing."""
         for record in self.records:
-            if record.fault is not None:
-                return Bad(record.gate, record.fault)
+            if record.wrong is not None:
+                return Bad(record.gate, record.wrong)
         return self.bad_head
 
     def bad_for_runs(self):
-        """What `run`, `drill`, `checkpoint` and `book` refuse, or nothing: the first bad head, else the last amendment if its text is
-        not whole, else the first bad record from the last image on."""
+        """What `run`, `drill`, `checkpoint` and `book` refuse, or nothing: the first bad head, else the last amendment if its text
+        is not whole, else the first bad record from the last image on. Whether products may follow each other is not tried."""
         bad = self.bad_head or self.bad_at_opening()
         if bad is not None:
             return bad
@@ -278,7 +296,7 @@ class Journal:
     def good_records(self):
         """The records before the first bad one."""
         for record in self.records:
-            if record.fault is not None:
+            if record.wrong is not None:
                 return
             yield record
 
@@ -295,7 +313,7 @@ class Journal:
     def miscounted(self):
         """The first good image whose count is not that of the messages before it, or nothing. The engine does not try this."""
         for record in self.records:
-            if record.is_image and record.fault is None and record.counted != record.before:
+            if record.is_image and record.wrong is None and record.counted != record.before:
                 why = f"the image counts {record.counted:,} messages, and {record.before:,} are before it"
                 return Bad(record.gate, why)
         return None
@@ -329,6 +347,14 @@ def amended_text(gate, payload):
 def text_fault(text):
     """What is wrong with the text of an amendment, or nothing."""
     return f"its product text gives {text.fault}" if text.data is not None and text.fault else text.fault
+
+
+def follow_fault(earlier, text):
+    """Why the product of a text may not follow that of the text before, or nothing."""
+    if earlier.product is None or text.product is None:
+        return None
+    fault = text.product.follow_fault(earlier.product)
+    return fault and f"its product may not follow the one before: {fault}"
 
 
 def amended_image(payload):

@@ -11,6 +11,7 @@ MOST_PRICE_UNITS = 999_999_999_999
 LONGEST_PRODUCT = 65_536
 JOURNAL_LIMITS = (131_072, 16_777_216, 268_435_456)
 MOST_ORDERS = (1, 10_000, 100_000)
+TICKS = (1, None, 1_000_000)
 
 Fault = collections.namedtuple("Fault", "rule text tag reason why")
 
@@ -74,15 +75,31 @@ class Product:
         firms = table.get("firms")
         if not isinstance(firms, list) or not 1 <= len(firms) <= 64:
             raise BadProduct("firms is no array of 1 to 64 names")
-        self.firms = {as_name(firm, "an entry of firms") for firm in firms}
+        self.firms = [as_name(firm, "an entry of firms") for firm in firms]
         tables = table.get("instrument")
         if not isinstance(tables, list) or not 1 <= len(tables) <= 16:
             raise BadProduct("instrument is no array of 1 to 16 tables")
-        self.decimals = dict(decimals_in(entry) for entry in tables)
+        # in their order: the name, the decimals and the tick of each
+        self.instruments = [instrument_in(entry) for entry in tables]
+        self.decimals = {name: decimals for name, decimals, _ in self.instruments}
         if len(self.decimals) < len(tables):
             raise BadProduct("an instrument is there twice")
         self.journal_limit = integer_in(table, "journal_limit", *JOURNAL_LIMITS)
         self.max_orders = integer_in(table, "max_orders", *MOST_ORDERS)
+
+    def follow_fault(self, before):
+        """Why this product may not follow another one, or nothing: the first of these that holds."""
+        if self.exchange != before.exchange:
+            return "exchange is another one"
+        if self.firms[: len(before.firms)] != before.firms:
+            return "firms does not begin with those before"
+        if self.max_orders != before.max_orders:
+            return f"max_orders is {self.max_orders:,}, and was {before.max_orders:,}"
+        if self.journal_limit < before.journal_limit:
+            return f"journal_limit is {self.journal_limit:,}, and was {before.journal_limit:,}"
+        if self.instruments != before.instruments:
+            return "an instrument is there or is not, or has another name, decimals or tick"
+        return None
 
 
 def table_of(text):
@@ -114,13 +131,14 @@ def integer_in(table, key, least, default, most):
     return value
 
 
-def decimals_in(table):
-    """The name of an instrument, and its decimals."""
+def instrument_in(table):
+    """The name of an instrument, its decimals and its tick."""
     if not isinstance(table, dict):
         raise BadProduct("an entry of instrument is no table")
-    if "decimals" not in table:
-        raise BadProduct("decimals is missing")
-    return name_in(table, "name"), integer_in(table, "decimals", 0, None, 8)
+    for key in ("decimals", "tick"):
+        if key not in table:
+            raise BadProduct(f"{key} is missing")
+    return name_in(table, "name"), integer_in(table, "decimals", 0, None, 8), integer_in(table, "tick", *TICKS)
 
 
 # ---- the table of messages

@@ -1,116 +1,42 @@
-"""Tests of `journal`: bytes of docs/FORMATS.md, cuts at each message, images that are dropped, amendments, and files that are
-damaged."""
+"""Tests of `journal`: bytes of docs/FORMATS.md, cuts at each message, images that are dropped, and files that are damaged."""
 
 import os
-import pathlib
-import re
-import tempfile
 import unittest
 
 import fix42
 import gxj
-from called import FORMATS, PROGRAM, call, call_program, documented_frames, soh
-
-TEXT = (PROGRAM / "data" / "product.toml").read_bytes()
-STREAM = (PROGRAM / "stdin").read_bytes()
-SELL, BUY = fix42.whole_frames(STREAM)
-# a message more, of the documented stream of a drill
-CANCEL = next(soh(line) for line in documented_frames() if "|35=F|" in line)
-
-EMPTY = b"\x01GXJOURN2" + len(TEXT).to_bytes(4, "big") + TEXT + b"\x00"
-
-# the same product with a lower limit, with the highest one, and with a further instrument, which makes an image 25 bytes longer
-LEAST = TEXT.replace(b"\n\n", b"\njournal_limit = 131072\n\n", 1)
-MOST = TEXT.replace(b"\n\n", b"\njournal_limit = 268435456\n\n", 1)
-TWO = TEXT + TEXT[TEXT.index(b"\n[[") :].replace(b"ESZ4", b"NQZ4")
-NO_PRODUCT = TEXT.replace(b"exchange", b"exchangf")
-
-
-def messages_record(*frames):
-    return b"\x01M" + sum(map(len, frames)).to_bytes(4, "big") + b"".join(frames)
-
-
-def image_record(image):
-    return b"\x01D" + len(image).to_bytes(4, "big") + image
-
-
-def old_image_record(image):
-    return b"\x01C" + len(image).to_bytes(4, "big") + image
-
-
-def amendment_record(text, image):
-    return amendment_of(len(text).to_bytes(4, "big") + text + image)
-
-
-def amendment_of(payload):
-    return b"\x01P" + len(payload).to_bytes(4, "big") + payload
-
-
-def journal_of(*records):
-    return EMPTY[:-1] + b"".join(records) + b"\x00"
-
-
-def first_version(data):
-    """The same file in the first version."""
-    return data[:8] + b"1" + data[9:]
-
-
-def documented_image():
-    """The 668 bytes of the image after the two messages, from the table of docs/FORMATS.md."""
-    text = FORMATS.read_text()
-    table = text[text.index("The image after the two messages") :].split("\n\n")[1]
-    image = bytearray(668)
-    for places, values in re.findall(r"^\| ([0-9, ]+) \| ([0-9a-f ,]+) \|", table, re.MULTILINE):
-        values = [bytes.fromhex(value) for value in values.split(", ")]
-        for place, value in zip(map(int, places.split(", ")), values, strict=True):
-            image[place : place + len(value)] = value
-    return bytes(image)
-
-
-IMAGE = documented_image()
-OLD_IMAGE = IMAGE[:-1]
-ROW = IMAGE[581:663]
-MARKET_CLOSED, MARKET_OPEN = b"\x00", b"\x01"
-
-
-def old_image_after(count):
-    """An old image without orders that counts so many messages."""
-    return count.to_bytes(8, "big") + bytes(560 + 25 - 8)
-
-
-def image_after(count, session=MARKET_OPEN):
-    return old_image_after(count) + session
-
-
-def image_of_two(count):
-    """The same of two instruments, in an open market."""
-    return count.to_bytes(8, "big") + bytes(560 + 50 - 8) + MARKET_OPEN
-
-
-def old_image_of(resting, waiting):
-    """An old image of some rows, which counts no messages."""
-    counted = [len(rows).to_bytes(4, "big") + b"".join(rows) for rows in (resting, waiting)]
-    return bytes(577) + b"".join(counted)
-
-
-def row_of(number, life):
-    return number.to_bytes(8, "big") + ROW[8:12] + bytes([life]) + ROW[13:]
-
-
-# An image of an empty book, a record of two messages, an old image, one message, an image of a closed market, an old image, and one
-# message.
-RECORDS = [
-    image_record(image_after(0)),
-    messages_record(SELL, BUY),
-    old_image_record(OLD_IMAGE),
-    messages_record(CANCEL),
-    image_record(image_after(3, MARKET_CLOSED)),
-    old_image_record(old_image_after(3)),
-    messages_record(CANCEL),
-]
-GATES = [149 + sum(map(len, RECORDS[:number])) for number in range(len(RECORDS) + 1)]
-FULL = journal_of(*RECORDS)
-KEPT = [SELL, BUY, CANCEL, CANCEL]
+from called import PROGRAM, call, call_program, soh
+from made_journals import (
+    BUY,
+    CANCEL,
+    EMPTY,
+    FULL,
+    GATES,
+    GO_ON,
+    IMAGE,
+    KEPT,
+    LEAST,
+    MARKET_CLOSED,
+    MARKET_OPEN,
+    OLD_IMAGE,
+    RECORDS,
+    ROW,
+    SELL,
+    SHORT,
+    STREAM,
+    TEXT,
+    InFolder,
+    amendment_record,
+    first_version,
+    image_after,
+    image_record,
+    journal_of,
+    messages_record,
+    old_image_after,
+    old_image_of,
+    old_image_record,
+    row_of,
+)
 
 BAD_HEADS = [
     (b"\x01", "the file ends inside the head of a record"),
@@ -133,7 +59,6 @@ LONG_HEADS = [
         "a record of 196,608 bytes goes past journal_limit, 131,072",
     ),
 ]
-SHORT = b"its payload is not whole frames: at its byte 111 the input ends inside a frame, of which 50 bytes are there"
 BAD_PAYLOADS = [
     (messages_record(SELL + BUY[:50]), SHORT.decode()),
     (
@@ -160,33 +85,6 @@ BAD_PAYLOADS = [
     (image_record(OLD_IMAGE + MARKET_CLOSED), "its image is of a closed market, and order 1 has the life 0, and not 1"),
 ]
 
-
-GO_ON = "; run, drill, checkpoint and book go on from the last image"
-NOT_READ = "amendments are not read yet"
-
-
-class InFolder(unittest.TestCase):
-    def setUp(self):
-        folder = tempfile.TemporaryDirectory()
-        self.addCleanup(folder.cleanup)
-        self.folder = pathlib.Path(folder.name)
-        self.path = self.folder / "journal.gxj"
-        self.copy = self.folder / "copy.gxj"
-
-    def over(self, data, command, *words):
-        """A call over a journal, which stays as it is."""
-        self.path.write_bytes(data)
-        self.path.chmod(0o444)
-        answer = call("journal", command, self.path, *words)
-        self.path.chmod(0o644)
-        self.assertEqual(self.path.read_bytes(), data)
-        return answer
-
-    def copied(self, data, command, *words):
-        """The copy that a command makes of a journal."""
-        self.copy.unlink(missing_ok=True)
-        self.assertEqual(self.over(data, command, *words, "--output", self.copy), (0, b"", ""))
-        return self.copy.read_bytes()
 
 
 class Documented(InFolder):
@@ -401,7 +299,7 @@ class Damaged(InFolder):
         why = "the kind of the record is the byte 88, and none of M, C, D and P"
         self.refused(damaged, gate, why)
         old = "the kind of the record is the byte 88, and none of M, C and D"
-        self.refused(first_version(damaged), 149, f"{SHORT.decode()}; run, drill, checkpoint and book end at place {gate}: {old}")
+        self.refused(first_version(damaged), gate, old)
         for data in (damaged, first_version(damaged)):
             self.assertEqual(self.over(data, "count"), (1, b"0\n", f"place 149: {SHORT.decode()}\n"))
 
@@ -516,281 +414,6 @@ class Damaged(InFolder):
         data = FULL.replace(b"exchange", b"exchangf")
         self.refused(data, 13, "the product text gives no product: exchange is missing")
         self.assertEqual(self.over(data, "count"), (0, b"4\n", ""))
-
-
-# Messages, an amendment, messages, an image under its product, a second amendment, an image under that, and a message.
-AMENDED = [
-    messages_record(SELL, BUY),
-    amendment_record(TWO, image_of_two(2)),
-    messages_record(CANCEL),
-    image_record(image_of_two(3)),
-    amendment_record(LEAST, image_after(3)),
-    old_image_record(old_image_after(3)),
-    messages_record(CANCEL),
-]
-AMENDED_GATES = [149 + sum(map(len, AMENDED[:number])) for number in range(len(AMENDED) + 1)]
-ONE_AMENDMENT = journal_of(*AMENDED[:4])
-TWO_AMENDMENTS = journal_of(*AMENDED)
-AT_FIRST, AT_SECOND = AMENDED_GATES[1], AMENDED_GATES[4]
-
-# the text of these is not whole
-BAD_TEXTS = [
-    (amendment_of(b""), "its payload has 0 bytes, and the length of a product text is not there"),
-    (amendment_of(b"\x00\x00\x00"), "its payload has 3 bytes, and the length of a product text is not there"),
-    (amendment_of(b"\x00\x00\x00\x01"), "its product text of 1 bytes goes past its payload of 4"),
-    (amendment_of(b"\x00\x00\x00\x88" + TEXT[:-1]), "its product text of 136 bytes goes past its payload of 139"),
-    (amendment_of(b"\x00\x01\x00\x01" + bytes(65_537)), "its product text has 65,537 bytes, and not at most 65,536"),
-    (amendment_of(b"\x01\x00\x00\x00" + TEXT + IMAGE), "its product text has 16,777,216 bytes, and not at most 65,536"),
-]
-# the text of these gives no product
-NO_PRODUCTS = [
-    (amendment_of(bytes(4)), "its product text gives no product: exchange is missing"),
-    (amendment_record(NO_PRODUCT, IMAGE), "its product text gives no product: exchange is missing"),
-    (amendment_record(TEXT + b"\xff", IMAGE), "its product text gives no product: it is no TOML: "),
-]
-# the image of these is bad under their product
-BAD_IMAGES = [
-    (amendment_record(TEXT, b""), "its image has 0 bytes, and the count of resting orders is not there"),
-    (amendment_record(TEXT, OLD_IMAGE), "its image has 667 bytes, and its counts say 668"),
-    (amendment_record(TEXT, IMAGE + b"\x00"), "its image has 669 bytes, and its counts say 668"),
-    (amendment_record(TEXT, IMAGE[:-2]), "its image has 666 bytes, and the count of waiting stops is not there"),
-    (amendment_record(TEXT, OLD_IMAGE + b"\x02"), "the last byte of its image is 2, and neither 0 nor 1"),
-    (amendment_record(TEXT, OLD_IMAGE + MARKET_CLOSED), "its image is of a closed market, and order 1 has the life 0, and not 1"),
-    (amendment_record(TEXT, image_after(1 << 24)), "its image counts 16,777,216 messages, and not fewer than 16,777,216"),
-    (amendment_record(TWO, image_after(2)), "its image has 586 bytes, and the count of resting orders is not there"),
-    (amendment_record(TEXT, image_of_two(2)), "its image has 611 bytes, and its counts say 586"),
-]
-
-
-def places(data):
-    """Where `replay` and `run` refuse a journal, or nothing for each that does not."""
-    journal = gxj.Journal(data)
-    return tuple(bad and bad.place for bad in (journal.first_bad(), journal.bad_for_runs()))
-
-
-class Amended(InFolder):
-    def test_bytes(self):
-        record = amendment_record(LEAST, IMAGE)
-        self.assertEqual((len(LEAST), len(record)), (159, 837))
-        self.assertEqual(record[:10], bytes.fromhex("01 50 00 00 03 3f 00 00 00 9f"))
-        journal = gxj.Journal(journal_of(messages_record(SELL, BUY), record))
-        self.assertEqual(journal.last_text.at, 376 + 10)
-        self.assertEqual(journal.last_text.data, LEAST)
-        self.assertEqual(journal.limit, 131_072)
-        self.assertEqual(journal.records[1].end, 376 + 837)
-        self.assertIsNone(journal.miscounted())
-
-    def test_list(self):
-        listed = (
-            "header: version 2, product text of 136 bytes, journal_limit 16777216\n"
-            "149 M 2 messages, 221 bytes\n"
-            "376 P amendment after 2 messages, 834 bytes, product text of 219 bytes, journal_limit 16777216\n"
-            f"{AMENDED_GATES[2]} M 1 message, {len(CANCEL)} bytes\n"
-            f"{AMENDED_GATES[3]} D image after 3 messages, 611 bytes\n"
-        )
-        last = f"{AT_SECOND} last gate\n"
-        self.assertEqual(self.over(ONE_AMENDMENT, "list"), (1, (listed + last).encode(), f"place 376: {NOT_READ}{GO_ON}\n"))
-        listed += (
-            f"{AT_SECOND} P amendment after 3 messages, 749 bytes, product text of 159 bytes, journal_limit 131072\n"
-            f"{AMENDED_GATES[5]} C image after 3 messages, 585 bytes\n"
-            f"{AMENDED_GATES[6]} M 1 message, {len(CANCEL)} bytes\n"
-            f"{AMENDED_GATES[7]} last gate\n"
-        )
-        self.assertEqual(self.over(TWO_AMENDMENTS, "list"), (1, listed.encode(), f"place {AT_SECOND}: {NOT_READ}{GO_ON}\n"))
-
-    def test_messages_and_count(self):
-        for data, kept in ((ONE_AMENDMENT, KEPT[:3]), (TWO_AMENDMENTS, KEPT)):
-            self.assertEqual(self.over(data, "count"), (0, b"%d\n" % len(kept), ""))
-            self.assertEqual(self.over(data, "messages"), (0, b"".join(kept), ""))
-
-    def test_the_last_text(self):
-        given = self.folder / "given.toml"
-        for data, text, gate in ((ONE_AMENDMENT, TWO, AT_FIRST), (TWO_AMENDMENTS, LEAST, AT_SECOND)):
-            self.assertEqual(self.over(data, "product"), (0, text, ""))
-            given.write_bytes(text)
-            error = f"place {gate}: {NOT_READ}{GO_ON}\n"
-            self.assertEqual(self.over(data, "check", "--product", given), (1, b"", error))
-            self.assertEqual(self.over(data, "check"), (1, b"", error))
-            for other in (TEXT, MOST, text[:-1], text + b"\n"):
-                given.write_bytes(other)
-                error = f"place {gate + 10 + fix42.first_difference(text, other)}: the product text is not that of {given}\n"
-                self.assertEqual(self.over(data, "check", "--product", given), (1, b"", error))
-            given.write_bytes(TEXT)
-            head = data[:-1] + b"\x01X\x00\x00\x00\x00\x00"
-            error = f"place {len(data) - 1}: the kind of the record is the byte 88, and none of M, C, D and P\n"
-            self.assertEqual(self.over(head, "check", "--product", given), (1, b"", error))
-            self.assertEqual(self.over(head, "product"), (1, text, error))
-
-    def test_each_closed_gate(self):
-        texts = [TEXT, TEXT, TWO, TWO, TWO, LEAST, LEAST, LEAST]
-        amended = [None, None, AT_FIRST, AT_FIRST, AT_FIRST, AT_SECOND, AT_SECOND, AT_SECOND]
-        for number, gate in enumerate(AMENDED_GATES):
-            for closed in (b"\x00", b"\x02", b"\xff"):
-                with self.subTest(gate=gate):
-                    journal = gxj.Journal(TWO_AMENDMENTS[:gate] + closed + TWO_AMENDMENTS[gate + 1 :])
-                    self.assertEqual(len(journal.records), number)
-                    self.assertEqual(journal.gate, gate)
-                    self.assertEqual(journal.last_text.data, texts[number])
-                    self.assertEqual(places(journal.data), (amended[number], None))
-
-    def test_each_end(self):
-        for end in range(150, len(TWO_AMENDMENTS)):
-            gate = max(gate for gate in AMENDED_GATES if gate < end)
-            self.assertEqual(places(TWO_AMENDMENTS[:end]), (gate, gate))
-
-    def test_each_other_byte_of_a_head(self):
-        """Of the kind, and of the lengths of the payload and of the text: with any other byte the amendment is bad."""
-        data = journal_of(messages_record(SELL, BUY), amendment_record(LEAST, image_after(2, MARKET_CLOSED)))
-        self.assertEqual(places(data), (376, None))
-        for place in range(377, 386):
-            for byte in range(256):
-                if byte != data[place]:
-                    self.assertEqual(places(data[:place] + bytes([byte]) + data[place + 1 :]), (376, 376))
-
-    def test_faults_of_the_last(self):
-        for bad, why in BAD_TEXTS + NO_PRODUCTS + BAD_IMAGES:
-            for front in ([messages_record(SELL, BUY)], AMENDED[:4]):
-                with self.subTest(why):
-                    data = journal_of(*front, bad)
-                    gate = len(data) - len(bad) - 1
-                    self.assertEqual(places(data), (gate, gate))
-                    self.assertTrue(gxj.Journal(data).records[-1].fault.startswith(why))
-                    self.assertEqual(self.over(data, "list")[0], 1)
-                    self.assertIn(f", bad: {why}", self.over(data, "list")[1].decode())
-                    status, out, error = self.over(data, "count")
-                    self.assertEqual((status, out), (1, b"2\n" if len(front) == 1 else b"3\n"))
-                    self.assertTrue(error.startswith(f"place {gate}: {why}"))
-                    # behind an image nobody looks at the image of the amendment, and the text is looked for all the same
-                    later = journal_of(*front, bad, image_record(image_after(2)))
-                    self.assertEqual(places(later)[0], gate)
-                    if (bad, why) in BAD_TEXTS:
-                        self.assertEqual(places(later)[1], gate)
-                        self.assertEqual(self.over(later, "product"), (1, b"", f"place {gate}: {why}\n"))
-                        self.assertEqual(self.over(later, "check"), (1, b"", f"place {gate}: {why}\n"))
-
-    def test_a_bad_head_comes_before_a_bad_text(self):
-        for bad, _ in BAD_TEXTS:
-            data = journal_of(messages_record(SELL, BUY), bad)[:-1] + b"\x01X\x00\x00\x00\x00\x00"
-            gate = 376 + len(bad)
-            self.assertEqual(places(data), (gate, gate))
-            why = f"place {gate}: the kind of the record is the byte 88, and none of M, C, D and P\n"
-            self.assertEqual(self.over(data, "product"), (1, b"", why))
-
-    def test_the_longest_text(self):
-        longest = TEXT + b"#" * (65_536 - len(TEXT))
-        data = journal_of(messages_record(SELL, BUY), amendment_record(longest, image_after(2)))
-        self.assertEqual(places(data), (376, None))
-        self.assertEqual(self.over(data, "product"), (0, longest, ""))
-
-    def test_no_product(self):
-        data = journal_of(messages_record(SELL, BUY), amendment_record(NO_PRODUCT, IMAGE))
-        self.assertEqual(self.over(data, "check"), (1, b"", "place 386: the product text gives no product: exchange is missing\n"))
-        self.assertEqual(self.over(data, "product"), (0, NO_PRODUCT, ""))
-        later = journal_of(messages_record(SELL, BUY), amendment_record(NO_PRODUCT, IMAGE), image_record(IMAGE))
-        self.assertEqual(self.over(later, "list")[2], f"place 376: {NOT_READ}\n")
-        head = b"\x01GXJOURN2" + len(NO_PRODUCT).to_bytes(4, "big") + NO_PRODUCT
-        data = head + messages_record(SELL, BUY) + amendment_record(TEXT, IMAGE) + b"\x00"
-        self.assertEqual(places(data), (376, None))
-        self.assertEqual(self.over(data, "check"), (1, b"", "place 13: the product text gives no product: exchange is missing\n"))
-
-    def test_faults_of_an_earlier_one(self):
-        for bad, why in BAD_TEXTS + NO_PRODUCTS + BAD_IMAGES:
-            with self.subTest(why):
-                data = journal_of(messages_record(SELL, BUY), bad, amendment_record(TEXT, image_after(2)), messages_record(CANCEL))
-                gate = 376 + len(bad)
-                self.assertEqual(places(data), (gate, None))
-                self.assertEqual(self.over(data, "check"), (1, b"", f"place {gate}: {NOT_READ}{GO_ON}\n"))
-                self.assertIn(f", bad: {why}", self.over(data, "list")[1].decode())
-                self.assertEqual(self.over(data, "count")[:2], (1, b"2\n"))
-
-    def test_records_after_an_amendment(self):
-        amendment = amendment_record(TWO, image_of_two(2))
-        for bad, why in [
-            (image_record(image_after(2)), "its image has 586 bytes, and the count of resting orders is not there"),
-            (old_image_record(old_image_after(2)), "its image has 585 bytes, and the count of resting orders is not there"),
-            (messages_record(SELL + BUY[:50]), SHORT.decode()),
-        ]:
-            with self.subTest(why):
-                data = journal_of(messages_record(SELL, BUY), amendment, bad)
-                gate = 376 + len(amendment)
-                self.assertEqual(places(data), (376, gate))
-                error = f"place 376: {NOT_READ}; run, drill, checkpoint and book end at place {gate}: {why}\n"
-                self.assertEqual(self.over(data, "check"), (1, b"", error))
-                self.assertEqual(self.over(data, "count"), (1, b"2\n", f"place {gate}: {why}\n"))
-        early = journal_of(messages_record(SELL, BUY), image_record(image_of_two(2)), amendment)
-        self.assertEqual(places(early), (376 + 617, None))
-        self.assertEqual(gxj.Journal(early).first_not_good().place, 376)
-
-    def test_the_count_of_messages(self):
-        data = journal_of(messages_record(SELL), amendment_record(TEXT, IMAGE))
-        self.assertEqual(gxj.Journal(data).miscounted().place, 266)
-        self.assertIn(b", journal_limit 16777216, but it counts 2 messages\n", self.over(data, "list")[1])
-        most = amendment_record(TEXT, image_after((1 << 24) - 2))
-        self.assertEqual(places(journal_of(most, messages_record(SELL))), (149, None))
-        data = journal_of(most, messages_record(SELL, BUY))
-        self.assertEqual(places(data), (149, 149 + len(most)))
-
-    def test_the_limit(self):
-        """Heads are held to the limit of the last product, before the amendment too."""
-        long = messages_record(SELL) * 1_200
-        front = b"\x01GXJOURN2" + len(LEAST).to_bytes(4, "big") + LEAST
-        past = front + long + b"\x00"
-        place = len(front) + 117 * ((131_072 - 1 - len(front)) // 117)
-        self.assertEqual(places(past), (place, place))
-        wider = front + long + amendment_record(MOST, image_after(1_200))
-        self.assertEqual(places(wider + b"\x00"), (len(front) + len(long), None))
-        self.assertEqual(gxj.Journal(wider + b"\x00").limit, 268_435_456)
-        lower = wider + amendment_record(LEAST, image_after(1_200)) + b"\x00"
-        self.assertEqual(places(lower), (place, place))
-        error = f"place {place}: a record of 111 bytes goes past journal_limit, 131,072\n"
-        self.assertEqual(self.over(lower, "check"), (1, b"", error))
-        self.assertEqual(self.over(lower, "product"), (1, LEAST, error))
-
-    def test_an_amendment_that_ends_at_the_limit(self):
-        front = b"\x01GXJOURN2" + len(LEAST).to_bytes(4, "big") + LEAST + messages_record(SELL) * 1_100
-        for new, good in ((MOST, True), (LEAST, False)):
-            for past in (0, 1):
-                with self.subTest(good=good, past=past):
-                    left = 131_072 + past - 1 - len(front) - 6 - 4 - 586
-                    text = new + b"#" * (left - len(new))
-                    data = front + amendment_record(text, image_after(1_100)) + b"\x00"
-                    self.assertEqual(len(data), 131_072 + past)
-                    self.assertEqual(places(data), (len(front), None if good or past == 0 else len(front)))
-
-    def test_the_first_version(self):
-        why = "the kind of the record is the byte 80, and none of M, C and D"
-        for data, gate in ((ONE_AMENDMENT, AT_FIRST), (TWO_AMENDMENTS, AT_FIRST), (journal_of(BAD_TEXTS[0][0]), 149)):
-            old = first_version(data)
-            self.assertEqual(places(old), (gate, gate))
-            self.assertEqual(self.over(old, "product"), (0, TEXT, ""))
-            self.assertEqual(self.over(old, "check"), (1, b"", f"place {gate}: {why}\n"))
-            self.assertEqual(self.over(old, "count"), (1, b"2\n" if gate > 149 else b"0\n", f"place {gate}: {why}\n"))
-            error = (1, b"", f"place {gate}: {why}\n")
-            self.assertEqual(self.over(old, "drop", "--gate", gate, "--output", self.copy), error)
-
-    def test_cut(self):
-        wanted = [[], [messages_record(SELL)], AMENDED[:2], AMENDED[:6], AMENDED]
-        for count, records in enumerate(wanted):
-            self.assertEqual(self.copied(TWO_AMENDMENTS, "cut", "--messages", count), journal_of(*records))
-        self.assertEqual(self.copied(ONE_AMENDMENT, "cut", "--messages", 3), ONE_AMENDMENT)
-        before = journal_of(AMENDED[1], AMENDED[0])
-        self.assertEqual(self.copied(before, "cut", "--messages", 0), journal_of(AMENDED[1]))
-        error = f"place {AMENDED_GATES[7]}: only 4 messages are kept\n"
-        self.assertEqual(self.over(TWO_AMENDMENTS, "cut", "--messages", 5, "--output", self.folder / "none"), (1, b"", error))
-        for bad, why in BAD_TEXTS + BAD_IMAGES:
-            data = journal_of(messages_record(SELL, BUY), bad, messages_record(CANCEL))
-            self.assertEqual(self.copied(data, "cut", "--messages", 2), journal_of(messages_record(SELL, BUY)))
-            error = f"place 376: only 2 messages are before a bad record: {why}\n"
-            self.assertEqual(self.over(data, "cut", "--messages", 3, "--output", self.folder / "none"), (1, b"", error))
-
-    def test_drop(self):
-        for number in (3, 5):
-            copy = self.copied(TWO_AMENDMENTS, "drop", "--gate", AMENDED_GATES[number])
-            self.assertEqual(copy, journal_of(*AMENDED[:number], *AMENDED[number + 1 :]))
-        why = "the record is an amendment, whose product would be lost, and only an image can be taken out"
-        for gate in (AT_FIRST, AT_SECOND):
-            error = (1, b"", f"place {gate}: {why}\n")
-            self.assertEqual(self.over(TWO_AMENDMENTS, "drop", "--gate", gate, "--output", self.folder / "none"), error)
 
 
 class Classes(unittest.TestCase):
