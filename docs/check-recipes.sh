@@ -216,6 +216,34 @@ buy_one() {
     serve
 }
 
+prepare_amend() {
+    prepare_close
+}
+look_amend() {
+    local word
+    "$globex" replay | cmp - sent >&2 || fail 'sent is not what replay sends'
+    expect "$("$globex" book | wc -l)" 2 'lines of the book'
+    cp journal.gxj was
+    "$globex" amend || fail 'the same file cannot be put in again'
+    same journal.gxj was
+    # Each command wants the file that the journal has, and a firm cannot be taken out again.
+    mkdir former && cp former.toml former/product.toml && cp journal.gxj former/
+    for word in run replay fills ledger book checkpoint 'drill --first 1 --count 1'; do
+        (cd former && "$globex" $word </dev/null >/dev/null 2>&1)
+        expect $? 11 "the status of $word with the former file"
+    done
+    (cd former && "$globex" amend 2>err)
+    expect $? 13 'the status of amend with the former file'
+    expect "$(cat former/err)" 'globex: status 13 at 3 after 0 messages' 'the line of amend with the former file'
+    same former/journal.gxj was
+    # The firm that came later trades.
+    echo "35=D|49=EEE|56=GX|34=1|52=20240108-12:00:00|11=e1|55=ESZ4|54=1|38=1|40=2|44=100.00|59=0|" |
+        "$tools/frames" make --product product.toml >orders
+    serve
+    expect "$("$globex" fills | wc -l)" 2 'fills behind the amendment'
+    "$globex" replay | cmp - sent >&2 || fail 'sent is not what replay sends behind the amendment'
+}
+
 prepare_copy() {
     take_example F
     serve
@@ -449,6 +477,13 @@ made_of_more() {
     (cd "$folder" && "$globex" drill --first "$1" --count "$2" >/dev/null && "$tools/journal" messages journal.gxj)
 }
 
+prepare_full-amend() {
+    full_session
+}
+look_full-amend() {
+    nothing_lost_or_doubled earlier input
+}
+
 prepare_full-grow() {
     full_session
 }
@@ -510,7 +545,7 @@ two-runs() {
     local run word status
     serve_first_order
     cp journal.gxj was
-    for word in run 'drill --first 1 --count 1' checkpoint; do
+    for word in run 'drill --first 1 --count 1' checkpoint amend; do
         "$globex" $word <orders >out 2>>errors
         expect $? 5 "the status of $word beside a run"
         expect "$(in_bytes out)" 0 "what $word sends beside a run"
@@ -551,7 +586,7 @@ closed-streams() {
     (cd with && "$globex" run <orders >/dev/null)
     cp with/journal.gxj kept.gxj
     for kept in with without; do
-        for command in run replay book fills ledger steps checkpoint 'drill --first 1 --count 3'; do
+        for command in run replay book fills ledger steps checkpoint amend 'drill --first 1 --count 3'; do
             for closed in 0 1 2 01 02 12 012; do
                 (try_closed)
             done
@@ -573,7 +608,7 @@ try_closed() {
     status=$?
     case $command:$closed in
     run:*0*) wanted=4 ;;
-    checkpoint:*) ;;
+    checkpoint:* | amend:*) ;;
     *:*1*)
         wanted=6
         # Nothing is sent of a journal without messages.
@@ -608,7 +643,7 @@ try_closed() {
 
 wrong-words() {
     local words
-    for words in '' nothing --help 'run book' drill 'drill --first 1' 'steps --first 1' 'run --count 1' Run; do
+    for words in '' nothing --help 'run book' drill 'drill --first 1' 'steps --first 1' 'run --count 1' 'amend book' Run; do
         "$globex" $words </dev/null >out 2>/dev/null
         expect $? 2 "the status of the words '$words'"
         expect "$(ls)" out "files after the words '$words'"
@@ -670,7 +705,7 @@ read-only() {
     chmod 444 journal.gxj product.toml orders
     cp "$globex" ./program && chmod 755 program
     [ "$(id -u)" != 0 ] || somebody=(setpriv --reuid=65534 --regid=65534 --clear-groups)
-    for word in run replay fills ledger book checkpoint; do
+    for word in run replay fills ledger book checkpoint amend; do
         "${somebody[@]}" ./program $word <orders >/dev/null 2>&1
         expect $? 5 "the status of $word over a read-only journal"
     done
@@ -681,7 +716,7 @@ strange-journals() {
     local kind word status
     take_example F
     for kind in pipe folder null full; do
-        for word in replay book run checkpoint; do
+        for word in replay book run checkpoint amend; do
             rm -rf journal.gxj
             case $kind in
             pipe) mkfifo journal.gxj ;;
@@ -692,7 +727,7 @@ strange-journals() {
             timeout 5 "$globex" $word <orders >out 2>err
             status=$?
             case $kind:$word in
-            folder:* | *:run | *:checkpoint) expect $status 5 "the status of $word over a $kind" ;;
+            folder:* | *:run | *:checkpoint | *:amend) expect $status 5 "the status of $word over a $kind" ;;
             *) expect $status 0 "the status of $word over a $kind" ;;
             esac
         done
