@@ -9,6 +9,8 @@ mod AgreeOrders
 mod AgreeFirms
 mod AgreeChanges
 mod Answering
+mod Senders
+mod FirstField
 mod Rows
 mod ValidOrders
 mod Giving

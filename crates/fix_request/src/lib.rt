@@ -7,6 +7,7 @@ mod fields;
 mod forms;
 mod header;
 mod lists;
+mod lookup;
 mod message_type;
 mod orders;
 mod read;
@@ -17,7 +18,10 @@ mod tags;
 mod texts;
 mod values;
 
-pub use read::read_request;
+pub use fault::Fault;
+pub use lookup::first_value;
+pub use read::{read_request, read_sender};
+pub use refusal::refuse_content;
 pub use request::{
     CancelOrder, Named, NewOrder, Px, Refusal, ReplaceOrder, Request, Sender, SessionChange,
 };
