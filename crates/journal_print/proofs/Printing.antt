@@ -1,5 +1,5 @@
 -- What is printed of all messages, from what was gone through.
-use Rattle.std.proofs.Common.{◌≡◌, ◌⊎◌, inl, inr, ℕ, List, [], Option, Some, Err, refl, sym, subst, ◌∙◌, ap}
+use Rattle.std.proofs.Common.{◌≡◌, ◌⊎◌, inl, inr, ℕ, List, [], Option, Some, None, Ok, Err, refl, sym, subst, ◌∙◌, ap}
 use Rattle.std.specs.Prelude.{IfSome}
 use Rattle.gx_base.specs.KnownBytes.{IsKnownPrefix}
 use Rattle.gx_station.specs.Stations.{StationMeanings, sent_and}
@@ -13,14 +13,15 @@ use Rattle.order_kinds.specs.State.{State, state_numbered, empty_state}
 use Rattle.order_kinds.specs.Histories.{History, of_product, state_kept}
 use Rattle.book_recovery.specs.Histories.{history_behind}
 use Rattle.book_recovery.specs.Kept.{HasGoodTexts}
-use Rattle.book_recovery.specs.Products.{AreProducts, TakesProducts}
-use Rattle.book_recovery.specs.declared.products.NoProducts.{NoProducts}
-use Rattle.book_recovery.specs.declared.products.NoProducts.TheVariants as none
+use Rattle.book_recovery.specs.Products.{AreProducts}
 use Rattle.book_print.specs.BookLaws.{total_open-numbered}
 use Rattle.journal_print.specs.Works.{WorkMeanings, work_text, work_after, work_whole}
 use Rattle.journal_print.specs.Printed.{SentPart, PrintsMessages}
-use Rattle.journal_print.specs.Inner.Opening.{IsUnopened}
-use Rattle.journal_print.specs.Inner.Publishing.{ArePublished, AllPublished, PartPublished, Publishes, KeptPublished, PublishesKept}
+use Rattle.journal_print.specs.KeptJournals.{IsKeptOf}
+use Rattle.journal_print.specs.Inner.Keeping.{OpensKept}
+use Rattle.journal_print.specs.Inner.Publishing.{ArePublished, PartPublished, Publishes, KeptPublished, PublishesKept}
+use Rattle.journal_print.specs.declared.kept.KeptJournal.{KeptJournal}
+use Rattle.journal_print.specs.declared.records.Until.TheVariants.{End}
 use Rattle.journal_print.specs.declared.unprinted.Unprinted.{Unprinted}
 use Rattle.journal_print.specs.declared.unprinted.Unprinted.TheVariants as unprinted
 use Rattle.journal_print.proofs.OpenedImages.{opened_last}
@@ -30,17 +31,17 @@ pub some_found : {A : Type 0} (P : A → Type 0) (found : Option A) (x : A) → 
 some_found P found x is told = subst (λ o. IfSome o P) is told
 
 module _ {S W : Type 0} (m : StationMeanings S) (w : WorkMeanings W) (product : ProductLists) (text image : List ℕ) where
-  -- no journal was opened
-  pub unopened : (old new : S) (work then : W) (state : State) (why : Unprinted) → IsUnopened text product.journal_limit image why → m.sent new ≡ m.sent old → PublishesKept m w product text image old new work then state (Err why)
-  unopened old new work then state unprinted.Store told sent = inl sent
-  unopened old new work then state unprinted.Send told sent = absurd told
-  unopened old new work then state unprinted.NoMemory told sent = absurd told
-  unopened old new work then state (unprinted.NotAJournal at) told sent = (told, sent)
-  unopened old new work then state (unprinted.Bad at) told sent = inl (inl told, sent)
-  unopened old new work then state (unprinted.ProductDiffers at) told sent = (told, sent)
+  -- the journal was not opened, or its products were not taken
+  pub not_opened : (old new : S) (work then : W) (state : State) (why : Unprinted) → OpensKept product text image (Err why) → m.sent new ≡ m.sent old → PublishesKept m w product text image old new work then state (Err why)
+  not_opened old new work then state unprinted.Store told sent = inl sent
+  not_opened old new work then state unprinted.Send told sent = absurd told
+  not_opened old new work then state unprinted.NoMemory told sent = (told, sent)
+  not_opened old new work then state (unprinted.NotAJournal at) told sent = (told, sent)
+  not_opened old new work then state (unprinted.Bad at) told sent = inl (told, sent)
+  not_opened old new work then state (unprinted.ProductDiffers at) told sent = (told, sent)
 
   -- an unfinished creation keeps nothing
-  pub none_kept : (old new : S) (work : W) (state : State) → IsBlank image ⊎ IsSealedOf text image → m.sent new ≡ m.sent old → state ≡ empty_state product → KeptPublished m w product text image old new work work state 0
+  pub none_kept : (old new : S) (work : W) (state : State) → IsBlank image ⊎ IsSealedOf text image → m.sent new ≡ m.sent old → state ≡ empty_state product → KeptPublished m w product text image old new work work state None
   none_kept old new work state unfinished sent is = record {
     kept = of_product product [];
     has = inl (unfinished, refl);
@@ -50,24 +51,9 @@ module _ {S W : Type 0} (m : StationMeanings S) (w : WorkMeanings W) (product : 
       state_is = ap state_numbered is;
       count_is = ap (λ (s : State). s.desk.messages) is;
     };
-    count_is = refl;
+    of_image = tt;
+    none = λ is. refl;
   }
-
-  -- its products were not taken, for want of memory
-  pub not_taken : (old new : S) (work then : W) (state : State) (limit : ℕ) (opened : IsOpenedOf text product.journal_limit image) (why : NoProducts) → limit ≡ product.journal_limit → why ≡ none.NoMemory
-      → TakesProducts opened.head limit image (Err why) → m.sent new ≡ m.sent old → PublishesKept m w product text image old new work then state (Err unprinted.NoMemory)
-  not_taken old new work then state limit opened why limit_is is told sent =
-      let taken : TakesProducts opened.head product.journal_limit image (Err none.NoMemory) =
-      subst (λ (k : ℕ). TakesProducts opened.head k image (Err none.NoMemory)) limit_is (subst (λ (e : NoProducts). TakesProducts opened.head limit image (Err e)) is told) in
-      ((opened, taken), sent)
-
-  -- or since a head or a text is bad
-  pub bad_unread : (old new : S) (work then : W) (state : State) (limit at : ℕ) (opened : IsOpenedOf text product.journal_limit image) (why : NoProducts) → limit ≡ product.journal_limit → why ≡ none.Bad at
-      → TakesProducts opened.head limit image (Err why) → m.sent new ≡ m.sent old → PublishesKept m w product text image old new work then state (Err (unprinted.Bad at))
-  bad_unread old new work then state limit at opened why limit_is is told sent =
-      let taken : TakesProducts opened.head product.journal_limit image (Err (none.Bad at)) =
-      subst (λ (k : ℕ). TakesProducts opened.head k image (Err (none.Bad at))) limit_is (subst (λ (e : NoProducts). TakesProducts opened.head limit image (Err e)) is told) in
-      inl (inr (opened, taken), sent)
 
   -- the records of the journal were gone through, from the first one on
   module _ (old mid new : S) (looked : m.sent mid ≡ m.sent old) (work then : W) (state : State) (opened : IsOpenedOf text product.journal_limit image) (products : List ProductLists) (records : List Record)
@@ -93,7 +79,7 @@ module _ {S W : Type 0} (m : StationMeanings S) (w : WorkMeanings W) (product : 
       sent = subst (λ s. IsKnownPrefix (m.sent new) (sent_and s (work_text w work (history_behind (of_product all.first []) part.before)))) looked part.sent;
     }
 
-    pub stopped : (why : Unprinted) → Publishes m w opened.head product.journal_limit image products records mid new work then state all (Err why) → PublishesKept m w product text image old new work then state (Err why)
+    pub stopped : (why : Unprinted) → Publishes m w opened.head product.journal_limit image products records mid new work then state End all (Err why) → PublishesKept m w product text image old new work then state (Err why)
     stopped unprinted.Store told = inr (part_sent told)
     stopped unprinted.Send told = (opened, part_sent told)
     stopped unprinted.NoMemory told = absurd told
@@ -105,8 +91,10 @@ module _ {S W : Type 0} (m : StationMeanings S) (w : WorkMeanings W) (product : 
     }
     stopped (unprinted.ProductDiffers at) told = absurd told
 
-    pub all_kept : (count : ℕ) → AllPublished m w opened.head product.journal_limit image products records mid new work then state all → count ≡ state.desk.messages → KeptPublished m w product text image old new work then state count
-    all_kept count done is = record {
+    pub all_kept : (found : KeptJournal) → IsKeptOf image found → (t : Unit {0}) → Publishes m w opened.head product.journal_limit image products records mid new work then state End all (Ok t)
+        → KeptPublished m w product text image old new work then state (Some found)
+    all_kept found of_image t (inr enough) = absurd enough.enough
+    all_kept found of_image t (inl done) = record {
       kept = history_behind (of_product all.first []) records;
       has = inr (
         record {
@@ -126,7 +114,8 @@ module _ {S W : Type 0} (m : StationMeanings S) (w : WorkMeanings W) (product : 
         state_is = done.published.state_is;
         count_is = done.published.count_is;
       };
-      count_is = is ∙ done.published.count_is;
+      of_image = of_image;
+      none = λ is. absurd (cc is);
     }
 
   -- not all messages were gone through

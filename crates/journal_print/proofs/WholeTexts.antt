@@ -51,7 +51,7 @@ module _ {F : Type 0} (f : FormMeanings F) where
   text-kept form (amended before product messages) =
       text-behind f (form_after f form before) product messages (events_from product (amended_state product (state_kept before)) messages) ∙ text-kept form before
 
-  lines-kept : (lines : Lines F) (kept : History) → work_text (line_work f) lines kept ≡ lines_kept (f.text lines.form) kept
+  pub lines-kept : (lines : Lines F) (kept : History) → work_text (line_work f) lines kept ≡ lines_kept (f.text lines.form) kept
   lines-kept lines (of_product product messages) = refl
   lines-kept lines (amended before product messages) =
       let events : List Event = events_from product (amended_state product (state_kept before)) messages in

@@ -45,6 +45,7 @@ module _ {F : Type 0} (f : FormMeanings F) where
     text = lines_text;
     after = lines_after;
     ending = λ lines live. f.ending lines.form live;
+    is_silent = f.is_silent;
     text_none = λ lines product state. refl;
     after_none = λ lines product state. refl;
     text_then = lines-then;

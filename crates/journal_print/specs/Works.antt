@@ -1,5 +1,5 @@
 -- What the work on the messages of records stands for.
-use Rattle.std.specs.Prelude.{◌≡◌, ℕ, List, [], ◌++◌}
+use Rattle.std.specs.Prelude.{◌≡◌, ℕ, Bool, List, [], ◌++◌}
 use Rattle.product_file.specs.Products.{ProductLists}
 use Rattle.order_kinds.specs.Balance.{total_open}
 use Rattle.order_kinds.specs.State.{State, empty_state}
@@ -14,6 +14,8 @@ pub record WorkMeanings (W : Type 0) : Type 0 where
   pub after : W → ProductLists → State → List (List ℕ) → W
   -- what is sent after all messages, where so many lots are open of all live orders
   pub ending : W → ℕ → List ℕ
+  -- it sends nothing of any message
+  pub is_silent : Bool
   -- no message leaves nothing, and messages may be taken in two parts
   pub text_none : (w : W) (product : ProductLists) (state : State) → text w product state [] ≡ []
   pub after_none : (w : W) (product : ProductLists) (state : State) → after w product state [] ≡ w

@@ -1,70 +1,23 @@
 //! The messages that a journal keeps, printed by some work: as the reports again, the fills, or the ledger.
-ghost use Rattle.std.specs.Prelude.{◌≡◌, ℕ, ◌≤◌, List, [], length, Some, Ok, OnOk, IfOk, IsErrOf};
+ghost use Rattle.std.specs.Prelude.{◌≡◌, ℕ, ◌≤◌, List, length, Some, Ok, IsErrOf};
 ghost use Rattle.gx_station.specs.Counts.{Rose};
 ghost use Rattle.product_file.specs.ProductTexts.{product_of};
 ghost use Rattle.product_file.specs.declared.limits.TheConstants.{LONGEST_TEXT};
-ghost use Rattle.order_kinds.specs.Cores.{FitsProduct};
-ghost use Rattle.order_kinds.specs.declared.core_state.TheConstants.{MOST_MESSAGES};
 ghost use Rattle.match_journal.specs.Causes.{ReadsOnly};
 ghost use Rattle.journal_print.specs.Reading.{ReadsAndSends};
 ghost use Rattle.journal_print.specs.Readers.{IsNewReader};
 ghost use Rattle.journal_print.specs.Works.{work_text, work_whole};
 ghost use Rattle.journal_print.specs.Printed.{PrintsMessages};
-ghost use Rattle.journal_print.specs.Inner.Publishing.{PublishesKept};
 
-use crate::opening::open_journal;
+use crate::kept::publish_kept;
 use crate::reader::Reader;
-use crate::records::publish_records;
 use crate::unprinted::Unprinted;
 use crate::work::RecordWork;
 use book_print::open_lots;
-use book_recovery::{NoProducts, read_products};
 use gx_station::Station;
 use plain_book::Book;
 use product_file::Product;
 use std::alloc::Global;
-
-/// Has a work take the messages that the journal of a product keeps, by a new reader, and answers how many they are. The products of
-/// all its texts are taken first.
-fn publish_kept<W: RecordWork, B: Book, S: Station>(
-    alloc: Global,
-    work: &mut W,
-    product: &Product,
-    text: &[u8],
-    reader: &mut Reader<B>,
-    station: &mut S,
-) -> Result<u64, Unprinted>
-    requires short { length text.now ≤ LONGEST_TEXT }
-    requires gives { product_of text.now ≡ Ok product.now }
-    requires new { IsNewReader product.now reader.old }
-    ensures reads { ReadsAndSends S.meanings station.old station.new }
-    ensures store { IsErrOf result Unprinted.Store → Rose (S.meanings.store_faults station.old) (S.meanings.store_faults station.new) }
-    ensures no_store { (IsErrOf result Unprinted.Store → ⊥) → S.meanings.store_faults station.new ≡ S.meanings.store_faults station.old }
-    ensures send { IsErrOf result Unprinted.Send → Rose (S.meanings.send_faults station.old) (S.meanings.send_faults station.new) }
-    ensures no_send { (IsErrOf result Unprinted.Send → ⊥) → S.meanings.send_faults station.new ≡ S.meanings.send_faults station.old }
-    ensures memory { IsErrOf result Unprinted.NoMemory → ReadsOnly S.meanings station.old station.new }
-    ensures empty { OnOk result (reader.new.reports ≡ []) }
-    ensures fits { OnOk result (FitsProduct product.now reader.new.core) }
-    ensures few { IfOk result (λ count. count ≤ MOST_MESSAGES) }
-    ensures publishes { (image : List ℕ) → S.meanings.holds station.old ≡ Some image
-        → PublishesKept S.meanings W.meanings product.now text.now image station.old station.new work.old work.new reader.new.core result }
-{
-    let mut journal = match open_journal(product, text, station) {
-        Ok(Some(journal)) => journal,
-        Ok(None) => return Ok(0),
-        Err(fault) => return Err(fault),
-    };
-    let products = match read_products(alloc, station, &mut journal, product, &mut reader.scratch) {
-        Ok(products) => products,
-        Err(NoProducts::Store) => return Err(Unprinted::Store),
-        Err(NoProducts::NoMemory) => return Err(Unprinted::NoMemory),
-        Err(NoProducts::Bad(at)) => return Err(Unprinted::Bad(at)),
-    };
-    match publish_records(work, &products, &mut journal, reader, station) {
-        Ok(()) => Ok(reader.core.messages()),
-        Err(fault) => Err(fault),
-    }
-}
 
 /// Has a work take the messages of each record that the journal of a product keeps, each under the product of its time, and then finish,
 /// and answers how many messages these are: what is printed is what the work sends of them. `Lines` sends the lines of their events in some
@@ -99,7 +52,7 @@ pub fn print_events<W: RecordWork, B: Book, S: Station>(
         (work_text W.meanings work.old) (work_whole W.meanings work.old) result }
 {
     let count = match publish_kept(alloc, work, product, text, reader, station) {
-        Ok(count) => count,
+        Ok(_) => reader.core.messages(),
         Err(why) => return Err(why),
     };
     let live = open_lots(&reader.core, product);

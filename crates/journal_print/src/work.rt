@@ -1,5 +1,5 @@
 //! What is done with the messages of each record of a journal.
-ghost use Rattle.std.specs.Prelude.{◌≡◌, ◌+◌, ◌≤◌, [], length, OnOk};
+ghost use Rattle.std.specs.Prelude.{◌≡◌, ◌+◌, ◌≤◌, [], length, IsTrue, IsOk, OnOk};
 ghost use Rattle.gx_station.specs.Counts.{HasCause};
 ghost use Rattle.gx_station.specs.Quiet.{Quiet, Sends};
 ghost use Rattle.order_kinds.specs.declared.core_state.TheConstants.{MOST_MESSAGES};
@@ -39,6 +39,7 @@ pub trait RecordWork {
         ensures fits { FitsProduct product.now core.new }
         ensures quiet { Quiet S.meanings station.old station.new }
         ensures cause { HasCause (S.meanings.send_faults station.old) (S.meanings.send_faults station.new) result }
+        ensures silent { IsTrue meanings.is_silent → IsOk result × (station.new ≡ station.old) }
         ensures empty { OnOk result (buffer.new ≡ []) }
         ensures numbered { AreNumbered core.old → AreNumbered core.new }
         ensures state { AreNumbered core.old → state_numbered core.new ≡ state_after product.now (state_numbered core.old) framer.now.given }

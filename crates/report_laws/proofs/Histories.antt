@@ -7,7 +7,7 @@ use Rattle.std.specs.List.{AllByRecursion}
 use Rattle.gx_base.specs.NameLists.{NameLists}
 use Rattle.gx_base.specs.Line.{line_of}
 use Rattle.gx_base.specs.declared.event.Event.{Event}
-use Rattle.book_order.proofs.Each.{all-append}
+use Rattle.book_order.proofs.Each.{all-append, all-with}
 use Rattle.fix_frame.specs.Stream.{messages_of, rest_of}
 use Rattle.product_file.specs.Products.{ProductLists}
 use Rattle.plain_book.specs.declared.entry.Entry.{Entry}
@@ -18,6 +18,7 @@ use Rattle.order_kinds.specs.Amendments.{untopped, amended_state}
 use Rattle.order_kinds.specs.Histories.{History, of_product, amended, AreOfTexts, IsBalanced, length_kept, state_kept, events_kept, reports_kept}
 use Rattle.generator_laws.specs.Names.{AreNames}
 use Rattle.report_laws.specs.Histories.{HaveNames, each_report}
+use Rattle.report_laws.specs.Texts.{HasTexts}
 use Rattle.report_laws.specs.Sums.{AreReadBalanced, IsReadBalanced}
 use Rattle.report_laws.proofs.Engine.{AllText, IsTextEvent, AllTextEvents, IsTextStream, stream-text}
 use Rattle.report_laws.proofs.Requests.{request-is-text}
@@ -49,6 +50,11 @@ module _ (most : ℕ) where
         told = all-append (IsTextEvent most) (events_kept before) (events_from product start messages) h.told more.told;
         orders = omega (arith, more.orders, h.orders);
       }
+
+pub events-have-texts : (history : History) → AllByRecursion HasTexts (events_kept history)
+events-have-texts history =
+    let most = length_kept history in
+    all-with (IsTextEvent most) HasTexts (λ event is. is.texts) (events_kept history) (history-text most history (omega arith)).told
 
 -- ---- its events with the names of their reports
 
