@@ -49,6 +49,7 @@ fn plain_command(name: &str) -> Option<Command>
         "steps" => Some(Command::Steps),
         "checkpoint" => Some(Command::Checkpoint),
         "amend" => Some(Command::Amend),
+        "session" => Some(Command::Session),
         _ => None,
     }
 }

@@ -2,14 +2,12 @@
 use Rattle.std.proofs.Common.{◌≡◌, ◌≢◌, ◌==◌, ◌||◌, ◌⊎◌, inl, inr, ⊎_elim, ℕ, ◌≤◌, max, List, [], ◌∷◌, ◌++◌, length, Bool, true, false, Option, Some, Result, Ok, Err, refl, sym, ap, subst, ◌∙◌, arith}
 use Prim.Native.Nat.{zero, suc}
 use Rattle.std.proofs.lemmas.Option.{same_Some}
-use Rattle.gx_base.specs.KnownBytes.{IsKnownPrefix, known_itself}
 use Rattle.gx_station.specs.Stations.{StationMeanings}
 use Rattle.gx_station.specs.SendLaws.{sent_and_none}
 use Rattle.gx_station.specs.Honest.{IsHonestNow}
 use Rattle.product_file.specs.Products.{ProductLists}
 use Rattle.product_file.specs.ProductTexts.{product_of}
 use Rattle.product_file.specs.Amendments.{may_follow}
-use Rattle.match_journal.specs.Causes.{ReadsOnly}
 use Rattle.match_journal.specs.Classes.{IsBlank, IsUnfinished}
 use Rattle.match_journal.specs.Journal.{Header, IsJournal, in_version}
 use Rattle.match_journal.specs.Steps.{HoldsOne}
@@ -18,7 +16,6 @@ use Rattle.match_journal.specs.declared.version.Version.TheVariants.{Second}
 use Rattle.order_kinds.specs.Histories.{History, of_product}
 use Rattle.book_recovery.specs.Kept.{IsStartable}
 use Rattle.book_recovery.proofs.Histories.{one-product}
-use Rattle.journal_print.specs.Reading.{ReadsAndSends}
 use Rattle.command_words.specs.declared.command.Command.{Command}
 use Rattle.command_words.specs.declared.command.Command.TheVariants.{Amend}
 use Rattle.globex_run.specs.Calls.{Call}
@@ -34,6 +31,7 @@ use Rattle.globex_run.specs.Inner.OneHeader.{KeepsUnder}
 use Rattle.globex_run.specs.declared.outcome.Outcome.{Outcome}
 use Rattle.globex_run.specs.declared.unamended.Unamended.{Unamended}
 use Rattle.globex_run.specs.declared.unamended.Unamended.TheVariants as unamended
+use Rattle.journal_print.specs.ReadingLaws.{reading_only}
 use Rattle.globex_run.proofs.AmendRefused.{wide, startable-widely, can-fits, fits-not-refused}
 use Rattle.globex_run.proofs.AmendedKept.{keeps-amendment, follows-kept}
 use Rattle.globex_run.proofs.KeptMore.{keeps-same}
@@ -41,20 +39,6 @@ use Rattle.globex_run.proofs.LastTexts.{first-last, last-of-none}
 use Rattle.globex_run.proofs.Told.{outside_of}
 
 -- ---- what the outcome tells of faults
-
--- a station that was only read
-reads-only : {S : Type 0} (m : StationMeanings S) (old new : S) → ReadsOnly m old new → ReadsAndSends m old new
-reads-only m old new reads =
-    let looks = reads.looks in
-    record {
-      holds = looks.keeps.holds;
-      sent = subst (λ (o : Option (List ℕ)). IsKnownPrefix (m.sent old) o) (sym looks.silent.sent) (known_itself (m.sent old));
-      store_faults = looks.silent.store_faults;
-      send_faults = omega (arith, looks.silent.send_faults);
-      no_image_more = λ h image may. looks.keeps.images h image may;
-      no_image_less = λ h image may. looks.images_stay h image may;
-      moments = adds_weaker m old new _ _ (λ h image out none. absurd none) looks.keeps.moments;
-    }
 
 -- the statuses of `amend`, once its product was taken
 abbrev is_of_amend : ℕ → Bool
@@ -118,7 +102,7 @@ module _ {I S : Type 0} (m : StationMeanings S) (product : ProductLists) (text :
     words = other-status 2 refl;
     product_right = other-status 3 refl;
     memory = λ e. (inr (tt, stops (same ∙ lacks (sym status ∙ e))), amend-counts (λ none. omega (arith, e, none)));
-    memory_reads = λ e. reads-only m old new (did.did.memory (same ∙ lacks (sym status ∙ e)));
+    memory_reads = λ e. reading_only m old new (did.did.memory (same ∙ lacks (sym status ∙ e)));
     read = λ e. absurd (other-status 4 refl e);
     no_read = λ no. refl;
     store = λ e. did.did.store (same ∙ store (sym status ∙ e));

@@ -1,5 +1,5 @@
 -- `amend` where a station is read alone: to the end, or before all else.
-use Rattle.std.proofs.Common.{◌≡◌, ◌⊎◌, inl, inr, ⊎_elim, ℕ, ◌≤◌, List, Some, Result, Ok, Err, sym, ap, subst, ◌∙◌, arith}
+use Rattle.std.proofs.Common.{◌≡◌, inl, inr, ⊎_elim, ℕ, ◌≤◌, List, Some, Result, Ok, Err, sym, ap, subst, ◌∙◌, arith}
 use Rattle.gx_station.specs.Stations.{StationMeanings}
 use Rattle.gx_station.specs.Counts.{Rose}
 use Rattle.gx_station.specs.Honest.{KeepsImage}

@@ -1,5 +1,6 @@
 -- What the command of the words came to, from how it was executed.
 use Rattle.globex_run.specs.Inner.Keeping.{KeepsEvents}
+use Rattle.gx_station.specs.Sources.{and_left}
 use Rattle.std.proofs.Common.{[], ◌≡◌, ◌≢◌, ◌⊎◌, inl, inr, ⊎_elim, ℕ, ◌++◌, ◌≤◌, List, length, Option, Some, Result, Ok, Err, refl, sym, ap, subst, ◌∙◌, arith}
 use Rattle.std.specs.Prelude.{IfSome}
 use Rattle.std.proofs.lemmas.Bool.Decides.{eqb_tells}
@@ -27,15 +28,15 @@ use Rattle.exec_report.specs.declared.texts.SendFault.{SendFault as SendFailed}
 use Rattle.journal_print.specs.Reading.{ReadsAndSends}
 use Rattle.journal_print.specs.declared.unprinted.Unprinted.{Unprinted}
 use Rattle.command_words.specs.declared.command.Command.{Command}
-use Rattle.command_words.specs.declared.command.Command.TheVariants.{Run, Replay, Book, Fills, Ledger, Steps, Drill, Checkpoint, Amend}
+use Rattle.command_words.specs.declared.command.Command.TheVariants.{Run, Replay, Book, Fills, Ledger, Steps, Drill, Checkpoint, Amend, Session}
 use Rattle.globex_run.specs.Outside.{SourceAt, Outside, Streams, IsQuiet, source_at, streams_at}
 use Rattle.globex_run.specs.Outcomes.{outcome_of}
-use Rattle.globex_run.specs.Words.{IsPrinting, OpensByText, NeverEndsWith}
+use Rattle.globex_run.specs.Words.{IsPrinting, OnlyReads, ReadsInput, OpensByText, NeverEndsWith}
 use Rattle.globex_run.specs.ProductTexts.{IsProductText, ProductPremises}
 use Rattle.globex_run.specs.Memory.{StopsAtProducts}
 use Rattle.globex_run.specs.FullJournals.{IsFullJournal}
 use Rattle.globex_run.specs.Refusals.{IsRefusal, RefusesExactly, CanStart}
-use Rattle.globex_run.specs.RunResult.{CommandResult, CommandEnded, RunEnded, EndedUnread}
+use Rattle.globex_run.specs.RunResult.{CommandResult, CommandEnded, RunEnded, EndedUnread, TakesInput}
 use Rattle.globex_run.specs.Journals.{AnswersImage}
 use Rattle.globex_run.specs.Headline.{Premises, InputPremises, SendsExactlyTheReports, EndsOtherwise, RunLeavesCrashPrefixes, RunBeforeTheFirstSync, KeepsEveryReported, AddsMessages, KeepsARecordPerRead, ReadsFew, CanBeServed, IsServed}
 use Rattle.globex_run.specs.Drills.{made_bytes, KeepsAndSumsUp, DrillEndsOtherwise, DrillLeavesCrashPrefixes, DrillBeforeTheFirstSync, CanBeDrilled}
@@ -45,13 +46,14 @@ use Rattle.globex_run.specs.Inner.Drilling.{DrillResult, DrillsMade}
 use Rattle.globex_run.specs.Inner.Checkpointing.{EndsCheckpoint, CheckpointResult}
 use Rattle.globex_run.specs.Inner.Amending.{AmendResult}
 use Rattle.globex_run.specs.Inner.Executing.{Executes, HasCauses, Runs}
+use Rattle.globex_run.specs.Answering.{AnswersSession, IsAnswered}
 use Rattle.globex_run.specs.Calls.{Call}
 use Rattle.globex_run.specs.Steps.{LeavesFronts, LeavesEntryOrFronts}
 use Rattle.globex_run.specs.Amends.{AmendPremises, CanBeAmended}
-use Rattle.globex_run.specs.Works.{GivenFor, Reads, work_of, DoneBy, EndedBy, CanBeDone, bytes_for}
+use Rattle.globex_run.specs.Works.{GivenFor, Reads, work_of, DoneBy, EndedBy, CanBeDone, CanBeAnswered, bytes_for}
 use Rattle.globex_run.specs.Drills.{summary, made_messages, summary_of_all}
 use Rattle.globex_run.specs.Checkpoints.{sends_nothing}
-use Rattle.globex_run.specs.Promises.{DoesAll, EndsAsTold, LeavesAFront, LeavesTheEntry, KeepsWhatIsSent, AddsMessagesAlone, AddsARecordPerRead, ReadsItOnce, IsFullForMessages, IsFullForImage, IsFullForAmendment, SendsNothing, EndsWellWhereItCan, PrintsItsText, EndsWhereTold, LeavesAllAtNoMemory, RefusesWhatItMust, RefusesAmendments, OpensAgain, HasItsStatuses}
+use Rattle.globex_run.specs.Promises.{DoesAll, EndsAsTold, LeavesAFront, LeavesTheEntry, KeepsWhatIsSent, AddsMessagesAlone, AddsARecordPerRead, ReadsItOnce, IsFullForMessages, IsFullForImage, IsFullForAmendment, SendsNothing, EndsWellWhereItCan, PrintsItsText, AnswersItsInput, EndsWhereTold, LeavesAllAtNoMemory, RefusesWhatItMust, RefusesAmendments, OpensAgain, HasItsStatuses}
 use Rattle.globex_run.specs.declared.outcome.Outcome.{Outcome}
 use Rattle.globex_run.proofs.EverySent.{every-sent, all-grows, fronts-of, entry-or-fronts}
 use Rattle.globex_run.proofs.Reported.{fewer-reports}
@@ -64,7 +66,7 @@ use Rattle.globex_run.proofs.Drills.{empty_front, drill-all, drill-otherwise, dr
 use Rattle.globex_run.proofs.CheckpointHeadlines.{not-among, not-done, adds-image as checkpoint-adds, the-same as checkpoint-keeps, every-moment as checkpoint-moments, first-sync as checkpoint-first-sync, few-read as checkpoint-reads, image-full as checkpoint-full}
 use Rattle.globex_run.proofs.Complete.{served}
 use Rattle.globex_run.proofs.Endings.{when_done}
-use Rattle.globex_run.proofs.Refused.{not-refusal, none-counted, by-ending, by-book, by-events}
+use Rattle.globex_run.proofs.Refused.{not-refusal, none-counted, by-ending, by-book, by-events, by-unread, by-answers}
 use Rattle.globex_run.proofs.Statuses.{by-memory, unless-memory, never-lacks, printed-low, ending-low, sent-status, checkpoint-not-sent}
 use Rattle.globex_run.proofs.Executed.{drill-low}
 use Rattle.globex_run.proofs.ByCommand.{by-going-on, by-writing, by-serving, by-serving-none}
@@ -73,6 +75,8 @@ use Rattle.globex_run.proofs.AmendRefused.{amend-refuses}
 use Rattle.globex_run.proofs.AmendExecuted.{amend-opens}
 use Rattle.globex_run.proofs.StartableImages.{not-refused-by}
 use Rattle.globex_run.proofs.Printed.{events-printed, book-printed, steps-printed}
+use Rattle.globex_run.proofs.Answered.{unprinted-answer, answered-well}
+use Rattle.globex_run.proofs.Lists.{and_left-none}
 
 -- ---- a command that can be done has a product
 
@@ -85,6 +89,7 @@ product-told m before Run can = (can.start.text, can.start.product, can.start.te
 product-told m before (Drill first count) can = (can.start.text, can.start.product, can.start.text_known, can.start.gives)
 product-told m before Checkpoint can = (can.start.text, can.start.product, can.start.text_known, can.start.gives)
 product-told m before Amend can = (can.start.text, can.start.product, can.start.text_known, can.start.gives)
+product-told m before Session can = (can.start.text, can.start.product, can.start.text_known, can.start.gives)
 product-told m before Replay can = (can.text, can.product, can.text_known, can.gives)
 product-told m before Book can = (can.text, can.product, can.text_known, can.gives)
 product-told m before Fills can = (can.text, can.product, can.text_known, can.gives)
@@ -370,6 +375,21 @@ module _ {P I S : Type 0} (m : StationMeanings S) (p q : SourceAt P) (i j : Sour
       pub all-amended : (can : CanBeAmended m entry) → IsQuiet entry exit → (outcome.status ≡ 1) ⊎ (outcome.status ≡ 0)
       all-amended can quiet = amend-done m p q i j old new outcome can quiet (amended-as can.start.text can.start.product can.start.text_known can.start.gives)
 
+    -- ---- what was answered
+
+    module _ (asks : asked ≡ Some Session) where
+      pub answered-as : (told : List ℕ) (lists : ProductLists) → p.left ≡ Some told → product_of told ≡ Ok lists → AnswersSession m lists told entry.streams exit.streams outcome
+      answered-as told lists known are =
+          told-product p q text lent same product took gives (λ (l : ProductLists) (bytes : List ℕ). AnswersSession m l bytes entry.streams exit.streams outcome) told lists known are (did-as Session asks).form
+
+      -- where it can start and no fault comes, all messages of the input are answered that can be counted
+      pub all-answered : (can : CanBeAnswered entry) → IsQuiet entry exit → outcome.status ≢ 1 → IsAnswered can.bytes outcome.status
+      all-answered can quiet lacks =
+          let at = can.start.startable (λ e. cc e) in
+          let faults = no-fault Session (causes-as Session asks) quiet in
+          answered-well m p q i j old new outcome faults (λ four. quiet.input ((causes-as Session asks).read four).1) lacks can.start.product can.start.text can.start.gives at.0 at.1.0 at.1.1.0 at.1.1.1 can.bytes can.input_known
+          (answered-as can.start.text can.start.product can.start.text_known can.start.gives)
+
     -- ---- what was printed
 
     module _ (c : Command) (asks : asked ≡ Some c) where
@@ -378,18 +398,32 @@ module _ {P I S : Type 0} (m : StationMeanings S) (p q : SourceAt P) (i j : Sour
       reads-by (Drill first count) printing did = absurd printing
       reads-by Checkpoint printing did = absurd printing
       reads-by Amend printing did = absurd printing
+      reads-by Session printing did = absurd printing
       reads-by Replay printing did = did.reads
       reads-by Book printing did = did.reads
       reads-by Fills printing did = did.reads
       reads-by Ledger printing did = did.reads
       reads-by Steps printing did = did.reads
 
-      -- a command that prints only reads
-      pub reads-only : IsPrinting c → ReadsAndSends m old new
-      reads-only printing = reads-by c printing (did-as c asks)
+      only-by : (x : Command) → OnlyReads x → Did x → ReadsAndSends m old new
+      only-by Session reads did = did.reads
+      only-by Run reads did = absurd reads
+      only-by (Drill first count) reads did = absurd reads
+      only-by Checkpoint reads did = absurd reads
+      only-by Amend reads did = absurd reads
+      only-by Replay reads did = reads-by Replay reads did
+      only-by Book reads did = reads-by Book reads did
+      only-by Fills reads did = reads-by Fills reads did
+      only-by Ledger reads did = reads-by Ledger reads did
+      only-by Steps reads did = reads-by Steps reads did
 
-      input-by : (x : Command) → (x ≡ Run → ⊥) → Did x → exit.streams.input ≡ entry.streams.input
-      input-by Run other did = absurd (other refl)
+      -- a command that prints or answers only reads
+      pub reads-only : OnlyReads c → ReadsAndSends m old new
+      reads-only reads = only-by c reads (did-as c asks)
+
+      input-by : (x : Command) → (ReadsInput x → ⊥) → Did x → exit.streams.input ≡ entry.streams.input
+      input-by Run other did = absurd (other tt)
+      input-by Session other did = absurd (other tt)
       input-by (Drill first count) other did = did.1
       input-by Checkpoint other did = did.1
       input-by Amend other did = did.1
@@ -399,8 +433,8 @@ module _ {P I S : Type 0} (m : StationMeanings S) (p q : SourceAt P) (i j : Sour
       input-by Ledger other did = did.input
       input-by Steps other did = did.input
 
-      -- a run alone reads the input
-      pub input-untouched : (c ≡ Run → ⊥) → j.object ≡ i.object
+      -- few commands read the input
+      pub input-untouched : (ReadsInput c → ⊥) → j.object ≡ i.object
       input-untouched other = ap (λ (x : SourceAt I). x.object) (input-by c other (did-as c asks))
 
       form-of : (x : Command) → Did x → PrintsAs m product lent entry.streams.station exit.streams.station outcome x
@@ -408,6 +442,7 @@ module _ {P I S : Type 0} (m : StationMeanings S) (p q : SourceAt P) (i j : Sour
       form-of (Drill first count) drilled = tt
       form-of Checkpoint did = tt
       form-of Amend did = tt
+      form-of Session did = tt
       form-of Replay printed = printed.form
       form-of Book printed = printed.form
       form-of Fills printed = printed.form
@@ -437,6 +472,7 @@ module _ {P I S : Type 0} (m : StationMeanings S) (p q : SourceAt P) (i j : Sour
         by-command (Drill first count) printing lacks startable form = absurd printing
         by-command Checkpoint printing lacks startable form = absurd printing
         by-command Amend printing lacks startable form = absurd printing
+        by-command Session printing lacks startable form = absurd printing
         by-command Replay printing lacks startable form =
             let at = startable (λ e. cc e) in events-printed m can.product can.text old new outcome quiet-print can.gives at.0 at.1.1.0 at.1.1.1 line_of _ form.answer form.outcome_is lacks (form.prints at.0 at.1.0)
         by-command Fills printing lacks startable form =
@@ -527,11 +563,17 @@ module _ {P I S : Type 0} (m : StationMeanings S) (p q : SourceAt P) (i j : Sour
         input = input;
       }
 
+      -- what was taken of the input: nothing, if the journal was not read to its end
+      takes-input : AnswersSession m product lent entry.streams exit.streams outcome → TakesInput entry.streams exit.streams
+      takes-input (inl stopped) = record { taken = []; took = and_left-none i.left ∙ ap (λ (l : Option (List ℕ)). and_left [] l) (sym (ap (λ (x : SourceAt I). x.left) stopped.input)) }
+      takes-input (inr did) = record { taken = did.answers.serving.taken; took = did.answers.serving.took }
+
       ended : (x : Command) → Did x → outcome.status ≢ 1 → CommandEnded entry exit outcome text product x
       ended Run did told = ran-ended did
       ended (Drill first count) drilled told = drill-ended first count drilled.1 drilled.0
       ended Checkpoint did told = checkpoint-ended did.1 did.0
       ended Amend did told = did.1
+      ended Session did told = takes-input did.form
       ended Replay printed told = printed.input
       ended Book printed told = printed.input
       ended Fills printed told = printed.input
@@ -557,6 +599,12 @@ module _ {P I S : Type 0} (m : StationMeanings S) (p q : SourceAt P) (i j : Sour
         formed : (x : Command) → Did x → PrintsAs m product text entry.streams.station exit.streams.station outcome x
         formed x did = subst (λ (l : List ℕ). PrintsAs m product l entry.streams.station exit.streams.station outcome x) same (form-of x did)
 
+        by-session : AnswersSession m product text entry.streams exit.streams outcome → outcome.status ≢ 1 → Exactly Session
+        by-session (inl stopped) told =
+            by-unread Session product text image (λ head. one_bad_for_each head product.journal_limit image) outcome (λ head at bad. bad) (λ head at bad. bad) stopped.why stopped.is told (stopped.fits image known)
+        by-session (inr did) told =
+            by-answers Session product text image (λ head. one_bad_for_each head product.journal_limit image) outcome (λ head at bad. bad) (λ head at bad. bad) m entry.streams exit.streams did known
+
         refuses-by : (x : Command) → OpensByText x → Did x → outcome.status ≢ 1 → Exactly x
         refuses-by Run opens did told =
             let ended = ran-ended did in
@@ -575,13 +623,14 @@ module _ {P I S : Type 0} (m : StationMeanings S) (p q : SourceAt P) (i j : Sour
             by-book Book product text image (λ head. one_place product head product.journal_limit image) outcome (λ head at bad. bad) (λ head at bad. bad) m old new form.answer form.outcome_is (form.prints image known).prints
         refuses-by Replay opens did told =
             let form = formed Replay did in
-            by-events Replay product text image (λ head. one_bad_for_each head product.journal_limit image) outcome tt (λ head at bad. bad) (λ head at bad. bad) m old new line_of _ form.answer form.outcome_is told (form.prints image known)
+            by-events Replay product text image (λ head. one_bad_for_each head product.journal_limit image) outcome (λ head at bad. bad) (λ head at bad. bad) tt m old new line_of _ form.answer form.outcome_is told (form.prints image known)
         refuses-by Fills opens did told =
             let form = formed Fills did in
-            by-events Fills product text image (λ head. one_bad_for_each head product.journal_limit image) outcome tt (λ head at bad. bad) (λ head at bad. bad) m old new fill_line _ form.answer form.outcome_is told (form.prints image known)
+            by-events Fills product text image (λ head. one_bad_for_each head product.journal_limit image) outcome (λ head at bad. bad) (λ head at bad. bad) tt m old new fill_line _ form.answer form.outcome_is told (form.prints image known)
         refuses-by Ledger opens did told =
             let form = formed Ledger did in
-            by-events Ledger product text image (λ head. one_bad_for_each head product.journal_limit image) outcome tt (λ head at bad. bad) (λ head at bad. bad) m old new (λ names. ledger_line) _ form.answer form.outcome_is told (form.prints image known)
+            by-events Ledger product text image (λ head. one_bad_for_each head product.journal_limit image) outcome (λ head at bad. bad) (λ head at bad. bad) tt m old new (λ names. ledger_line) _ form.answer form.outcome_is told (form.prints image known)
+        refuses-by Session opens did told = by-session (subst (λ (l : List ℕ). AnswersSession m product l entry.streams exit.streams outcome) same did.form) told
         refuses-by Steps opens did told = absurd opens
         refuses-by Amend opens did told = absurd opens
 
@@ -619,6 +668,7 @@ module _ {P I S : Type 0} (m : StationMeanings S) (p q : SourceAt P) (i j : Sour
         started-by Replay is did = not-started (subst OpensByText (sym is) tt) (λ e. cc (e, is))
         started-by Fills is did = not-started (subst OpensByText (sym is) tt) (λ e. cc (e, is))
         started-by Ledger is did = not-started (subst OpensByText (sym is) tt) (λ e. cc (e, is))
+        started-by Session is did = not-started (subst OpensByText (sym is) tt) (λ e. cc (e, is))
         started-by Steps is did = sent-not-refused did.form.result did.form.outcome_is
 
         pub opens-again : ⊥
@@ -626,29 +676,34 @@ module _ {P I S : Type 0} (m : StationMeanings S) (p q : SourceAt P) (i j : Sour
 
       -- ---- each command has its statuses
 
-      -- 7 and 8 come of a run alone
-      no-frames : (x : Command) → Causes x → (x ≡ Run → ⊥) → {Others : Type 0} → (Others → ⊥) → (outcome.status ≡ 7) ⊎ ((outcome.status ≡ 8) ⊎ Others) → ⊥
+      -- 7 and 8 come of a command that reads the input
+      no-frames : (x : Command) → Causes x → (ReadsInput x → ⊥) → {Others : Type 0} → (Others → ⊥) → (outcome.status ≡ 7) ⊎ ((outcome.status ≡ 8) ⊎ Others) → ⊥
       no-frames x why other none never = ⊎_elim (λ seven. other (why.frames (inl seven))) (λ more. ⊎_elim (λ eight. other (why.frames (inr eight))) none more) never
 
-      printing-status : (x : Command) → Causes x → (answer : Result ℕ Unprinted) → outcome ≡ outcome_printed answer → (x ≡ Run → ⊥) → NeverEndsWith Replay outcome.status → ⊥
+      printing-status : (x : Command) → Causes x → (answer : Result ℕ Unprinted) → outcome ≡ outcome_printed answer → (ReadsInput x → ⊥) → NeverEndsWith Replay outcome.status → ⊥
       printing-status x why answer is other never =
           let low = printed-low outcome answer is in
           no-frames x why other (λ high. ⊎_elim (λ e. omega (arith, e, low)) (λ e. omega (arith, e, low)) high) never
+
+      answers-low : AnswersSession m product lent entry.streams exit.streams outcome → outcome.status ≡ 13 → ⊥
+      answers-low (inl stopped) never = let low = printed-low outcome (unprinted-answer stopped.why) stopped.is in omega (arith, never, low)
+      answers-low (inr did) never = let low = ending-low outcome did.ending outcome.messages did.is in omega (arith, never, low)
 
       ending-by : (x : Command) → Did x → Causes x → NeverEndsWith x outcome.status → ⊥
       ending-by Run did why never = omega (arith, never, ending-low outcome did.session.ending outcome.messages did.session.is)
       ending-by (Drill first count) did why never =
           let low = drill-low m product lent i old new outcome first count did.0 in
-          no-frames (Drill first count) why (λ e. cc e) (λ e. omega (arith, e, low)) never
+          no-frames (Drill first count) why (λ reads. reads) (λ e. omega (arith, e, low)) never
       ending-by Checkpoint did why never = ⊎_elim
           (λ six. checkpoint-not-sent outcome did.0.ending did.0.possible did.0.is six)
-          (λ frames. let low = ending-low outcome did.0.ending outcome.messages did.0.is in no-frames Checkpoint why (λ e. cc e) (λ e. omega (arith, e, low)) frames)
+          (λ frames. let low = ending-low outcome did.0.ending outcome.messages did.0.is in no-frames Checkpoint why (λ reads. reads) (λ e. omega (arith, e, low)) frames)
           never
       ending-by Amend did why never = amend-statuses m product lent i old new outcome did.0 never
-      ending-by Replay did why never = printing-status Replay why did.form.answer did.form.outcome_is (λ e. cc e) never
-      ending-by Book did why never = printing-status Book why did.form.answer did.form.outcome_is (λ e. cc e) never
-      ending-by Fills did why never = printing-status Fills why did.form.answer did.form.outcome_is (λ e. cc e) never
-      ending-by Ledger did why never = printing-status Ledger why did.form.answer did.form.outcome_is (λ e. cc e) never
+      ending-by Session did why never = answers-low did.form never
+      ending-by Replay did why never = printing-status Replay why did.form.answer did.form.outcome_is (λ reads. reads) never
+      ending-by Book did why never = printing-status Book why did.form.answer did.form.outcome_is (λ reads. reads) never
+      ending-by Fills did why never = printing-status Fills why did.form.answer did.form.outcome_is (λ reads. reads) never
+      ending-by Ledger did why never = printing-status Ledger why did.form.answer did.form.outcome_is (λ reads. reads) never
       ending-by Steps did why never = sent-status outcome did.form.result did.form.outcome_is never
 
       pub never-ends : NeverEndsWith c outcome.status → ⊥
@@ -713,6 +768,7 @@ module _ {P I S : Type 0} (m : StationMeanings S) (p q : SourceAt P) (i j : Sour
     sends-grow Fills given read a b le = omega arith
     sends-grow Ledger given read a b le = omega arith
     sends-grow Steps given read a b le = omega arith
+    sends-grow Session given read a b le = omega arith
 
     pub keeps-what-is-sent : (m.is_honest old → IsHonestNow m old) → KeepsWhatIsSent the-call
     keeps-what-is-sent now c asks writing given read = every-sent the-call (work_of the-call c given read) (sends-grow c given read) (leaves-the-entry now c asks writing given read)
@@ -760,6 +816,7 @@ module _ {P I S : Type 0} (m : StationMeanings S) (p q : SourceAt P) (i j : Sour
     ends-well (Drill first count) asks can quiet = unless-memory outcome.status (λ there. all-drilled asked command is (did there) causes first count asks can quiet)
     ends-well Checkpoint asks can quiet = unless-memory outcome.status (λ there. all-checkpointed asked command is (did there) causes asks can quiet)
     ends-well Amend asks can quiet = by-memory outcome.status (λ one. inl one) (λ there. all-amended asked command is (did there) causes asks can quiet)
+    ends-well Session asks can quiet = unless-memory outcome.status (λ there. all-answered asked command is (did there) causes asks can quiet there)
     ends-well Replay asks can quiet = unless-memory outcome.status (λ there. all-printed asked command is (did there) causes Replay asks can quiet tt there)
     ends-well Book asks can quiet = unless-memory outcome.status (λ there. all-printed asked command is (did there) causes Book asks can quiet tt there)
     ends-well Fills asks can quiet = unless-memory outcome.status (λ there. all-printed asked command is (did there) causes Fills asks can quiet tt there)
@@ -768,6 +825,9 @@ module _ {P I S : Type 0} (m : StationMeanings S) (p q : SourceAt P) (i j : Sour
 
     pub prints-its-text : PrintsItsText the-call
     prints-its-text c asks given = prints asked command is (did given.memory) causes c asks given
+
+    pub answers-its-input : AnswersItsInput the-call
+    answers-its-input asks given = answered-as asked command is (did given.memory) causes asks given.text given.product given.text_known given.gives
 
     pub ends-where-told : EndsWhereTold the-call
     ends-where-told c asks told = told-ended asked command is (did told) causes c asks told
@@ -787,12 +847,12 @@ module _ {P I S : Type 0} (m : StationMeanings S) (p q : SourceAt P) (i j : Sour
 
     -- ---- what holds of a command, whether or not there was memory
 
-    pub only-reads : (c : Command) → asked ≡ Some c → IsPrinting c → ReadsAndSends m old new
-    only-reads c asks printing = by-memory outcome.status
+    pub only-reads : (c : Command) → asked ≡ Some c → OnlyReads c → ReadsAndSends m old new
+    only-reads c asks reads = by-memory outcome.status
         (λ one. reads-none command causes one)
-        (λ there. reads-only asked command is (did there) causes c asks printing)
+        (λ there. reads-only asked command is (did there) causes c asks reads)
 
-    pub leaves-the-input : (c : Command) → asked ≡ Some c → (c ≡ Run → ⊥) → j.object ≡ i.object
+    pub leaves-the-input : (c : Command) → asked ≡ Some c → (ReadsInput c → ⊥) → j.object ≡ i.object
     leaves-the-input c asks other = by-memory outcome.status
         (λ one. input-left command causes one)
         (λ there. input-untouched asked command is (did there) causes c asks other)

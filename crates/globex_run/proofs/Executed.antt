@@ -6,7 +6,7 @@ use Rattle.std.proofs.lemmas.Option.{same_Some}
 use Rattle.gx_base.specs.declared.event.Event.{Event}
 use Rattle.gx_station.specs.Counts.{Rose, HasCause}
 use Rattle.gx_station.specs.Stations.{StationMeanings}
-use Rattle.gx_station.specs.Quiet.{Quiet, quiet_itself}
+use Rattle.gx_station.specs.Quiet.{quiet_itself}
 use Rattle.gx_station.specs.Honest.{KeepsImage}
 use Rattle.match_journal.specs.Causes.{ReadsOnly}
 use Rattle.fix_frame.specs.Grammar.{IsFrameFront}
@@ -16,19 +16,22 @@ use Rattle.order_kinds.specs.State.{State}
 use Rattle.order_maker.specs.Stream.{generator_meanings, made_stream}
 use Rattle.exec_report.specs.declared.texts.SendFault.{SendFault as SendFailed}
 use Rattle.exec_report.specs.Forms.{LineText}
+use Rattle.journal_print.specs.ReadingLaws.{sending_only, reading_only}
 use Rattle.journal_print.specs.Reading.{ReadsAndSends}
 use Rattle.journal_print.specs.declared.unprinted.Unprinted.{Unprinted}
 use Rattle.journal_print.specs.declared.unprinted.Unprinted.TheVariants as unprinted
 use Rattle.command_words.specs.declared.command.Command.{Command}
-use Rattle.command_words.specs.declared.command.Command.TheVariants.{Run, Book, Steps, Drill, Checkpoint}
+use Rattle.command_words.specs.declared.command.Command.TheVariants.{Run, Book, Steps, Drill, Checkpoint, Session}
 use Rattle.globex_run.specs.Outside.{SourceAt, Streams, streams_at, station_at}
 use Rattle.globex_run.specs.Outcomes.{outcome_of, is_outcome}
-use Rattle.globex_run.specs.Words.{IsWriting, TakesKeptProducts}
+use Rattle.globex_run.specs.Words.{IsWriting, ReadsInput, TakesKeptProducts}
 use Rattle.globex_run.specs.Memory.{HasKeptProducts, LeavesAtNoMemory}
 use Rattle.globex_run.specs.Refusals.{IsRefusal}
 use Rattle.globex_run.specs.Prints.{PrintsAs, PrintsBookOnce, PrintsJournal, PrintsSteps, outcome_sent, outcome_printed}
 use Rattle.globex_run.specs.RunResult.{EndsAs}
+use Rattle.globex_run.specs.Answering.{IsUnreadable}
 use Rattle.globex_run.specs.Inner.Serving.{CausedBy}
+use Rattle.globex_run.specs.Inner.Answers.{StopsWithCause, AnswersWithCauses}
 use Rattle.globex_run.specs.Inner.Sessions.{SessionResult}
 use Rattle.globex_run.specs.Inner.Drilling.{DrillResult, DrillsMade, SumsUp}
 use Rattle.globex_run.specs.Inner.Executing.{Executes, HasCauses, IsExecuted, Prints, Runs}
@@ -37,6 +40,7 @@ use Rattle.globex_run.specs.Inner.Printing.{PrintsKept}
 use Rattle.globex_run.specs.declared.outcome.Outcome.{Outcome}
 use Rattle.globex_run.specs.declared.ending.Ending.{Ending}
 use Rattle.globex_run.specs.declared.ending.Ending.TheVariants.{Done, ReadFault, StoreFault, SendFault, BadFrame, Truncated, NotAJournal, JournalBad, ProductDiffers, Full}
+use Rattle.globex_run.proofs.Answered.{unprinted-answer}
 use Rattle.globex_run.proofs.Complete.{broken_more}
 use Rattle.globex_run.proofs.Drills.{empty_front}
 use Rattle.globex_run.proofs.Statuses.{ending-low, sent-low}
@@ -69,18 +73,6 @@ any-published m line product text before after Published then outcome session = 
         published = λ done. tt;
       };
   full = session.full;
-}
-
--- a station that was only sent to
-pub quiet-reads : {S : Type 0} (m : StationMeanings S) (old new : S) → Quiet m old new → ReadsAndSends m old new
-quiet-reads m old new quiet = record {
-  holds = quiet.holds;
-  sent = quiet.sent;
-  store_faults = omega (arith, quiet.store_faults);
-  send_faults = quiet.send_faults;
-  no_image_more = quiet.no_image_more;
-  no_image_less = quiet.no_image_less;
-  moments = quiet.moments;
 }
 
 -- ---- an outcome that speaks of the station alone
@@ -145,7 +137,7 @@ module _ {I S : Type 0} (m : StationMeanings S) (product : ProductLists) (text :
   -- and nothing was touched
   pub lacks-causes : outcome ≡ record { status = 1; at = 0; messages = 0 } → after ≡ before → HasCauses m product text before after outcome command
   lacks-causes is same =
-      memory-causes is (inl same) (subst (λ (s : Streams I S). ReadsAndSends m before.station.object s.station.object) (sym same) (quiet-reads m _ _ (quiet_itself m before.station.object))) (ap (λ (s : Streams I S). s.input.faults) same)
+      memory-causes is (inl same) (subst (λ (s : Streams I S). ReadsAndSends m before.station.object s.station.object) (sym same) (sending_only m _ _ (quiet_itself m before.station.object))) (ap (λ (s : Streams I S). s.input.faults) same)
       (ap (λ (s : Streams I S). s.station.store_faults) same, ap (λ (s : Streams I S). s.station.send_faults) same)
 
   -- a refusal, or a full journal: no call has failed
@@ -169,10 +161,10 @@ module _ {I S : Type 0} (m : StationMeanings S) (product : ProductLists) (text :
 
 -- ---- each command
 
--- a run was stopped by what stands in its input
-run-stopped : {I S : Type 0} (m : StationMeanings S) (product : ProductLists) (text : List ℕ) (before after : Streams I S) (outcome : Outcome) (right : IsRightProduct product) (n : ℕ) → outcome.status ≡ n → is_outcome outcome ≡ true → (n ≡ 7) ⊎ (n ≡ 8)
-    → (after.input.faults ≡ before.input.faults) × (after.station.store_faults ≡ before.station.store_faults) × (after.station.send_faults ≡ before.station.send_faults) → HasCauses m product text before after outcome Run
-run-stopped m product text before after outcome right n is placed either same = record {
+-- a command was stopped by what stands in its input
+input-stopped : {I S : Type 0} (m : StationMeanings S) (product : ProductLists) (text : List ℕ) (before after : Streams I S) (outcome : Outcome) (command : Command) (reads : ReadsInput command) (right : IsRightProduct product) (n : ℕ) → outcome.status ≡ n → is_outcome outcome ≡ true → (n ≡ 7) ⊎ (n ≡ 8)
+    → (after.input.faults ≡ before.input.faults) × (after.station.store_faults ≡ before.station.store_faults) × (after.station.send_faults ≡ before.station.send_faults) → HasCauses m product text before after outcome command
+input-stopped m product text before after outcome command reads right n is placed either same = record {
   right = right;
   outcome_is = placed;
   words = λ e. absurd (low (omega (arith, e, is)));
@@ -185,15 +177,15 @@ run-stopped m product text before after outcome right n is placed either same = 
   no_store = λ other. same.1;
   send = λ e. absurd (low (omega (arith, e, is)));
   no_send = λ other. same.2;
-  frames = λ either. refl;
+  frames = λ either. reads;
 }
   where
     low : n < 7 → ⊥
     low few = ⊎_elim (λ e. omega (arith, e, few)) (λ e. omega (arith, e, few)) either
 
--- a run reads its input
-run-causes : {I S : Type 0} (m : StationMeanings S) (product : ProductLists) (text : List ℕ) (before after : Streams I S) (outcome : Outcome) (right : IsRightProduct product) (ending : Ending) → outcome ≡ outcome_of ending outcome.messages → CausedBy ending before after → HasCauses m product text before after outcome Run
-run-causes m product text before after outcome right (ReadFault place) is cause =
+-- a command that reads its input
+input-causes : {I S : Type 0} (m : StationMeanings S) (product : ProductLists) (text : List ℕ) (before after : Streams I S) (outcome : Outcome) (command : Command) (reads : ReadsInput command) (right : IsRightProduct product) (ending : Ending) → outcome ≡ outcome_of ending outcome.messages → CausedBy ending before after → HasCauses m product text before after outcome command
+input-causes m product text before after outcome command reads right (ReadFault place) is cause =
     let status : outcome.status ≡ 4 = ap (λ (o : Outcome). o.status) is in
     record {
       right = right;
@@ -202,23 +194,23 @@ run-causes m product text before after outcome right (ReadFault place) is cause 
       product_right = λ e. omega (arith, e, status);
       memory = λ e. absurd (omega (arith, e, status));
       memory_reads = λ e. absurd (omega (arith, e, status));
-      read = λ e. (refl, cause.0);
+      read = λ e. (reads, cause.0);
       no_read = λ other. absurd (other status);
       store = λ e. absurd (omega (arith, e, status));
       no_store = λ other. cause.1;
       send = λ e. absurd (omega (arith, e, status));
       no_send = λ other. cause.2;
-      frames = λ either. refl;
+      frames = λ either. reads;
     }
-run-causes m product text before after outcome right (BadFrame place) is cause = run-stopped m product text before after outcome right 7 (ap (λ (o : Outcome). o.status) is) (ap is_outcome is) (inl refl) cause
-run-causes m product text before after outcome right (Truncated place) is cause = run-stopped m product text before after outcome right 8 (ap (λ (o : Outcome). o.status) is) (ap is_outcome is) (inr refl) cause
-run-causes m product text before after outcome right Done is cause = ending-causes m product text before after outcome Run right Done tt outcome.messages is cause
-run-causes m product text before after outcome right StoreFault is cause = ending-causes m product text before after outcome Run right StoreFault tt outcome.messages is cause
-run-causes m product text before after outcome right SendFault is cause = ending-causes m product text before after outcome Run right SendFault tt outcome.messages is cause
-run-causes m product text before after outcome right (NotAJournal place) is cause = ending-causes m product text before after outcome Run right (NotAJournal place) tt outcome.messages is cause
-run-causes m product text before after outcome right (JournalBad place) is cause = ending-causes m product text before after outcome Run right (JournalBad place) tt outcome.messages is cause
-run-causes m product text before after outcome right (ProductDiffers place) is cause = ending-causes m product text before after outcome Run right (ProductDiffers place) tt outcome.messages is cause
-run-causes m product text before after outcome right (Full place) is cause = ending-causes m product text before after outcome Run right (Full place) tt outcome.messages is cause
+input-causes m product text before after outcome command reads right (BadFrame place) is cause = input-stopped m product text before after outcome command reads right 7 (ap (λ (o : Outcome). o.status) is) (ap is_outcome is) (inl refl) cause
+input-causes m product text before after outcome command reads right (Truncated place) is cause = input-stopped m product text before after outcome command reads right 8 (ap (λ (o : Outcome). o.status) is) (ap is_outcome is) (inr refl) cause
+input-causes m product text before after outcome command reads right Done is cause = ending-causes m product text before after outcome command right Done tt outcome.messages is cause
+input-causes m product text before after outcome command reads right StoreFault is cause = ending-causes m product text before after outcome command right StoreFault tt outcome.messages is cause
+input-causes m product text before after outcome command reads right SendFault is cause = ending-causes m product text before after outcome command right SendFault tt outcome.messages is cause
+input-causes m product text before after outcome command reads right (NotAJournal place) is cause = ending-causes m product text before after outcome command right (NotAJournal place) tt outcome.messages is cause
+input-causes m product text before after outcome command reads right (JournalBad place) is cause = ending-causes m product text before after outcome command right (JournalBad place) tt outcome.messages is cause
+input-causes m product text before after outcome command reads right (ProductDiffers place) is cause = ending-causes m product text before after outcome command right (ProductDiffers place) tt outcome.messages is cause
+input-causes m product text before after outcome command reads right (Full place) is cause = ending-causes m product text before after outcome command right (Full place) tt outcome.messages is cause
 
 module _ {I S : Type 0} (m : StationMeanings S) (product : ProductLists) (text : List ℕ) (source : SourceAt I) (old new : S) (outcome : Outcome) (command : Command) (right : IsRightProduct product) where
   abbrev was : Streams I S
@@ -366,7 +358,7 @@ module _ {I S : Type 0} (m : StationMeanings S) (product : ProductLists) (text :
       let low : outcome.status < 13 = ending-low outcome runs.session.ending outcome.messages runs.session.is in
       record {
         executes = runs;
-        causes = run-causes m product text before after outcome runs.session.right runs.session.ending runs.session.is runs.session.cause;
+        causes = input-causes m product text before after outcome Run tt runs.session.right runs.session.ending runs.session.is runs.session.cause;
         stays = λ image writes known either. stays image known (low-refusal low either);
         refused = λ writes either. refused (low-refusal low either);
       }
@@ -428,7 +420,7 @@ module _ {I S : Type 0} (m : StationMeanings S) (product : ProductLists) (text :
 
   pub steps-executed : IsRightProduct product → PrintsSteps m product old new outcome → IsExecuted m product text from to outcome Steps
   steps-executed right printed =
-      only-printed m product text from to outcome Steps (λ never. never) (record { form = printed; reads = quiet-reads m old new printed.sends.quiet; input = refl })
+      only-printed m product text from to outcome Steps (λ never. never) (record { form = printed; reads = sending_only m old new printed.sends.quiet; input = refl })
       (sent-causes m product text source old new outcome Steps right 0 printed.result printed.outcome_is printed.sends.cause printed.sends.quiet.store_faults)
 
   -- a journal was printed in the form of a command
@@ -451,3 +443,49 @@ module _ {I S : Type 0} (m : StationMeanings S) (product : ProductLists) (text :
   each-executed right command never Printed printed takes needs lift form =
       journal-executed right command never _ Printed printed (λ e. inr (takes, record { input = refl; reads = printed.memory e; has = λ image known. needs image (subst (Printed image) e (printed.prints image known)) })) lift
       (form (record { answer = printed.answer; outcome_is = printed.outcome_is; prints = printed.prints }))
+
+-- one reason for one answer
+same-why : (a b : Unprinted) → unprinted-answer a ≡ unprinted-answer b → a ≡ b
+same-why a b e = cc
+
+-- by `session`: the journal was not read to its end, or the messages of the input were answered
+module _ {I S : Type 0} (m : StationMeanings S) (product : ProductLists) (text : List ℕ) (i j : SourceAt I) (old new : S) (outcome : Outcome) (right : IsRightProduct product) where
+  abbrev at-entry : Streams I S
+  at-entry = record { input = i; station = station_at m old }
+
+  abbrev at-exit : SourceAt I → Streams I S
+  at-exit input = record { input = input; station = station_at m new }
+
+  module _ (stopped : StopsWithCause m product text at-entry (at-exit j) outcome) where
+    abbrev why : Unprinted
+    why = stopped.stops.why
+
+    abbrev kept : PrintsKept m old new outcome (ReadsOnly m old new) (λ image answer. Unit {0})
+    kept = record {
+      answer = Err why;
+      outcome_is = stopped.stops.is;
+      reads = reading_only m old new stopped.reads;
+      store = λ e. stopped.store (cc e);
+      no_store = λ other. stopped.no_store (λ e. other (ap (λ (w : Unprinted). unprinted-answer w) e));
+      send = λ e. absurd (stopped.stops.no_send (cc e));
+      no_send = λ other. stopped.send_faults;
+      memory = λ e. stopped.reads;
+      prints = λ image known. tt;
+    }
+
+    lacks-products : kept.answer ≡ Err unprinted.NoMemory → LeavesAtNoMemory m at-entry (at-exit i) product text Session
+    lacks-products e =
+        let is : why ≡ unprinted.NoMemory = same-why why unprinted.NoMemory e in
+        inr (tt, record { input = refl; reads = stopped.reads; has = λ image known. subst (IsUnreadable product text image) is (stopped.stops.fits image known) })
+
+    pub stopped-causes : HasCauses m product text at-entry (at-exit j) outcome Session
+    stopped-causes =
+        subst (λ (input : SourceAt I). HasCauses m product text at-entry (at-exit input) outcome Session) (sym stopped.stops.input)
+        (printed-causes m product text i old new outcome Session right _ _ kept lacks-products)
+
+  pub session-executed : AnswersWithCauses m product text at-entry (at-exit j) outcome → IsExecuted m product text at-entry (at-exit j) outcome Session
+  session-executed (inl stopped) =
+      only-printed m product text at-entry (at-exit j) outcome Session (λ never. never) (record { form = inl stopped.stops; reads = reading_only m old new stopped.reads }) (stopped-causes stopped)
+  session-executed (inr answered) =
+      only-printed m product text at-entry (at-exit j) outcome Session (λ never. never) (record { form = inr answered.did; reads = answered.reads })
+      (input-causes m product text at-entry (at-exit j) outcome Session tt right answered.did.ending answered.did.is answered.cause)

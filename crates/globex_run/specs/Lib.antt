@@ -9,6 +9,7 @@ pub mod Headline
 pub mod Drills
 pub mod Checkpoints
 pub mod Prints
+pub mod Answering
 pub mod Refusals
 pub mod FullJournals
 pub mod Calls

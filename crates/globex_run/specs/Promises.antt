@@ -7,14 +7,15 @@ use Rattle.match_journal.specs.Texts.{HasLastText}
 use Rattle.match_journal.specs.Classes.{Keeps}
 use Rattle.order_kinds.specs.Histories.{History, AreOfTexts, IsBalanced}
 use Rattle.report_laws.specs.Sums.{IsReadBalanced}
+use Rattle.resend_laws.specs.Repeats.{RepeatsReports}
 use Rattle.command_words.specs.declared.command.Command.{Command}
-use Rattle.command_words.specs.declared.command.Command.TheVariants.{Run, Checkpoint, Amend}
+use Rattle.command_words.specs.declared.command.Command.TheVariants.{Run, Checkpoint, Amend, Session}
 use Rattle.globex_run.specs.Calls.{Call}
 use Rattle.product_file.specs.Products.{ProductLists}
 use Rattle.product_file.specs.ProductTexts.{product_of}
 use Rattle.product_file.specs.declared.limits.TheConstants.{LONGEST_TEXT}
 use Rattle.globex_run.specs.Outside.{IsQuiet}
-use Rattle.globex_run.specs.Words.{IsWriting, GoesOn, OpensByText, TakesKeptProducts, NeverEndsWith}
+use Rattle.globex_run.specs.Words.{IsWriting, GoesOn, ReadsInput, OpensByText, TakesKeptProducts, NeverEndsWith}
 use Rattle.globex_run.specs.ProductTexts.{ProductPremises, AnswersProduct, TakesAtMost}
 use Rattle.globex_run.specs.RunResult.{CommandResult}
 use Rattle.globex_run.specs.Steps.{LeavesFronts, LeavesEntryOrFronts, KeepsEverySent}
@@ -23,6 +24,7 @@ use Rattle.globex_run.specs.Checkpoints.{HasNoRoomForImage}
 use Rattle.globex_run.specs.Amends.{HasNoRoomForAmendment, RefusesToAmend}
 use Rattle.globex_run.specs.Memory.{StopsAtProducts}
 use Rattle.globex_run.specs.Prints.{PrintsAs}
+use Rattle.globex_run.specs.Answering.{AnswersSession}
 use Rattle.globex_run.specs.Refusals.{IsRefusal, RefusesExactly, CanStart}
 use Rattle.globex_run.specs.FullJournals.{IsFullJournal}
 use Rattle.globex_run.specs.Works.{Given, GivenFor, Reads, work_of, DoneBy, EndedBy, Serves, ServesNone, bytes_for, CanBeDone, EndsWell}
@@ -103,6 +105,15 @@ module _ {P I S : Type 0} (c : Call P I S) where
   PrintsItsText = OfEach (λ asked. (given : ProductPremises c.before c.after c.outcome.status)
       → PrintsAs c.station given.product given.text c.before.streams.station c.after.streams.station c.outcome asked)
 
+  -- What `session` sends, whatever its status: the answers to the messages of its input.
+  abbrev pub AnswersItsInput : Type 0
+  AnswersItsInput = c.asked ≡ Some Session → (given : ProductPremises c.before c.after c.outcome.status)
+      → AnswersSession c.station given.product given.text c.before.streams c.after.streams c.outcome
+
+  -- The lines that are sent again out of a history are some of its reports, in their order, but for what says that they are sent again.
+  abbrev pub RepeatsTheReports : Type 0
+  RepeatsTheReports = (kept : History) → AreOfTexts kept → RepeatsReports kept
+
   -- The reports of each history add up whose products are those of texts: of what is kept, and of what this call adds to it.
   abbrev pub Balances : Type 0
   Balances = (kept : History) → AreOfTexts kept → IsBalanced kept
@@ -157,7 +168,7 @@ module _ {P I S : Type 0} (c : Call P I S) where
 
   abbrev pub TellsReadFaults : Type 0
   TellsReadFaults =
-      (c.outcome.status ≡ 4 → Rose c.before.product.faults c.after.product.faults ⊎ ((c.asked ≡ Some Run) × Rose c.before.streams.input.faults c.after.streams.input.faults))
+      (c.outcome.status ≡ 4 → Rose c.before.product.faults c.after.product.faults ⊎ ((asked : Command) × (c.asked ≡ Some asked) × ReadsInput asked × Rose c.before.streams.input.faults c.after.streams.input.faults))
       × (c.outcome.status ≢ 4 → (c.after.product.faults ≡ c.before.product.faults) × (c.after.streams.input.faults ≡ c.before.streams.input.faults))
 
   abbrev pub TellsStoreFaults : Type 0

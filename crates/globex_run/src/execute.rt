@@ -10,6 +10,7 @@ ghost use Rattle.globex_run.specs.Inner.Drilling.{DrillsMade};
 ghost use Rattle.globex_run.specs.Inner.Executing.{Executes, HasCauses, IsExecuted};
 
 use crate::amend::amend;
+use crate::answer::answer_messages;
 use crate::outcome::{Outcome, Status};
 use crate::printing::{list_steps, print_each_record, print_last_book};
 use crate::session::Session;
@@ -46,8 +47,8 @@ pub fn execute<I: Source, S: Station>(
     }
 }
 
-/// Executes a command. `run` alone reads the input. `run`, `drill`, `checkpoint` and `amend` add to the journal; the others print, and
-/// write nothing. An `Err` is want of memory, and nothing was touched then.
+/// Executes a command. `run` and `session` alone read the input. `run`, `drill`, `checkpoint` and `amend` add to the journal; the others print or
+/// answer, and write nothing. An `Err` is want of memory, and nothing was touched then.
 fn executed<I: Source, S: Station>(
     alloc: Global,
     command: Command,
@@ -66,6 +67,7 @@ fn executed<I: Source, S: Station>(
         Command::Drill { first, count } => drill(alloc, taken, first, count, station),
         Command::Checkpoint => checkpoint(alloc, taken, station),
         Command::Amend => amend(alloc, taken, station),
+        Command::Session => answer_messages(alloc, taken, input, station),
         Command::Replay => print_each_record(
             alloc,
             &mut Lines { form: ReportForm },

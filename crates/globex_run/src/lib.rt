@@ -2,6 +2,7 @@
 #![tactic(auto)]
 
 mod amend;
+mod answer;
 mod checkpoint;
 mod drill;
 mod ending;
@@ -14,6 +15,7 @@ mod outcome;
 mod printing;
 mod product_text;
 mod reopening;
+mod resender;
 mod run;
 mod serve;
 mod serve_record;

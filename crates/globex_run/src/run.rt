@@ -4,8 +4,7 @@ ghost use Rattle.gx_station.specs.Counts.{Rose};
 ghost use Rattle.gx_station.specs.Honest.{KeepsImage};
 ghost use Rattle.journal_print.specs.Reading.{ReadsAndSends};
 ghost use Rattle.command_words.specs.declared.command.Command.{Command};
-ghost use Rattle.command_words.specs.declared.command.Command.TheVariants as command;
-ghost use Rattle.globex_run.specs.Words.{AsksFor, AsksForNone, IsWriting, IsPrinting};
+ghost use Rattle.globex_run.specs.Words.{AsksFor, AsksForNone, IsWriting, OnlyReads, ReadsInput};
 ghost use Rattle.globex_run.specs.Outcomes.{is_outcome};
 ghost use Rattle.globex_run.specs.Refusals.{IsRefusal};
 ghost use Rattle.globex_run.specs.Calls.{call};
@@ -13,7 +12,7 @@ ghost use Rattle.globex_run.specs.Promises.{DoesAll, EndsAsTold, LeavesAFront, L
 ghost use Rattle.globex_run.specs.Promises.{AddsMessagesAlone, AddsARecordPerRead, ReadsItOnce, IsFullForMessages, IsFullForImage, IsFullForAmendment, SendsNothing};
 ghost use Rattle.globex_run.specs.Promises.{EndsWellWhereItCan, AnswersWords, AnswersProductText, LeavesWhatItRefuses};
 ghost use Rattle.globex_run.specs.Promises.{TellsReadFaults, TellsStoreFaults, TellsSendFaults};
-ghost use Rattle.globex_run.specs.Promises.{PrintsItsText, Balances, BalancesAsRead, EndsWhereTold, LeavesAllAtNoMemory, RefusesWhatItMust, RefusesAmendments, OpensAgain, HasItsStatuses};
+ghost use Rattle.globex_run.specs.Promises.{PrintsItsText, AnswersItsInput, RepeatsTheReports, Balances, BalancesAsRead, EndsWhereTold, LeavesAllAtNoMemory, RefusesWhatItMust, RefusesAmendments, OpensAgain, HasItsStatuses};
 ghost use Rattle.globex_run.specs.Inner.Statuses.{outcome_without, outcome_of_words};
 
 use crate::ending::Ending;
@@ -24,6 +23,7 @@ use crate::taken::Taken;
 use command_words::{WordsFault, read_command};
 use gx_station::{Source, Station};
 use report_laws::reports_balance;
+use resend_laws::resends_repeat_reports;
 use std::alloc::Global;
 
 /// The outcome where the words give no command: nothing was touched.
@@ -47,8 +47,8 @@ fn outcome_without(reason: NoProduct) -> Outcome
     }
 }
 
-/// Executes the command of the words: `run`, `drill`, `checkpoint`, `amend`, or one of those that only print: `replay`, `book`, `fills`,
-/// `ledger`, `steps`.
+/// Executes the command of the words: `run`, `drill`, `checkpoint`, `amend`, `session`, or one of those that only print: `replay`, `book`,
+/// `fills`, `ledger`, `steps`.
 ///
 /// `run` takes the product, opens its journal and recovers the state of the messages kept there, and serves the input: all whole
 /// messages at hand are kept in one record of the journal, then applied, and then their reports are sent, before more is read.
@@ -58,12 +58,13 @@ fn outcome_without(reason: NoProduct) -> Outcome
 /// those read, with every message of whose reports a byte was sent. `drill` serves messages that are made by rule in the same
 /// way, but that it reports none of them and sends one line that sums them up, once all are kept. `checkpoint` adds one book image to
 /// the journal, from which these commands and `book` begin then, and sends nothing. `amend` has the journal go on under the product handed
-/// in, and sends nothing: it adds one record with the product's text, unless the journal has that text already. The others send what they
-/// print, and write nothing. `Outcome` lists the statuses.
+/// in, and sends nothing: it adds one record with the product's text, unless the journal has that text already. `session` answers the session
+/// messages of firms, by what the journal keeps: it sends report lines again, and writes nothing. The others send what they print, and write
+/// nothing. `Outcome` lists the statuses.
 ///
 /// The words are tried first: 2 comes exactly where they are no command. The product is tried next: 3 comes exactly where its text
 /// breaks a rule. Memory is taken before the first call on the station and the first read of the input, and want of it is status 1. Only
-/// `replay`, `fills`, `ledger` and `amend` take more, for products that the journal keeps, once their texts were read and before anything
+/// `replay`, `fills`, `ledger`, `session` and `amend` take more, for products that the journal keeps, once their texts were read and before anything
 /// is sent or written. Then the journal is opened by its last text: 9, 10 and 11 come exactly where it is foreign, bad, or of another text.
 /// `amend` takes a journal of another text, if the product may follow its own: 13 comes exactly where it may not.
 pub fn globex<P: Source, I: Source, S: Station>(
@@ -98,16 +99,18 @@ pub fn globex<P: Source, I: Source, S: Station>(
     ensures amendment_full { IsFullForAmendment (call P.meanings I.meanings S.meanings words.now product input station result) }
     ensures sends_nothing { SendsNothing (call P.meanings I.meanings S.meanings words.now product input station result) }
 
-    // Commands that print, and that they only read.
+    // Commands that print or answer, and that they only read.
     ensures prints { PrintsItsText (call P.meanings I.meanings S.meanings words.now product input station result) }
-    ensures only_reads { (asked : Command) → AsksFor words.now asked → IsPrinting asked → ReadsAndSends S.meanings station.old station.new }
+    ensures answers { AnswersItsInput (call P.meanings I.meanings S.meanings words.now product input station result) }
+    ensures repeats { RepeatsTheReports (call P.meanings I.meanings S.meanings words.now product input station result) }
+    ensures only_reads { (asked : Command) → AsksFor words.now asked → OnlyReads asked → ReadsAndSends S.meanings station.old station.new }
 
     // Every command: it ends well where it can, the reports of each history balance, as their bytes are read too, and why it ended.
     ensures all_done { EndsWellWhereItCan (call P.meanings I.meanings S.meanings words.now product input station result) }
     ensures balanced { Balances (call P.meanings I.meanings S.meanings words.now product input station result) }
     ensures reports_balanced { BalancesAsRead (call P.meanings I.meanings S.meanings words.now product input station result) }
     ensures did { EndsWhereTold (call P.meanings I.meanings S.meanings words.now product input station result) }
-    ensures untouched_input { (asked : Command) → AsksFor words.now asked → (asked ≡ command.Run → ⊥) → input.new ≡ input.old }
+    ensures untouched_input { (asked : Command) → AsksFor words.now asked → (ReadsInput asked → ⊥) → input.new ≡ input.old }
 
     // Words that are no command, or a product that is refused, leave the input and the station untouched. So does want of memory, but that
     // commands which take products of the journal may have read it.
@@ -133,6 +136,7 @@ pub fn globex<P: Source, I: Source, S: Station>(
     ensures send_faults { TellsSendFaults (call P.meanings I.meanings S.meanings words.now product input station result) }
 {
     reports_balance();
+    resends_repeat_reports();
     let command = match read_command(alloc, words) {
         Ok(command) => command,
         Err(fault) => return outcome_of_words(fault),

@@ -25,7 +25,7 @@ use order_kinds::MOST_MESSAGES;
 use plain_book::Book;
 
 /// Reads once, as much as the framer has room for, and feeds what was read.
-fn take_more<I: Source>(
+pub(crate) fn take_more<I: Source>(
     framer: &mut Framer,
     chunk: &mut [u8],
     input: &mut I,

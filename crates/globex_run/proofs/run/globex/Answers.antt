@@ -5,7 +5,7 @@ use Rattle.globex_run.specs.Outside.{source_at}
 use Rattle.globex_run.specs.Words.{IsWriting}
 use Rattle.globex_run.proofs.ProductReads.{none-taken, short-text}
 use Rattle.globex_run.proofs.Runs.{memory-without, few-without, product-early, product-none, product-taken, words-early, early-words, early-product, not-begun}
-use Rattle.globex_run.proofs.Commands.{product-told, leaves-all, only-reads, leaves-the-input, does-all, ends-as-told, leaves-a-front, leaves-the-entry, keeps-what-is-sent, adds-messages-alone, adds-a-record-per-read, reads-it-once, is-full-for-messages, is-full-for-image, is-full-for-amendment, sends-nothing-then, prints-its-text, ends-well, ends-where-told, refuses-what-it-must, refuses-amendments, opens-it-again, has-its-statuses}
+use Rattle.globex_run.proofs.Commands.{product-told, leaves-all, only-reads, leaves-the-input, does-all, ends-as-told, leaves-a-front, leaves-the-entry, keeps-what-is-sent, adds-messages-alone, adds-a-record-per-read, reads-it-once, is-full-for-messages, is-full-for-image, is-full-for-amendment, sends-nothing-then, prints-its-text, answers-its-input, ends-well, ends-where-told, refuses-what-it-must, refuses-amendments, opens-it-again, has-its-statuses}
 use Rattle.globex_run.proofs.Balanced.{all-balance, all-balance-as-read}
 use Rattle.globex_run.proofs.run.globex.Goals as goal
 
@@ -96,6 +96,19 @@ returns-clause-sends_nothing g c = sends-nothing-then g.S.Station.meanings (sour
 pub returns-clause-prints : goal.returns-clause-prints
 returns-clause-prints g c = prints-its-text g.S.Station.meanings (source_at g.P.Source.meanings c.args.product.now) (source_at g.P.Source.meanings c.take_product.new.source) (source_at g.I.Source.meanings c.args.input.now) (source_at g.I.Source.meanings c.execute.new.input)
     c.args.station.now c.execute.new.station c.execute.result _ _ c.deref.ensures.value c.in-Ok-take_product.taken.product c.in-Ok-take_product.ensures.0 c.in-Ok-take_product.ensures.1 _ _ c.in-Ok.ensures.given c.execute.ensures.executes c.execute.ensures.causes
+
+pub returns-clause-answers : goal.returns-clause-answers
+returns-clause-answers g c = answers-its-input g.S.Station.meanings (source_at g.P.Source.meanings c.args.product.now) (source_at g.P.Source.meanings c.take_product.new.source) (source_at g.I.Source.meanings c.args.input.now) (source_at g.I.Source.meanings c.execute.new.input)
+    c.args.station.now c.execute.new.station c.execute.result _ _ c.deref.ensures.value c.in-Ok-take_product.taken.product c.in-Ok-take_product.ensures.0 c.in-Ok-take_product.ensures.1 _ _ c.in-Ok.ensures.given c.execute.ensures.executes c.execute.ensures.causes
+
+pub returns-in-Err-clause-repeats : goal.returns-in-Err-clause-repeats
+returns-in-Err-clause-repeats g c = c.resends_repeat_reports.ensures
+
+pub returns-in-Err-take_product-clause-repeats : goal.returns-in-Err-take_product-clause-repeats
+returns-in-Err-take_product-clause-repeats g c = c.resends_repeat_reports.ensures
+
+pub returns-clause-repeats : goal.returns-clause-repeats
+returns-clause-repeats g c = c.resends_repeat_reports.ensures
 
 pub returns-clause-all_done : goal.returns-clause-all_done
 returns-clause-all_done g c = ends-well g.S.Station.meanings (source_at g.P.Source.meanings c.args.product.now) (source_at g.P.Source.meanings c.take_product.new.source) (source_at g.I.Source.meanings c.args.input.now) (source_at g.I.Source.meanings c.execute.new.input)
