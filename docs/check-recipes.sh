@@ -12,7 +12,8 @@ set -u
 top=$(CDPATH='' cd -- "$(dirname -- "$0")/.." && pwd) || exit 1
 tools=$top/tools
 page=$top/docs/OPERATING.md
-checks=(two-runs closed-streams wrong-words no-blocking size-limit read-only strange-journals removed-journal socket-endings)
+checks=(two-runs closed-streams wrong-words no-blocking size-limit read-only strange-journals removed-journal socket-endings
+    session-endings)
 
 if [ $# -lt 1 ] || [ ! -x "$1" ]; then
     echo "check-recipes: usage: docs/check-recipes.sh PROGRAM [ID].." >&2
@@ -228,7 +229,7 @@ look_amend() {
     same journal.gxj was
     # Each command wants the file that the journal has, and a firm cannot be taken out again.
     mkdir former && cp former.toml former/product.toml && cp journal.gxj former/
-    for word in run replay fills ledger book checkpoint 'drill --first 1 --count 1'; do
+    for word in run replay fills ledger book session checkpoint 'drill --first 1 --count 1'; do
         (cd former && "$globex" $word </dev/null >/dev/null 2>&1)
         expect $? 11 "the status of $word with the former file"
     done
@@ -242,6 +243,70 @@ look_amend() {
     serve
     expect "$("$globex" fills | wc -l)" 2 'fills behind the amendment'
     "$globex" replay | cmp - sent >&2 || fail 'sent is not what replay sends behind the amendment'
+}
+
+# A journal of the stored orders, and a copy of it, which no session changes.
+prepare_logons() {
+    take_example F
+    serve
+    cp journal.gxj was
+}
+look_logons() {
+    same journal.gxj was
+    "$globex" replay | cmp - sent >&2 || fail 'a session changes what replay sends'
+}
+
+prepare_missed() {
+    prepare_logons
+}
+look_missed() {
+    local firm number next
+    look_logons
+    "$tools/frames" make >asked <<'END'
+35=A|49=AAA|56=GX|34=3|52=20240103-08:05:00|98=0|108=30|
+35=2|49=AAA|56=GX|34=4|52=20240103-08:05:01|7=4|16=0|
+END
+    expect "$("$globex" session <asked | "$tools/frames" show | grep -c '|35=4|34=4|.*|123=Y|36=4|')" 1 'resets after the last line'
+    # Each firm has all of its lines again, and no other.
+    for firm in AAA BBB CCC DDD; do
+        "$tools/frames" show sent | grep "|56=$firm|" | strip_again >lines
+        number=$(wc -l <lines)
+        next=$(echo "35=A|49=$firm|56=GX|34=999|52=20240103-08:05:00|108=30|" | "$tools/frames" make | "$globex" session |
+            "$tools/frames" show | sed -n 's/.*|35=2|.*|7=\([0-9]*\)|.*/\1/p')
+        {
+            echo "35=A|49=$firm|56=GX|34=$next|52=20240103-08:05:00|108=30|"
+            echo "35=2|49=$firm|56=GX|34=$((next + 1))|52=20240103-08:05:01.250|7=1|16=$number|"
+        } | "$tools/frames" make | "$globex" session | "$tools/frames" show | tail -n +2 >again
+        expect "$(grep -c '|43=Y|.*|52=20240103-08:05:01.250|' again)" "$number" "lines again of $firm"
+        strip_again <again | cmp - lines >&2 || fail "the lines again of $firm differ"
+    done
+}
+
+# Lines without what differs in a line again.
+strip_again() {
+    sed 's/|9=[0-9]*|/|/; s/|43=Y|/|/; s/|52=[^|]*|/|/; s/|10=[0-9]*|$/|/'
+}
+
+# What `missed` asks, and a part of it.
+prepare_cut-session() {
+    prepare_logons
+    "$tools/frames" make >asked <<'END'
+35=A|49=AAA|56=GX|34=3|52=20240103-08:05:00|98=0|108=30|
+35=2|49=AAA|56=GX|34=4|52=20240103-08:05:01|7=2|16=0|
+35=5|49=AAA|56=GX|34=5|52=20240103-08:05:02|
+END
+    head -c 100 asked >cut
+}
+look_cut-session() {
+    look_logons
+}
+
+prepare_session-port() {
+    prepare_cut-session
+}
+look_session-port() {
+    look_logons
+    "$globex" session <asked | cmp - taken >&2 || fail 'the answers over a socket differ'
 }
 
 prepare_copy() {
@@ -551,8 +616,8 @@ two-runs() {
         expect "$(in_bytes out)" 0 "what $word sends beside a run"
         same journal.gxj was
     done
-    for word in replay fills ledger book steps; do
-        "$globex" $word >/dev/null
+    for word in replay fills ledger book session steps; do
+        "$globex" $word </dev/null >/dev/null
         expect $? 0 "the status of $word beside a run"
     done
     "$tools/frames" skip 2 orders >&3
@@ -586,7 +651,7 @@ closed-streams() {
     (cd with && "$globex" run <orders >/dev/null)
     cp with/journal.gxj kept.gxj
     for kept in with without; do
-        for command in run replay book fills ledger steps checkpoint amend 'drill --first 1 --count 3'; do
+        for command in run replay book fills ledger session steps checkpoint amend 'drill --first 1 --count 3'; do
             for closed in 0 1 2 01 02 12 012; do
                 (try_closed)
             done
@@ -607,7 +672,7 @@ try_closed() {
     eval "\"\$globex\" $command <orders >../out 2>../err $words"
     status=$?
     case $command:$closed in
-    run:*0*) wanted=4 ;;
+    run:*0* | session:*0*) wanted=4 ;;
     checkpoint:* | amend:*) ;;
     *:*1*)
         wanted=6
@@ -625,8 +690,8 @@ try_closed() {
     drill*) has=$((before + 3)) ;;
     esac
     case $kept:$command in
-    with:replay | with:book | with:fills | with:ledger | with:steps) same journal.gxj ../kept.gxj ;;
-    without:replay | without:book | without:fills | without:ledger) [ ! -s journal.gxj ] || fail "$what: bytes in the journal" ;;
+    with:replay | with:book | with:fills | with:ledger | with:session | with:steps) same journal.gxj ../kept.gxj ;;
+    without:replay | without:book | without:fills | without:ledger | without:session) [ ! -s journal.gxj ] || fail "$what: bytes in the journal" ;;
     without:steps) [ ! -e journal.gxj ] || fail "$what: a journal was made" ;;
     *)
         expect "$("$tools/journal" count journal.gxj)" $has "$what: messages kept"
@@ -643,7 +708,7 @@ try_closed() {
 
 wrong-words() {
     local words
-    for words in '' nothing --help 'run book' drill 'drill --first 1' 'steps --first 1' 'run --count 1' 'amend book' Run; do
+    for words in '' nothing --help 'run book' drill 'drill --first 1' 'steps --first 1' 'run --count 1' 'amend book' 'session run' 'session --first 1' sessions Run; do
         "$globex" $words </dev/null >out 2>/dev/null
         expect $? 2 "the status of the words '$words'"
         expect "$(ls)" out "files after the words '$words'"
@@ -705,7 +770,7 @@ read-only() {
     chmod 444 journal.gxj product.toml orders
     cp "$globex" ./program && chmod 755 program
     [ "$(id -u)" != 0 ] || somebody=(setpriv --reuid=65534 --regid=65534 --clear-groups)
-    for word in run replay fills ledger book checkpoint amend; do
+    for word in run replay fills ledger book session checkpoint amend; do
         "${somebody[@]}" ./program $word <orders >/dev/null 2>&1
         expect $? 5 "the status of $word over a read-only journal"
     done
@@ -716,7 +781,7 @@ strange-journals() {
     local kind word status
     take_example F
     for kind in pipe folder null full; do
-        for word in replay book run checkpoint amend; do
+        for word in replay book session run checkpoint amend; do
             rm -rf journal.gxj
             case $kind in
             pipe) mkfifo journal.gxj ;;
@@ -788,6 +853,43 @@ socket-endings() {
     full_session
     socket_turn program 12
     echo "    12: the client sees $end after $bytes bytes of reports"
+}
+
+# How a session ends, and that the journal stays as it is.
+session-endings() {
+    local run
+    prepare_cut-session
+    end_session 0 '' </dev/null
+    expect "$(in_bytes answers)" 0 'bytes sent of no message'
+    end_session 7 'globex: status 7 at 0 after 0 messages' < <(printf 'no frame at all')
+    end_session 7 'globex: status 7 at 78 after 1 messages' < <(head -c 78 asked && printf 'no frame at all')
+    expect "$("$tools/frames" show answers | grep -c '|35=A|')" 1 'answers before what is no frame'
+    # After kill -9 nothing is kept of it: the firm begins with the same number again.
+    mkfifo in
+    "$globex" session <in >answers &
+    run=$!
+    exec 3>in
+    head -c 78 asked >&3
+    wait_for answers 70
+    kill -9 $run
+    wait $run 2>/dev/null
+    exec 3>&-
+    same journal.gxj was
+    end_session 0 '' <asked
+    expect "$("$tools/frames" count answers)" 4 'answers after a session that was killed'
+    # A bad record is told before anything is sent, at the place that replay tells.
+    head -c $(($(in_bytes journal.gxj) - 20)) journal.gxj >part && mv part journal.gxj
+    cp journal.gxj was
+    end_session 10 "$("$globex" replay 2>&1 >/dev/null)" <asked
+    expect "$(in_bytes answers)" 0 'bytes sent over a bad record'
+}
+
+# A session over standard input ends with a status and this line, and leaves the journal.
+end_session() {
+    "$globex" session >answers 2>err
+    expect $? "$1" 'the status of a session'
+    expect "$(cat err)" "$2" 'the line of a session'
+    same journal.gxj was
 }
 
 # ---- all of them
