@@ -9,12 +9,13 @@ use Rattle.std.specs.List.{AllByRecursion}
 use Rattle.gx_base.specs.declared.price.Price.{Price}
 use Rattle.gx_base.specs.declared.order.Side.{Side}
 use Rattle.plain_book.specs.declared.entry.Entry.{Entry}
-use Rattle.plain_book.specs.Orders.{Level, level_of, is_side, is_level, is_before, is_at, is_on, is_better, orders_at, price_of, best_of, worse_of, shown_at, slot_of}
+use Rattle.plain_book.specs.Orders.{Level, level_of, is_side, is_level, is_before, is_at, is_on, is_better, orders_at, price_of, last_price_or, last_price_of, best_of, worse_of, worst_of, better_of, shown_at, open_at, slot_of}
 use Rattle.order_pool.specs.Queues.{first_slot}
 use Rattle.plain_book.proofs.Levels.{is_level-same, is_before-irrefl}
 use Rattle.plain_book.proofs.Pairs.{all-with, all-both}
+use Rattle.plain_book.proofs.Lasts.{last_after}
 use Rattle.price_level.specs.declared.row.LevelRow.{LevelRow}
-use Rattle.price_level.specs.Rows.{Pairs, AreRowsApart, level_of_row, HasQueue, row_of, row_at, row_on, queue_at, queue_of_row, price_of_row, best_row, worse_row}
+use Rattle.price_level.specs.Rows.{Pairs, AreRowsApart, level_of_row, HasQueue, row_of, row_at, row_on, queue_at, queue_of_row, price_of_row, last_row_or, last_row, best_row, worse_row, worst_row, better_row}
 use Rattle.book_side.specs.Inner.Flat.{flat, queues_of}
 use Rattle.book_side.specs.Inner.Content.{Held, marked, resting_of}
 use Rattle.book_side.specs.Inner.Linked.{IsSummed}
@@ -118,6 +119,65 @@ flat-price p P E (r ∷ rs) h =
       | false ↦ λ t. price-first (E r.queue) (flat E (queues_of rs)) p false r.price h.0.1 (all-with (λ (e : Entry). (e.order.price ≡ r.price) × (p e ≡ P r)) (λ (e : Entry). (e.order.price ≡ r.price) × (p e ≡ false)) (λ e k. (k.0, k.1 ∙ t)) (E r.queue) h.0.0) ∙ flat-price p P E rs h.1
     ] in go (P r) refl
 
+-- ---- the last price
+
+-- the price of the last of these rows, or what was found before
+abbrev row_after : Option Price → List LevelRow → Option Price
+row_after found [] = found
+row_after found (r ∷ rs) = Some (last_row_or r.price rs)
+
+row-more : (found : Option Price) (r : LevelRow) (rs : List LevelRow) → row_after (Some r.price) rs ≡ row_after found (r ∷ rs)
+row-more found r [] = refl
+row-more found r (x ∷ rs) = refl
+
+last-or-behind : (x : Price) (es : List Entry) (f : Entry) (fs : List Entry) → last_price_or x (es ++ f ∷ fs) ≡ last_price_or f.order.price fs
+last-or-behind x [] f fs = refl
+last-or-behind x (e ∷ es) f fs = last-or-behind e.order.price es f fs
+
+-- orders of one price, and those behind them
+last-level : (found : Option Price) (x : Price) (e : Entry) (es fs : List Entry) → AllByRecursion (λ (e : Entry). e.order.price ≡ x) (e ∷ es) → last_after found (e ∷ es ++ fs) ≡ last_after (Some x) fs
+last-level found x e es (f ∷ fs) h = ap Some (last-or-behind e.order.price es f fs)
+last-level found x e es [] h = ap (λ (l : List Entry). Some (last_price_or e.order.price l)) (append-nil es) ∙ ap Some (same e.order.price es h.0 h.1)
+  where
+    same : (y : Price) (es : List Entry) → y ≡ x → AllByRecursion (λ (e : Entry). e.order.price ≡ x) es → last_price_or y es ≡ x
+    same y [] h k = h
+    same y (e ∷ es) h k = same e.order.price es k.0 k.1
+
+level-last : (found : Option Price) (es fs : List Entry) (p : Entry → Bool) (b : Bool) (x : Price) → 1 ≤ length es → AllByRecursion (λ (e : Entry). (e.order.price ≡ x) × (p e ≡ b)) es
+    → last_after found (filter p (es ++ fs)) ≡ last_after (cond b (Some x) found) (filter p fs)
+level-last found [] fs p b x l h = absurd (omega arith)
+level-last found (e ∷ es) fs p true x l h =
+    ap (λ (l : List Entry). last_after found l) (filter-append p (e ∷ es) fs)
+    ∙ ap (λ (l : List Entry). last_after found (l ++ filter p fs)) (passes p true (e ∷ es) (all-with (λ (e : Entry). (e.order.price ≡ x) × (p e ≡ true)) (λ (e : Entry). p e ≡ true) (λ e k. k.1) (e ∷ es) h))
+    ∙ last-level found x e es (filter p fs) (all-with (λ (e : Entry). (e.order.price ≡ x) × (p e ≡ true)) (λ (e : Entry). e.order.price ≡ x) (λ e k. k.0) (e ∷ es) h)
+level-last found (e ∷ es) fs p false x l h =
+    ap (λ (l : List Entry). last_after found l) (filter-append p (e ∷ es) fs)
+    ∙ ap (λ (l : List Entry). last_after found (l ++ filter p fs)) (passes p false (e ∷ es) (all-with (λ (e : Entry). (e.order.price ≡ x) × (p e ≡ false)) (λ (e : Entry). p e ≡ false) (λ e k. k.1) (e ∷ es) h))
+
+flat-last-from : (found : Option Price) (p : Entry → Bool) (P : LevelRow → Bool) (E : ℕ → List Entry) (rs : List LevelRow) → AllByRecursion (AreAlike p P E) rs → last_after found (filter p (flat E (queues_of rs))) ≡ row_after found (filter P rs)
+flat-last-from found p P E [] h = refl
+flat-last-from found p P E (r ∷ rs) h =
+    let go : (b : Bool) → P r ≡ b → last_after found (filter p (E r.queue ++ flat E (queues_of rs))) ≡ row_after found (cond b (r ∷ filter P rs) (filter P rs)) = elim [
+      | true ↦ λ t.
+          level-last found (E r.queue) (flat E (queues_of rs)) p true r.price h.0.1 (all-with (λ (e : Entry). (e.order.price ≡ r.price) × (p e ≡ P r)) (λ (e : Entry). (e.order.price ≡ r.price) × (p e ≡ true)) (λ e k. (k.0, k.1 ∙ t)) (E r.queue) h.0.0)
+          ∙ flat-last-from (Some r.price) p P E rs h.1
+          ∙ row-more found r (filter P rs)
+      | false ↦ λ t.
+          level-last found (E r.queue) (flat E (queues_of rs)) p false r.price h.0.1 (all-with (λ (e : Entry). (e.order.price ≡ r.price) × (p e ≡ P r)) (λ (e : Entry). (e.order.price ≡ r.price) × (p e ≡ false)) (λ e k. (k.0, k.1 ∙ t)) (E r.queue) h.0.0)
+          ∙ flat-last-from found p P E rs h.1
+    ] in go (P r) refl
+
+last-is : (es : List Entry) → last_price_of es ≡ last_after None es
+last-is [] = refl
+last-is (e ∷ es) = refl
+
+row-is : (rs : List LevelRow) → row_after None rs ≡ last_row rs
+row-is [] = refl
+row-is (r ∷ rs) = refl
+
+pub flat-last : (p : Entry → Bool) (P : LevelRow → Bool) (E : ℕ → List Entry) (rs : List LevelRow) → AllByRecursion (AreAlike p P E) rs → last_price_of (filter p (flat E (queues_of rs))) ≡ last_row (filter P rs)
+flat-last p P E rs h = last-is (filter p (flat E (queues_of rs))) ∙ flat-last-from None p P E rs h ∙ row-is (filter P rs)
+
 -- ---- the orders of a queue, as the book sees them
 
 pub all-marked : (T : ℕ → Side → Option ℕ) (A : Held → Type 0) (B : Entry → Type 0) → ((h : Held) → A h → B (marked T h)) → (hs : List Held) → AllByRecursion A hs → AllByRecursion B (map (marked T) hs)
@@ -166,6 +226,20 @@ module _ (T : ℕ → Side → Option ℕ) (P : ℕ → List Held) (rs : List Le
       ∙ flat-price p Q (λ q. map (marked T) (P q)) rs (all-alike p G (λ e. refl))
       ∙ ap price_of_row (sym (filter-both (λ r. is_better s x.0 r.price.0) (row_on i s) rs))
 
+  pub worst-looked : (i : ℕ) (s : Side) → worst_of i s (resting_of T P rs) ≡ worst_row i s rs
+  worst-looked i s =
+      let G : Level → Bool = λ (k : Level). (k.instrument == i) && is_side k.side s in
+      flat-last (is_on i s) (row_on i s) (λ q. map (marked T) (P q)) rs (all-alike (is_on i s) G (λ e. refl))
+
+  pub better-looked : (i : ℕ) (s : Side) (x : Price) → better_of i s x.0 (resting_of T P rs) ≡ better_row i s x rs
+  better-looked i s x =
+      let p : Entry → Bool = λ (e : Entry). is_on i s e && is_better s e.order.price.0 x.0 in
+      let Q : LevelRow → Bool = λ (r : LevelRow). row_on i s r && is_better s r.price.0 x.0 in
+      let G : Level → Bool = λ (k : Level). ((k.instrument == i) && is_side k.side s) && is_better s k.price x.0 in
+      ap last_price_of (filter-both (λ e. is_better s e.order.price.0 x.0) (is_on i s) (resting_of T P rs))
+      ∙ flat-last p Q (λ q. map (marked T) (P q)) rs (all-alike p G (λ e. refl))
+      ∙ ap last_row (sym (filter-both (λ r. is_better s r.price.0 x.0) (row_on i s) rs))
+
   pub at-looked : Pairs AreRowsApart rs → (k : Level) → orders_at k (resting_of T P rs) ≡ queue_or_none (λ q. map (marked T) (P q)) (queue_at k rs)
   at-looked a k = flat-at k (λ q. map (marked T) (P q)) rs a (all-with (IsSummed P) (AreAt (λ q. map (marked T) (P q))) (λ r h. summed-at T P r h) rs sums)
 
@@ -189,6 +263,16 @@ module _ (T : ℕ → Side → Option ℕ) (P : ℕ → List Held) (rs : List Le
       sum-marked : (hs : List Held) → sum_by (λ (y : Held). y.1.shown) hs ≡ sum_by (λ (e : Entry). e.order.shown) (map (marked T) hs)
       sum-marked [] = refl
       sum-marked (h ∷ hs) = omega (arith, sum_by-cons (λ (y : Held). y.1.shown) h hs, sum_by-cons (λ (e : Entry). e.order.shown) (marked T h) (map (marked T) hs), sum-marked hs)
+
+module _ (T : ℕ → Side → Option ℕ) (P : ℕ → List Held) (rs : List LevelRow) (sums : AllByRecursion (IsSummed P) rs) (some : AllByRecursion (λ (r : LevelRow). 1 ≤ r.count) rs) where
+  pub leaves-looked : Pairs AreRowsApart rs → (k : Level) (q : ℕ) → queue_at k rs ≡ Some q → (row_of q rs).leaves ≡ open_at k (resting_of T P rs)
+  leaves-looked a k q e =
+      let h = found-row k q rs e in
+      (at-row (IsSummed P) q rs h sums).leaves ∙ ap (λ (x : ℕ). sum_by (λ (y : Held). y.1.leaves) (P x)) (row_of-queue q rs h) ∙ sum-marked (P q) ∙ ap (λ (l : List Entry). sum_by (λ (e : Entry). e.order.leaves) l) (sym (found-looked T P rs sums some a k q e))
+    where
+      sum-marked : (hs : List Held) → sum_by (λ (y : Held). y.1.leaves) hs ≡ sum_by (λ (e : Entry). e.order.leaves) (map (marked T) hs)
+      sum-marked [] = refl
+      sum-marked (h ∷ hs) = omega (arith, sum_by-cons (λ (y : Held). y.1.leaves) h hs, sum_by-cons (λ (e : Entry). e.order.leaves) (marked T h) (map (marked T) hs), sum-marked hs)
 
 pub first-looked : (T : ℕ → Side → Option ℕ) (hs : List Held) → first_slot hs ≡ slot_of (map (marked T) hs)
 first-looked T [] = refl

@@ -8,7 +8,7 @@ use Rattle.gx_base.specs.declared.order.Order.{Order}
 use Rattle.gx_base.specs.declared.order.Side.{Side}
 use Rattle.gx_base.specs.declared.price.Price.{Price}
 use Rattle.plain_book.specs.Orders as orders
-use Rattle.plain_book.specs.Orders.{Level, level_of, is_live, best_of, worse_of, top_of, shown_at, slot_of, slot_after, orders_at, stops_of, open_within}
+use Rattle.plain_book.specs.Orders.{Level, level_of, is_live, best_of, worse_of, worst_of, better_of, open_at, top_of, shown_at, slot_of, slot_after, orders_at, stops_of, open_within}
 use Rattle.plain_book.specs.Book.{Book, live_orders}
 use Rattle.plain_book.proofs.Levels.{HasSlot-left, HasSlot-right, order_of-left}
 use Rattle.plain_book.proofs.Right.{length-front}
@@ -17,13 +17,13 @@ use Rattle.order_pool.specs.Queues.{IsIn, IsLive, SlotsDiffer, first_slot, next_
 use Rattle.order_pool.proofs.PoolFacts.{IsIn-appended}
 use Rattle.id_table.specs.Ids.{Ids, key}
 use Rattle.price_level.specs.declared.row.LevelRow.{LevelRow}
-use Rattle.price_level.specs.Rows.{Rows, AreRows, HasQueue, row_of, best_row, worse_row, queue_at, open_rows}
+use Rattle.price_level.specs.Rows.{Rows, AreRows, HasQueue, row_of, best_row, worse_row, worst_row, better_row, queue_at, open_rows}
 use Rattle.book_side.specs.declared.tops.SideTops.{SideTops}
 use Rattle.book_side.specs.Inner.Content.{Held, book_of, top_at}
 use Rattle.book_side.specs.Inner.Linked.{IsLinked}
 use Rattle.book_side.proofs.Ids.{none-looked}
 use Rattle.book_side.proofs.Flat as rows
-use Rattle.book_side.proofs.Looks.{best-looked, worse-looked, found-row, found-looked, none-looked as none-looked-at, count-looked, shown-looked, first-looked}
+use Rattle.book_side.proofs.Looks.{best-looked, worse-looked, worst-looked, better-looked, leaves-looked, found-row, found-looked, none-looked as none-looked-at, count-looked, shown-looked, first-looked}
 use Rattle.book_side.proofs.Topping.{top-looked}
 use Rattle.book_side.proofs.Names.{unnamed-looked}
 use Rattle.book_side.proofs.Open.{open-looked, rows-small}
@@ -113,6 +113,12 @@ module _ {c n : ℕ} {p : pool.Queues} {ids : Ids} {lv : Rows} {tops : List Side
   pub worse-is : (i : ℕ) (d : Side) (x : Price) → worse_row i d x lv.rows ≡ worse_of i d x.0 b.resting
   worse-is i d x = sym (worse-looked (top_at tops) P lv.rows k.summed k.some i d x) ∙ ap (λ (y : Book). worse_of i d x.0 y.resting) seen
 
+  pub worst-is : (i : ℕ) (d : Side) → worst_row i d lv.rows ≡ worst_of i d b.resting
+  worst-is i d = sym (worst-looked (top_at tops) P lv.rows k.summed k.some i d) ∙ ap (λ (y : Book). worst_of i d y.resting) seen
+
+  pub better-is : (i : ℕ) (d : Side) (x : Price) → better_row i d x lv.rows ≡ better_of i d x.0 b.resting
+  better-is i d x = sym (better-looked (top_at tops) P lv.rows k.summed k.some i d x) ∙ ap (λ (y : Book). better_of i d x.0 y.resting) seen
+
   pub top-is : (i : ℕ) (d : Side) → top_at tops i d ≡ top_of i d b.resting
   top-is i d = sym (top-looked (top_at tops) P lv.rows i d (k.top i d)) ∙ ap (λ (y : Book). top_of i d y.resting) seen
 
@@ -127,6 +133,7 @@ module _ {c n : ℕ} {p : pool.Queues} {ids : Ids} {lv : Rows} {tops : List Side
     pub first : first_slot (P q) ≡ slot_of (orders_at l b.resting)
     pub count : (row_of q lv.rows).count ≡ length (orders_at l b.resting)
     pub shown : (row_of q lv.rows).shown ≡ shown_at l b.resting
+    pub leaves : (row_of q lv.rows).leaves ≡ open_at l b.resting
 
   pub found-at : AreRows lv → (l : Level) (q : ℕ) → Some q ≡ queue_at l lv.rows → IsFound q l
   found-at rules l q h =
@@ -139,6 +146,7 @@ module _ {c n : ℕ} {p : pool.Queues} {ids : Ids} {lv : Rows} {tops : List Side
         is_queue = omega (arith, under, rows.row_of-queue q lv.rows has, k.level_room, k.many);
         first = first-looked T (P q) ∙ sym (ap slot_of (found-looked T P lv.rows k.summed k.some rules.apart l q found)) ∙ ap (λ (y : Book). slot_of (orders_at l y.resting)) seen;
         count = count-looked T P lv.rows k.summed k.some rules.apart l q found ∙ ap (λ (y : Book). length (orders_at l y.resting)) seen;
+        leaves = leaves-looked T P lv.rows k.summed k.some rules.apart l q found ∙ ap (λ (y : Book). open_at l y.resting) seen;
         shown = shown-looked T P lv.rows k.summed k.some rules.apart l q found ∙ ap (λ (y : Book). shown_at l y.resting) seen;
       }
 

@@ -86,6 +86,14 @@ impl Book for LinkedBook {
         self.levels.worse(instrument, side, price)
     }
 
+    fn worst(&self, instrument: u8, side: Side) -> Option<Price> {
+        self.levels.worst(instrument, side)
+    }
+
+    fn better(&self, instrument: u8, side: Side, price: Price) -> Option<Price> {
+        self.levels.better(instrument, side, price)
+    }
+
     fn first(&self, instrument: u8, side: Side, price: Price) -> Option<Slot> {
         self.levels.rules();
         match self.levels.find(instrument, side, price) {
@@ -116,6 +124,14 @@ impl Book for LinkedBook {
         match self.levels.find(instrument, side, price) {
             None => 0,
             Some(queue) => self.levels.row(queue).shown,
+        }
+    }
+
+    fn open_total(&self, instrument: u8, side: Side, price: Price) -> u64 {
+        self.levels.rules();
+        match self.levels.find(instrument, side, price) {
+            None => 0,
+            Some(queue) => self.levels.row(queue).leaves,
         }
     }
 

@@ -17,6 +17,7 @@ pub mod Fits
 pub mod Calls
 pub mod LineCounts
 pub mod Parts
+pub mod Lasts
 -- What the proofs of this crate alone cite.
 mod Mapped
 mod Kept

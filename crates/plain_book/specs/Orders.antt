@@ -42,6 +42,23 @@ best_of instrument side es = price_of (side_of instrument side es)
 abbrev pub worse_of : ℕ → Side → ℤ → List Entry → Option Price
 worse_of instrument side price es = price_of (filter (λ e. is_better side price e.order.price.0) (side_of instrument side es))
 
+-- the price of the last of some orders
+abbrev pub last_price_or : Price → List Entry → Price
+last_price_or p [] = p
+last_price_or p (e ∷ es) = last_price_or e.order.price es
+
+abbrev pub last_price_of : List Entry → Option Price
+last_price_of [] = None
+last_price_of (e ∷ es) = Some (last_price_or e.order.price es)
+
+-- the worst price of a side: the list is in book order, so it is that of the last
+abbrev pub worst_of : ℕ → Side → List Entry → Option Price
+worst_of instrument side es = last_price_of (side_of instrument side es)
+
+-- the worst of the prices that are better than this one
+abbrev pub better_of : ℕ → Side → ℤ → List Entry → Option Price
+better_of instrument side price es = last_price_of (filter (λ e. is_better side e.order.price.0 price) (side_of instrument side es))
+
 -- what is open on a side within a limit, whether it is shown or not
 abbrev pub open_within : ℕ → Side → ℤ → List Entry → ℕ
 open_within instrument side limit es = sum_by (λ e. e.order.leaves) (filter (λ e. is_within side limit e.order.price.0) (side_of instrument side es))
@@ -49,6 +66,10 @@ open_within instrument side limit es = sum_by (λ e. e.order.leaves) (filter (λ
 -- what is shown at a level
 abbrev pub shown_at : Level → List Entry → ℕ
 shown_at k es = sum_by (λ e. e.order.shown) (orders_at k es)
+
+-- what is open at a level, whether it is shown or not
+abbrev pub open_at : Level → List Entry → ℕ
+open_at k es = sum_by (λ e. e.order.leaves) (orders_at k es)
 
 -- the waiting stops of an instrument
 abbrev pub is_of : ℕ → Entry → Bool

@@ -1,6 +1,6 @@
 //! What a book of orders does.
 ghost use Rattle.std.specs.Prelude.{◌≡◌, ◌<◌, ◌≤◌, min, length, false, option_map};
-ghost use Rattle.plain_book.specs.Orders.{level, level_of, best_of, worse_of, orders_at, stops_of, slot_of, slot_after, slot_named, is_live, order_of, HasSlot, shown_at, open_within, top_of, filled_by};
+ghost use Rattle.plain_book.specs.Orders.{level, level_of, best_of, worse_of, worst_of, better_of, orders_at, stops_of, slot_of, slot_after, slot_named, is_live, order_of, HasSlot, shown_at, open_at, open_within, top_of, filled_by};
 ghost use Rattle.plain_book.specs.Book.{Book, IsRight, IsFitToRest, IsFitToWait, CanBeTop, live_orders, slot_number, book_placed, book_waited, book_traded, book_with_order, book_without, book_changed, book_with_top, book_cleared};
 
 use gx_base::{Order, Price, ShortId, Side, Slot};
@@ -35,6 +35,16 @@ pub trait Book {
         requires { instrument < (book self.now).instruments }
         ensures { result ≡ worse_of instrument side price.0 (book self.now).resting };
 
+    /// The worst price of a side. `None` exactly where no order rests there.
+    fn worst(&self, instrument: u8, side: Side) -> Option<Price>
+        requires { instrument < (book self.now).instruments }
+        ensures { result ≡ worst_of instrument side (book self.now).resting };
+
+    /// The worst of the prices that are better than this one. `None` exactly where no order rests at such a price.
+    fn better(&self, instrument: u8, side: Side, price: Price) -> Option<Price>
+        requires { instrument < (book self.now).instruments }
+        ensures { result ≡ better_of instrument side price.0 (book self.now).resting };
+
     /// The first order at a price. `None` exactly where no order rests at it.
     fn first(&self, instrument: u8, side: Side, price: Price) -> Option<Slot>
         requires { instrument < (book self.now).instruments }
@@ -59,6 +69,11 @@ pub trait Book {
     fn shown_total(&self, instrument: u8, side: Side, price: Price) -> u64
         requires { instrument < (book self.now).instruments }
         ensures { result ≡ shown_at (level instrument side price) (book self.now).resting };
+
+    /// How much is open at a price, whether it is shown or not.
+    fn open_total(&self, instrument: u8, side: Side, price: Price) -> u64
+        requires { instrument < (book self.now).instruments }
+        ensures { result ≡ open_at (level instrument side price) (book self.now).resting };
 
     /// How much is open on a side at prices that the limit of an order of the other side allows, whether it is shown or
     /// not.

@@ -10,8 +10,9 @@ use crate::edits::{
 };
 use crate::entry::Entry;
 use crate::scan::{
-    best_price, count_at, find_in, first_at, first_stop, next_at, next_stop, open_lots, order_at,
-    order_in, shown_at_price, top_slot, worse_price,
+    best_price, better_price, count_at, find_in, first_at, first_stop, next_at, next_stop,
+    open_at_price, open_lots, order_at, order_in, shown_at_price, top_slot, worse_price,
+    worst_price,
 };
 use gx_base::{MOST_LOTS, Order, Price, ShortId, Side, Slot};
 use std::alloc::{AllocError, Global};
@@ -80,6 +81,14 @@ impl Book for PlainBook {
         worse_price(&self.resting, instrument, side, price)
     }
 
+    fn worst(&self, instrument: u8, side: Side) -> Option<Price> {
+        worst_price(&self.resting, instrument, side)
+    }
+
+    fn better(&self, instrument: u8, side: Side, price: Price) -> Option<Price> {
+        better_price(&self.resting, instrument, side, price)
+    }
+
     fn first(&self, instrument: u8, side: Side, price: Price) -> Option<Slot> {
         first_at(&self.resting, instrument, side, price)
     }
@@ -98,6 +107,10 @@ impl Book for PlainBook {
 
     fn shown_total(&self, instrument: u8, side: Side, price: Price) -> u64 {
         shown_at_price(&self.resting, instrument, side, price)
+    }
+
+    fn open_total(&self, instrument: u8, side: Side, price: Price) -> u64 {
+        open_at_price(&self.resting, instrument, side, price)
     }
 
     fn available(&self, instrument: u8, side: Side, limit: Price) -> u64 {

@@ -1,6 +1,6 @@
 //! What is read from lists of live orders.
 ghost use Rattle.std.specs.Prelude.{◌≡◌, ◌<◌, ◌≤◌, ◌^◌, ◌++◌, ℕ, true, false, length, option_map};
-ghost use Rattle.plain_book.specs.Orders.{is_on, is_at, is_of, is_named, is_before, level, level_of, best_of, worse_of, orders_at, stops_of, slot_of, slot_after, slot_named, order_of, HasSlot, shown_at, open_within, top_of, is_at_earlier_level, is_of_earlier_instrument, entry_at};
+ghost use Rattle.plain_book.specs.Orders.{is_on, is_at, is_of, is_named, is_before, level, level_of, best_of, worse_of, worst_of, better_of, orders_at, stops_of, slot_of, slot_after, slot_named, order_of, HasSlot, shown_at, open_at, open_within, top_of, is_at_earlier_level, is_of_earlier_instrument, entry_at};
 ghost use Rattle.plain_book.specs.Book.{slot_number};
 
 use crate::entry::Entry;
@@ -49,6 +49,37 @@ pub(crate) fn worse_price(
         }
     }
     None
+}
+
+/// The worst price of a side, of a list in book order.
+pub(crate) fn worst_price(entries: &[Entry], instrument: u8, side: Side) -> Option<Price>
+    ensures { result ≡ worst_of instrument side entries.now }
+{
+    let mut worst = None;
+    for entry in entries {
+        if is_on_side(entry, instrument, side) {
+            worst = Some(entry.order.price);
+        }
+    }
+    worst
+}
+
+/// The worst of the prices of a side that are better than this one, of a list in book order.
+pub(crate) fn better_price(
+    entries: &[Entry],
+    instrument: u8,
+    side: Side,
+    price: Price,
+) -> Option<Price>
+    ensures { result ≡ better_of instrument side price.0 entries.now }
+{
+    let mut worst = None;
+    for entry in entries {
+        if is_on_side(entry, instrument, side) && is_better_price(side, entry.order.price, price) {
+            worst = Some(entry.order.price);
+        }
+    }
+    worst
 }
 
 /// The first order at a price.
@@ -107,6 +138,20 @@ pub(crate) fn shown_at_price(entries: &[Entry], instrument: u8, side: Side, pric
         }
     }
     total
+}
+
+/// How much is open at a price.
+pub(crate) fn open_at_price(entries: &[Entry], instrument: u8, side: Side, price: Price) -> u64
+    requires { length entries.now < 2 ^ 32 }
+    ensures { result ≡ open_at (level instrument side price) entries.now }
+{
+    let mut lots = 0u64;
+    for entry in entries {
+        if is_at_price(entry, instrument, side, price) {
+            lots += u64::from(entry.order.leaves);
+        }
+    }
+    lots
 }
 
 /// How much is open on a side within a limit.

@@ -6,3 +6,4 @@ mod Pool
 mod Sums
 mod Asked
 mod Best
+mod Better

@@ -34,6 +34,9 @@ AreWorstFirst side steps = (i k : ℕ) → i < k → k < length steps → is_bet
 abbrev pub is_worse_step : Side → Price → Step → Bool
 is_worse_step side price s = is_better side price.0 s.price.0
 
+abbrev pub is_better_step : Side → Price → Step → Bool
+is_better_step side price s = is_better side s.price.0 price.0
+
 abbrev pub is_step_at : Price → Step → Bool
 is_step_at price s = int_eq s.price.0 price.0
 
@@ -45,6 +48,11 @@ abbrev pub price_of_last : List Step → Option Price
 price_of_last [] = None
 price_of_last (s ∷ []) = Some s.price
 price_of_last (s ∷ (t ∷ steps)) = price_of_last (t ∷ steps)
+
+-- the price of the first level, the worst
+abbrev pub price_of_first : List Step → Option Price
+price_of_first [] = None
+price_of_first (s ∷ steps) = Some s.price
 
 abbrev pub queue_of_last : List Step → Option ℕ
 queue_of_last [] = None

@@ -1,6 +1,6 @@
 //! Where a price stands among the levels of a chunk, the worst price first.
-ghost use Rattle.std.specs.Prelude.{◌≡◌, ◌<◌, ◌≤◌, ◌^◌, filter, take, length};
-ghost use Rattle.price_chunks.specs.Steps.{open_at, AreWorstFirst, is_worse_step, is_step_at, is_open_step, price_of_last, queue_of_last};
+ghost use Rattle.std.specs.Prelude.{◌≡◌, ◌<◌, ◌≤◌, ◌^◌, filter, take, drop, length};
+ghost use Rattle.price_chunks.specs.Steps.{open_at, AreWorstFirst, is_worse_step, is_better_step, is_step_at, is_open_step, price_of_last, price_of_first, queue_of_last};
 ghost use Rattle.price_chunks.specs.Inner.Chunks.{IsPlace};
 
 use book_order::{is_better_price, is_same_price};
@@ -77,6 +77,43 @@ pub(crate) fn worse_price(steps: &[Step], side: Side, price: Price) -> Option<Pr
     ensures { result ≡ price_of_last (filter (is_worse_step side price) steps.now) }
 {
     price_before(steps, place_of(steps, side, price))
+}
+
+/// The price of the level at a place. `None` exactly where the place is after the last level.
+fn price_at(steps: &[Step], place: usize) -> Option<Price>
+    ensures { result ≡ price_of_first (drop place steps.now) }
+{
+    if place < steps.len() {
+        return Some(steps[place].price);
+    }
+    None
+}
+
+/// The worst price. `None` exactly where there is no level.
+pub(crate) fn worst_price(steps: &[Step]) -> Option<Price>
+    ensures { result ≡ price_of_first steps.now }
+{
+    price_at(steps, 0)
+}
+
+/// How many levels have this price or a worse one.
+fn place_after(steps: &[Step], side: Side, price: Price) -> usize
+    requires { AreWorstFirst side steps.now }
+    ensures { drop result steps.now ≡ filter (is_better_step side price) steps.now }
+{
+    let place = place_of(steps, side, price);
+    if place < steps.len() && is_same_price(steps[place].price, price) {
+        return place + 1;
+    }
+    place
+}
+
+/// The worst of the prices that are better than this one. `None` exactly where no price is.
+pub(crate) fn better_price(steps: &[Step], side: Side, price: Price) -> Option<Price>
+    requires { AreWorstFirst side steps.now }
+    ensures { result ≡ price_of_first (filter (is_better_step side price) steps.now) }
+{
+    price_at(steps, place_after(steps, side, price))
 }
 
 /// The queue of the level at a price. `None` exactly where there is none.

@@ -6,13 +6,13 @@ ghost use Rattle.std.specs.Prelude.{◌≡◌, ◌<◌, ◌≤◌, ◌+◌, ◌�
 ghost use Prim.Native.Nat.{suc};
 ghost use Rattle.std.specs.List.{AllByRecursion};
 ghost use Rattle.price_chunks.specs.declared.place.Step.{Step};
-ghost use Rattle.price_chunks.specs.Steps.{AreWorstFirst, is_worse_step, is_step_at, is_open_step, price_of_last, queue_of_last, with_step, without_step, open_at, with_open};
+ghost use Rattle.price_chunks.specs.Steps.{AreWorstFirst, is_worse_step, is_better_step, is_step_at, is_open_step, price_of_last, price_of_first, queue_of_last, with_step, without_step, open_at, with_open};
 ghost use Rattle.price_chunks.specs.Inner.Chunks.{room, half, flat, chunk_at, AreChunks, IsChunkOf, AreNone, IsPair, IsSmall, IsLessAt};
 
 use crate::chunk::{Chunk, HALF, ROOM};
 use crate::place::{
-    Step, best_price as best_of, open_lots as open_of, queue_at as queue_of,
-    worse_price as worse_of,
+    Step, best_price as best_of, better_price as better_of, open_lots as open_of,
+    queue_at as queue_of, worse_price as worse_of, worst_price as worst_of,
 };
 use gx_base::{Price, Side};
 
@@ -250,6 +250,30 @@ pub(crate) fn worse_price(chunks: &[Chunk], side: Side, price: Price) -> Option<
         return None;
     }
     best_of(chunks[at - 1].steps())
+}
+
+/// The worst price. `None` exactly where there is no level.
+pub(crate) fn worst_price(chunks: &[Chunk]) -> Option<Price>
+    requires { AreChunks chunks.now }
+    ensures { result ≡ price_of_first (flat chunks.now) }
+{
+    worst_of(chunks[0].steps())
+}
+
+/// The worst of the prices that are better than this one. `None` exactly where no price is.
+pub(crate) fn better_price(chunks: &[Chunk], side: Side, price: Price) -> Option<Price>
+    requires chunks { AreChunks chunks.now }
+    requires ordered { AreWorstFirst side (flat chunks.now) }
+    ensures { result ≡ price_of_first (filter (is_better_step side price) (flat chunks.now)) }
+{
+    let at = chunk_of(chunks, side, price);
+    if let Some(better) = better_of(chunks[at].steps(), side, price) {
+        return Some(better);
+    }
+    if at + 1 == chunks.len() {
+        return None;
+    }
+    worst_of(chunks[at + 1].steps())
 }
 
 /// The queue of the level at a price. `None` exactly where there is none. At the best price and at better ones nothing is searched.

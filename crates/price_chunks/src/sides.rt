@@ -1,11 +1,14 @@
 //! The levels of all sides, in chunks from one pool, which always has a chunk to give.
 ghost use Rattle.std.specs.Prelude.{◌≡◌, ◌<◌, ◌≤◌, ◌+◌, ◌/◌, ◌^◌, filter, length, set, sum_by, vec_capacity, IfOk};
-ghost use Rattle.price_chunks.specs.Steps.{AreWorstFirst, is_worse_step, is_step_at, is_open_step, price_of_last, queue_of_last, with_step, without_step, open_at, with_open, list_at, no_lists};
+ghost use Rattle.price_chunks.specs.Steps.{AreWorstFirst, is_worse_step, is_better_step, is_step_at, is_open_step, price_of_last, price_of_first, queue_of_last, with_step, without_step, open_at, with_open, list_at, no_lists};
 ghost use Rattle.price_chunks.specs.Inner.Pool.{AreSpare, AreEmptySides, chunks_of, rooms_of};
 
 use crate::chunk::Chunk;
 use crate::place::Step;
-use crate::side::{best_price, open_lots, put_in, queue_at, set_lots, take_out, worse_price};
+use crate::side::{
+    best_price, better_price, open_lots, put_in, queue_at, set_lots, take_out, worse_price,
+    worst_price,
+};
 use gx_base::{Price, Side};
 use std::alloc::{AllocError, Global};
 use std::marker::Model;
@@ -130,6 +133,23 @@ impl Sides {
         ensures { result ≡ price_of_last (filter (is_worse_step side price) (list_at self.now.lists at)) }
     {
         worse_price(&self.sides[at], side, price)
+    }
+
+    /// The worst price of a side. `None` exactly where it has no level.
+    pub fn worst(&self, at: usize) -> Option<Price>
+        requires { at < length self.now.lists }
+        ensures { result ≡ price_of_first (list_at self.now.lists at) }
+    {
+        worst_price(&self.sides[at])
+    }
+
+    /// The worst of the prices of a side that are better than this one. `None` exactly where no price is.
+    pub fn better(&self, at: usize, side: Side, price: Price) -> Option<Price>
+        requires listed { at < length self.now.lists }
+        requires ordered { AreWorstFirst side (list_at self.now.lists at) }
+        ensures { result ≡ price_of_first (filter (is_better_step side price) (list_at self.now.lists at)) }
+    {
+        better_price(&self.sides[at], side, price)
     }
 
     /// The queue of the level at a price. `None` exactly where there is none.

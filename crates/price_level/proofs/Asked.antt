@@ -9,12 +9,12 @@ use Rattle.gx_base.specs.declared.order.Side.{Side}
 use Rattle.book_order.specs.Levels.{level, is_better, is_within}
 use Rattle.price_level.specs.declared.row.LevelRow.{LevelRow}
 use Rattle.price_chunks.specs.declared.place.Step.{Step}
-use Rattle.price_level.specs.Rows.{row_on, row_at, row_before, best_row, worse_row, queue_at, open_rows, price_of_row, queue_of_row, new_row, placed_row, Pairs, AreRowsApart}
-use Rattle.price_chunks.specs.Steps.{is_worse_step, is_step_at, is_open_step, price_of_last, queue_of_last, with_step, without_step, AreWorstFirst, list_at, open_at}
+use Rattle.price_level.specs.Rows.{row_on, row_at, row_before, best_row, worse_row, worst_row, better_row, queue_at, open_rows, price_of_row, last_row, queue_of_row, new_row, placed_row, Pairs, AreRowsApart}
+use Rattle.price_chunks.specs.Steps.{is_worse_step, is_better_step, is_step_at, is_open_step, price_of_first, price_of_last, queue_of_last, with_step, without_step, AreWorstFirst, list_at, open_at}
 use Rattle.price_level.specs.Inner.Sides.{row_in, side_number, rows_of, rows_of_side, row_number, AreSides, IsStep}
 use Rattle.price_level.proofs.Lists.{all-filter, all-front, all-back, all-with, pairs-front, pairs-back, filter-all}
 use Rattle.price_level.proofs.Order.{row_is_on, row_is_off, row_at_price, row_at_off, before_later, not_before_earlier, before_better}
-use Rattle.price_level.proofs.SideRows.{rows-append, rows-filter, rows-sum, rows-price, rows-queue, rows-number, steps-all, worst_first}
+use Rattle.price_level.proofs.SideRows.{rows-append, rows-filter, rows-sum, rows-price, rows-last, rows-queue, rows-number, steps-all, worst_first}
 use Rattle.price_level.proofs.Parts.{Around, around, filter-side, filter-rest, filter-behind, filter-ahead}
 
 rows-length : (table : List LevelRow) (steps : List Step) → length (rows_of_side table steps) ≡ length steps
@@ -70,6 +70,15 @@ module _ (table : List LevelRow) (all : List (List Step)) (sides : AreSides tabl
       sym (ap (λ (rs : List LevelRow). price_of_row (filter (λ r. is_better side price.0 r.price.0) rs)) side-rows
       ∙ ap price_of_row (by-price (λ x. is_better side price.0 x.0))
       ∙ rows-price table n (filter (is_worse_step side price) steps) (all-filter (IsStep table n) (is_worse_step side price) steps at.here))
+
+  pub worst_is : price_of_first steps ≡ worst_row i side rows
+  worst_is = sym (ap last_row side-rows ∙ rows-last table n steps at.here)
+
+  pub better_is : (price : Price) → price_of_first (filter (is_better_step side price) steps) ≡ better_row i side price rows
+  better_is price =
+      sym (ap (λ (rs : List LevelRow). last_row (filter (λ r. is_better side r.price.0 price.0) rs)) side-rows
+      ∙ ap last_row (by-price (λ x. is_better side x.0 price.0))
+      ∙ rows-last table n (filter (is_better_step side price) steps) (all-filter (IsStep table n) (is_better_step side price) steps at.here))
 
   pub queue_is : (price : Price) → queue_of_last (filter (is_step_at price) steps) ≡ queue_at (level i side price) rows
   queue_is price = sym (ap queue_of_row (at-price price) ∙ rows-queue table n (filter (is_step_at price) steps) (all-filter (IsStep table n) (is_step_at price) steps at.here))

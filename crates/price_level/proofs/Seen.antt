@@ -8,13 +8,13 @@ use Rattle.gx_base.specs.declared.order.Side.TheVariants.{Buy, Sell}
 use Rattle.book_order.specs.Levels.{level}
 use Rattle.price_level.specs.declared.row.LevelRow.{LevelRow}
 use Rattle.price_chunks.specs.declared.place.Step.{Step}
-use Rattle.price_level.specs.Rows.{Rows, no_row, best_row, worse_row, queue_at, open_rows, HasQueue, row_of}
+use Rattle.price_level.specs.Rows.{Rows, no_row, best_row, worse_row, worst_row, better_row, queue_at, open_rows, HasQueue, row_of}
 use Rattle.price_level.specs.Inner.Kept.{rows_seen, IsKept}
-use Rattle.price_chunks.specs.Steps.{is_worse_step, is_step_at, is_open_step, price_of_last, queue_of_last, AreWorstFirst, list_at, open_at}
+use Rattle.price_chunks.specs.Steps.{is_worse_step, is_better_step, is_step_at, is_open_step, price_of_first, price_of_last, queue_of_last, AreWorstFirst, list_at, open_at}
 use Rattle.price_level.specs.Inner.Sides.{row_in, side_number, rows_of}
 use Rattle.price_level.proofs.RowLists.{each-row}
 use Rattle.price_level.proofs.Tables.{named}
-use Rattle.price_level.proofs.Asked.{best_is, worse_is, queue_is, open_is, side-ordered, side-sum, rows-many}
+use Rattle.price_level.proofs.Asked.{best_is, worse_is, worst_is, better_is, queue_is, open_is, side-ordered, side-sum, rows-many}
 
 number-below : (i n : ℕ) (side : Side) → i < n → side_number i side < 2 * n
 number-below i n Buy lt = omega arith
@@ -64,6 +64,15 @@ module _ {capacity instruments : ℕ} {table : List LevelRow} {all : List (List 
             ap (λ (l : List Step). price_of_last (filter (is_worse_step side price) l)) is
             ∙ worse_is table all kept.steps i side side_in_seen price
             ∙ ap (λ (x : Rows). worse_row i side price x.rows) view
+
+        pub worst : price_of_first steps ≡ worst_row i side t.rows
+        worst = ap price_of_first is ∙ worst_is table all kept.steps i side side_in_seen ∙ ap (λ (x : Rows). worst_row i side x.rows) view
+
+        pub better : (price : Price) → price_of_first (filter (is_better_step side price) steps) ≡ better_row i side price t.rows
+        better price =
+            ap (λ (l : List Step). price_of_first (filter (is_better_step side price) l)) is
+            ∙ better_is table all kept.steps i side side_in_seen price
+            ∙ ap (λ (x : Rows). better_row i side price x.rows) view
 
         pub queue : (price : Price) → queue_of_last (filter (is_step_at price) steps) ≡ queue_at (level i side price) t.rows
         queue price =

@@ -6,12 +6,13 @@ use Rattle.std.specs.List.{AllByRecursion, sum_by}
 use Rattle.std.proofs.lemmas.List.{append_assoc, append-nil}
 use Rattle.std.proofs.lemmas.List.Elements.{filter-append}
 use Rattle.std.proofs.lemmas.List.Sums.{sum_by_push, sum_by-cons}
+use Rattle.gx_base.specs.declared.price.Price.{Price}
 use Rattle.gx_base.specs.declared.order.Side.{Side}
 use Rattle.book_order.specs.Levels.{is_better}
 use Rattle.price_level.specs.declared.row.LevelRow.{LevelRow}
 use Rattle.price_chunks.specs.declared.place.Step.{Step}
-use Rattle.price_level.specs.Rows.{Pairs, AreRowsApart, price_of_row, queue_of_row, row_before}
-use Rattle.price_chunks.specs.Steps.{no_step, step_at, AreWorstFirst, price_of_last, queue_of_last, open_at}
+use Rattle.price_level.specs.Rows.{Pairs, AreRowsApart, price_of_row, last_row_or, last_row, queue_of_row, row_before}
+use Rattle.price_chunks.specs.Steps.{no_step, step_at, AreWorstFirst, price_of_first, price_of_last, queue_of_last, open_at}
 use Rattle.price_level.specs.Inner.Sides.{row_in, rows_of_side, row_number, side_number, IsStep}
 use Rattle.price_level.proofs.Lists.{all-append, all-front, all-back, all-at, all-with, pairs-front, pairs-across}
 use Rattle.price_level.proofs.Order.{before_better, number-same}
@@ -19,6 +20,14 @@ use Rattle.price_level.proofs.Order.{before_better, number-same}
 first_price : (xs : List LevelRow) (y z : LevelRow) → price_of_row ((xs ++ y ∷ []) ++ z ∷ []) ≡ price_of_row (xs ++ y ∷ [])
 first_price [] y z = refl
 first_price (x ∷ xs) y z = refl
+
+last-or : (p : Price) (xs : List LevelRow) (y : LevelRow) → last_row_or p (xs ++ y ∷ []) ≡ y.price
+last-or p [] y = refl
+last-or p (x ∷ xs) y = last-or x.price xs y
+
+last_after : (xs : List LevelRow) (y : LevelRow) → last_row (xs ++ y ∷ []) ≡ Some y.price
+last_after [] y = refl
+last_after (x ∷ xs) y = ap Some (last-or x.price xs y)
 
 first_queue : (xs : List LevelRow) (y z : LevelRow) → queue_of_row ((xs ++ y ∷ []) ++ z ∷ []) ≡ queue_of_row (xs ++ y ∷ [])
 first_queue [] y z = refl
@@ -60,6 +69,10 @@ module _ (table : List LevelRow) where
     rows-price [] h = refl
     rows-price (s ∷ []) h = ap Some h.0.price
     rows-price (s ∷ (t ∷ steps)) h = first_price (rows_of_side table steps) (row_of_step t) (row_of_step s) ∙ rows-price (t ∷ steps) h.1
+
+    pub rows-last : (steps : List Step) → AllByRecursion (IsStep table n) steps → last_row (rows_of_side table steps) ≡ price_of_first steps
+    rows-last [] h = refl
+    rows-last (s ∷ steps) h = last_after (rows_of_side table steps) (row_of_step s) ∙ ap Some h.0.price
 
     pub rows-queue : (steps : List Step) → AllByRecursion (IsStep table n) steps → queue_of_row (rows_of_side table steps) ≡ queue_of_last steps
     rows-queue [] h = refl

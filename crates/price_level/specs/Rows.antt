@@ -45,6 +45,23 @@ best_row instrument side rs = price_of_row (filter (row_on instrument side) rs)
 abbrev pub worse_row : ℕ → Side → Price → List LevelRow → Option Price
 worse_row instrument side price rs = price_of_row (filter (λ r. is_better side price.0 r.price.0) (filter (row_on instrument side) rs))
 
+-- the price of the last of some rows
+abbrev pub last_row_or : Price → List LevelRow → Price
+last_row_or p [] = p
+last_row_or p (r ∷ rs) = last_row_or r.price rs
+
+abbrev pub last_row : List LevelRow → Option Price
+last_row [] = None
+last_row (r ∷ rs) = Some (last_row_or r.price rs)
+
+-- the worst price of a side: the rows are in book order, so it is that of the last
+abbrev pub worst_row : ℕ → Side → List LevelRow → Option Price
+worst_row instrument side rs = last_row (filter (row_on instrument side) rs)
+
+-- the worst of the prices of a side that are better than this one
+abbrev pub better_row : ℕ → Side → Price → List LevelRow → Option Price
+better_row instrument side price rs = last_row (filter (λ r. is_better side r.price.0 price.0) (filter (row_on instrument side) rs))
+
 -- the queue of a level
 abbrev pub queue_at : Level → List LevelRow → Option ℕ
 queue_at k rs = queue_of_row (filter (row_at k) rs)

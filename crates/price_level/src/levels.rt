@@ -2,7 +2,7 @@
 ghost use Rattle.std.specs.Prelude.{◌≡◌, ◌+◌, ◌<◌, ◌^◌, None, IfOk, length, sum_by};
 ghost use Rattle.book_order.specs.Levels.{level};
 ghost use Rattle.price_level.specs.Inner.Sides.{side_number};
-ghost use Rattle.price_level.specs.Rows.{no_rows, AreRows, best_row, worse_row, queue_at, HasQueue, row_of, with_sums, new_row, placed_row, without_row, open_rows};
+ghost use Rattle.price_level.specs.Rows.{no_rows, AreRows, best_row, worse_row, worst_row, better_row, queue_at, HasQueue, row_of, with_sums, new_row, placed_row, without_row, open_rows};
 
 use crate::queues::{all_queues, give_back};
 use crate::row::{LevelRow, blank_rows};
@@ -91,6 +91,23 @@ impl Levels {
         ensures { result ≡ worse_row instrument side price self.now.rows }
     {
         self.sides.worse(side_number(instrument, side), side, price)
+    }
+
+    /// The worst price of a side. `None` exactly where the side has no level.
+    pub fn worst(&self, instrument: u8, side: Side) -> Option<Price>
+        requires { instrument < self.now.instruments }
+        ensures { result ≡ worst_row instrument side self.now.rows }
+    {
+        self.sides.worst(side_number(instrument, side))
+    }
+
+    /// The worst of the prices of a side that are better than this one. `None` exactly where the side has no better price.
+    pub fn better(&self, instrument: u8, side: Side, price: Price) -> Option<Price>
+        requires { instrument < self.now.instruments }
+        ensures { result ≡ better_row instrument side price self.now.rows }
+    {
+        self.sides
+            .better(side_number(instrument, side), side, price)
     }
 
     /// The queue of a level. `None` exactly where the side has no level at this price.
