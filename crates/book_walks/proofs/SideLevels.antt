@@ -21,12 +21,12 @@ either false = inr refl
 
 -- ---- prices in their order
 
-better-same : (s : Side) (a b : ℤ) → is_better s a b ≡ false → is_better s b a ≡ false → a ≡ b
+pub better-same : (s : Side) (a b : ℤ) → is_better s a b ≡ false → is_better s b a ≡ false → a ≡ b
 better-same Buy a b h k = int-same a b k h
 better-same Sell a b h k = int-same a b h k
 
 -- what a betters is bettered by what is not worse than a
-better-then : (s : Side) (a b c : ℤ) → is_better s a b ≡ true → is_better s a c ≡ false → is_better s c b ≡ true
+pub better-then : (s : Side) (a b c : ℤ) → is_better s a b ≡ true → is_better s a c ≡ false → is_better s c b ≡ true
 better-then Buy a b c h k = int-past b a c h k
 better-then Sell a b c h k = int-back b a c h k
 
@@ -112,7 +112,7 @@ pass p x es h = ap (λ (b : Bool). cond b (x ∷ filter p es) (filter p es)) h
 pub stop : (p : Entry → Bool) (x : Entry) (es : List Entry) → p x ≡ false → filter p (x ∷ es) ≡ filter p es
 stop p x es h = ap (λ (b : Bool). cond b (x ∷ filter p es) (filter p es)) h
 
-int_eq-not : (a b : ℤ) → (a ≡ b → ⊥) → int_eq a b ≡ false
+pub int_eq-not : (a b : ℤ) → (a ≡ b → ⊥) → int_eq a b ≡ false
 int_eq-not a b h = elim (either (int_eq a b)) [ inl t ↦ absurd (h ((Decides-int_eq a b).0 t)) | inr f ↦ f ]
 
 module _ (s : Side) where
@@ -124,14 +124,14 @@ module _ (s : Side) where
   worse-elsewhere a p h = int_eq-not a p (λ e. not-both (is_better s p a) h (ap (λ (q : ℤ). is_better s p q) e ∙ is_better-irrefl s p))
 
   -- behind an order that is worse than p
-  behind-worse : (p : ℤ) (e : Entry) (es : List Entry) → is_worse s p e ≡ true → AllByRecursion (InPriceOrder s e) es → AllByRecursion (λ (x : Entry). is_worse s p x ≡ true) es
+  pub behind-worse : (p : ℤ) (e : Entry) (es : List Entry) → is_worse s p e ≡ true → AllByRecursion (InPriceOrder s e) es → AllByRecursion (λ (x : Entry). is_worse s p x ≡ true) es
   behind-worse p e [] h k = tt
   behind-worse p e (x ∷ es) h k = (better-past s p e.order.price.0 x.order.price.0 h k.0, behind-worse p e es h k.1)
 
   worse-not-better : (p : ℤ) (es : List Entry) → AllByRecursion (λ (x : Entry). is_worse s p x ≡ true) es → AllByRecursion (λ (x : Entry). not_better s p x ≡ true) es
   worse-not-better p es h = all-with (λ (x : Entry). is_worse s p x ≡ true) (λ (x : Entry). not_better s p x ≡ true) (λ x t. ap not (better-apart s p x.order.price.0 t)) es h
 
-  worse-not-at : (p : ℤ) (es : List Entry) → AllByRecursion (λ (x : Entry). is_worse s p x ≡ true) es → AllByRecursion (λ (x : Entry). at_price p x ≡ false) es
+  pub worse-not-at : (p : ℤ) (es : List Entry) → AllByRecursion (λ (x : Entry). is_worse s p x ≡ true) es → AllByRecursion (λ (x : Entry). at_price p x ≡ false) es
   worse-not-at p es h = all-with (λ (x : Entry). is_worse s p x ≡ true) (λ (x : Entry). at_price p x ≡ false) (λ x t. worse-elsewhere x.order.price.0 p t) es h
 
   -- from a price on: the orders at it, and then the worse ones

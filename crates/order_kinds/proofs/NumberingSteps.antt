@@ -38,7 +38,7 @@ use Rattle.order_kinds.proofs.NumberingReplaces.{replace-same, replace-numbered}
 use Rattle.order_kinds.proofs.Closings.{closed-numbered, expiries-numbered, closed-among}
 
 -- no live order has the next number
-next-lacks : (n : ℕ) (es : List Entry) → AreGiven n es → HasSlot (n + 1) (numbered es) → ⊥
+pub next-lacks : (n : ℕ) (es : List Entry) → AreGiven n es → HasSlot (n + 1) (numbered es) → ⊥
 next-lacks n [] given has = has
 next-lacks n (e ∷ es) given has = elim has [ inl is ↦ omega (arith, given.0, is) | inr more ↦ next-lacks n es given.1 more ]
 

@@ -5,6 +5,7 @@ pub mod Taking
 pub mod Triggering
 pub mod Replacing
 pub mod Apart
+pub mod Collecting
 pub mod ComingIn
 pub mod Closing
 pub mod Amending

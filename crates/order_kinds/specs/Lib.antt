@@ -10,6 +10,7 @@ pub mod Cancels
 pub mod Accepting
 pub mod Replaces
 pub mod Step
+pub mod Collecting
 pub mod Balance
 pub mod Amendments
 pub mod Histories

@@ -4,7 +4,8 @@ ghost use Rattle.std.specs.Borrow.{Lends, sem};
 ghost use Rattle.fix_request.specs.ValidRequests.{IsValidRequest};
 ghost use Rattle.gx_base.specs.declared.trading.Trading.TheVariants.{Open, Closed};
 ghost use Rattle.plain_book.specs.Book.{empty_book, book_cleared, live_orders};
-ghost use Rattle.order_kinds.specs.State.{empty_desk, empty_state};
+ghost use Rattle.order_kinds.specs.State.{empty_desk, empty_state, state_numbered};
+ghost use Rattle.order_kinds.specs.Collecting.{collect_step};
 ghost use Rattle.order_kinds.specs.OrderRules.{last_of};
 ghost use Rattle.order_kinds.specs.Amendments.{amended_state};
 ghost use Rattle.order_kinds.specs.Step.{is_passed, open_step_as, closed_step_as, request_step_as};
@@ -16,6 +17,7 @@ ghost use Rattle.order_kinds.specs.Inner.Taking.{Takes, CountsRose, IsCounted};
 use crate::accepting::{apply_new, refuse_new};
 use crate::amending::end_tops;
 use crate::cancels::{apply_cancel, refuse_message};
+use crate::collecting::collect_counted;
 use crate::order_rules::last_of;
 use crate::replaces::{apply_replace, refuse_replace};
 use crate::state::{EngineState, LastPrices, set_last_price};
@@ -120,6 +122,24 @@ impl<B: Book> Core<B> {
         self.state.book.rules();
         self.state.desk.messages += 1;
         apply_counted(&mut self.state, product, request, out);
+    }
+
+    /// Collects a request, which counts as a message: a limit order that may rest and has no minimum comes to rest under the
+    /// next number, unless a rule of new orders refuses it, and is not TOP; a cancel takes its order out where it is live; any
+    /// other request does nothing. The trading session has no effect. Nothing is matched or reported. It takes no memory and
+    /// never fails.
+    pub fn collect(&mut self, product: &Product, request: &Request)
+        requires few { self.old.desk.messages < MOST_MESSAGES }
+        requires valid { IsValidRequest product.now request.now }
+        requires fits { FitsProduct product.now self.old }
+        ensures step { AreNumbered self.old → state_numbered self.new ≡ collect_step product.now request.now (state_numbered self.old) }
+        ensures numbered { AreNumbered self.old → AreNumbered self.new }
+        ensures count { self.new.desk.messages ≡ self.old.desk.messages + 1 }
+        ensures fits { FitsProduct product.now self.new }
+    {
+        self.state.book.rules();
+        self.state.desk.messages += 1;
+        collect_counted(&mut self.state, product, request);
     }
 
     /// Lends the book.

@@ -6,6 +6,7 @@ mod accepting;
 mod amending;
 mod cancels;
 mod closing;
+mod collecting;
 mod core_state;
 mod entering;
 mod histories;
