@@ -29,6 +29,8 @@ pub enum Command {
     Amend,
     /// `session`
     Session,
+    /// `opening`
+    Opening,
     /// `drill`, with the numbers of `--first` (at most 2,147,483,647) and `--count` (at most 1,000,000).
     Drill { first: u32, count: u32 },
 }

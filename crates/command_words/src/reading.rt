@@ -50,6 +50,7 @@ fn plain_command(name: &str) -> Option<Command>
         "checkpoint" => Some(Command::Checkpoint),
         "amend" => Some(Command::Amend),
         "session" => Some(Command::Session),
+        "opening" => Some(Command::Opening),
         _ => None,
     }
 }

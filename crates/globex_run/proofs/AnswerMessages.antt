@@ -41,7 +41,7 @@ pub counts-below : (desk : Desk) → AreCounters desk → desk.messages < MOST_M
 counts-below desk counters few place = omega (arith, counters.counts.lines place, few)
 
 -- an outcome by an ending tells the count
-count-of : (ending : Ending) (count : ℕ) → (outcome_of ending count).messages ≡ count
+pub count-of : (ending : Ending) (count : ℕ) → (outcome_of ending count).messages ≡ count
 count-of Done count = refl
 count-of (ReadFault place) count = refl
 count-of StoreFault count = refl

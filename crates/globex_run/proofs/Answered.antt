@@ -34,13 +34,13 @@ unprinted-answer why = Err why
 
 -- ---- the messages of some bytes, and of more
 
-more-messages : (taken rest : List ℕ) → length (messages_of taken) ≤ length (messages_of (taken ++ rest))
+pub more-messages : (taken rest : List ℕ) → length (messages_of taken) ≤ length (messages_of (taken ++ rest))
 more-messages taken rest =
     let parts = ap length (messages_of-append taken rest) in
     omega (arith, parts, length-append (messages_of taken) (messages_of (rest_of taken ++ rest)))
 
 -- after bytes that are broken stands no further message
-broken-messages : (taken rest : List ℕ) → IsBroken taken → messages_of (taken ++ rest) ≡ messages_of taken
+pub broken-messages : (taken rest : List ℕ) → IsBroken taken → messages_of (taken ++ rest) ≡ messages_of taken
 broken-messages taken rest broken =
     let refused : IsNoFrameFront (rest_of taken ++ rest) = refused_more (rest_of taken) rest (record { none = rest_of-begins_with_none taken; no_front = broken }) in
     messages_of-append taken rest ∙ ap (λ (l : List (List ℕ)). messages_of taken ++ l) (messages_of-refused (rest_of taken ++ rest) refused) ∙ append-nil (messages_of taken)
@@ -58,7 +58,7 @@ behind-first count taken =
     ap (λ (l : List ℕ). drop (length (concat first)) l) whole ∙ drop-append_seam (concat first) (concat others ++ rest_of taken)
 
 -- a frame there is a message more
-counted-more : (count : ℕ) (taken : List ℕ) → count ≤ length (messages_of taken) → BeginsWithFrame (bytes_at (end_of_messages count taken) taken) → count + 1 ≤ length (messages_of taken)
+pub counted-more : (count : ℕ) (taken : List ℕ) → count ≤ length (messages_of taken) → BeginsWithFrame (bytes_at (end_of_messages count taken) taken) → count + 1 ≤ length (messages_of taken)
 counted-more count taken within begins = by-others (drop count (messages_of taken)) refl
   where
     by-others : (others : List (List ℕ)) → drop count (messages_of taken) ≡ others → count + 1 ≤ length (messages_of taken)

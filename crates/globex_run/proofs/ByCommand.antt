@@ -1,7 +1,7 @@
 -- What holds of each command of a kind, from what holds of its members.
 use Rattle.std.proofs.Common.{ℕ}
 use Rattle.command_words.specs.declared.command.Command.{Command}
-use Rattle.command_words.specs.declared.command.Command.TheVariants.{Run, Replay, Book, Fills, Ledger, Steps, Drill, Checkpoint, Amend, Session}
+use Rattle.command_words.specs.declared.command.Command.TheVariants.{Run, Replay, Book, Fills, Ledger, Steps, Drill, Checkpoint, Amend, Session, Opening}
 use Rattle.globex_run.specs.Calls.{Call}
 use Rattle.globex_run.specs.Words.{IsWriting, GoesOn}
 use Rattle.globex_run.specs.Works.{Serves, ServesNone}
@@ -19,6 +19,7 @@ module _ (Holds : Command → Type 0) (run : Holds Run) (drill : (first count : 
   by-going-on checkpoint Ledger goes = absurd goes
   by-going-on checkpoint Steps goes = absurd goes
   by-going-on checkpoint Session goes = absurd goes
+  by-going-on checkpoint Opening goes = absurd goes
 
   -- that write
   pub by-writing : Holds Checkpoint → Holds Amend → (c : Command) → IsWriting c → Holds c
@@ -32,6 +33,7 @@ module _ (Holds : Command → Type 0) (run : Holds Run) (drill : (first count : 
   by-writing checkpoint amend Ledger writing = absurd writing
   by-writing checkpoint amend Steps writing = absurd writing
   by-writing checkpoint amend Session writing = absurd writing
+  by-writing checkpoint amend Opening writing = absurd writing
 
   -- that serve messages
   pub by-serving : {P I S : Type 0} (call : Call P I S) (c : Command) → Serves call c → Holds c
@@ -45,6 +47,7 @@ module _ (Holds : Command → Type 0) (run : Holds Run) (drill : (first count : 
   by-serving call Ledger serves = absurd serves
   by-serving call Steps serves = absurd serves
   by-serving call Session serves = absurd serves
+  by-serving call Opening serves = absurd serves
 
 -- that write, and serve none
 pub by-serving-none : {P I S : Type 0} (call : Call P I S) (Holds : Command → Type 0) → Holds Checkpoint → Holds Amend → (c : Command) → ServesNone call c → Holds c
@@ -58,3 +61,4 @@ by-serving-none call Holds checkpoint amend Fills serves = absurd serves
 by-serving-none call Holds checkpoint amend Ledger serves = absurd serves
 by-serving-none call Holds checkpoint amend Steps serves = absurd serves
 by-serving-none call Holds checkpoint amend Session serves = absurd serves
+by-serving-none call Holds checkpoint amend Opening serves = absurd serves

@@ -28,7 +28,7 @@ use Rattle.exec_report.specs.declared.texts.SendFault.{SendFault as SendFailed}
 use Rattle.journal_print.specs.Reading.{ReadsAndSends}
 use Rattle.journal_print.specs.declared.unprinted.Unprinted.{Unprinted}
 use Rattle.command_words.specs.declared.command.Command.{Command}
-use Rattle.command_words.specs.declared.command.Command.TheVariants.{Run, Replay, Book, Fills, Ledger, Steps, Drill, Checkpoint, Amend, Session}
+use Rattle.command_words.specs.declared.command.Command.TheVariants.{Run, Replay, Book, Fills, Ledger, Steps, Drill, Checkpoint, Amend, Session, Opening}
 use Rattle.globex_run.specs.Outside.{SourceAt, Outside, Streams, IsQuiet, source_at, streams_at}
 use Rattle.globex_run.specs.Outcomes.{outcome_of}
 use Rattle.globex_run.specs.Words.{IsPrinting, OnlyReads, ReadsInput, OpensByText, NeverEndsWith}
@@ -47,13 +47,14 @@ use Rattle.globex_run.specs.Inner.Checkpointing.{EndsCheckpoint, CheckpointResul
 use Rattle.globex_run.specs.Inner.Amending.{AmendResult}
 use Rattle.globex_run.specs.Inner.Executing.{Executes, HasCauses, Runs}
 use Rattle.globex_run.specs.Answering.{AnswersSession, IsAnswered}
+use Rattle.globex_run.specs.OpeningPrices.{ShowsOpenings}
 use Rattle.globex_run.specs.Calls.{Call}
 use Rattle.globex_run.specs.Steps.{LeavesFronts, LeavesEntryOrFronts}
 use Rattle.globex_run.specs.Amends.{AmendPremises, CanBeAmended}
-use Rattle.globex_run.specs.Works.{GivenFor, Reads, work_of, DoneBy, EndedBy, CanBeDone, CanBeAnswered, bytes_for}
+use Rattle.globex_run.specs.Works.{GivenFor, Reads, work_of, DoneBy, EndedBy, CanBeDone, CanTakeInput, EndsWell, bytes_for}
 use Rattle.globex_run.specs.Drills.{summary, made_messages, summary_of_all}
 use Rattle.globex_run.specs.Checkpoints.{sends_nothing}
-use Rattle.globex_run.specs.Promises.{DoesAll, EndsAsTold, LeavesAFront, LeavesTheEntry, KeepsWhatIsSent, AddsMessagesAlone, AddsARecordPerRead, ReadsItOnce, IsFullForMessages, IsFullForImage, IsFullForAmendment, SendsNothing, EndsWellWhereItCan, PrintsItsText, AnswersItsInput, EndsWhereTold, LeavesAllAtNoMemory, RefusesWhatItMust, RefusesAmendments, OpensAgain, HasItsStatuses}
+use Rattle.globex_run.specs.Promises.{DoesAll, EndsAsTold, LeavesAFront, LeavesTheEntry, KeepsWhatIsSent, AddsMessagesAlone, AddsARecordPerRead, ReadsItOnce, IsFullForMessages, IsFullForImage, IsFullForAmendment, SendsNothing, EndsWellWhereItCan, PrintsItsText, AnswersItsInput, ShowsItsOpenings, EndsWhereTold, LeavesAllAtNoMemory, RefusesWhatItMust, RefusesAmendments, OpensAgain, HasItsStatuses}
 use Rattle.globex_run.specs.declared.outcome.Outcome.{Outcome}
 use Rattle.globex_run.proofs.EverySent.{every-sent, all-grows, fronts-of, entry-or-fronts}
 use Rattle.globex_run.proofs.Reported.{fewer-reports}
@@ -76,6 +77,7 @@ use Rattle.globex_run.proofs.AmendExecuted.{amend-opens}
 use Rattle.globex_run.proofs.StartableImages.{not-refused-by}
 use Rattle.globex_run.proofs.Printed.{events-printed, book-printed, steps-printed}
 use Rattle.globex_run.proofs.Answered.{unprinted-answer, answered-well}
+use Rattle.globex_run.proofs.OpeningHeadlines.{opening-ended, opening-well}
 use Rattle.globex_run.proofs.Lists.{and_left-none}
 
 -- ---- a command that can be done has a product
@@ -90,6 +92,7 @@ product-told m before (Drill first count) can = (can.start.text, can.start.produ
 product-told m before Checkpoint can = (can.start.text, can.start.product, can.start.text_known, can.start.gives)
 product-told m before Amend can = (can.start.text, can.start.product, can.start.text_known, can.start.gives)
 product-told m before Session can = (can.start.text, can.start.product, can.start.text_known, can.start.gives)
+product-told m before Opening can = (can.start.text, can.start.product, can.start.text_known, can.start.gives)
 product-told m before Replay can = (can.text, can.product, can.text_known, can.gives)
 product-told m before Book can = (can.text, can.product, can.text_known, can.gives)
 product-told m before Fills can = (can.text, can.product, can.text_known, can.gives)
@@ -383,12 +386,26 @@ module _ {P I S : Type 0} (m : StationMeanings S) (p q : SourceAt P) (i j : Sour
           told-product p q text lent same product took gives (λ (l : ProductLists) (bytes : List ℕ). AnswersSession m l bytes entry.streams exit.streams outcome) told lists known are (did-as Session asks).form
 
       -- where it can start and no fault comes, all messages of the input are answered that can be counted
-      pub all-answered : (can : CanBeAnswered entry) → IsQuiet entry exit → outcome.status ≢ 1 → IsAnswered can.bytes outcome.status
+      pub all-answered : (can : CanTakeInput entry Session) → IsQuiet entry exit → outcome.status ≢ 1 → IsAnswered can.bytes outcome.status
       all-answered can quiet lacks =
           let at = can.start.startable (λ e. cc e) in
           let faults = no-fault Session (causes-as Session asks) quiet in
           answered-well m p q i j old new outcome faults (λ four. quiet.input ((causes-as Session asks).read four).1) lacks can.start.product can.start.text can.start.gives at.0 at.1.0 at.1.1.0 at.1.1.1 can.bytes can.input_known
           (answered-as can.start.text can.start.product can.start.text_known can.start.gives)
+
+    -- ---- what was collected
+
+    module _ (asks : asked ≡ Some Opening) where
+      pub shown-as : (told : List ℕ) (lists : ProductLists) → p.left ≡ Some told → product_of told ≡ Ok lists → ShowsOpenings lists told entry.streams exit.streams outcome
+      shown-as told lists known are =
+          told-product p q text lent same product took gives (λ (l : ProductLists) (bytes : List ℕ). ShowsOpenings l bytes entry.streams exit.streams outcome) told lists known are (did-as Opening asks).form
+
+      -- where it can start and no fault comes, all messages of the input are collected that can be counted
+      pub all-collected : (can : CanTakeInput entry Opening) → IsQuiet entry exit → EndsWell m entry Opening can outcome.status
+      all-collected can quiet image known kept start =
+          let faults = no-fault Opening (causes-as Opening asks) quiet in
+          opening-well m i j old new outcome faults (λ four. quiet.input ((causes-as Opening asks).read four).1) can.start.product can.start.text can.start.gives image known kept start can.bytes can.input_known
+          (shown-as can.start.text can.start.product can.start.text_known can.start.gives)
 
     -- ---- what was printed
 
@@ -399,6 +416,7 @@ module _ {P I S : Type 0} (m : StationMeanings S) (p q : SourceAt P) (i j : Sour
       reads-by Checkpoint printing did = absurd printing
       reads-by Amend printing did = absurd printing
       reads-by Session printing did = absurd printing
+      reads-by Opening printing did = absurd printing
       reads-by Replay printing did = did.reads
       reads-by Book printing did = did.reads
       reads-by Fills printing did = did.reads
@@ -407,6 +425,7 @@ module _ {P I S : Type 0} (m : StationMeanings S) (p q : SourceAt P) (i j : Sour
 
       only-by : (x : Command) → OnlyReads x → Did x → ReadsAndSends m old new
       only-by Session reads did = did.reads
+      only-by Opening reads did = did.reads
       only-by Run reads did = absurd reads
       only-by (Drill first count) reads did = absurd reads
       only-by Checkpoint reads did = absurd reads
@@ -424,6 +443,7 @@ module _ {P I S : Type 0} (m : StationMeanings S) (p q : SourceAt P) (i j : Sour
       input-by : (x : Command) → (ReadsInput x → ⊥) → Did x → exit.streams.input ≡ entry.streams.input
       input-by Run other did = absurd (other tt)
       input-by Session other did = absurd (other tt)
+      input-by Opening other did = absurd (other tt)
       input-by (Drill first count) other did = did.1
       input-by Checkpoint other did = did.1
       input-by Amend other did = did.1
@@ -443,6 +463,7 @@ module _ {P I S : Type 0} (m : StationMeanings S) (p q : SourceAt P) (i j : Sour
       form-of Checkpoint did = tt
       form-of Amend did = tt
       form-of Session did = tt
+      form-of Opening did = tt
       form-of Replay printed = printed.form
       form-of Book printed = printed.form
       form-of Fills printed = printed.form
@@ -473,6 +494,7 @@ module _ {P I S : Type 0} (m : StationMeanings S) (p q : SourceAt P) (i j : Sour
         by-command Checkpoint printing lacks startable form = absurd printing
         by-command Amend printing lacks startable form = absurd printing
         by-command Session printing lacks startable form = absurd printing
+        by-command Opening printing lacks startable form = absurd printing
         by-command Replay printing lacks startable form =
             let at = startable (λ e. cc e) in events-printed m can.product can.text old new outcome quiet-print can.gives at.0 at.1.1.0 at.1.1.1 line_of _ form.answer form.outcome_is lacks (form.prints at.0 at.1.0)
         by-command Fills printing lacks startable form =
@@ -568,12 +590,17 @@ module _ {P I S : Type 0} (m : StationMeanings S) (p q : SourceAt P) (i j : Sour
       takes-input (inl stopped) = record { taken = []; took = and_left-none i.left ∙ ap (λ (l : Option (List ℕ)). and_left [] l) (sym (ap (λ (x : SourceAt I). x.left) stopped.input)) }
       takes-input (inr did) = record { taken = did.answers.serving.taken; took = did.answers.serving.took }
 
+      -- why `opening` ended
+      opened-as-text : ShowsOpenings product lent entry.streams exit.streams outcome → RunEnded entry exit outcome text product
+      opened-as-text shows = opening-ended entry exit outcome text product (subst (λ (l : List ℕ). ShowsOpenings product l entry.streams exit.streams outcome) same shows)
+
       ended : (x : Command) → Did x → outcome.status ≢ 1 → CommandEnded entry exit outcome text product x
       ended Run did told = ran-ended did
       ended (Drill first count) drilled told = drill-ended first count drilled.1 drilled.0
       ended Checkpoint did told = checkpoint-ended did.1 did.0
       ended Amend did told = did.1
       ended Session did told = takes-input did.form
+      ended Opening did told = opened-as-text did.form
       ended Replay printed told = printed.input
       ended Book printed told = printed.input
       ended Fills printed told = printed.input
@@ -631,6 +658,10 @@ module _ {P I S : Type 0} (m : StationMeanings S) (p q : SourceAt P) (i j : Sour
             let form = formed Ledger did in
             by-events Ledger product text image (λ head. one_bad_for_each head product.journal_limit image) outcome (λ head at bad. bad) (λ head at bad. bad) tt m old new (λ names. ledger_line) _ form.answer form.outcome_is told (form.prints image known)
         refuses-by Session opens did told = by-session (subst (λ (l : List ℕ). AnswersSession m product l entry.streams exit.streams outcome) same did.form) told
+        refuses-by Opening opens did told =
+            let ended = opened-as-text did.form in
+            by-ending Opening product text image (λ head. one_place product head product.journal_limit image) outcome (λ head at bad. bad) (λ head at bad. bad)
+            ended.ending ended.is (none-counted _ _ outcome ended.ending ended.serving.taken ended.is ended.serving.ends) (at-image image known ended.ending ended.image)
         refuses-by Steps opens did told = absurd opens
         refuses-by Amend opens did told = absurd opens
 
@@ -669,6 +700,7 @@ module _ {P I S : Type 0} (m : StationMeanings S) (p q : SourceAt P) (i j : Sour
         started-by Fills is did = not-started (subst OpensByText (sym is) tt) (λ e. cc (e, is))
         started-by Ledger is did = not-started (subst OpensByText (sym is) tt) (λ e. cc (e, is))
         started-by Session is did = not-started (subst OpensByText (sym is) tt) (λ e. cc (e, is))
+        started-by Opening is did = not-started (subst OpensByText (sym is) tt) (λ e. cc (e, is))
         started-by Steps is did = sent-not-refused did.form.result did.form.outcome_is
 
         pub opens-again : ⊥
@@ -700,6 +732,7 @@ module _ {P I S : Type 0} (m : StationMeanings S) (p q : SourceAt P) (i j : Sour
           never
       ending-by Amend did why never = amend-statuses m product lent i old new outcome did.0 never
       ending-by Session did why never = answers-low did.form never
+      ending-by Opening did why never = omega (arith, never, ending-low outcome did.form.ending outcome.messages did.form.is)
       ending-by Replay did why never = printing-status Replay why did.form.answer did.form.outcome_is (λ reads. reads) never
       ending-by Book did why never = printing-status Book why did.form.answer did.form.outcome_is (λ reads. reads) never
       ending-by Fills did why never = printing-status Fills why did.form.answer did.form.outcome_is (λ reads. reads) never
@@ -769,6 +802,7 @@ module _ {P I S : Type 0} (m : StationMeanings S) (p q : SourceAt P) (i j : Sour
     sends-grow Ledger given read a b le = omega arith
     sends-grow Steps given read a b le = omega arith
     sends-grow Session given read a b le = omega arith
+    sends-grow Opening given read a b le = omega arith
 
     pub keeps-what-is-sent : (m.is_honest old → IsHonestNow m old) → KeepsWhatIsSent the-call
     keeps-what-is-sent now c asks writing given read = every-sent the-call (work_of the-call c given read) (sends-grow c given read) (leaves-the-entry now c asks writing given read)
@@ -817,6 +851,7 @@ module _ {P I S : Type 0} (m : StationMeanings S) (p q : SourceAt P) (i j : Sour
     ends-well Checkpoint asks can quiet = unless-memory outcome.status (λ there. all-checkpointed asked command is (did there) causes asks can quiet)
     ends-well Amend asks can quiet = by-memory outcome.status (λ one. inl one) (λ there. all-amended asked command is (did there) causes asks can quiet)
     ends-well Session asks can quiet = unless-memory outcome.status (λ there. all-answered asked command is (did there) causes asks can quiet there)
+    ends-well Opening asks can quiet = unless-memory outcome.status (λ there. all-collected asked command is (did there) causes asks can quiet)
     ends-well Replay asks can quiet = unless-memory outcome.status (λ there. all-printed asked command is (did there) causes Replay asks can quiet tt there)
     ends-well Book asks can quiet = unless-memory outcome.status (λ there. all-printed asked command is (did there) causes Book asks can quiet tt there)
     ends-well Fills asks can quiet = unless-memory outcome.status (λ there. all-printed asked command is (did there) causes Fills asks can quiet tt there)
@@ -828,6 +863,9 @@ module _ {P I S : Type 0} (m : StationMeanings S) (p q : SourceAt P) (i j : Sour
 
     pub answers-its-input : AnswersItsInput the-call
     answers-its-input asks given = answered-as asked command is (did given.memory) causes asks given.text given.product given.text_known given.gives
+
+    pub shows-its-openings : ShowsItsOpenings the-call
+    shows-its-openings asks given = shown-as asked command is (did given.memory) causes asks given.text given.product given.text_known given.gives
 
     pub ends-where-told : EndsWhereTold the-call
     ends-where-told c asks told = told-ended asked command is (did told) causes c asks told

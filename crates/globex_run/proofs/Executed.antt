@@ -184,7 +184,7 @@ input-stopped m product text before after outcome command reads right n is place
     low few = ⊎_elim (λ e. omega (arith, e, few)) (λ e. omega (arith, e, few)) either
 
 -- a command that reads its input
-input-causes : {I S : Type 0} (m : StationMeanings S) (product : ProductLists) (text : List ℕ) (before after : Streams I S) (outcome : Outcome) (command : Command) (reads : ReadsInput command) (right : IsRightProduct product) (ending : Ending) → outcome ≡ outcome_of ending outcome.messages → CausedBy ending before after → HasCauses m product text before after outcome command
+pub input-causes : {I S : Type 0} (m : StationMeanings S) (product : ProductLists) (text : List ℕ) (before after : Streams I S) (outcome : Outcome) (command : Command) (reads : ReadsInput command) (right : IsRightProduct product) (ending : Ending) → outcome ≡ outcome_of ending outcome.messages → CausedBy ending before after → HasCauses m product text before after outcome command
 input-causes m product text before after outcome command reads right (ReadFault place) is cause =
     let status : outcome.status ≡ 4 = ap (λ (o : Outcome). o.status) is in
     record {

@@ -13,7 +13,7 @@ use Rattle.book_recovery.specs.Kept.{IsStartable}
 use Rattle.book_recovery.specs.BadPlaces.{IsBadForEachRecord, IsBadPlace}
 use Rattle.book_recovery.proofs.OneWay.{no_bad_place}
 use Rattle.command_words.specs.declared.command.Command.{Command}
-use Rattle.command_words.specs.declared.command.Command.TheVariants.{Run, Replay, Book, Fills, Ledger, Steps, Drill, Checkpoint, Amend, Session}
+use Rattle.command_words.specs.declared.command.Command.TheVariants.{Run, Replay, Book, Fills, Ledger, Steps, Drill, Checkpoint, Amend, Session, Opening}
 use Rattle.globex_run.specs.Refusals.{HasBadRecordFor, IsRefusedWith}
 use Rattle.globex_run.proofs.ProductReads.{short-text}
 use Rattle.globex_run.proofs.KeptMore.{good-startable}
@@ -55,6 +55,7 @@ module _ (product : ProductLists) (text image : List ℕ) (kept : History) (give
   not-bad-for Checkpoint at opened bad = not-bad at opened bad
   not-bad-for Amend at opened bad = not-bad at opened bad
   not-bad-for Book at opened bad = not-bad at opened bad
+  not-bad-for Opening at opened bad = not-bad at opened bad
   not-bad-for Replay at opened bad = not-bad-record at opened bad
   not-bad-for Fills at opened bad = not-bad-record at opened bad
   not-bad-for Ledger at opened bad = not-bad-record at opened bad

@@ -5,7 +5,7 @@ use Rattle.exec_report.specs.declared.texts.SendFault.{SendFault as SendFailed}
 use Rattle.journal_print.specs.declared.unprinted.Unprinted.{Unprinted}
 use Rattle.journal_print.specs.declared.unprinted.Unprinted.TheVariants as unprinted
 use Rattle.command_words.specs.declared.command.Command.{Command}
-use Rattle.command_words.specs.declared.command.Command.TheVariants.{Run, Replay, Book, Fills, Ledger, Steps, Drill, Checkpoint, Amend, Session}
+use Rattle.command_words.specs.declared.command.Command.TheVariants.{Run, Replay, Book, Fills, Ledger, Steps, Drill, Checkpoint, Amend, Session, Opening}
 use Rattle.globex_run.specs.Outcomes.{outcome_of}
 use Rattle.globex_run.specs.Words.{NeverEndsWith}
 use Rattle.globex_run.specs.Prints.{outcome_printed, outcome_sent}
@@ -41,6 +41,7 @@ never-prints status never = lacks-four status 7 8 12 13 (λ e. cc e) (λ e. cc e
 pub never-lacks : (command : Command) (status : ℕ) → NeverEndsWith command status → status ≢ 1
 never-lacks Run status never one = omega (arith, never, one)
 never-lacks Session status never one = omega (arith, never, one)
+never-lacks Opening status never one = omega (arith, never, one)
 never-lacks (Drill first count) status never one = lacks-three status 7 8 13 (λ e. cc e) (λ e. cc e) (λ e. cc e) never one
 never-lacks Checkpoint status never one = lacks-four status 6 7 8 13 (λ e. cc e) (λ e. cc e) (λ e. cc e) (λ e. cc e) never one
 never-lacks Amend status never one = lacks-three status 6 7 8 (λ e. cc e) (λ e. cc e) (λ e. cc e) never one

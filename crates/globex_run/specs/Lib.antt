@@ -10,6 +10,7 @@ pub mod Drills
 pub mod Checkpoints
 pub mod Prints
 pub mod Answering
+pub mod OpeningPrices
 pub mod Refusals
 pub mod FullJournals
 pub mod Calls

@@ -9,7 +9,7 @@ use Rattle.order_kinds.specs.Histories.{History, AreOfTexts, IsBalanced}
 use Rattle.report_laws.specs.Sums.{IsReadBalanced}
 use Rattle.resend_laws.specs.Repeats.{RepeatsReports}
 use Rattle.command_words.specs.declared.command.Command.{Command}
-use Rattle.command_words.specs.declared.command.Command.TheVariants.{Run, Checkpoint, Amend, Session}
+use Rattle.command_words.specs.declared.command.Command.TheVariants.{Run, Checkpoint, Amend, Session, Opening}
 use Rattle.globex_run.specs.Calls.{Call}
 use Rattle.product_file.specs.Products.{ProductLists}
 use Rattle.product_file.specs.ProductTexts.{product_of}
@@ -25,6 +25,7 @@ use Rattle.globex_run.specs.Amends.{HasNoRoomForAmendment, RefusesToAmend}
 use Rattle.globex_run.specs.Memory.{StopsAtProducts}
 use Rattle.globex_run.specs.Prints.{PrintsAs}
 use Rattle.globex_run.specs.Answering.{AnswersSession}
+use Rattle.globex_run.specs.OpeningPrices.{ShowsOpenings}
 use Rattle.globex_run.specs.Refusals.{IsRefusal, RefusesExactly, CanStart}
 use Rattle.globex_run.specs.FullJournals.{IsFullJournal}
 use Rattle.globex_run.specs.Works.{Given, GivenFor, Reads, work_of, DoneBy, EndedBy, Serves, ServesNone, bytes_for, CanBeDone, EndsWell}
@@ -109,6 +110,11 @@ module _ {P I S : Type 0} (c : Call P I S) where
   abbrev pub AnswersItsInput : Type 0
   AnswersItsInput = c.asked ≡ Some Session → (given : ProductPremises c.before c.after c.outcome.status)
       → AnswersSession c.station given.product given.text c.before.streams c.after.streams c.outcome
+
+  -- What `opening` sends, whatever its status: the openings once the messages of its input are collected, or a part of them, or nothing.
+  abbrev pub ShowsItsOpenings : Type 0
+  ShowsItsOpenings = c.asked ≡ Some Opening → (given : ProductPremises c.before c.after c.outcome.status)
+      → ShowsOpenings given.product given.text c.before.streams c.after.streams c.outcome
 
   -- The lines that are sent again out of a history are some of its reports, in their order, but for what says that they are sent again.
   abbrev pub RepeatsTheReports : Type 0

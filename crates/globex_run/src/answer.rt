@@ -1,7 +1,5 @@
 //! Answering the session messages of the input: frames in, answers out. Nothing is kept.
-ghost use Rattle.std.specs.Prelude.{◌≡◌, ℕ, ◌+◌, ◌^◌, ◌<◌, ◌≤◌, [], length, slice_index, vec_len, IfOk, OnOk, OnErr};
-ghost use Rattle.std.specs.List.{All, concat};
-ghost use Rattle.fix_frame.specs.Grammar.{IsFrame};
+ghost use Rattle.std.specs.Prelude.{◌≡◌, ℕ, ◌^◌, ◌<◌, [], slice_index, vec_len, IfOk, OnOk, OnErr};
 ghost use Rattle.fix_frame.specs.declared.framer.TheConstants.{ROOM};
 ghost use Rattle.fix_session.specs.SessionOut.{session_out, sessions_after};
 ghost use Rattle.globex_run.specs.Answering.{lines_again};
@@ -11,7 +9,7 @@ ghost use Rattle.globex_run.specs.Inner.AnswerSteps.{CanResend, Steps, Turns, An
 ghost use Rattle.globex_run.specs.Inner.Serving.{IsEmptyFramer};
 
 use crate::ending::Ending;
-use crate::give_frames::{Behind, give_frames};
+use crate::give_frames::{Behind, give_frames, given_are_frames};
 use crate::outcome::Outcome;
 use crate::printing::{new_reader, outcome_printed};
 use crate::resender::{Resender, Unanswered, send_all, send_answer};
@@ -45,14 +43,6 @@ struct Answering<'p, B: Book> {
 struct Answered {
     ending: Ending,
     messages: u64,
-}
-
-/// The frames given are frames, and the framer holds them and what comes after them. Does nothing.
-fn given_are_frames(framer: &Framer)
-    ensures frames { All IsFrame framer.now.given }
-    ensures fits { length (concat framer.now.given) + length framer.now.rest ≤ ROOM }
-{
-    framer.all_given();
 }
 
 /// Answers the messages of the frames that a framer has given, one after the other. After an error what was sent is a part of the

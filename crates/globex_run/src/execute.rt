@@ -6,6 +6,7 @@ ghost use Rattle.globex_run.specs.Outside.{streams_at};
 ghost use Rattle.globex_run.specs.Words.{IsWriting};
 ghost use Rattle.globex_run.specs.Refusals.{IsRefusal};
 ghost use Rattle.globex_run.specs.Inner.Checkpointing.{CheckpointResult};
+ghost use Rattle.globex_run.specs.Inner.Collecting.{ShowsWithCause};
 ghost use Rattle.globex_run.specs.Inner.Drilling.{DrillsMade};
 ghost use Rattle.globex_run.specs.Inner.Executing.{Executes, HasCauses, IsExecuted};
 
@@ -47,7 +48,7 @@ pub fn execute<I: Source, S: Station>(
     }
 }
 
-/// Executes a command. `run` and `session` alone read the input. `run`, `drill`, `checkpoint` and `amend` add to the journal; the others print or
+/// Executes a command. `run`, `session` and `opening` alone read the input. `run`, `drill`, `checkpoint` and `amend` add to the journal; the others print or
 /// answer, and write nothing. An `Err` is want of memory, and nothing was touched then.
 fn executed<I: Source, S: Station>(
     alloc: Global,
@@ -68,6 +69,7 @@ fn executed<I: Source, S: Station>(
         Command::Checkpoint => checkpoint(alloc, taken, station),
         Command::Amend => amend(alloc, taken, station),
         Command::Session => answer_messages(alloc, taken, input, station),
+        Command::Opening => opening(alloc, taken, input, station),
         Command::Replay => print_each_record(
             alloc,
             &mut Lines { form: ReportForm },
@@ -136,4 +138,20 @@ fn checkpoint<S: Station>(
 {
     let mut session = Session::new(alloc, taken)?;
     Ok(session.checkpoint(station))
+}
+
+/// Takes the memory of a session, and shows the openings. An `Err` is want of memory, and nothing was touched then.
+fn opening<I: Source, S: Station>(
+    alloc: Global,
+    taken: &Taken<'_>,
+    input: &mut I,
+    station: &mut S,
+) -> Result<Outcome, AllocError>
+    ensures shows { IfOk result (ShowsWithCause S.meanings taken.now.product.now taken.now.text.now
+        (streams_at I.meanings S.meanings input.old station.old) (streams_at I.meanings S.meanings input.new station.new)) }
+    ensures no_input { OnErr result (input.new ≡ input.old) }
+    ensures no_station { OnErr result (station.new ≡ station.old) }
+{
+    let mut session = Session::new(alloc, taken)?;
+    Ok(session.show_openings(input, station))
 }

@@ -11,6 +11,7 @@ mod give_frames;
 mod headline;
 mod journal_use;
 mod open;
+mod opening_prices;
 mod outcome;
 mod printing;
 mod product_text;

@@ -12,7 +12,8 @@ ghost use Rattle.globex_run.specs.Promises.{DoesAll, EndsAsTold, LeavesAFront, L
 ghost use Rattle.globex_run.specs.Promises.{AddsMessagesAlone, AddsARecordPerRead, ReadsItOnce, IsFullForMessages, IsFullForImage, IsFullForAmendment, SendsNothing};
 ghost use Rattle.globex_run.specs.Promises.{EndsWellWhereItCan, AnswersWords, AnswersProductText, LeavesWhatItRefuses};
 ghost use Rattle.globex_run.specs.Promises.{TellsReadFaults, TellsStoreFaults, TellsSendFaults};
-ghost use Rattle.globex_run.specs.Promises.{PrintsItsText, AnswersItsInput, RepeatsTheReports, Balances, BalancesAsRead, EndsWhereTold, LeavesAllAtNoMemory, RefusesWhatItMust, RefusesAmendments, OpensAgain, HasItsStatuses};
+ghost use Rattle.globex_run.specs.Promises.{PrintsItsText, AnswersItsInput, ShowsItsOpenings, RepeatsTheReports, Balances, BalancesAsRead, EndsWhereTold, LeavesAllAtNoMemory, RefusesWhatItMust, RefusesAmendments, OpensAgain, HasItsStatuses};
+ghost use Rattle.globex_run.specs.OpeningPrices.{OpensAtBestPrices};
 ghost use Rattle.globex_run.specs.Inner.Statuses.{outcome_without, outcome_of_words};
 
 use crate::ending::Ending;
@@ -22,6 +23,9 @@ use crate::product_text::{NoProduct, take_product};
 use crate::taken::Taken;
 use command_words::{WordsFault, read_command};
 use gx_station::{Source, Station};
+use open_auction::{
+    candidates_are_the_prices, no_price_opens_more, pairs_add_up, ties_fall_by_the_rules,
+};
 use report_laws::reports_balance;
 use resend_laws::resends_repeat_reports;
 use std::alloc::Global;
@@ -47,8 +51,8 @@ fn outcome_without(reason: NoProduct) -> Outcome
     }
 }
 
-/// Executes the command of the words: `run`, `drill`, `checkpoint`, `amend`, `session`, or one of those that only print: `replay`, `book`,
-/// `fills`, `ledger`, `steps`.
+/// Executes the command of the words: `run`, `drill`, `checkpoint`, `amend`, `session`, `opening`, or one of those that only print: `replay`,
+/// `book`, `fills`, `ledger`, `steps`.
 ///
 /// `run` takes the product, opens its journal and recovers the state of the messages kept there, and serves the input: all whole
 /// messages at hand are kept in one record of the journal, then applied, and then their reports are sent, before more is read.
@@ -59,7 +63,8 @@ fn outcome_without(reason: NoProduct) -> Outcome
 /// way, but that it reports none of them and sends one line that sums them up, once all are kept. `checkpoint` adds one book image to
 /// the journal, from which these commands and `book` begin then, and sends nothing. `amend` has the journal go on under the product handed
 /// in, and sends nothing: it adds one record with the product's text, unless the journal has that text already. `session` answers the session
-/// messages of firms, by what the journal keeps: it sends report lines again, and writes nothing. The others send what they print, and write
+/// messages of firms, by what the journal keeps: it sends report lines again, and writes nothing. `opening` collects the orders of the input
+/// on the book that the journal keeps, and sends at which price each instrument would open; it writes nothing. The others send what they print, and write
 /// nothing. `Outcome` lists the statuses.
 ///
 /// The words are tried first: 2 comes exactly where they are no command. The product is tried next: 3 comes exactly where its text
@@ -99,9 +104,11 @@ pub fn globex<P: Source, I: Source, S: Station>(
     ensures amendment_full { IsFullForAmendment (call P.meanings I.meanings S.meanings words.now product input station result) }
     ensures sends_nothing { SendsNothing (call P.meanings I.meanings S.meanings words.now product input station result) }
 
-    // Commands that print or answer, and that they only read.
+    // Commands that print, answer or collect, and that they only read. The openings are at the best prices, whatever the orders are.
     ensures prints { PrintsItsText (call P.meanings I.meanings S.meanings words.now product input station result) }
     ensures answers { AnswersItsInput (call P.meanings I.meanings S.meanings words.now product input station result) }
+    ensures openings { ShowsItsOpenings (call P.meanings I.meanings S.meanings words.now product input station result) }
+    ensures best_openings { OpensAtBestPrices }
     ensures repeats { RepeatsTheReports (call P.meanings I.meanings S.meanings words.now product input station result) }
     ensures only_reads { (asked : Command) → AsksFor words.now asked → OnlyReads asked → ReadsAndSends S.meanings station.old station.new }
 
@@ -137,6 +144,10 @@ pub fn globex<P: Source, I: Source, S: Station>(
 {
     reports_balance();
     resends_repeat_reports();
+    no_price_opens_more();
+    ties_fall_by_the_rules();
+    candidates_are_the_prices();
+    pairs_add_up();
     let command = match read_command(alloc, words) {
         Ok(command) => command,
         Err(fault) => return outcome_of_words(fault),

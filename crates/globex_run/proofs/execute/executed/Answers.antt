@@ -9,6 +9,7 @@ use Rattle.globex_run.specs.Inner.Executing.{IsExecuted}
 use Rattle.globex_run.specs.declared.outcome.Outcome.{Outcome}
 use Rattle.globex_run.proofs.AmendExecuted.{amend-executed}
 use Rattle.globex_run.proofs.Executed.{if-ok, if-ok-three, drill-executed, checkpoint-executed, steps-executed, book-executed, each-executed, session-executed}
+use Rattle.globex_run.proofs.OpeningHeadlines.{opening-executed}
 use Rattle.globex_run.proofs.execute.executed.Goals as goal
 
 pub returns-in-Drill-clause-did : goal.returns-in-Drill-clause-did
@@ -85,3 +86,11 @@ returns-in-Session-clause-did g c =
     let after = streams_at g.I.Source.meanings m c.answer_messages.new.input c.answer_messages.new.station in
     subst (λ (x : Command). IfOk c.answer_messages.result (λ (outcome : Outcome). IsExecuted m c.args.taken.now.product.now c.args.taken.now.text.now before after outcome x)) (sym c.in-Session.is)
     (if-ok c.answer_messages.result _ _ (λ outcome answered. session-executed m c.args.taken.now.product.now c.args.taken.now.text.now (source_at g.I.Source.meanings c.args.input.now) (source_at g.I.Source.meanings c.answer_messages.new.input) c.args.station.now c.answer_messages.new.station outcome c.limits.ensures answered) c.answer_messages.ensures.answers)
+
+pub returns-in-Opening-clause-did : goal.returns-in-Opening-clause-did
+returns-in-Opening-clause-did g c =
+    let m = g.S.Station.meanings in
+    let before = streams_at g.I.Source.meanings m c.args.input.now c.args.station.now in
+    let after = streams_at g.I.Source.meanings m c.opening.new.input c.opening.new.station in
+    subst (λ (x : Command). IfOk c.opening.result (λ (outcome : Outcome). IsExecuted m c.args.taken.now.product.now c.args.taken.now.text.now before after outcome x)) (sym c.in-Opening.is)
+    (if-ok c.opening.result _ _ (λ outcome did. opening-executed m c.args.taken.now.product.now c.args.taken.now.text.now before after outcome c.limits.ensures did) c.opening.ensures.shows)

@@ -5,7 +5,8 @@ use Rattle.fix_frame.specs.Grammar.{IsPartOfFrame}
 use Rattle.globex_run.specs.Outside.{source_at}
 use Rattle.globex_run.specs.Inner.Serving.{TakesMore}
 use Rattle.globex_run.proofs.Turns.{nothing_unfinished}
-use Rattle.globex_run.proofs.AnswerTurns.{turn_first, turn_read, turn_more, answer_falls, answer_place, last_answered, ends_read_fault, ends_done, ends_truncated, ends_full, ends_broken, stops_store, stops_send}
+use Rattle.globex_run.proofs.FrameTurns.{turn_falls, place_within, last_given}
+use Rattle.globex_run.proofs.AnswerTurns.{turn_first, turn_read, turn_more, ends_read_fault, ends_done, ends_truncated, ends_full, ends_broken, stops_store, stops_send}
 use Rattle.globex_run.proofs.answer.Answering.answer_input.Goals as goal
 
 pub turns-init : goal.turns-init
@@ -89,7 +90,7 @@ returns-in-Err-Send g c =
 
 pub turns-smaller : goal.turns-smaller
 turns-smaller g c =
-    answer_falls c.turns.count c.given_count.result c.give_frames-behind.new.framer.given c.turns.framer.rest c.in-Ok.ensures.takes.taken c.take_more.new.framer.rest c.give_frames-behind.new.framer.rest c.given_count.ensures (omega (arith, c.given_count.ensures, c.turns.invariant.few, c.give_frames-behind.ensures.few)) c.given_are_frames.ensures.fits
+    turn_falls c.turns.count c.given_count.result c.give_frames-behind.new.framer.given c.turns.framer.rest c.in-Ok.ensures.takes.taken c.take_more.new.framer.rest c.give_frames-behind.new.framer.rest c.given_count.ensures (omega (arith, c.given_count.ensures, c.turns.invariant.few, c.give_frames-behind.ensures.few)) c.given_are_frames.ensures.fits
     (λ none. c.in-Ok.field-0-test.1 (sym c.in-Ok.ensures.takes.count ∙ none)) c.in-Ok.ensures.takes.rest c.give_frames-behind.ensures.front
 
 pub turns-preserved : goal.turns-preserved
@@ -113,7 +114,7 @@ turns-preserved g c =
       few = omega (arith, few);
       chunk = search rules;
       place = subst (λ (n : ℕ). n ≤ (c.turns.count + c.given_count.result) * 8192) (sym (c.give_frames-behind.ensures.offset ∙ ap (λ (n : ℕ). n + length (concat c.give_frames-behind.new.framer.given)) c.take_more.ensures.takes.offset))
-          (answer_place c.turns.count c.given_count.result c.turns.framer.offset c.give_frames-behind.new.framer.given c.give_frames-behind.new.framer.rest c.given_count.ensures c.turns.invariant.place c.given_are_frames.ensures.fits);
+          (place_within c.turns.count c.given_count.result c.turns.framer.offset c.give_frames-behind.new.framer.given c.give_frames-behind.new.framer.rest c.given_count.ensures c.turns.invariant.place c.given_are_frames.ensures.fits);
     }
 
 pub returns-in-NoRoom : goal.returns-in-NoRoom
@@ -128,7 +129,7 @@ returns-in-NoRoom g c =
     let read = turn_read m product lines start kept source c.args.station.now (source_at ins c.turns.input) c.turns.station c.turns.sessions c.turns.resender.kept c.turns.count c.turns.framer c.turns.invariant.turn {F = Failed} (source_at ins c.take_more.new.input) c.take_more.new.framer c.in-Ok.field-0 c.in-Ok.ensures.takes in
     let few : c.turns.count + c.given_count.result < 16777216 = omega (arith, c.given_count.ensures, c.turns.invariant.few, c.give_frames-behind.ensures.few) in
     let turn = turn_more m product lines start kept source c.args.station.now (source_at ins c.take_more.new.input) c.turns.station c.turns.sessions c.turns.resender c.answer_turn.new.resender c.turns.count c.take_more.new.framer read 16384 _ c.give_frames-behind.new.framer c.give_frames-behind.result c.give_frames-behind.ensures c.given_are_frames.ensures.frames c.answer_turn.new.station c.answer_turn.new.sessions c.given_count.result c.given_count.ensures few c.in-Ok-answer_turn.ensures.sends c.in-Ok-answer_turn.ensures.sessions in
-    ends_full m product lines start kept source c.args.station.now (source_at ins c.take_more.new.input) c.answer_turn.new.station c.answer_turn.new.sessions c.answer_turn.new.resender.kept (c.turns.count + c.given_count.result) c.give_frames-behind.new.framer turn c.offset.result c.offset.ensures (last_answered c.turns.count _ c.given_count.result c.give_frames-behind.new.framer c.given_count.ensures c.turns.invariant.few refl c.given_are_frames.ensures.fits c.in-NoRoom.ensures.stands)
+    ends_full m product lines start kept source c.args.station.now (source_at ins c.take_more.new.input) c.answer_turn.new.station c.answer_turn.new.sessions c.answer_turn.new.resender.kept (c.turns.count + c.given_count.result) c.give_frames-behind.new.framer turn c.offset.result c.offset.ensures (last_given c.turns.count _ c.given_count.result c.give_frames-behind.new.framer c.given_count.ensures c.turns.invariant.few refl c.given_are_frames.ensures.fits c.in-NoRoom.ensures.stands)
 
 pub returns-in-Broken : goal.returns-in-Broken
 returns-in-Broken g c =
