@@ -229,7 +229,7 @@ look_amend() {
     same journal.gxj was
     # Each command wants the file that the journal has, and a firm cannot be taken out again.
     mkdir former && cp former.toml former/product.toml && cp journal.gxj former/
-    for word in run replay fills ledger book session checkpoint 'drill --first 1 --count 1'; do
+    for word in run replay fills ledger book session opening checkpoint 'drill --first 1 --count 1'; do
         (cd former && "$globex" $word </dev/null >/dev/null 2>&1)
         expect $? 11 "the status of $word with the former file"
     done
@@ -307,6 +307,43 @@ prepare_session-port() {
 look_session-port() {
     look_logons
     "$globex" session <asked | cmp - taken >&2 || fail 'the answers over a socket differ'
+}
+
+# What `close` leaves: a closed market, and an order until cancelled.
+prepare_opening() {
+    prepare_close
+    echo '35=h|49=GX|56=GX|34=1|52=20240102-16:00:00|340=3|' | "$tools/frames" make --product product.toml >orders
+    serve
+    "$tools/journal" messages journal.gxj >earlier
+}
+look_opening() {
+    # It has kept nothing.
+    nothing_lost_or_doubled earlier orders
+    cp journal.gxj was
+    end_opening 0 '' <gathered
+    end_opening 7 'globex: status 7 at 330 after 3 messages' < <(head -c 330 gathered && printf 'no frame at all')
+    end_opening 8 'globex: status 8 at 330 after 3 messages' <part
+    expect "$("$globex" opening </dev/null | head -n 1)" ESZ4 'the first line without an order'
+    # A journal without messages is taken as it is.
+    mkdir alone && cp product.toml alone/ && cd alone || return
+    "$tools/frames" make --product product.toml >orders <<'END'
+35=D|49=AAA|56=GX|34=1|52=20240102-09:30:00|11=a1|55=ESZ4|54=1|38=10|40=2|44=100.02|59=0|
+35=D|49=BBB|56=GX|34=1|52=20240102-09:30:01|11=b1|55=ESZ4|54=1|38=5|40=2|44=100.00|59=0|
+35=D|49=CCC|56=GX|34=1|52=20240102-09:30:02|11=c1|55=ESZ4|54=2|38=8|40=2|44=99.99|59=0|
+35=D|49=DDD|56=GX|34=1|52=20240102-09:30:03|11=d1|55=ESZ4|54=2|38=4|40=2|44=100.01|59=0|
+END
+    expect "$("$globex" opening <orders | tail -n 3 | tr '\n' '/')" \
+        'opening 100.01 volume 10/8@100.01 #1 #3/2@100.01 #1 #4/' 'the worked opening'
+    [ ! -s journal.gxj ] || fail 'opening has written a journal'
+}
+
+# An opening over standard input ends with a status and this line, and leaves the journal.
+end_opening() {
+    "$globex" opening >text 2>err
+    expect $? "$1" 'the status of an opening'
+    expect "$(cat err)" "$2" 'the line of an opening'
+    [ "$1" = 0 ] || expect "$(in_bytes text)" 0 'bytes sent by an opening that did not end well'
+    same journal.gxj was
 }
 
 prepare_copy() {
@@ -616,7 +653,7 @@ two-runs() {
         expect "$(in_bytes out)" 0 "what $word sends beside a run"
         same journal.gxj was
     done
-    for word in replay fills ledger book session steps; do
+    for word in replay fills ledger book session opening steps; do
         "$globex" $word </dev/null >/dev/null
         expect $? 0 "the status of $word beside a run"
     done
@@ -651,7 +688,7 @@ closed-streams() {
     (cd with && "$globex" run <orders >/dev/null)
     cp with/journal.gxj kept.gxj
     for kept in with without; do
-        for command in run replay book fills ledger session steps checkpoint amend 'drill --first 1 --count 3'; do
+        for command in run replay book fills ledger session opening steps checkpoint amend 'drill --first 1 --count 3'; do
             for closed in 0 1 2 01 02 12 012; do
                 (try_closed)
             done
@@ -672,7 +709,7 @@ try_closed() {
     eval "\"\$globex\" $command <orders >../out 2>../err $words"
     status=$?
     case $command:$closed in
-    run:*0* | session:*0*) wanted=4 ;;
+    run:*0* | session:*0* | opening:*0*) wanted=4 ;;
     checkpoint:* | amend:*) ;;
     *:*1*)
         wanted=6
@@ -690,8 +727,8 @@ try_closed() {
     drill*) has=$((before + 3)) ;;
     esac
     case $kept:$command in
-    with:replay | with:book | with:fills | with:ledger | with:session | with:steps) same journal.gxj ../kept.gxj ;;
-    without:replay | without:book | without:fills | without:ledger | without:session) [ ! -s journal.gxj ] || fail "$what: bytes in the journal" ;;
+    with:replay | with:book | with:fills | with:ledger | with:session | with:opening | with:steps) same journal.gxj ../kept.gxj ;;
+    without:replay | without:book | without:fills | without:ledger | without:session | without:opening) [ ! -s journal.gxj ] || fail "$what: bytes in the journal" ;;
     without:steps) [ ! -e journal.gxj ] || fail "$what: a journal was made" ;;
     *)
         expect "$("$tools/journal" count journal.gxj)" $has "$what: messages kept"
@@ -708,7 +745,8 @@ try_closed() {
 
 wrong-words() {
     local words
-    for words in '' nothing --help 'run book' drill 'drill --first 1' 'steps --first 1' 'run --count 1' 'amend book' 'session run' 'session --first 1' sessions Run; do
+    for words in '' nothing --help 'run book' drill 'drill --first 1' 'steps --first 1' 'run --count 1' 'amend book' 'session run' 'session --first 1' sessions \
+        'opening book' 'opening --count 1' openings Run; do
         "$globex" $words </dev/null >out 2>/dev/null
         expect $? 2 "the status of the words '$words'"
         expect "$(ls)" out "files after the words '$words'"
@@ -770,7 +808,7 @@ read-only() {
     chmod 444 journal.gxj product.toml orders
     cp "$globex" ./program && chmod 755 program
     [ "$(id -u)" != 0 ] || somebody=(setpriv --reuid=65534 --regid=65534 --clear-groups)
-    for word in run replay fills ledger book session checkpoint amend; do
+    for word in run replay fills ledger book session opening checkpoint amend; do
         "${somebody[@]}" ./program $word <orders >/dev/null 2>&1
         expect $? 5 "the status of $word over a read-only journal"
     done
@@ -781,7 +819,7 @@ strange-journals() {
     local kind word status
     take_example F
     for kind in pipe folder null full; do
-        for word in replay book session run checkpoint amend; do
+        for word in replay book session opening run checkpoint amend; do
             rm -rf journal.gxj
             case $kind in
             pipe) mkfifo journal.gxj ;;
