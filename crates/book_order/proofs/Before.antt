@@ -1,10 +1,11 @@
 -- The order of the levels.
-use Rattle.std.proofs.Common.{◌≡◌, ℕ, Bool, true, false, ◌&&◌, ◌||◌, refl, sym, ◌∙◌, arith}
+use Rattle.std.proofs.Common.{◌≡◌, ◌≢◌, ℕ, Bool, true, false, ◌&&◌, ◌||◌, refl, sym, ap, ◌∙◌, arith}
 use Rattle.std.specs.Prelude.{ℤ, pos, negsuc, int_lt, nat_lt, ◌==◌}
-use Rattle.std.proofs.lemmas.Bool.Decides.{nat_tests}
+use Rattle.std.specs.Ordering.{int_eq}
+use Rattle.std.proofs.lemmas.Bool.Decides.{nat_tests, Decides-int_eq}
 use Rattle.gx_base.specs.declared.order.Side.{Side}
 use Rattle.gx_base.specs.declared.order.Side.TheVariants.{Buy, Sell}
-use Rattle.book_order.specs.Levels.{Level, is_before, is_side, side_before, is_better}
+use Rattle.book_order.specs.Levels.{Level, is_level, is_before, is_side, side_before, is_better}
 
 pub nat-past : (a b c : ℕ) → nat_lt a b ≡ true → nat_lt c b ≡ false → nat_lt a c ≡ true
 nat-past a b c h g = grind (arith, nat_tests)
@@ -78,3 +79,28 @@ before-past a b c h g = lex-past a.instrument b.instrument c.instrument _ (inner
 
 pub before-apart : (a b : Level) → is_before a b ≡ true → is_before b a ≡ false
 before-apart a b h = lex-apart a.instrument b.instrument _ _ (inner-apart a.side b.side a.price b.price) h
+
+-- ---- of two levels one comes before the other
+
+nat-other : (a b : ℕ) (p q e : Bool) → (p ≡ false → e ≡ false → q ≡ true) → (nat_lt a b || ((a == b) && p)) ≡ false → ((b == a) && e) ≡ false → (nat_lt b a || ((b == a) && q)) ≡ true
+nat-other a b p q e k h g = grind (arith, nat_tests, k)
+
+int-other : (a b : ℤ) → int_lt a b ≡ false → a ≢ b → int_lt b a ≡ true
+int-other (pos a) (pos b) h ne = let n : a ≢ b = λ e. ne (ap pos e) in grind (arith, nat_tests)
+int-other (pos a) (negsuc b) h ne = refl
+int-other (negsuc a) (pos b) h ne = cc
+int-other (negsuc a) (negsuc b) h ne = let n : a ≢ b = λ e. ne (ap negsuc e) in grind (arith, nat_tests)
+
+better-other : (s : Side) (a b : ℤ) → is_better s a b ≡ false → int_eq b a ≡ false → is_better s b a ≡ true
+better-other Buy a b h g = int-other b a h (λ e. let t = (Decides-int_eq b a).1 e in cc)
+better-other Sell a b h g = int-other a b h (λ e. let t = (Decides-int_eq b a).1 (sym e) in cc)
+
+side-other : (s t : Side) (p q : ℤ) → (side_before s t || (is_side s t && is_better s p q)) ≡ false → (is_side t s && int_eq q p) ≡ false → (side_before t s || (is_side t s && is_better t q p)) ≡ true
+side-other Buy Buy p q h g = better-other Buy p q h g
+side-other Buy Sell p q h g = cc
+side-other Sell Buy p q h g = refl
+side-other Sell Sell p q h g = better-other Sell p q h g
+
+pub before-other : (a b : Level) → is_before a b ≡ false → is_level b a ≡ false → is_before b a ≡ true
+before-other a b h g =
+    nat-other a.instrument b.instrument (side_before a.side b.side || (is_side a.side b.side && is_better a.side a.price b.price)) (side_before b.side a.side || (is_side b.side a.side && is_better b.side b.price a.price)) (is_side b.side a.side && int_eq b.price a.price) (side-other a.side b.side a.price b.price) h g

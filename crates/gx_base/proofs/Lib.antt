@@ -1,5 +1,7 @@
 mod Capped
 mod Places
+pub mod NumberTexts
 mod PriceTexts
+pub mod PricesAgain
 pub mod Tests
 pub mod Written

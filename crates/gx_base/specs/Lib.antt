@@ -1,6 +1,7 @@
 pub mod Numbers
 pub mod Texts
 pub mod Orders
+pub mod ReadingBack
 pub mod FirstFault
 pub mod NameLists
 pub mod Frames

@@ -6,6 +6,7 @@ mod digits;
 mod emit;
 mod event;
 mod id;
+mod laws;
 mod limits;
 mod names;
 mod order;
@@ -21,6 +22,7 @@ pub use digits::{MOST_DIGITS, are_digits, read_digits};
 pub use emit::{Emit, NullEmit};
 pub use event::{Cause, ChangeFault, Event, Head, NewFault, NewRefused, StepName};
 pub use id::ShortId;
+pub use laws::printed_texts_are_read_back;
 pub use limits::{
     ADDRESSEES, LONGEST_LINE, LONGEST_NAME, LONGEST_VALUE, MOST_DECIMALS, MOST_FIRMS,
     MOST_INSTRUMENTS, MOST_LOTS, MOST_PRICE_UNITS, SOH,

@@ -1,24 +1,15 @@
 -- The room that a price takes.
 use Rattle.std.proofs.Common.{◌≡◌, ℕ, zero, suc, ◌+◌, ◌-◌, ◌*◌, ◌/◌, ◌^◌, ◌<◌, ◌≤◌, ◌∷◌, length, decimal, arith, refl, sym, ap, ◌∙◌}
 use Rattle.std.proofs.lemmas.Fmt.{length-decimal-le}
-use Rattle.std.proofs.lemmas.List.{length_push}
 use Rattle.std.proofs.lemmas.Nat.{pow-add}
 use Rattle.std.proofs.Math.Nat.{div-le_self, div-lt_iff_lt-mul, one-le-pow}
 use Rattle.gx_base.specs.Numbers.{fixed_digits, fraction_text}
 use Rattle.gx_base.specs.declared.limits.TheConstants.{MOST_DECIMALS}
 
-pub length-fixed_digits : (width n : ℕ) → length (fixed_digits width n) ≡ width
-length-fixed_digits zero n = refl
-length-fixed_digits (suc width) n = length_push (fixed_digits width (n / 10)) _ ∙ omega (arith, length-fixed_digits width (n / 10))
-
 -- with decimals there is a point
 pub some_fraction : (decimals n : ℕ) → (decimals ≡ 0 → ⊥) → fraction_text decimals n ≡ 46 ∷ fixed_digits decimals n
 some_fraction zero n some = absurd (some refl)
 some_fraction (suc k) n some = refl
-
-pub length-fraction_text : (decimals n : ℕ) → length (fraction_text decimals n) ≤ decimals + 1
-length-fraction_text zero n = omega arith
-length-fraction_text (suc k) n = omega (arith, length-fixed_digits (suc k) n)
 
 pub length-whole : (decimals n : ℕ) → decimals ≤ MOST_DECIMALS → n < 10 ^ 19 → length (decimal (n / 10 ^ decimals)) + decimals ≤ 19
 length-whole decimals n few small =

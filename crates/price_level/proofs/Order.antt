@@ -74,28 +74,3 @@ module _ (i : ℕ) (s : Side) (r : LevelRow) where
 
   pub row_at_off : (price : Price) → row_number r ≢ side_number i s → row_at (level i s price) r ≡ false
   row_at_off price ne = at_by_parts (r.instrument == i) (is_side r.side s) (int_eq r.price.0 price.0) ∙ ap (λ (b : Bool). b && int_eq r.price.0 price.0) (row_is_off ne)
-
--- ---- two levels, of which one comes before the other
-
-nat_other : (a b : ℕ) (p q e : Bool) → (p ≡ false → e ≡ false → q ≡ true) → (nat_lt a b || ((a == b) && p)) ≡ false → ((b == a) && e) ≡ false → (nat_lt b a || ((b == a) && q)) ≡ true
-nat_other a b p q e k h g = grind (arith, nat_tests, k)
-
-int_other : (a b : ℤ) → int_lt a b ≡ false → a ≢ b → int_lt b a ≡ true
-int_other (pos a) (pos b) h ne = let n : a ≢ b = λ e. ne (ap pos e) in grind (arith, nat_tests)
-int_other (pos a) (negsuc b) h ne = refl
-int_other (negsuc a) (pos b) h ne = cc
-int_other (negsuc a) (negsuc b) h ne = let n : a ≢ b = λ e. ne (ap negsuc e) in grind (arith, nat_tests)
-
-better_other : (s : Side) (a b : ℤ) → is_better s a b ≡ false → int_eq b a ≡ false → is_better s b a ≡ true
-better_other Buy a b h g = int_other b a h (λ e. let t = (Decides-int_eq b a).1 e in cc)
-better_other Sell a b h g = int_other a b h (λ e. let t = (Decides-int_eq b a).1 (sym e) in cc)
-
-side_other : (s t : Side) (p q : ℤ) → (side_before s t || (is_side s t && is_better s p q)) ≡ false → (is_side t s && int_eq q p) ≡ false → (side_before t s || (is_side t s && is_better t q p)) ≡ true
-side_other Buy Buy p q h g = better_other Buy p q h g
-side_other Buy Sell p q h g = cc
-side_other Sell Buy p q h g = refl
-side_other Sell Sell p q h g = better_other Sell p q h g
-
-pub before_other : (a b : Level) → is_before a b ≡ false → is_level b a ≡ false → is_before b a ≡ true
-before_other a b h g =
-    nat_other a.instrument b.instrument (side_before a.side b.side || (is_side a.side b.side && is_better a.side a.price b.price)) (side_before b.side a.side || (is_side b.side a.side && is_better b.side b.price a.price)) (is_side b.side a.side && int_eq b.price a.price) (side_other a.side b.side a.price b.price) h g

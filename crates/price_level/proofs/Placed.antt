@@ -5,10 +5,9 @@ use Rattle.std.specs.List.{AllByRecursion}
 use Rattle.std.proofs.lemmas.Bool.{eq-eqb, ne_eqb, not-true}
 use Rattle.std.proofs.lemmas.List.{length-append}
 use Rattle.std.proofs.lemmas.List.Elements.{filter-append}
-use Rattle.book_order.proofs.Before.{before-past, before-apart}
+use Rattle.book_order.proofs.Before.{before-past, before-apart, before-other}
 use Rattle.price_level.specs.declared.row.LevelRow.{LevelRow}
 use Rattle.price_level.specs.Rows.{level_of_row, row_at, row_before, queue_of_row, queue_at, HasQueue, row_of, placed_row, without_row, Pairs, AreRowsApart}
-use Rattle.price_level.proofs.Order.{before_other}
 use Rattle.price_level.proofs.Lists.{all-append, all-filter, all-with, all-both, pairs-append, pairs-across, pairs-front, pairs-back, filter-all, filter-none}
 use Rattle.price_level.proofs.RowLists.{lacks, queue-middle, queue-insert, row-middle}
 
@@ -49,7 +48,7 @@ module _ (n : LevelRow) where
 
   -- a row that is not of this level, and does not come behind it, comes before it
   ahead : (r : LevelRow) → row_before n r ≡ false → row_at (level_of_row n) r ≡ false → row_before r n ≡ true
-  ahead r h g = before_other (level_of_row n) (level_of_row r) h g
+  ahead r h g = before-other (level_of_row n) (level_of_row r) h g
 
   module _ (rs : List LevelRow) (a : Pairs AreRowsApart rs) (absent : queue_at (level_of_row n) rs ≡ None) (fresh : HasQueue n.queue rs → ⊥) where
     front-lacks : AllByRecursion (λ (r : LevelRow). r.queue ≢ n.queue) (front rs)

@@ -2,7 +2,8 @@ use Rattle.std.proofs.Common.{◌≡◌, ℕ, List, ◌+◌, ◌-◌, ◌∷◌,
 use Rattle.std.proofs.lemmas.Slice.{take-put_mid}
 use Rattle.std.proofs.lemmas.List.{length-take-le}
 use Rattle.gx_base.specs.Numbers.{fixed_digits}
-use Rattle.line_parts.proofs.PriceTexts.{some_fraction, length-fixed_digits}
+use Rattle.gx_base.proofs.PricesAgain.{length-fixed_digits}
+use Rattle.line_parts.proofs.PriceTexts.{some_fraction}
 use Rattle.line_parts.proofs.price.append_fraction.Goals as goal
 
 pub returns-clause-text : goal.returns-clause-text

@@ -1,6 +1,7 @@
 use Rattle.std.proofs.Common.{◌/◌, ◌^◌, ◌<◌, ◌≤◌, length, decimal, ap, arith}
 use Rattle.std.proofs.Math.Nat.{one-le-pow}
-use Rattle.line_parts.proofs.PriceTexts.{length-whole, length-fraction_text}
+use Rattle.gx_base.proofs.PricesAgain.{length-fraction_text}
+use Rattle.line_parts.proofs.PriceTexts.{length-whole}
 use Rattle.line_parts.proofs.price.append_price.Goals as goal
 use Rattle.line_parts.proofs.price.append_price.Goals.{then-price-lt0, else-price-lt0}
 
