@@ -1,0 +1,9 @@
+pub mod Rows
+pub mod Blocks
+pub mod FeedText
+pub mod Lines
+pub mod Tables
+pub mod Folds
+pub mod Laws
+pub mod Held
+pub mod Inner
