@@ -1,7 +1,7 @@
 -- What the definition says of some words: it computes.
 use Rattle.std.proofs.Common.{◌≡◌, [], ◌∷◌, Some, None, refl, codes}
 use Rattle.clap.proofs.OnLiterals.{clap_on_literals}
-use Rattle.command_words.specs.declared.command.Command.TheVariants.{Amend, Checkpoint, Drill, Ledger, Opening, Run, Session}
+use Rattle.command_words.specs.declared.command.Command.TheVariants.{Amend, Checkpoint, Drill, Ledger, Levels, Opening, Rebuild, Run, Session}
 use Rattle.command_words.specs.Commands.{command_of}
 
 pub run_alone : command_of (codes "run" ∷ []) ≡ Some Run
@@ -23,6 +23,14 @@ session_alone = refl
 pub opening_alone : command_of (codes "opening" ∷ []) ≡ Some Opening
 unfolding command_of clap_on_literals
 opening_alone = refl
+
+pub levels_alone : command_of (codes "levels" ∷ []) ≡ Some Levels
+unfolding command_of clap_on_literals
+levels_alone = refl
+
+pub rebuild_alone : command_of (codes "rebuild" ∷ []) ≡ Some Rebuild
+unfolding command_of clap_on_literals
+rebuild_alone = refl
 
 pub behind_hyphens : command_of (codes "--" ∷ codes "ledger" ∷ []) ≡ Some Ledger
 unfolding command_of clap_on_literals

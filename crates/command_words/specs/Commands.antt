@@ -9,7 +9,7 @@ use Rattle.clap.specs.Faults.{fault_of}
 use Rattle.clap.specs.declared.builder.value_parser.ValueParser.TheVariants.{Signed}
 use Rattle.command_words.specs.declared.command.Command.{Command}
 use Rattle.command_words.specs.declared.command.Command.TheVariants.{Run, Replay, Book, Fills}
-use Rattle.command_words.specs.declared.command.Command.TheVariants.{Ledger, Steps, Checkpoint, Amend, Session, Opening, Drill}
+use Rattle.command_words.specs.declared.command.Command.TheVariants.{Ledger, Steps, Checkpoint, Amend, Session, Opening, Levels, Rebuild, Drill}
 
 -- the command's name, which has to be there
 abbrev pub command_rule : Rule
@@ -47,7 +47,9 @@ plain_command name = if bytes_eq name (codes "run") then Some Run
     else (if bytes_eq name (codes "amend") then Some Amend
     else (if bytes_eq name (codes "session") then Some Session
     else (if bytes_eq name (codes "opening") then Some Opening
-    else None)))))))))
+    else (if bytes_eq name (codes "levels") then Some Levels
+    else (if bytes_eq name (codes "rebuild") then Some Rebuild
+    else None)))))))))))
 
 -- the command of a name and the two options: `drill` has both, and the others have neither
 abbrev pub named_command : Text → Option ℕ → Option ℕ → Option Command

@@ -31,6 +31,10 @@ pub enum Command {
     Session,
     /// `opening`
     Opening,
+    /// `levels`
+    Levels,
+    /// `rebuild`
+    Rebuild,
     /// `drill`, with the numbers of `--first` (at most 2,147,483,647) and `--count` (at most 1,000,000).
     Drill { first: u32, count: u32 },
 }

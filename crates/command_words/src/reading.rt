@@ -51,6 +51,8 @@ fn plain_command(name: &str) -> Option<Command>
         "amend" => Some(Command::Amend),
         "session" => Some(Command::Session),
         "opening" => Some(Command::Opening),
+        "levels" => Some(Command::Levels),
+        "rebuild" => Some(Command::Rebuild),
         _ => None,
     }
 }
