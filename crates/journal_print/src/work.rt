@@ -22,8 +22,9 @@ pub trait RecordWork {
 
     ghost meanings: { WorkMeanings Self };
 
-    /// Applies the messages of the frames that a framer has given, in their order, and sends what the work says of them.
-    /// `SendFault` comes only if the count of send faults rose; a part is sent then, and all messages are applied.
+    /// Applies the messages of the frames that a framer has given, in their order, and sends what the work says of them. The work is to
+    /// fit the state of the core, and then it does so again. `SendFault` comes only if the count of send faults rose; a part is sent then,
+    /// and all messages are applied.
     fn take<B: Book, S: Station>(
         &mut self,
         product: &Product,
@@ -35,6 +36,8 @@ pub trait RecordWork {
         requires few { core.old.desk.messages + length framer.now.given ≤ MOST_MESSAGES }
         requires fits { FitsProduct product.now core.old }
         requires empty { buffer.old ≡ [] }
+        requires work { meanings.Fits self.old core.old }
+        ensures work { AreNumbered core.old → OnOk result (meanings.Fits self.new core.new) }
         ensures count { core.new.desk.messages ≡ core.old.desk.messages + length framer.now.given }
         ensures fits { FitsProduct product.now core.new }
         ensures quiet { Quiet S.meanings station.old station.new }
