@@ -65,6 +65,8 @@ after-then place product state (frame ∷ frames) more =
 -- the feed of the messages of records; of no message at all it is the first snapshot
 abbrev pub feed_work : WorkMeanings FeedPlace
 feed_work = record {
+  Fits = λ place state. place.rows ≡ levels_of_state state;
+  fits_amended = λ place product state fits. fits ∙ sym (levels-untopped product state.book.resting);
   text = messages_text;
   after = place_after;
   ending = λ place live. beginning place;

@@ -1,16 +1,7 @@
 //! The level feed as the work on the messages of each record.
-ghost use Rattle.std.specs.Prelude.{◌≡◌, ◌+◌, ◌<◌, ◌≤◌, [], ◌++◌, length, IfOk, OnOk};
-ghost use Rattle.gx_station.specs.Counts.{HasCause};
-ghost use Rattle.gx_station.specs.Quiet.{Quiet};
-ghost use Rattle.exec_report.specs.Pushes.{Pushes};
-ghost use Rattle.order_kinds.specs.declared.core_state.TheConstants.{MOST_MESSAGES};
-ghost use Rattle.order_kinds.specs.Cores.{FitsProduct, AreNumbered};
-ghost use Rattle.order_kinds.specs.State.{state_numbered};
-ghost use Rattle.level_feed.specs.Feeds.{levels_of_state};
+ghost use Rattle.std.specs.Prelude.{◌≡◌, [], IfOk};
 ghost use Rattle.feed_print.specs.FeedPlaces.{feed_start};
-ghost use Rattle.feed_print.specs.FeedWorks.{beginning, message_text, place_behind};
 
-use book_recovery::apply_given;
 use exec_report::{ReportBuffer, SendFault, push_text, send_waiting};
 use fix_frame::Framer;
 use fix_request::{Request, read_request};
@@ -25,6 +16,9 @@ use std::marker::Model;
 
 /// How many messages lie between two snapshots.
 const SNAPSHOT_EVERY: u64 = 1_000;
+
+/// How a feed begins: with a snapshot of no level.
+const OPENING: &[u8] = b"S 0 0\n";
 
 /// Sends the level feed of the messages of a journal: first a snapshot of no level, then of each message the levels that it changed, and
 /// after each thousandth message a snapshot. Contracts see whether the feed has begun, the number of its last block, and the rows last
@@ -63,5 +57,81 @@ impl FeedWork {
             begun: false,
             last: 0,
         })
+    }
+
+    /// Tells what a message has changed, by the book after it: the first snapshot if nothing was told yet, the increment, and a snapshot
+    /// where one is due. Nothing is flushed.
+    fn tell<B: Book, S: Station>(
+        &mut self,
+        core: &Core<B>,
+        product: &Product,
+        buffer: &mut ReportBuffer,
+        station: &mut S,
+    ) -> Result<(), SendFault> {
+        let number = core.messages();
+        if !self.begun {
+            push_text(buffer, station, OPENING)?;
+            self.begun = true;
+        }
+        if self.feed.push_step(&self.noted, core.book(), product, number, self.last, buffer, station)? {
+            self.last = number;
+        }
+        if number % SNAPSHOT_EVERY == 0 {
+            self.feed.push_snapshot(product, number, buffer, station)?;
+            self.last = number;
+        }
+        Ok(())
+    }
+}
+
+/// Notes the level of the order that a replace is to change: its report names the level that the order has then.
+fn note_asked<B: Book>(noted: &mut NotedLevels, book: &B, request: &Request) {
+    if let Request::Replace(asked) = request {
+        if let Some(slot) = book.find(asked.sender.firm, &asked.old) {
+            let order = book.order(slot);
+            noted.note(order.instrument, order.side, order.price);
+        }
+    }
+}
+
+impl RecordWork for FeedWork {
+    ghost use Rattle.feed_print.specs.FeedWorks.{feed_work};
+
+    ghost meanings = { feed_work };
+
+    fn take<B: Book, S: Station>(
+        &mut self,
+        product: &Product,
+        core: &mut Core<B>,
+        framer: &Framer,
+        buffer: &mut ReportBuffer,
+        station: &mut S,
+    ) -> Result<(), SendFault> {
+        product.limits();
+        let mut told = Ok(());
+        for number in 0..framer.given_count() {
+            let request = read_request(framer.given(number), product);
+            self.noted.clear();
+            note_asked(&mut self.noted, core.book(), &request);
+            core.apply(product, &request, &mut self.noted);
+            if told.is_ok() {
+                told = self.tell(core, product, buffer, station);
+            }
+        }
+        told?;
+        send_waiting(buffer, station)
+    }
+
+    fn finish<S: Station>(
+        &self,
+        _live: u64,
+        buffer: &mut ReportBuffer,
+        station: &mut S,
+    ) -> Result<(), SendFault> {
+        if self.begun {
+            return Ok(());
+        }
+        push_text(buffer, station, OPENING)?;
+        send_waiting(buffer, station)
     }
 }
