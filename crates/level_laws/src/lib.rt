@@ -1,0 +1,2 @@
+//! The law of displayed levels: a message changes what a level shows, and how many orders stand there, only where its events tell.
+#![tactic(auto)]
