@@ -1,3 +1,4 @@
 mod Sums
 mod Singles
 mod LevelSums
+mod Matching
