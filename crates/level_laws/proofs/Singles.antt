@@ -1,12 +1,13 @@
 -- How often a slot stands in a list: never more often after a trade, and once more when an order comes to rest.
-use Rattle.std.proofs.Common.{◌≡◌, ℕ, ◌+◌, ◌≤◌, Bool, true, false, cond, not, List, [], ◌∷◌, ◌++◌, filter, None, refl, sym, ap, subst, ◌∙◌, arith, inl, inr, ◌⊎◌, sum_by}
+use Rattle.std.proofs.Common.{◌≡◌, ℕ, ◌+◌, ◌≤◌, Bool, true, false, cond, not, List, [], ◌∷◌, ◌++◌, filter, Option, None, refl, sym, ap, subst, ◌∙◌, arith, inl, inr, ◌⊎◌, sum_by}
 use Rattle.std.proofs.lemmas.List.Sums.{sum_by-cons, sum_by-append}
 use Rattle.std.proofs.lemmas.Bool.Decides.{eqb_tells}
-use Rattle.std.specs.Prelude.{◌==◌}
+use Rattle.std.specs.Prelude.{◌==◌, ◌&&◌}
+use Rattle.gx_base.specs.declared.order.Side.{Side}
 use Rattle.gx_base.specs.declared.order.Order.{Order}
 use Rattle.plain_book.specs.declared.entry.Entry.{Entry}
-use Rattle.plain_book.specs.Orders.{HasSlot, order_of, no_order, is_at_earlier_level, without, with_order, with_top, topped, placed, settled, traded, refreshed, filled_by}
-use Rattle.plain_book.specs.Book.{AllDiffer}
+use Rattle.plain_book.specs.Orders.{HasSlot, order_of, no_order, is_at_earlier_level, is_new_best, without, with_order, with_top, topped, placed, settled, traded, refreshed, filled_by}
+use Rattle.plain_book.specs.Book.{AllDiffer, first_shown, makes_top, resting_placed}
 use Rattle.plain_book.proofs.Walks.{slot-reordered}
 use Rattle.level_sweep.proofs.EachOrder.{none-traded}
 use Rattle.level_laws.proofs.Sums.{sum-put, sum-fewer, sum-mapped}
@@ -86,11 +87,19 @@ times-gone s (e ∷ es) =
 
 -- ---- an order comes to rest
 
-pub times-placed : (s : ℕ) (n : Entry) (es : List Entry) → times s (placed n es) ≡ once s n + times s es
+times-placed : (s : ℕ) (n : Entry) (es : List Entry) → times s (placed n es) ≡ once s n + times s es
 times-placed s n es = sum-put (once s) (is_at_earlier_level n) n es
 
-pub times-topped : (s i : ℕ) (d : _) (es : List Entry) → times s (with_top i d None es) ≡ times s es
-times-topped s i d es = sum-mapped (once s) (topped i d None) (λ e. refl) es
+times-topped : (s i : ℕ) (side : Side) (es : List Entry) → times s (with_top i side None es) ≡ times s es
+times-topped s i side es = sum-mapped (once s) (topped i side None) (λ e. refl) es
+
+pub times-rested : (s slot : ℕ) (o : Order) (top_min : Option ℕ) (es : List Entry) → times s (resting_placed slot o top_min es) ≡ once_of slot s + times s es
+times-rested s slot o top_min es =
+    let best = is_new_best o es in
+    let n : Entry = record { slot = slot; order = record o { shown = first_shown o }; is_top = best && makes_top top_min o.leaves } in
+    let cleared = with_top o.instrument o.side None es in
+    let same : (b : Bool) → times s (cond b cleared es) ≡ times s es = elim [ true ↦ times-topped s o.instrument o.side es | false ↦ refl ] in
+    omega (arith, times-placed s n (cond best cleared es), same best)
 
 -- ---- an order trades
 
