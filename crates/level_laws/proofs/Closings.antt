@@ -1,5 +1,5 @@
 -- A change of the trading session: at a close each order that expires is told.
-use Rattle.std.proofs.Common.{◌≡◌, ℕ, Bool, true, false, cond, not, ◌||◌, List, [], ◌∷◌, filter, refl, sym, ap, ◌∙◌}
+use Rattle.std.proofs.Common.{◌≡◌, ℕ, Bool, true, false, cond, not, List, [], ◌∷◌, filter, refl, ap}
 use Rattle.std.specs.List.{AllByRecursion}
 use Rattle.gx_base.specs.declared.order.Order.{Order}
 use Rattle.gx_base.specs.declared.order.Desk.{Desk}
@@ -15,7 +15,7 @@ use Rattle.order_kinds.specs.State.{State}
 use Rattle.order_kinds.specs.TradingSessions.{stays, expires, expiring, expired, expiry_reports, market_closed, session_changed, session_step}
 use Rattle.level_laws.specs.Told.{is_told, tells_of}
 use Rattle.level_laws.proofs.Sums.{sum-filtered}
-use Rattle.level_laws.proofs.LevelSums.{IsElsewhere, WeighsLevel, weights}
+use Rattle.level_laws.proofs.LevelSums.{IsElsewhere, WeighsLevel}
 use Rattle.level_laws.proofs.Matching.{or-first, or-second}
 use Rattle.level_laws.proofs.Requests.{Stays}
 

@@ -1,5 +1,5 @@
 -- What holds while an order is matched: as long as no event tells of a level, the level stays.
-use Rattle.std.proofs.Common.{◌≡◌, ℕ, ◌+◌, ◌≤◌, Bool, true, false, ◌||◌, List, [], ◌∷◌, ◌++◌, refl, sym, ap, ◌∙◌, arith}
+use Rattle.std.proofs.Common.{◌≡◌, ℕ, ◌+◌, ◌≤◌, Bool, true, false, ◌||◌, List, [], ◌∷◌, ◌++◌, refl, sym, ◌∙◌, arith}
 use Rattle.std.proofs.lemmas.List.Folds.{list_any-append}
 use Rattle.std.specs.List.{AllByRecursion}
 use Rattle.gx_base.specs.declared.price.Price.{Price}
@@ -21,11 +21,11 @@ use Rattle.level_laws.proofs.LevelSums.{IsElsewhere, WeighsLevel, weights, weigh
 
 -- ---- what is told
 
-or-first : (a b : Bool) → (a || b) ≡ false → a ≡ false
+pub or-first : (a b : Bool) → (a || b) ≡ false → a ≡ false
 or-first true b h = absurd (let e : true ≡ false = h in cc)
 or-first false b h = refl
 
-or-second : (a b : Bool) → (a || b) ≡ false → b ≡ false
+pub or-second : (a b : Bool) → (a || b) ≡ false → b ≡ false
 or-second true b h = absurd (let e : true ≡ false = h in cc)
 or-second false b h = h
 

@@ -1,10 +1,8 @@
 -- What a request does: a level stays where no event tells of it, and a replace does not move an order away from it.
-use Rattle.std.proofs.Common.{◌≡◌, ℕ, ◌+◌, Bool, true, false, cond, not, List, [], ◌∷◌, filter, Option, Some, None, Result, Ok, Err, refl, sym, ap, ◌∙◌}
+use Rattle.std.proofs.Common.{◌≡◌, ℕ, ◌+◌, Bool, true, false, cond, not, List, [], Option, Some, None, Result, Ok, Err, refl, sym}
 use Rattle.std.specs.Prelude.{◌==◌}
-use Rattle.std.specs.List.{AllByRecursion}
 use Rattle.gx_base.specs.declared.order.Order.{Order}
 use Rattle.gx_base.specs.declared.order.Taker.{Taker}
-use Rattle.gx_base.specs.declared.order.Desk.{Desk}
 use Rattle.gx_base.specs.declared.event.Event.{Event}
 use Rattle.gx_base.specs.declared.event.Event.TheVariants.{Accepted}
 use Rattle.gx_base.specs.declared.event.NewFault.{NewFault}
@@ -15,8 +13,8 @@ use Rattle.fix_request.specs.declared.request.CancelOrder.{CancelOrder}
 use Rattle.fix_request.specs.declared.request.ReplaceOrder.{ReplaceOrder}
 use Rattle.plain_book.specs.declared.entry.Entry.{Entry}
 use Rattle.plain_book.specs.Orders.{Level, HasSlot, order_of, slot_named}
-use Rattle.plain_book.specs.Book.{Book, live_orders, book_without, changed_to}
-use Rattle.plain_book.specs.Match.{MatchState, match_start, next_head}
+use Rattle.plain_book.specs.Book.{live_orders, book_without, changed_to}
+use Rattle.plain_book.specs.Match.{match_start, next_head}
 use Rattle.plain_book.proofs.Pairs.{all-filter, all-front, all-back}
 use Rattle.order_kinds.specs.State.{State}
 use Rattle.order_kinds.specs.Instruments.{ListedInstrument}
@@ -25,7 +23,7 @@ use Rattle.order_kinds.specs.Accepting.{taker_on, new_start, accepted, accepted_
 use Rattle.order_kinds.specs.Cancels.{order_cancelled, cancelled, cancel_by, cancel_step}
 use Rattle.order_kinds.specs.Replaces.{replace_terms, least_after, keeps_place, replaced_order, replace_event, replaced_in_place, replaced_start, replaced_anew, replaced, replaced_or_refused, replace_at, replace_step}
 use Rattle.order_kinds.specs.Stops.{by_number}
-use Rattle.level_laws.specs.Told.{is_told, tells_of, is_slot_at}
+use Rattle.level_laws.specs.Told.{is_told, is_slot_at}
 use Rattle.level_laws.proofs.Singles.{differ-single}
 use Rattle.level_laws.proofs.LevelSums.{IsElsewhere, AreElsewhere, elsewhere-at, WeighsLevel, weights, weights-without, weights-changed}
 use Rattle.level_laws.proofs.Matching.{told-last, report-last, IsByNumber, IsMatching}

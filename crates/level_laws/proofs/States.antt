@@ -12,7 +12,7 @@ use Rattle.plain_book.proofs.Pairs.{all-append, all-front, all-back, all-map}
 use Rattle.level_sweep.proofs.EachOrder.{found}
 use Rattle.order_kinds.specs.State.{State}
 use Rattle.order_kinds.specs.Cores.{AreNumbered}
-use Rattle.level_laws.proofs.Singles.{once_of, once-same, once-or-same, times, no-times, AreSingle, differ-single}
+use Rattle.level_laws.proofs.Singles.{once-same, once-or-same, no-times, differ-single}
 use Rattle.level_laws.proofs.Matching.{IsByNumber, AreSingleWith}
 
 -- Each live order is named by its number, no number stands twice, and none is above the last one given.
@@ -54,8 +54,8 @@ pub next-single : (given : ℕ) (b : Book) → AreByNumber given b → AreSingle
 next-single given b h s =
     let es = live_orders b in
     let fresh : given + 1 ≡ s → HasSlot s es → ⊥ = λ is has.
-        let most : (order_of s es).number ≤ given = orders-at (λ (o : Order). o.number ≤ given) s es h.within has in
-        omega (arith, is, most, number-at s es h.named has) in
+    let most : (order_of s es).number ≤ given = orders-at (λ (o : Order). o.number ≤ given) s es h.within has in
+    omega (arith, is, most, number-at s es h.named has) in
     elim (once-or-same (given + 1) s) [
       | inl is ↦ omega (arith, once-same (given + 1) s is, no-times s es (fresh is))
       | inr other ↦ omega (arith, other, differ-single es h.differ s)

@@ -1,5 +1,5 @@
 -- A message changes the displayed levels only where its events tell, and where a replace moves an order away.
-use Rattle.std.proofs.Common.{◌≡◌, ℕ, false, List, refl, ◌∙◌}
+use Rattle.std.proofs.Common.{◌≡◌, ℕ, false, refl, ◌∙◌}
 use Rattle.gx_base.specs.declared.order.Order.{Order}
 use Rattle.product_file.specs.Products.{ProductLists}
 use Rattle.fix_request.specs.declared.request.Request.{Request}
@@ -47,5 +47,5 @@ levels-stay product request state k are asks told =
     let es = state.book.resting in
     let by : AreByNumber start.desk.orders start.book = numbered-state state are in
     let same : (weight : Order → ℕ) → WeighsLevel k weight → weights weight step.0.book.resting ≡ weights weight es = λ weight of.
-        request-stays k weight of product start by request asks told ∙ weights-numbered weight es in
+    request-stays k weight of product start by request asks told ∙ weights-numbered weight es in
     level-same k es step.0.book.resting (same (shown_in k) (shown-weighs k)) (same (one_in k) (one-weighs k))

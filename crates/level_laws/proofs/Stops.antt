@@ -1,6 +1,6 @@
 -- An order that comes in: it waits, or it is entered, and so is each stop that it triggers. A level stays as long as no event tells
 -- of it.
-use Rattle.std.proofs.Common.{◌≡◌, ℕ, ◌+◌, ◌≤◌, true, false, not, List, [], ◌∷◌, filter, length, Option, Some, None, refl, sym, ap, subst, ◌∙◌, arith, inl, inr}
+use Rattle.std.proofs.Common.{◌≡◌, ℕ, ◌+◌, false, not, List, [], ◌∷◌, filter, length, Option, Some, None, refl, ap, subst, ◌∙◌, arith, inl, inr}
 use Prim.Native.Nat.{zero, suc}
 use Rattle.std.specs.Prelude.{◌==◌}
 use Rattle.std.specs.List.{AllByRecursion}
@@ -18,7 +18,7 @@ use Rattle.plain_book.proofs.Levels.{slots-apart, without-none}
 use Rattle.plain_book.proofs.Pairs.{all-filter, all-with}
 use Rattle.plain_book.proofs.Right.{live-without}
 use Rattle.order_kinds.specs.Entering.{entered}
-use Rattle.order_kinds.specs.Stops.{Naming, fill_range, is_reached_by, first_entry, first_reached, next_stop, as_triggered, stop_triggered, stop_entered, stop_rounds, entered_with_stops, taker_waiting, come_in_as, come_in}
+use Rattle.order_kinds.specs.Stops.{Naming, fill_range, is_reached_by, first_entry, first_reached, next_stop, as_triggered, stop_triggered, stop_entered, stop_rounds, entered_with_stops, come_in_as, come_in}
 use Rattle.level_laws.specs.Told.{is_told}
 use Rattle.level_laws.proofs.Singles.{once-same, once-or-same, times, times-fewer, times-gone, AreSingle, single-differ}
 use Rattle.level_laws.proofs.LevelSums.{WeighsLevel, weights}

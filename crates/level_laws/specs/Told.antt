@@ -1,5 +1,5 @@
 -- The levels that events tell of, and the one that a replace takes an order from: our own rule.
-use Rattle.std.specs.Prelude.{◌≡◌, ℕ, Bool, true, false, List, length, Option, Some, None}
+use Rattle.std.specs.Prelude.{◌≡◌, ℕ, Bool, false, List, length, Option, Some, None}
 use Rattle.std.specs.List.{list_any}
 use Rattle.gx_base.specs.declared.event.Event.{Event}
 use Rattle.gx_base.specs.declared.event.Event.TheVariants.{Accepted, Triggered, Fill, Cancelled, Expired, Replaced, RefusedNew, RefusedChange, RefusedSession}
