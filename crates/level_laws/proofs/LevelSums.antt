@@ -139,3 +139,7 @@ level-same k old new shown orders = record {
   shown = shown-sum k new ∙ shown ∙ sym (shown-sum k old);
   orders = orders-sum k new ∙ orders ∙ sym (orders-sum k old);
 }
+
+-- names do not matter
+pub numbered-same : (k : Level) (es : List Entry) → IsSameLevel k es (numbered es)
+numbered-same k es = level-same k es (numbered es) (weights-numbered (shown_in k) es) (weights-numbered (one_in k) es)

@@ -1,5 +1,6 @@
 -- Offered to the crates above: what they may cite.
 pub mod Steps
+pub mod Cores
 -- What the proofs of this crate alone cite.
 mod Sums
 mod Singles
