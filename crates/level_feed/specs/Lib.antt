@@ -6,4 +6,5 @@ pub mod Tables
 pub mod Folds
 pub mod Laws
 pub mod Held
+pub mod Noted
 pub mod Inner
