@@ -6,6 +6,7 @@ pub mod Sums
 pub mod GoingOn
 -- what is noted,
 pub mod Noting
+pub mod RowsAt
 -- What the proofs of this crate alone cite: of rows,
 pub mod Order
 mod Changes

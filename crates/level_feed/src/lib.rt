@@ -8,6 +8,7 @@ mod laws;
 mod levels;
 mod line;
 mod noted;
+mod picking;
 mod printing;
 mod reading;
 mod row;
