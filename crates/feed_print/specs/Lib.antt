@@ -1,2 +1,3 @@
 pub mod FeedPlaces
-pub mod FeedWorks
+pub mod FeedTexts
+pub mod Inner

@@ -1,4 +1,4 @@
--- The level feed as the work on the messages of records.
+-- What is sent of messages, and how far the feed is sent then. Our own rules.
 use Rattle.std.specs.Prelude.{◌≡◌, ℕ, true, false, if◌then◌else◌, ◌==◌, List, [], ◌∷◌, ◌++◌, refl}
 use Rattle.std.proofs.Common.{sym, ◌∙◌, ap, append_assoc}
 use Rattle.product_file.specs.Products.{ProductLists}
@@ -9,7 +9,6 @@ use Rattle.level_feed.specs.declared.row.Row.{Row}
 use Rattle.level_feed.specs.Blocks.{Snapshot, last_number, blocks_of}
 use Rattle.level_feed.specs.FeedText.{text_of_blocks}
 use Rattle.level_feed.specs.Feeds.{levels_of_state, feed_text}
-use Rattle.journal_print.specs.Works.{WorkMeanings}
 use Rattle.feed_print.specs.FeedPlaces.{FeedPlace}
 
 -- how the feed begins: with a snapshot of no level
@@ -51,9 +50,9 @@ text-then place product state (frame ∷ frames) more =
     let next = (step_of product state frame).0 in
     let levels = levels_of_state next in
     let first = message_text product next.desk.messages levels place in
-    let then = place_behind next.desk.messages levels place in
-    ap (λ (l : List ℕ). first ++ l) (text-then then product next frames more)
-    ∙ sym (append_assoc first (messages_text then product next frames) (messages_text (place_after then product next frames) product (state_after product next frames) more))
+    let behind = place_behind next.desk.messages levels place in
+    ap (λ (l : List ℕ). first ++ l) (text-then behind product next frames more)
+    ∙ sym (append_assoc first (messages_text behind product next frames) (messages_text (place_after behind product next frames) product (state_after product next frames) more))
 
 pub after-then : (place : FeedPlace) (product : ProductLists) (state : State) (frames more : List (List ℕ))
     → place_after place product state (frames ++ more) ≡ place_after (place_after place product state frames) product (state_after product state frames) more
@@ -61,21 +60,6 @@ after-then place product state [] more = refl
 after-then place product state (frame ∷ frames) more =
     let next = (step_of product state frame).0 in
     after-then (place_behind next.desk.messages (levels_of_state next) place) product next frames more
-
--- the feed of the messages of records; of no message at all it is the first snapshot
-abbrev pub feed_work : WorkMeanings FeedPlace
-feed_work = record {
-  Fits = λ place state. place.rows ≡ levels_of_state state;
-  fits_amended = λ place product state fits. fits ∙ sym (levels-untopped product state.book.resting);
-  text = messages_text;
-  after = place_after;
-  ending = λ place live. beginning place;
-  is_silent = false;
-  text_none = λ place product state. refl;
-  after_none = λ place product state. refl;
-  text_then = text-then;
-  after_then = after-then;
-}
 
 -- what is sent of a history before its end: nothing, as long as it has no message
 abbrev pub feed_so_far : History → List ℕ

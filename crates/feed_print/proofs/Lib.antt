@@ -1,0 +1,3 @@
+-- What the proofs of this crate alone cite.
+mod Noted
+mod Telling
