@@ -1,5 +1,5 @@
 -- What taking bytes does to the fold.
-use Rattle.std.proofs.Common.{◌≡◌, ℕ, ◌+◌, ◌<◌, ◌≤◌, cond, List, [], ◌∷◌, ◌++◌, length, Result, Ok, Err, refl, sym, ap, subst, ◌∙◌, arith, length-append, append_assoc}
+use Rattle.std.proofs.Common.{◌≡◌, ℕ, ◌+◌, ◌<◌, ◌≤◌, cond, List, [], ◌∷◌, ◌++◌, length, Result, Ok, Err, IfErr, OnErr, OnOk, refl, sym, ap, subst, ◌∙◌, arith, length-append, append_assoc}
 use Rattle.std.proofs.lemmas.List.{append-nil}
 use Rattle.level_feed.specs.declared.fault.FeedFault.{FeedFault}
 use Rattle.level_feed.specs.declared.fault.FeedFault.TheVariants.{Form}
@@ -17,6 +17,16 @@ new_place = record { block = 0; at = 0; kept = [] }
 -- where a line ends
 abbrev pub behind_line : Table → Place → List ℕ → Place
 behind_line t p bytes = record { block = cond (is_inside t) p.block p.at; at = p.at + length (p.kept ++ bytes) + 1; kept = [] }
+
+-- a line behind what is gone
+pub line-gone : (bytes gone rest line behind : List ℕ) → bytes ≡ gone ++ rest → rest ≡ line ++ 10 ∷ behind → bytes ≡ (gone ++ (line ++ 10 ∷ [])) ++ behind
+line-gone bytes gone rest line behind e f =
+    e
+    ∙ ap (λ (l : List ℕ). gone ++ l) (f ∙ sym (append_assoc line (10 ∷ []) behind))
+    ∙ sym (append_assoc gone (line ++ 10 ∷ []) behind)
+
+pub place-is : (q : Place) (block at : ℕ) (kept : List ℕ) → q.block ≡ block → q.at ≡ at → q.kept ≡ kept → q ≡ record { block = block; at = at; kept = kept }
+place-is q block at kept e f g = cc
 
 module _ (listing : Listing) where
   -- ---- nothing, and bytes behind bytes
@@ -84,6 +94,20 @@ module _ (listing : Listing) where
   front-breaks t p bytes front h long more =
       ap (λ (text : List ℕ). fold_from listing t p.at p.block (pieces_of text)) (sym (append_assoc p.kept bytes more))
       ∙ fold-long listing t p.at p.block (p.kept ++ bytes) more (no-end-append p.kept bytes front.no_end h) long
+
+  -- where the rest of some bytes is kept, or is too long
+  pub rest-breaks : (t : Table) (p : Place) (bytes : List ℕ) (u : Table) (q : Place) (gone rest : List ℕ) (result : Result (Unit {0}) BrokenLine) → bytes ≡ gone ++ rest → GoesOn listing t p gone u q → HasNoEnd rest
+      → IfErr result (λ broken. broken ≡ record { at = q.at; fault = Form }) → OnErr result (longest_line < length (q.kept ++ rest)) → IfErr result (IsBrokenAt listing t p bytes)
+  rest-breaks t p bytes u q gone rest (Ok _) is g h e long = tt
+  rest-breaks t p bytes u q gone rest (Err broken) is g h e long =
+      let breaks : IsBrokenAt listing t p (gone ++ rest) (record { at = q.at; fault = Form }) = breaks-then t p gone u q rest (record { at = q.at; fault = Form }) g (front-breaks u q rest g.front h long) in
+      subst (λ (text : List ℕ). IsBrokenAt listing t p text broken) (sym is) (subst (IsBrokenAt listing t p (gone ++ rest)) (sym e) breaks)
+
+  pub rest-goes : (t : Table) (p : Place) (bytes : List ℕ) (u : Table) (q r : Place) (gone rest : List ℕ) (result : Result (Unit {0}) BrokenLine) → bytes ≡ gone ++ rest → GoesOn listing t p gone u q → HasNoEnd rest
+      → OnOk result (r ≡ record { block = q.block; at = q.at; kept = q.kept ++ rest }) → OnOk result (length (q.kept ++ rest) ≤ longest_line) → OnOk result (GoesOn listing t p bytes u r)
+  rest-goes t p bytes u q r gone rest (Ok _) is g h e short =
+      subst (λ (text : List ℕ). GoesOn listing t p text u r) (sym is) (goes-then t p gone u q rest u r g (front-goes u q r rest g.front h short e))
+  rest-goes t p bytes u q r gone rest (Err broken) is g h e short = tt
 
   -- ---- from the front of a feed
 
