@@ -1,5 +1,5 @@
 -- The first bytes of a text.
-use Rattle.std.proofs.Common.{◌≡◌, ℕ, ◌+◌, ◌-◌, ◌<◌, ◌≤◌, min, List, [], ◌++◌, length, take, inl, inr, refl, sym, ap, ◌∙◌, arith}
+use Rattle.std.proofs.Common.{◌≡◌, ℕ, ◌+◌, ◌-◌, ◌≤◌, min, List, [], ◌++◌, length, take, inl, inr, sym, ap, ◌∙◌, arith}
 use Rattle.std.proofs.lemmas.Bool.{cases_lt}
 use Rattle.std.proofs.lemmas.List.{append-nil, length-take-le, take_all, take-take, take-append-le}
 use Rattle.std.proofs.Math.Seq.{take-append-add}
@@ -15,7 +15,7 @@ take-behind n xs ys long =
 take-of-take : (k n most : ℕ) (text : List ℕ) → n ≤ length text → most ≡ min n k → take k (take n text) ≡ take most text
 take-of-take k n most text within is =
     elim (cases_lt n k) [
-      inl above ↦ take_all k (take n text) (omega (arith, length-take-le n text within)) ∙ ap (λ (j : ℕ). take j text) (let e : n ≡ most = omega arith in e)
+      | inl above ↦ take_all k (take n text) (omega (arith, length-take-le n text within)) ∙ ap (λ (j : ℕ). take j text) (let e : n ≡ most = omega arith in e)
       | inr below ↦ take-take k n text below ∙ ap (λ (j : ℕ). take j text) (let e : k ≡ most = omega arith in e)
     ]
 
@@ -31,7 +31,7 @@ record IsLonger (n : ℕ) (xs ys : List ℕ) : Type 0 where
 take-longer : (n : ℕ) (xs ys : List ℕ) → IsLonger n xs ys
 take-longer n xs ys =
     elim (cases_lt (length xs) n) [
-      inl long ↦ record { more = take (n - length xs) ys; is = take-behind n xs ys (omega arith) ∙ ap (λ (l : List ℕ). l ++ take (n - length xs) ys) (sym (take_all n xs (omega arith))) }
+      | inl long ↦ record { more = take (n - length xs) ys; is = take-behind n xs ys (omega arith) ∙ ap (λ (l : List ℕ). l ++ take (n - length xs) ys) (sym (take_all n xs (omega arith))) }
       | inr short ↦ record { more = []; is = take-append-le n xs ys short ∙ sym (append-nil (take n xs)) }
     ]
 

@@ -5,11 +5,11 @@ use Rattle.level_feed.specs.declared.fault.FeedFault.{FeedFault}
 use Rattle.level_feed.specs.declared.fault.FeedFault.TheVariants.{Form}
 use Rattle.level_feed.specs.Lines.{Listing}
 use Rattle.level_feed.specs.Tables.{Table, is_inside, empty_table, longest_line, text_taken}
-use Rattle.level_feed.specs.Folds.{Broken, pieces_of, ended, where_taken, fold_from, fold_of}
+use Rattle.level_feed.specs.Folds.{pieces_of, ended, where_taken, fold_from, fold_of}
 use Rattle.feed_reader.specs.declared.reading.BrokenLine.{BrokenLine}
 use Rattle.feed_reader.specs.Feeds.{IsUnbroken}
-use Rattle.feed_reader.specs.Inner.{Place, end_of, HasNoEnd, IsFront, fold_on, GoesOn, IsBrokenAt}
-use Rattle.feed_reader.proofs.Pieces.{next_block, no-end-append, fold-rest, fold-line, fold-long, front-unbroken}
+use Rattle.feed_reader.specs.Inner.{Place, HasNoEnd, IsFront, fold_on, GoesOn, IsBrokenAt}
+use Rattle.feed_reader.proofs.Pieces.{no-end-append, fold-rest, fold-line, fold-long, front-unbroken}
 
 abbrev pub new_place : Place
 new_place = record { block = 0; at = 0; kept = [] }
@@ -26,7 +26,10 @@ line-gone bytes gone rest line behind e f =
     ∙ sym (append_assoc gone (line ++ 10 ∷ []) behind)
 
 pub place-is : (q : Place) (block at : ℕ) (kept : List ℕ) → q.block ≡ block → q.at ≡ at → q.kept ≡ kept → q ≡ record { block = block; at = at; kept = kept }
-place-is q block at kept e f g = cc
+place-is q block at kept e f g =
+    subst (λ (b : ℕ). q ≡ record { block = b; at = at; kept = kept }) e
+    (subst (λ (a : ℕ). q ≡ record { block = q.block; at = a; kept = kept }) f
+    (subst (λ (k : List ℕ). q ≡ record { block = q.block; at = q.at; kept = k }) g refl))
 
 module _ (listing : Listing) where
   -- ---- nothing, and bytes behind bytes

@@ -1,8 +1,8 @@
 -- What is told of a feed is decided by the bytes of the whole input.
-use Rattle.std.proofs.Common.{◌≡◌, ℕ, ◌<◌, ◌≤◌, true, false, cond, nat_le, List, [], ◌++◌, length, Option, Some, None, Result, Ok, Err, inl, inr, refl, sym, ap, subst, ◌∙◌, arith, length-append}
+use Rattle.std.proofs.Common.{◌≡◌, ℕ, ◌<◌, ◌≤◌, nat_le, List, [], ◌++◌, length, Option, Some, None, Result, Ok, Err, inl, inr, refl, sym, ap, ◌∙◌, arith, length-append}
 use Rattle.std.proofs.lemmas.Bool.{cond-true, cond-false, le-leb, lt-leb, cases_lt}
 use Rattle.std.proofs.lemmas.List.{append-nil}
-use Rattle.gx_station.specs.Sources.{SourceMeanings, and_left, IsAtEnd}
+use Rattle.gx_station.specs.Sources.{SourceMeanings, and_left}
 use Rattle.level_feed.specs.declared.row.Row.{Row}
 use Rattle.level_feed.specs.declared.fault.FeedFault.{FeedFault}
 use Rattle.level_feed.specs.Lines.{Listing}
@@ -37,7 +37,7 @@ module _ (listing : Listing) where
   broken-told : (all : List ℕ) (at : ℕ) (fault : FeedFault) → fold_of listing (feed_part all) ≡ Err (Broken at fault) → feed_end listing all ≡ Err (unread.Broken at fault)
   broken-told all at fault e =
       elim (cases_lt MOST_FEED (length all)) [
-        inl many ↦ many-told all many ∙ ap told_long e
+        | inl many ↦ many-told all many ∙ ap told_long e
         | inr few ↦ few-told all few ∙ ap (λ (l : List ℕ). told (fold_of listing l)) (sym (part-few all few)) ∙ ap told e
       ]
 

@@ -7,8 +7,8 @@ ghost use Rattle.level_feed.specs.declared.fault.FeedFault.TheVariants.{Form};
 ghost use Rattle.feed_reader.specs.Inner.{HasNoEnd, IsFront, GoesOn, IsBrokenAt, end_of};
 ghost use Rattle.feed_reader.specs.declared.feed.TheConstants.{MOST_FEED};
 
-use crate::line::split_line;
 use crate::feed::MOST_FEED;
+use crate::line::split_line;
 use arrayvec::ArrayVec;
 use level_feed::{FeedFault, FeedTable, LONGEST_FEED_LINE};
 use product_file::Product;

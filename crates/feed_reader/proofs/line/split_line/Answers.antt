@@ -1,4 +1,4 @@
-use Rattle.std.proofs.Common.{◌≡◌, ℕ, ◌<◌, ◌≤◌, false, List, ◌∷◌, ◌++◌, length, take, get_or, sym, ap, subst, ◌∙◌, arith, get_or-take}
+use Rattle.std.proofs.Common.{◌≡◌, ℕ, ◌<◌, ◌≤◌, false, List, ◌∷◌, ◌++◌, length, get_or, sym, ap, subst, ◌∙◌, arith, get_or-take}
 use Rattle.std.specs.Prelude.{◌==◌}
 use Rattle.std.specs.List.{position_or_len, before_first, after_first}
 use Rattle.std.proofs.lemmas.Bool.{eqb-true}
@@ -32,8 +32,8 @@ first-no-end : (bytes line : List ℕ) → line ≡ first bytes → HasNoEnd lin
 first-no-end bytes line e =
     subst HasNoEnd (sym e)
     (recursion_from_All (λ (c : ℕ). (c == 10) ≡ false) (first bytes) (λ k d low.
-        let below : k < place bytes = omega (arith, length-take (place bytes) bytes) in
-        subst (λ (c : ℕ). (c == 10) ≡ false) (sym (get_or-take (place bytes) bytes k d below)) (fails_before_first (λ c. c == 10) bytes k d below)))
+    let below : k < place bytes = omega (arith, length-take (place bytes) bytes) in
+    subst (λ (c : ℕ). (c == 10) ≡ false) (sym (get_or-take (place bytes) bytes k d below)) (fails_before_first (λ c. c == 10) bytes k d below)))
 
 all-no-end : (bytes line : List ℕ) → line ≡ first bytes → length bytes ≤ length line → HasNoEnd bytes
 all-no-end bytes line e high =

@@ -16,7 +16,7 @@ returns-in_err-take_line-clause-err c =
     let p = err_from_is_err_and c.from_residual.result c.from_residual.ensures.1 in
     rw (p.1, p.2)
     (subst (λ (text : List ℕ). IsBrokenAt listing c.args.table.now.table c.args.self.now text broken) (sym whole)
-        (breaks-more listing c.args.table.now.table c.args.self.now (loop.gone ++ (line ++ 10 ∷ [])) c.in-Some.behind.now broken breaks))
+    (breaks-more listing c.args.table.now.table c.args.self.now (loop.gone ++ (line ++ 10 ∷ [])) c.in-Some.behind.now broken breaks))
 
 pub loop-line-preserved : goal.loop-line-preserved
 loop-line-preserved c =
