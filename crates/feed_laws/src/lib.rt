@@ -1,0 +1,4 @@
+//! Laws of the level feed.
+#![tactic(auto)]
+
+pub fn nothing() {}
