@@ -1,3 +1,5 @@
 -- Offered to the crates above: what they may cite.
 pub mod NamesDiffer
 pub mod SameListings
+pub mod Amended
+pub mod StatesAt

@@ -1,6 +1,6 @@
 -- What a listing takes from a product is the same in a product that may follow it.
-use Rattle.std.proofs.Common.{◌≡◌, ℕ, ◌+◌, Bool, true, false, not, ◌&&◌, List, [], ◌∷◌, map, Option, Some, None, Ok, Result, bytes_eq, refl, sym, ap, ap₂, ◌∙◌}
-use Rattle.std.specs.Prelude.{◌==◌, nat_lt}
+use Rattle.std.proofs.Common.{◌≡◌, ℕ, ◌+◌, Bool, true, false, not, ◌&&◌, List, [], ◌∷◌, map, Option, Some, None, Ok, Result, bytes_eq, refl, sym, ap, ap₂, subst, ◌∙◌}
+use Rattle.std.specs.Prelude.{◌==◌, nat_lt, unsigned_abs}
 use Rattle.std.specs.Option.{option_or}
 use Rattle.std.specs.Ordering.{int_eq}
 use Rattle.std.proofs.lemmas.Bool.{and_parts}
@@ -13,6 +13,9 @@ use Rattle.product_file.specs.Amendments.{begins_with, are_same, is_same_listed,
 use Rattle.product_file.specs.declared.product.InstrumentRule.{InstrumentRule}
 use Rattle.product_file.specs.declared.amendments.AmendFault.{AmendFault}
 use Rattle.product_file.specs.declared.amendments.AmendFault.TheVariants as fault
+use Rattle.order_kinds.specs.Histories.{History, of_product, amended, last_product, IsHistory}
+use Rattle.level_feed.specs.Lines.{Listing, listing_of}
+use Rattle.feed_laws.specs.Laws.{HaveListing, SameListings}
 
 -- ---- no fault
 
@@ -76,11 +79,36 @@ listed-same a b h =
     let parts = and_parts (bytes_eq a.name b.name) (a.decimals == b.decimals) h in
     sym (ap₂ (λ (name : List ℕ) (decimals : ℕ). record { name = name; decimals = decimals }) ((bytes_eq-Decides a.name b.name).0 parts.0) ((Decides-eqb a.decimals b.decimals).0 parts.1))
 
-tick-same : (a b : InstrumentRule) → has_same_tick a b ≡ true → b.tick ≡ a.tick
-tick-same a b h = sym ((Decides-int_eq a.tick b.tick).0 h)
+tick-same : (a b : InstrumentRule) → has_same_tick a b ≡ true → unsigned_abs b.tick ≡ unsigned_abs a.tick
+tick-same a b h = ap unsigned_abs (sym ((Decides-int_eq a.tick b.tick).0 h))
 
 pub same-instruments : (old new : ProductLists) → may_follow old new ≡ Ok tt → new.names.instruments ≡ old.names.instruments
 same-instruments old new h =
     sym (map-itself new.names.instruments)
     ∙ same-taken is_same_listed (λ (l : Listed). l) listed-same old.names.instruments new.names.instruments (stays old new h).instruments
     ∙ map-itself old.names.instruments
+
+-- ---- listings
+
+-- a listing of the same parts
+same-parts : (a b : Listing) → a.instruments ≡ b.instruments → a.ticks ≡ b.ticks → a.max_orders ≡ b.max_orders → a ≡ b
+same-parts a b instruments ticks orders =
+    ap (λ (i : List Listed). record { instruments = i; ticks = a.ticks; max_orders = a.max_orders }) instruments
+    ∙ ap₂ (λ (t : List ℕ) (m : ℕ). record { instruments = b.instruments; ticks = t; max_orders = m }) ticks orders
+
+pub same-listing : (old new : ProductLists) → may_follow old new ≡ Ok tt → listing_of new ≡ listing_of old
+same-listing old new h =
+    let are = stays old new h in
+    same-parts (listing_of new) (listing_of old) (same-instruments old new h)
+    (same-taken has_same_tick (λ (rule : InstrumentRule). unsigned_abs rule.tick) tick-same old.rules new.rules are.ticks)
+    (sym ((Decides-eqb old.max_orders new.max_orders).0 are.orders))
+
+-- ---- histories
+
+same-as : (a b : Listing) → a ≡ b → (kept : History) → HaveListing a kept → HaveListing b kept
+same-as a b same kept h = subst (λ (listing : Listing). HaveListing listing kept) same h
+
+pub same-listings : SameListings
+same-listings (of_product product messages) is = refl
+same-listings (amended before product messages) is =
+    (same-as (listing_of (last_product before)) (listing_of product) (sym (same-listing (last_product before) product is.1)) before (same-listings before is.0), refl)

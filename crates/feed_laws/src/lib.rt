@@ -1,4 +1,6 @@
-//! Laws of the level feed.
+//! The fold law of the level feed, over the messages of an engine and the products that they are taken under.
 #![tactic(auto)]
 
-pub fn nothing() {}
+mod laws;
+
+pub use laws::amendments_keep_the_feed;
