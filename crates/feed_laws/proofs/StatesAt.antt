@@ -57,3 +57,25 @@ levels-kept-at (amended before product messages) m low =
           ∙ from-at product start messages j (omega (arith, behind, low))
           ∙ ap (λ (i : ℕ). levels_of_state (state_after product start (take i messages))) count
     ] in go (nat_le m n) refl
+
+-- ---- the end
+
+pub levels-at-end : (kept : History) → levels_of_state (state_at kept (length_kept kept)) ≡ levels_of_state (state_kept kept)
+levels-at-end (of_product product messages) = ap (λ (ms : List (List ℕ)). levels_of_state (state_after product (empty_state product) ms)) (take_all (length messages) messages (omega arith))
+levels-at-end (amended before product []) =
+    let start = amended_state product (state_kept before) in
+    let n = length_kept before in
+    let end : n + 0 ≡ n = omega arith in
+    let go : (b : Bool) → nat_le (n + 0) n ≡ b → levels_of_state (cond b (state_at before (n + 0)) (state_after product start (take (n + 0 - n) []))) ≡ levels_of_state start = elim [
+      | true ↦ λ is. ap (λ (i : ℕ). levels_of_state (state_at before i)) end ∙ levels-at-end before ∙ sym (levels-amended product (state_kept before))
+      | false ↦ λ is. absurd (omega (arith, leb-false (n + 0) n is))
+    ] in go (nat_le (n + 0) n) refl
+levels-at-end (amended before product (message ∷ messages)) =
+    let start = amended_state product (state_kept before) in
+    let n = length_kept before in
+    let m : ℕ = n + suc (length messages) in
+    let all : List (List ℕ) = message ∷ messages in
+    let go : (b : Bool) → nat_le m n ≡ b → levels_of_state (cond b (state_at before m) (state_after product start (take (m - n) all))) ≡ levels_of_state (state_after product start all) = elim [
+      | true ↦ λ is. absurd (omega (arith, leb-true m n is))
+      | false ↦ λ is. ap (λ (ms : List (List ℕ)). levels_of_state (state_after product start ms)) (take_all (m - n) all (omega arith))
+    ] in go (nat_le m n) refl
