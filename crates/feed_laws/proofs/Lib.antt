@@ -2,4 +2,6 @@
 pub mod NamesDiffer
 pub mod SameListings
 pub mod Amended
+pub mod States
 pub mod StatesAt
+pub mod Folds

@@ -11,7 +11,7 @@ use Rattle.level_feed.specs.FeedText.{text_of_blocks}
 use Rattle.level_feed.specs.Lines.{Listing, listing_of}
 use Rattle.level_feed.specs.Folds.{fold_of}
 use Rattle.level_feed.specs.Laws.{IsPart, AreLater}
-use Rattle.level_feed.specs.Feeds.{levels_of_state, levels_kept}
+use Rattle.level_feed.specs.Feeds.{levels_of_state, levels_kept, feed_text}
 
 -- the state after the first m messages of a history
 abbrev pub state_at : History → ℕ → State
@@ -44,6 +44,15 @@ FoldsBetweenBlocks =
     → m ≤ length_kept kept
     → AreLater m back
     → fold_of (listing_of (last_product kept)) (text_of_blocks (last_product kept).names.instruments part) ≡ Ok (levels_of_state (state_at kept m))
+
+-- the fold of the whole feed is the levels of the book after all messages
+abbrev pub FoldsWhole : Type 0
+FoldsWhole =
+    (kept : History)
+    → AreOfTexts kept
+    → IsHistory kept
+    → length_kept kept < MOST_MESSAGES
+    → fold_of (listing_of (last_product kept)) (feed_text kept) ≡ Ok (levels_of_state (state_kept kept))
 
 -- ---- amendments
 

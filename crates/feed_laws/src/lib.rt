@@ -3,4 +3,4 @@
 
 mod laws;
 
-pub use laws::amendments_keep_the_feed;
+pub use laws::{amendments_keep_the_feed, feeds_of_histories_fold_to_levels};
