@@ -1,57 +1,90 @@
--- Bytes that are added to what waits one part after the other, where they are known.
+-- What is sent of a message, part by part, and of one message more.
 use Rattle.std.specs.Prelude.{if◌then◌else◌}
-use Rattle.std.proofs.Common.{◌≡◌, Bool, ◌++◌, List, ℕ, [], Result, Ok, Err, IsErr, refl, sym, ap, subst, ◌∙◌, true, false}
-use Rattle.gx_station.specs.Counts.{HasCause, Rose}
-use Rattle.gx_station.specs.Stations.{StationMeanings}
-use Rattle.gx_station.specs.Quiet.{Quiet, quiet_itself, quiet_then}
-use Rattle.exec_report.specs.Pushes.{Pushes}
-use Rattle.exec_report.proofs.Pushed.{Put, put-none, put-of, pushes-of, pushes-as, pushes-then, pushes-first}
-use Rattle.feed_print.specs.FeedTexts.{opening_text}
-use Rattle.feed_print.specs.Inner.{PushesWhere}
+use Rattle.std.specs.Fmt.{digits}
+use Rattle.std.proofs.Common.{◌≡◌, ℕ, ◌+◌, ◌<◌, Bool, false, List, [], ◌∷◌, ◌++◌, length, map, take, get_or, refl, sym, ap, ap₂, ◌∙◌, append-nil}
+use Rattle.std.proofs.lemmas.List.{take_more}
+use Rattle.product_file.specs.Products.{ProductLists}
+use Rattle.fix_request.specs.Requests.{request_of}
+use Rattle.fix_request.specs.declared.request.Request.{Request}
+use Rattle.order_kinds.specs.State.{State, state_numbered}
+use Rattle.order_kinds.specs.Step.{with_message, request_step, step_of, state_after}
+use Rattle.level_feed.specs.declared.row.Row.{Row}
+use Rattle.level_feed.specs.Rows.{difference}
+use Rattle.level_feed.specs.Blocks.{Block, number_of_block, last_number, increment, due_snapshot}
+use Rattle.level_feed.specs.FeedText.{text_of_blocks}
+use Rattle.level_feed.specs.Feeds.{levels_of_state}
+use Rattle.level_feed.proofs.GoingOn.{text-append}
+use Rattle.feed_print.specs.FeedPlaces.{FeedPlace}
+use Rattle.feed_print.specs.FeedTexts.{opening_text, beginning, message_text, place_behind, messages_text, place_after, text-then, after-then, levels-numbered}
 
 -- the first snapshot, of a feed that has not begun
-pub not-begun : (begun : Bool) (text : List ℕ) → text ≡ opening_text → begun ≡ false → text ≡ (if begun then [] else opening_text)
-not-begun begun text is not = is ∙ ap (λ (b : Bool). if b then [] else opening_text) (sym not)
+opening-is : 83 ∷ 32 ∷ 48 ∷ 32 ∷ 48 ∷ 10 ∷ [] ≡ opening_text
+unfolding digits
+opening-is = refl
 
-module _ {S : Type 0} (m : StationMeanings S) where
-  -- bytes that are known
-  pub where-of : {T F : Type 0} (old new : S) (waits waits_new : List ℕ) (K : Type 0) (text : List ℕ) (r : Result T F) → Pushes m {T = T} {F = F} old new waits waits_new text r → PushesWhere m {T = T} {F = F} old new waits waits_new K text r
-  where-of {T} {F} old new waits waits_new K text (Ok x) p = record { quiet = p.quiet; cause = record { never_falls = p.quiet.send_faults; ok = p.steady; failed = tt }; all = λ k. p }
-  where-of {T} {F} old new waits waits_new K text (Err f) p = record { quiet = p.quiet; cause = record { never_falls = p.quiet.send_faults; ok = tt; failed = p.rose }; all = λ k. p }
+pub not-begun : (begun : Bool) → begun ≡ false → 83 ∷ 32 ∷ 48 ∷ 32 ∷ 48 ∷ 10 ∷ [] ≡ (if begun then [] else opening_text)
+not-begun begun not = opening-is ∙ ap (λ (b : Bool). if b then [] else opening_text) (sym not)
 
-  -- the same bytes, where another thing is known
-  pub where-as : {T F : Type 0} (old new : S) (waits waits_new : List ℕ) (K L : Type 0) (text same : List ℕ) (r : Result T F) → (L → K × (text ≡ same)) → PushesWhere m {T = T} {F = F} old new waits waits_new K text r
-      → PushesWhere m {T = T} {F = F} old new waits waits_new L same r
-  where-as {T} {F} old new waits waits_new K L text same r h p = record {
-    quiet = p.quiet;
-    cause = p.cause;
-    all = λ l. let known = h l in pushes-as m {T = T} {F = F} old new waits waits_new text same r known.1 (p.all known.0);
-  }
+-- ---- one message
 
-  -- one part, and then another one
-  pub where-then : {T U F : Type 0} (old mid new : S) (waits waits_mid waits_new : List ℕ) (K : Type 0) (front back whole : List ℕ) (x : U) (r : Result T F) → whole ≡ front ++ back
-      → PushesWhere m {T = U} {F = F} old mid waits waits_mid K front (Ok x) → PushesWhere m {T = T} {F = F} mid new waits_mid waits_new K back r → PushesWhere m {T = T} {F = F} old new waits waits_new K whole r
-  where-then {T} {U} {F} old mid new waits waits_mid waits_new K front back whole x (Ok y) e p q = record {
-    quiet = quiet_then m old mid new p.quiet q.quiet;
-    cause = record { never_falls = (quiet_then m old mid new p.quiet q.quiet).send_faults; ok = q.cause.ok ∙ p.cause.ok; failed = tt };
-    all = λ k. pushes-then m {T = T} {F = F} old mid new waits waits_mid waits_new front back whole (Ok y) e (put-of m {T = U} {F = F} old mid waits waits_mid front x (p.all k)) (q.all k);
-  }
-  where-then {T} {U} {F} old mid new waits waits_mid waits_new K front back whole x (Err f) e p q = record {
-    quiet = quiet_then m old mid new p.quiet q.quiet;
-    cause = record { never_falls = (quiet_then m old mid new p.quiet q.quiet).send_faults; ok = tt; failed = subst (λ (n : ℕ). Rose n (m.send_faults new)) p.cause.ok q.cause.failed };
-    all = λ k. pushes-then m {T = T} {F = F} old mid new waits waits_mid waits_new front back whole (Err f) e (put-of m {T = U} {F = F} old mid waits waits_mid front x (p.all k)) (q.all k);
-  }
+last-append : (last : ℕ) (blocks others : List Block) → last_number last (blocks ++ others) ≡ last_number (last_number last blocks) others
+last-append last [] others = refl
+last-append last (b ∷ blocks) others = last-append (number_of_block b) blocks others
 
-  -- one part failed, and nothing behind it is put out
-  pub where-fails : {T U F : Type 0} (old new : S) (waits waits_mid waits_new : List ℕ) (K : Type 0) (front back whole : List ℕ) (f : F) (r : Result T F) → IsErr r → whole ≡ front ++ back
-      → PushesWhere m {T = U} {F = F} old new waits waits_mid K front (Err f) → PushesWhere m {T = T} {F = F} old new waits waits_new K whole r
-  where-fails {T} {U} {F} old new waits waits_mid waits_new K front back whole f (Ok x) err e p = absurd (let no : false ≡ true = err in cc)
-  where-fails {T} {U} {F} old new waits waits_mid waits_new K front back whole f (Err g) err e p = record {
-    quiet = p.quiet;
-    cause = record { never_falls = p.cause.never_falls; ok = tt; failed = p.cause.failed };
-    all = λ k. pushes-first m {T = T} {U = U} {F = F} old new waits waits_mid waits_new front back whole f (Err g) err e (p.all k);
-  }
+module _ (product : ProductLists) (number : ℕ) (levels : List Row) (place : FeedPlace) where
+  abbrev pub changes : List Block
+  changes = increment number place.last (difference place.rows levels)
 
-  -- nothing yet
-  pub where-none : {T F : Type 0} (s : S) (waits : List ℕ) (K : Type 0) (x : T) → PushesWhere m {T = T} {F = F} s s waits waits K [] (Ok x)
-  where-none {T} {F} s waits K x = where-of {T = T} {F = F} s s waits waits K [] (Ok x) (pushes-of m {T = T} {F = F} s s waits waits [] [] x refl (put-none m s waits))
+  pub message-parts : message_text product number levels place
+      ≡ beginning place ++ (text_of_blocks product.names.instruments changes ++ text_of_blocks product.names.instruments (due_snapshot number levels))
+  message-parts = ap (λ (l : List ℕ). beginning place ++ l) (text-append product.names.instruments changes (due_snapshot number levels))
+
+  pub last-parts : last_number (last_number place.last changes) (due_snapshot number levels) ≡ (place_behind number levels place).last
+  last-parts = sym (last-append place.last changes (due_snapshot number levels))
+
+-- ---- one message more
+
+module _ (product : ProductLists) (start : State) (place : FeedPlace) (frames : List (List ℕ)) (k : ℕ) (within : k < length frames) (frame : List ℕ) (is : frame ≡ get_or frames k []) where
+  one-more : take (k + 1) frames ≡ take k frames ++ frame ∷ []
+  one-more = take_more frames k [] within ∙ ap (λ (x : List ℕ). take k frames ++ x ∷ []) (sym is)
+
+  module _ (before after : State) (request : Request) (s_is : state_numbered before ≡ state_after product start (take k frames)) (asked : request ≡ request_of product frame)
+      (did : state_numbered after ≡ (request_step product request (with_message (state_numbered before))).0) where
+    next : State
+    next = (step_of product (state_after product start (take k frames)) frame).0
+
+    stepped : state_numbered after ≡ (step_of product (state_after product start (take k frames)) frame).0
+    stepped =
+        did
+        ∙ ap (λ (r : Request). (request_step product r (with_message (state_numbered before))).0) asked
+        ∙ ap (λ (t : State). (step_of product t frame).0) s_is
+
+    same-levels : levels_of_state (step_of product (state_after product start (take k frames)) frame).0 ≡ levels_of_state after
+    same-levels = ap levels_of_state (sym stepped) ∙ levels-numbered after.book.resting
+
+    same-number : (step_of product (state_after product start (take k frames)) frame).0.desk.messages ≡ after.desk.messages
+    same-number = ap (λ (s : State). s.desk.messages) (sym stepped)
+
+    pub state-more : state_numbered after ≡ state_after product start (take (k + 1) frames)
+    state-more = stepped ∙ sym (pushed start (take k frames)) ∙ ap (state_after product start) (sym one-more)
+      where
+        pushed : (s : State) (xs : List (List ℕ)) → state_after product s (xs ++ frame ∷ []) ≡ (step_of product (state_after product s xs) frame).0
+        pushed s [] = refl
+        pushed s (x ∷ xs) = pushed (step_of product s x).0 xs
+
+    pub text-more : messages_text place product start (take (k + 1) frames)
+        ≡ messages_text place product start (take k frames) ++ message_text product after.desk.messages (levels_of_state after) (place_after place product start (take k frames))
+    text-more =
+        let so_far = messages_text place product start (take k frames) in
+        let at = place_after place product start (take k frames) in
+        ap (messages_text place product start) one-more
+        ∙ text-then place product start (take k frames) (frame ∷ [])
+        ∙ ap (λ (l : List ℕ). so_far ++ l) (append-nil _)
+        ∙ ap₂ (λ (n : ℕ) (levels : List Row). so_far ++ message_text product n levels at) same-number same-levels
+
+    pub place-more : place_after place product start (take (k + 1) frames) ≡ place_behind after.desk.messages (levels_of_state after) (place_after place product start (take k frames))
+    place-more =
+        let at = place_after place product start (take k frames) in
+        ap (place_after place product start) one-more
+        ∙ after-then place product start (take k frames) (frame ∷ [])
+        ∙ ap₂ (λ (n : ℕ) (levels : List Row). place_behind n levels at) same-number same-levels

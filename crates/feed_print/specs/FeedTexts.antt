@@ -1,11 +1,16 @@
 -- What is sent of messages, and how far the feed is sent then. Our own rules.
-use Rattle.std.specs.Prelude.{◌≡◌, ℕ, true, false, if◌then◌else◌, ◌==◌, List, [], ◌∷◌, ◌++◌, refl}
+use Rattle.std.specs.Prelude.{◌≡◌, ℕ, true, false, if◌then◌else◌, ◌==◌, List, [], ◌∷◌, ◌++◌, map, refl}
 use Rattle.std.proofs.Common.{sym, ◌∙◌, ap, append_assoc}
+use Rattle.gx_base.specs.declared.order.Order.{Order}
 use Rattle.product_file.specs.Products.{ProductLists}
+use Rattle.plain_book.specs.declared.entry.Entry.{Entry}
+use Rattle.plain_book.specs.Numbers.{entry_numbered, numbered}
+use Rattle.order_kinds.specs.Amendments.{untopped}
 use Rattle.order_kinds.specs.State.{State}
 use Rattle.order_kinds.specs.Step.{step_of, state_after}
 use Rattle.order_kinds.specs.Histories.{History, length_kept}
 use Rattle.level_feed.specs.declared.row.Row.{Row}
+use Rattle.level_feed.specs.Rows.{row_of, counted, levels_of}
 use Rattle.level_feed.specs.Blocks.{Snapshot, last_number, blocks_of}
 use Rattle.level_feed.specs.FeedText.{text_of_blocks}
 use Rattle.level_feed.specs.Feeds.{levels_of_state, feed_text}
@@ -40,6 +45,22 @@ place_after place product state [] = place
 place_after place product state (frame ∷ frames) =
     let next = (step_of product state frame).0 in
     place_after (place_behind next.desk.messages (levels_of_state next) place) product next frames
+
+-- ---- the levels of a state
+
+counted-same : (e f : Entry) (rows : List Row) → e.order ≡ f.order → counted e rows ≡ counted f rows
+counted-same e f [] same = ap (λ (o : Order). row_of (record e { order = o }) ∷ []) same
+counted-same e f (r ∷ rows) same = ap (λ (o : Order). counted (record e { order = o }) (r ∷ rows)) same
+
+-- they are the same, whether slots or numbers name the orders
+pub levels-numbered : (es : List Entry) → levels_of (numbered es) ≡ levels_of es
+levels-numbered [] = refl
+levels-numbered (e ∷ es) = counted-same (entry_numbered e) e (levels_of (numbered es)) refl ∙ ap (counted e) (levels-numbered es)
+
+-- and whether an order is TOP does not matter
+pub levels-untopped : (product : ProductLists) (es : List Entry) → levels_of (map (untopped product) es) ≡ levels_of es
+levels-untopped product [] = refl
+levels-untopped product (e ∷ es) = counted-same (untopped product e) e (levels_of (map (untopped product) es)) refl ∙ ap (counted e) (levels-untopped product es)
 
 -- ---- messages in two parts
 

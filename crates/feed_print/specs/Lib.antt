@@ -1,3 +1,2 @@
 pub mod FeedPlaces
 pub mod FeedTexts
-pub mod Inner

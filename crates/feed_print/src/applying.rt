@@ -40,9 +40,10 @@ pub(crate) fn apply_noting<B: Book>(
     requires few { core.old.desk.messages < MOST_MESSAGES }
     requires valid { IsValidRequest product.now request.now }
     requires fits { FitsProduct product.now core.old }
-    ensures noted { AreNumbered core.old → AreNoted noted.new (levels_of_state core.old) (levels_of_state core.new) }
-    ensures state { AreNumbered core.old → state_numbered core.new ≡ (request_step product.now request.now (with_message (state_numbered core.old))).0 }
-    ensures numbered { AreNumbered core.old → AreNumbered core.new }
+    requires numbered { AreNumbered core.old }
+    ensures noted { AreNoted noted.new (levels_of_state core.old) (levels_of_state core.new) }
+    ensures state { state_numbered core.new ≡ (request_step product.now request.now (with_message (state_numbered core.old))).0 }
+    ensures numbered { AreNumbered core.new }
     ensures count { core.new.desk.messages ≡ core.old.desk.messages + 1 }
     ensures fits { FitsProduct product.now core.new }
 {

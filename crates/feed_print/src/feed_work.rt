@@ -64,18 +64,19 @@ impl FeedWork {
         requires few { core.old.desk.messages + length framer.now.given ≤ MOST_MESSAGES }
         requires fits { FitsProduct product.now core.old }
         requires empty { buffer.old ≡ [] }
+        requires numbered { AreNumbered core.old }
         requires work { self.old.rows ≡ levels_of_state core.old }
-        ensures work { AreNumbered core.old → OnOk result (self.new.rows ≡ levels_of_state core.new) }
         ensures count { core.new.desk.messages ≡ core.old.desk.messages + length framer.now.given }
         ensures fits { FitsProduct product.now core.new }
         ensures quiet { Quiet S.meanings station.old station.new }
         ensures cause { HasCause (S.meanings.send_faults station.old) (S.meanings.send_faults station.new) result }
         ensures empty { OnOk result (buffer.new ≡ []) }
-        ensures numbered { AreNumbered core.old → AreNumbered core.new }
-        ensures state { AreNumbered core.old → state_numbered core.new ≡ state_after product.now (state_numbered core.old) framer.now.given }
-        ensures sends { AreNumbered core.old → Sends S.meanings station.old station.new
+        ensures numbered { AreNumbered core.new }
+        ensures work { OnOk result (self.new.rows ≡ levels_of_state core.new) }
+        ensures state { state_numbered core.new ≡ state_after product.now (state_numbered core.old) framer.now.given }
+        ensures sends { Sends S.meanings station.old station.new
             (messages_text self.old product.now (state_numbered core.old) framer.now.given) result }
-        ensures after { AreNumbered core.old → OnOk result (self.new ≡ place_after self.old product.now (state_numbered core.old) framer.now.given) }
+        ensures after { OnOk result (self.new ≡ place_after self.old product.now (state_numbered core.old) framer.now.given) }
     {
         let mut told = Ok(());
         for number in 0..framer.given_count() {

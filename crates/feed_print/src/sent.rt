@@ -9,7 +9,6 @@ ghost use Rattle.level_feed.specs.Feeds.{levels_of_state};
 ghost use Rattle.level_feed.specs.Noted.{AreNoted};
 ghost use Rattle.feed_print.specs.FeedPlaces.{feed_start};
 ghost use Rattle.feed_print.specs.FeedTexts.{opening_text, beginning, message_text, place_behind};
-ghost use Rattle.feed_print.specs.Inner.{PushesWhere};
 
 use exec_report::{ReportBuffer, SendFault, push_text};
 use gx_station::Station;
@@ -106,9 +105,10 @@ impl SentFeed {
         station: &mut S,
     ) -> Result<(), SendFault>
         requires fits { FitsProduct product.now core.now }
-        ensures pushes { PushesWhere S.meanings station.old station.new buffer.old buffer.new (AreNoted noted.now self.old.rows (levels_of_state core.now))
+        requires noted { AreNoted noted.now self.old.rows (levels_of_state core.now) }
+        ensures pushes { Pushes S.meanings station.old station.new buffer.old buffer.new
             (text_of_blocks product.now.names.instruments (increment core.now.desk.messages self.old.last (difference self.old.rows (levels_of_state core.now)))) result }
-        ensures place { AreNoted noted.now self.old.rows (levels_of_state core.now) → OnOk result (self.new ≡ record self.old {
+        ensures place { OnOk result (self.new ≡ record self.old {
             last = last_number self.old.last (increment core.now.desk.messages self.old.last (difference self.old.rows (levels_of_state core.now)));
             rows = levels_of_state core.now }) }
     {
@@ -149,9 +149,9 @@ impl SentFeed {
         station: &mut S,
     ) -> Result<(), SendFault>
         requires fits { FitsProduct product.now core.now }
-        ensures pushes { PushesWhere S.meanings station.old station.new buffer.old buffer.new (AreNoted noted.now self.old.rows (levels_of_state core.now))
-            (message_text product.now core.now.desk.messages (levels_of_state core.now) self.old) result }
-        ensures place { AreNoted noted.now self.old.rows (levels_of_state core.now) → OnOk result (self.new ≡ place_behind core.now.desk.messages (levels_of_state core.now) self.old) }
+        requires noted { AreNoted noted.now self.old.rows (levels_of_state core.now) }
+        ensures pushes { Pushes S.meanings station.old station.new buffer.old buffer.new (message_text product.now core.now.desk.messages (levels_of_state core.now) self.old) result }
+        ensures place { OnOk result (self.new ≡ place_behind core.now.desk.messages (levels_of_state core.now) self.old) }
     {
         self.begin(buffer, station)?;
         self.push_changes(noted, core, product, buffer, station)?;
@@ -169,10 +169,10 @@ impl SentFeed {
         station: &mut S,
     ) -> Result<(), SendFault>
         requires fits { FitsProduct product.now core.now }
+        requires noted { OnOk told (AreNoted noted.now self.old.rows (levels_of_state core.now)) }
         ensures failed { OnErr told (IsErr result × (station.new ≡ station.old)) }
-        ensures pushes { OnOk told (PushesWhere S.meanings station.old station.new buffer.old buffer.new (AreNoted noted.now self.old.rows (levels_of_state core.now))
-            (message_text product.now core.now.desk.messages (levels_of_state core.now) self.old) result) }
-        ensures place { OnOk told (AreNoted noted.now self.old.rows (levels_of_state core.now) → OnOk result (self.new ≡ place_behind core.now.desk.messages (levels_of_state core.now) self.old)) }
+        ensures pushes { OnOk told (Pushes S.meanings station.old station.new buffer.old buffer.new (message_text product.now core.now.desk.messages (levels_of_state core.now) self.old) result) }
+        ensures place { OnOk told (OnOk result (self.new ≡ place_behind core.now.desk.messages (levels_of_state core.now) self.old)) }
     {
         told?;
         self.tell(noted, core, product, buffer, station)

@@ -1,15 +1,12 @@
-use Rattle.std.proofs.Common.{rules, ◌≡◌, ◌+◌, ◌<◌, true, ℕ, ◌-◌, ◌*◌, ◌≤◌, length, ◌/◌, ◌%◌, Bool, false, nat_eq, nat_lt, List, [], ◌∷◌, ◌++◌, slice_index_or, slice_set, bit_and, bit_or, Fits, w8, w32, w64, Bor, MutBor}
-use Rattle.book_order.specs.Levels.{Level}
-use Rattle.fix_request.specs.ValidRequests.{IsValidRequest}
-use Rattle.order_kinds.specs.declared.core_state.TheConstants.{MOST_MESSAGES}
-use Rattle.order_kinds.specs.Cores.{FitsProduct, AreNumbered}
-use Rattle.order_kinds.specs.State.{state_numbered}
-use Rattle.order_kinds.specs.Step.{with_message, request_step}
-use Rattle.level_laws.specs.Told.{asks_at}
-use Rattle.level_feed.specs.Noted.{is_noted, AreNoted}
-use Rattle.level_feed.specs.Feeds.{levels_of_state}
+use Rattle.std.proofs.Common.{refl, subst}
+use Rattle.plain_book.specs.Book.{IsRight}
+use Rattle.feed_print.proofs.Noted.{are-noted}
 use Rattle.feed_print.proofs.applying.apply_noting.Goals as goal
 
--- src/applying.rt:34:1
 pub returns-clause-noted : goal.returns-clause-noted
-returns-clause-noted g c = ?
+returns-clause-noted g c =
+    let step = c.apply.ensures.step c.requires.numbered in
+    let before = subst IsRight c.book.ensures c.rules.ensures in
+    let after = subst IsRight c.book-2.ensures c.rules-2.ensures in
+    are-noted c.args.product.now c.args.request.now c.args.core.now c.apply.new.self before.differ c.requires.numbered step.state
+    c.note_asked.new.noted c.apply.new.out (step.emits.all refl) c.note_asked.ensures.asked before.ordered after.ordered
