@@ -23,8 +23,8 @@ pub trait RecordWork {
     ghost meanings: { WorkMeanings Self };
 
     /// Applies the messages of the frames that a framer has given, in their order, and sends what the work says of them. The order numbers
-    /// of the core are to differ, and the work to fit its state; both holds again then. `SendFault` comes only if the count of send faults rose; a part is sent then,
-    /// and all messages are applied.
+    /// of the core are to differ, and the work to fit its state; both holds again then. `SendFault` comes only if the count of send faults
+    /// rose; a part is sent then, and all messages are applied.
     fn take<B: Book, S: Station>(
         &mut self,
         product: &Product,
