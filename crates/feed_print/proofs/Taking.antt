@@ -1,10 +1,10 @@
 -- Messages that are told one after the other: bytes that were put out, until a send fails.
-use Rattle.std.proofs.Common.{◌≡◌, ℕ, List, [], ◌++◌, Bool, true, false, Result, Ok, Err, IsErr, refl, sym, ap, subst, ◌∙◌, append-nil}
+use Rattle.std.proofs.Common.{◌≡◌, ℕ, List, [], ◌++◌, true, false, Result, Ok, Err, IsErr, sym, ap, subst, ◌∙◌, append-nil, append_assoc}
 use Rattle.std.specs.Prelude.{OnOk, OnErr}
 use Rattle.gx_station.specs.Stations.{StationMeanings}
 use Rattle.gx_station.specs.Quiet.{Sends}
 use Rattle.exec_report.specs.Pushes.{Pushes}
-use Rattle.exec_report.proofs.Pushed.{put-of, pushes-as, pushes-then, pushes-first, sends-of, fails-of}
+use Rattle.exec_report.proofs.Pushed.{put-of, put-then, pushes-as, pushes-then, pushes-part, pushes-first, sends-of, fails-of}
 use Rattle.feed_print.specs.FeedPlaces.{FeedPlace}
 
 -- ---- what holds of a result
@@ -59,3 +59,17 @@ module _ {S : Type 0} (m : StationMeanings S) {T U F : Type 0} (old mid new : S)
       (pushes-then m {T = T} {F = F} old mid new waits waits_mid waits_new front [] whole r (e ∙ sym (append-nil front))
       (put-of m {T = U} {F = F} old mid waits waits_mid front x (subst (λ (t : Result U F). Pushes m {T = U} {F = F} old mid waits waits_mid front t) is p)) q)
       empty
+
+-- three parts: the middle one failed, or both were put out and the last one is to come
+module _ {S : Type 0} (m : StationMeanings S) {T U V F : Type 0} (old mid new : S) (waits waits_mid waits_new : List ℕ) (front middle back whole : List ℕ) (e : whole ≡ front ++ (middle ++ back)) (x : U)
+    (p : Pushes m {T = U} {F = F} old mid waits waits_mid front (Ok x)) where
+  pub changes-failed : (f : F) → Pushes m {T = V} {F = F} mid new waits_mid waits_new middle (Err f) → (r : Result T F) → IsErr r → Pushes m {T = T} {F = F} old new waits waits_new whole r
+  changes-failed f q r err =
+      pushes-part m {T = T} {U = V} {F = F} old mid new waits waits_mid waits_new waits_new front middle back whole f r err e (put-of m {T = U} {F = F} old mid waits waits_mid front x p) q
+
+  pub three-parts : (y : V) → Pushes m {T = V} {F = F} mid new waits_mid waits_new middle (Ok y) → (end : S) (waits_end : List ℕ) (r : Result T F) → Pushes m {T = T} {F = F} new end waits_new waits_end back r
+      → Pushes m {T = T} {F = F} old end waits waits_end whole r
+  three-parts y q end waits_end r last =
+      pushes-then m {T = T} {F = F} old new end waits waits_new waits_end (front ++ middle) back whole r (e ∙ sym (append_assoc front middle back))
+      (put-then m old mid new waits waits_mid waits_new front middle (put-of m {T = U} {F = F} old mid waits waits_mid front x p) (put-of m {T = V} {F = F} mid new waits_mid waits_new middle y q))
+      last

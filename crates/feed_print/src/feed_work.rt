@@ -1,14 +1,6 @@
 //! The level feed as the work on the messages of each record.
-ghost use Rattle.std.specs.Prelude.{◌≡◌, ◌+◌, ◌≤◌, [], length, IfOk, OnOk};
-ghost use Rattle.gx_station.specs.Counts.{HasCause};
-ghost use Rattle.gx_station.specs.Quiet.{Quiet, Sends};
-ghost use Rattle.order_kinds.specs.declared.core_state.TheConstants.{MOST_MESSAGES};
-ghost use Rattle.order_kinds.specs.Cores.{FitsProduct, AreNumbered};
-ghost use Rattle.order_kinds.specs.State.{state_numbered};
-ghost use Rattle.order_kinds.specs.Step.{state_after};
-ghost use Rattle.level_feed.specs.Feeds.{levels_of_state};
+ghost use Rattle.std.specs.Prelude.{◌≡◌, IfOk};
 ghost use Rattle.feed_print.specs.FeedPlaces.{feed_start};
-ghost use Rattle.feed_print.specs.FeedTexts.{beginning, messages_text, place_after};
 
 use crate::applying::apply_noting;
 use crate::sent::{SentFeed, push_beginning};
@@ -16,6 +8,7 @@ use exec_report::{ReportBuffer, SendFault, send_waiting};
 use fix_frame::Framer;
 use fix_request::read_request;
 use gx_station::Station;
+use journal_print::RecordWork;
 use level_feed::NotedLevels;
 use order_kinds::Core;
 use plain_book::Book;
@@ -51,33 +44,22 @@ impl FeedWork {
             noted: NotedLevels::new(alloc)?,
         })
     }
+}
 
-    /// Tells of the messages.
-    pub fn take_given<B: Book, S: Station>(
+impl RecordWork for FeedWork {
+    ghost use Rattle.feed_print.specs.FeedWorks.{feed_work};
+
+    ghost meanings = { feed_work };
+
+    /// Applies the messages and tells of each, until a send fails.
+    fn take<B: Book, S: Station>(
         &mut self,
         product: &Product,
         core: &mut Core<B>,
         framer: &Framer,
         buffer: &mut ReportBuffer,
         station: &mut S,
-    ) -> Result<(), SendFault>
-        requires few { core.old.desk.messages + length framer.now.given ≤ MOST_MESSAGES }
-        requires fits { FitsProduct product.now core.old }
-        requires empty { buffer.old ≡ [] }
-        requires numbered { AreNumbered core.old }
-        requires work { self.old.rows ≡ levels_of_state core.old }
-        ensures count { core.new.desk.messages ≡ core.old.desk.messages + length framer.now.given }
-        ensures fits { FitsProduct product.now core.new }
-        ensures quiet { Quiet S.meanings station.old station.new }
-        ensures cause { HasCause (S.meanings.send_faults station.old) (S.meanings.send_faults station.new) result }
-        ensures empty { OnOk result (buffer.new ≡ []) }
-        ensures numbered { AreNumbered core.new }
-        ensures work { OnOk result (self.new.rows ≡ levels_of_state core.new) }
-        ensures state { state_numbered core.new ≡ state_after product.now (state_numbered core.old) framer.now.given }
-        ensures sends { Sends S.meanings station.old station.new
-            (messages_text self.old product.now (state_numbered core.old) framer.now.given) result }
-        ensures after { OnOk result (self.new ≡ place_after self.old product.now (state_numbered core.old) framer.now.given) }
-    {
+    ) -> Result<(), SendFault> {
         let mut told = Ok(());
         for number in 0..framer.given_count() {
             let request = read_request(framer.given(number), product);
@@ -88,15 +70,13 @@ impl FeedWork {
         send_waiting(buffer, station)
     }
 
-    /// Ends the feed.
-    pub fn finish_given<S: Station>(
+    /// Begins the feed, if no message has.
+    fn finish<S: Station>(
         &self,
+        _live: u64,
         buffer: &mut ReportBuffer,
         station: &mut S,
-    ) -> Result<(), SendFault>
-        requires { buffer.old ≡ [] }
-        ensures { Sends S.meanings station.old station.new (beginning self.now) result }
-    {
+    ) -> Result<(), SendFault> {
         push_beginning(self.sent.begun(), buffer, station)?;
         send_waiting(buffer, station)
     }

@@ -1,6 +1,5 @@
-use Rattle.std.proofs.Common.{◌≡◌, ℕ, List, ◌++◌, refl, sym, ap, ap₂, ◌∙◌, subst}
-use Rattle.exec_report.proofs.Pushed.{put-of, pushes-as, pushes-then, pushes-first}
-use Rattle.exec_report.proofs.Parts.{part-start, part-more, part-fails}
+use Rattle.std.proofs.Common.{◌≡◌, ℕ, List, ◌++◌, Ok, Err, sym, ap, ap₂, ◌∙◌, subst}
+use Rattle.exec_report.proofs.Pushed.{pushes-as, pushes-first}
 use Rattle.level_feed.specs.declared.row.Row.{Row}
 use Rattle.level_feed.specs.Rows.{difference}
 use Rattle.level_feed.specs.Blocks.{increment, due_snapshot}
@@ -9,7 +8,8 @@ use Rattle.level_feed.specs.Feeds.{levels_of_state}
 use Rattle.level_feed.specs.Noted.{AreNoted}
 use Rattle.feed_print.specs.FeedPlaces.{FeedPlace}
 use Rattle.feed_print.specs.FeedTexts.{beginning, message_text}
-use Rattle.feed_print.proofs.Telling.{changes, message-parts, last-parts}
+use Rattle.feed_print.proofs.Telling.{changes, message-parts}
+use Rattle.feed_print.proofs.Taking.{changes-failed, three-parts}
 use Rattle.feed_print.proofs.sent.SentFeed.tell.Goals as goal
 
 pub push_changes-requires-clause-noted : goal.push_changes-requires-clause-noted
@@ -24,7 +24,8 @@ returns-in_err-begin-clause-pushes g c =
     let levels = levels_of_state c.args.core.now in
     let listed = c.args.product.now.names.instruments in
     pushes-first m c.args.station.now c.begin.new.station c.args.buffer.now c.begin.new.buffer c.begin.new.buffer (beginning place)
-    (text_of_blocks listed (changes c.args.product.now number levels place) ++ text_of_blocks listed (due_snapshot number levels)) _ _ c.from_residual.result c.from_residual.ensures.0
+    (text_of_blocks listed (changes c.args.product.now number levels place) ++ text_of_blocks listed (due_snapshot number levels))
+    (message_text c.args.product.now number levels place) c.in_err-begin.field-0.0 c.from_residual.result c.from_residual.ensures.0
     (message-parts c.args.product.now number levels place) c.in_err-begin.ensures.pushes
 
 pub returns-in_err-push_changes-clause-pushes : goal.returns-in_err-push_changes-clause-pushes
@@ -37,10 +38,11 @@ returns-in_err-push_changes-clause-pushes g c =
     let listed = product.names.instruments in
     let due = text_of_blocks listed (due_snapshot number levels) in
     let text : FeedPlace → List ℕ = λ (p : FeedPlace). text_of_blocks listed (increment number p.last (difference p.rows levels)) in
-    let start = part-start m (message_text product number levels place) (beginning place ++ (text place ++ due)) c.args.station.now c.args.buffer.now (message-parts product number levels place) in
-    let begun = part-more m start (beginning place) (text place ++ due) c.begin.new.station c.begin.new.buffer refl (put-of m _ _ _ _ _ _ c.in_ok-begin.ensures.pushes) in
-    part-fails m begun (text place) due c.push_changes.new.station c.push_changes.new.buffer c.push_changes.new.buffer _ _ c.from_residual-in_err-push_changes.ensures.0 refl
-    (pushes-as m _ _ _ _ (text c.begin.new.self) (text place) _ (ap text c.in_ok-begin.ensures.place) c.in_err-push_changes.ensures.pushes)
+    let result = c.in_err-push_changes.field-0.0 in
+    changes-failed m c.args.station.now c.begin.new.station c.push_changes.new.station c.args.buffer.now c.begin.new.buffer c.push_changes.new.buffer (beginning place) (text place) due
+    (message_text product number levels place) (message-parts product number levels place) c.in_ok-begin.field-0 c.in_ok-begin.ensures.pushes result
+    (pushes-as m c.begin.new.station c.push_changes.new.station c.begin.new.buffer c.push_changes.new.buffer (text c.begin.new.self) (text place) (Err result) (ap text c.in_ok-begin.ensures.place) c.in_err-push_changes.ensures.pushes)
+    c.from_residual-in_err-push_changes.result c.from_residual-in_err-push_changes.ensures.0
 
 pub returns-clause-pushes : goal.returns-clause-pushes
 returns-clause-pushes g c =
@@ -52,10 +54,11 @@ returns-clause-pushes g c =
     let listed = product.names.instruments in
     let due : ℕ → List Row → List ℕ = λ (n : ℕ) (rows : List Row). text_of_blocks listed (due_snapshot n rows) in
     let text : FeedPlace → List ℕ = λ (p : FeedPlace). text_of_blocks listed (increment number p.last (difference p.rows levels)) in
-    let start = part-start m (message_text product number levels place) (beginning place ++ (text place ++ due number levels)) c.args.station.now c.args.buffer.now (message-parts product number levels place) in
-    let begun = part-more m start (beginning place) (text place ++ due number levels) c.begin.new.station c.begin.new.buffer refl (put-of m _ _ _ _ _ _ c.in_ok-begin.ensures.pushes) in
-    let changed = part-more m begun (text place) (due number levels) c.push_changes.new.station c.push_changes.new.buffer refl
-    (put-of m _ _ _ _ _ _ (pushes-as m _ _ _ _ (text c.begin.new.self) (text place) _ (ap text c.in_ok-begin.ensures.place) c.in_ok-push_changes.ensures.pushes)) in
     let same : c.push_changes.new.self.rows ≡ levels = ap (λ (p : FeedPlace). p.rows) c.in_ok-push_changes.ensures.place in
-    pushes-then m c.args.station.now c.push_changes.new.station c.push_due.new.station c.args.buffer.now c.push_changes.new.buffer c.push_due.new.buffer changed.front (due number levels) _ _ changed.all changed.put
-    (pushes-as m _ _ _ _ (due c.messages.result c.push_changes.new.self.rows) (due number levels) _ (ap₂ due c.messages.ensures.count same) c.push_due.ensures.pushes)
+    let done = c.in_ok-push_changes.field-0 in
+    three-parts m c.args.station.now c.begin.new.station c.push_changes.new.station c.args.buffer.now c.begin.new.buffer c.push_changes.new.buffer (beginning place) (text place) (due number levels)
+    (message_text product number levels place) (message-parts product number levels place) c.in_ok-begin.field-0 c.in_ok-begin.ensures.pushes done
+    (pushes-as m c.begin.new.station c.push_changes.new.station c.begin.new.buffer c.push_changes.new.buffer (text c.begin.new.self) (text place) (Ok done) (ap text c.in_ok-begin.ensures.place) c.in_ok-push_changes.ensures.pushes)
+    c.push_due.new.station c.push_due.new.buffer c.push_due.result
+    (pushes-as m c.push_changes.new.station c.push_due.new.station c.push_changes.new.buffer c.push_due.new.buffer (due c.messages.result c.push_changes.new.self.rows) (due number levels) c.push_due.result
+    (ap₂ due c.messages.ensures.count same) c.push_due.ensures.pushes)

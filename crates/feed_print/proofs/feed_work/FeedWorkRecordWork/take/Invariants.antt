@@ -5,7 +5,7 @@ use Rattle.order_kinds.specs.Step.{state_after}
 use Rattle.order_kinds.specs.Cores.{FitsProduct, AreNumbered}
 use Rattle.level_feed.specs.Feeds.{levels_of_state}
 use Rattle.feed_print.specs.FeedTexts.{messages_text, place_after}
-use Rattle.feed_print.proofs.feed_work.FeedWork.take_given.Given as goal
+use Rattle.feed_print.proofs.feed_work.FeedWorkRecordWork.take.Given as goal
 
 abbrev pub invariant-loop-number : goal.invariant-loop-number
 invariant-loop-number g l = record {

@@ -1,4 +1,4 @@
-use Rattle.std.proofs.Common.{◌≡◌, ◌+◌, ◌<◌, [], length, take, refl, sym, ap, subst, ◌∙◌, arith, Ok, OnOk}
+use Rattle.std.proofs.Common.{◌≡◌, ◌+◌, ◌<◌, [], length, take, true, false, refl, sym, ap, subst, ◌∙◌, arith, Ok, OnOk}
 use Rattle.std.proofs.lemmas.List.{take_all}
 use Rattle.exec_report.proofs.Pushed.{put-none, pushes-of}
 use Rattle.order_kinds.specs.State.{state_numbered}
@@ -9,7 +9,7 @@ use Rattle.feed_print.specs.FeedPlaces.{FeedPlace}
 use Rattle.feed_print.specs.FeedTexts.{message_text, messages_text, place_behind, place_after}
 use Rattle.feed_print.proofs.Telling.{state-more, text-more, place-more}
 use Rattle.feed_print.proofs.Taking.{on-any, on-known, on-failed, on-map, on-next, pushes-more, sends-failed, sends-rest}
-use Rattle.feed_print.proofs.feed_work.FeedWork.take_given.Goals as goal
+use Rattle.feed_print.proofs.feed_work.FeedWorkRecordWork.take.Goals as goal
 
 pub loop-number-init : goal.loop-number-init
 loop-number-init g c =
@@ -105,6 +105,7 @@ returns-in_err-told g c =
       fits = before.fits;
       quiet = sends.quiet;
       cause = sends.cause;
+      silent = λ silent. absurd (let no : false ≡ true = silent in cc);
       empty = on-failed _ result failed;
       numbered = before.numbered;
       work = on-failed _ result failed;
@@ -134,6 +135,7 @@ returns g c =
       fits = before.fits;
       quiet = sends.quiet;
       cause = sends.cause;
+      silent = λ silent. absurd (let no : false ≡ true = silent in cc);
       empty = c.send_waiting.ensures.empty;
       numbered = before.numbered;
       work = on-any (sent.rows ≡ levels_of_state c.loop-number.core) result (on-known (sent.rows ≡ levels_of_state c.loop-number.core) c.loop-number.told c.in_ok-told.field-0 ok before.rows);
