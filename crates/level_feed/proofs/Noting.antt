@@ -5,12 +5,13 @@ use Rattle.std.specs.List.{AllByRecursion, list_any}
 use Rattle.std.proofs.lemmas.Bool.{cases_Bool, cond-true, cond-false, true≢false, or_cases, or_left, or_right, lt-leb}
 use Rattle.std.proofs.lemmas.List.Folds.{list_any-append}
 use Rattle.gx_base.specs.declared.event.Event.{Event}
+use Rattle.gx_base.specs.Emits.{Emits}
 use Rattle.book_order.specs.Levels.{Level, is_level}
 use Rattle.book_order.proofs.Levels.{is_level-refl}
 use Rattle.level_feed.specs.declared.noted.TheConstants.{MOST_NOTED}
 use Rattle.level_feed.specs.declared.row.Row.{Row}
 use Rattle.level_feed.specs.Rows.{level_of_row, row_before, is_gone, with_row}
-use Rattle.level_feed.specs.Noted.{Noted, is_among, is_noted, row_noting, noted_new, noted_with, level_of_event, noted_if, noted_event, noted_events, IsEventAt, HasEventAt}
+use Rattle.level_feed.specs.Noted.{Noted, is_among, is_noted, row_noting, noted_new, noted_with, level_of_event, noted_if, noted_event, noted_events, noted_meanings, IsEventAt, HasEventAt}
 use Rattle.level_feed.proofs.Order.{First, Last, Level_of, order-of, own, ahead, rest}
 
 -- ---- one row more
@@ -57,10 +58,10 @@ among-kept k r rows g h =
     elim (cases_Bool (is_level (level_of_row r) k)) [
       | inl t ↦ among-own k r rows g t
       | inr f ↦ any-of-three p (ahead r rows) (own r) (rest r rows) (any-parts p (λ x. row_before x r) (λ x. row_before r x) rows (λ x t. elim (order-of x r) [
-          | First a ↦ inl a
-          | Last b ↦ inr b
-          | Level_of e ↦ absurd (true≢false (sym t ∙ ap (λ (q : Level). is_level q k) e ∙ f))
-        ]) h)
+        | First a ↦ inl a
+        | Last b ↦ inr b
+        | Level_of e ↦ absurd (true≢false (sym t ∙ ap (λ (q : Level). is_level q k) e ∙ f))
+      ]) h)
     ]
 
 -- ---- one level more
@@ -139,3 +140,9 @@ events-elsewhere k events n h = (before n events h, each n events h)
     each : (n : Noted) (events : List Event) → is_noted k (noted_events events n) ≡ false → AllByRecursion (λ e. IsEventAt k e → ⊥) events
     each n [] h = tt
     each n (e ∷ events) h = (λ is. true≢false (sym (events-note k (e ∷ events) n (inl is)) ∙ h), each (noted_event e n) events h)
+
+-- ---- what the emitter has seen
+
+-- it has noted the events that were put
+pub noted-by-emits : (old new : Noted) (events : List Event) → Emits noted_meanings old new events → new ≡ noted_events events old
+noted-by-emits old new events e = e.all refl
