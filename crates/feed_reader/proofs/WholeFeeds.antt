@@ -21,11 +21,11 @@ pub broken-stays : BrokenStays
 broken-stays listing xs ys at fault e = stays listing ys at fault xs empty_table 0 0 [] tt e
 
 module _ (listing : Listing) where
-  few-told : (all : List ℕ) → length all ≤ MOST_FEED → feed_end listing all ≡ told (fold_of listing all)
+  pub few-told : (all : List ℕ) → length all ≤ MOST_FEED → feed_end listing all ≡ told (fold_of listing all)
   few-told all few =
       cond-true (nat_le (length all) MOST_FEED) (told (fold_of listing all)) (told_long (fold_of listing (feed_part all))) (le-leb (length all) MOST_FEED few)
 
-  many-told : (all : List ℕ) → MOST_FEED < length all → feed_end listing all ≡ told_long (fold_of listing (feed_part all))
+  pub many-told : (all : List ℕ) → MOST_FEED < length all → feed_end listing all ≡ told_long (fold_of listing (feed_part all))
   many-told all many =
       cond-false (nat_le (length all) MOST_FEED) (told (fold_of listing all)) (told_long (fold_of listing (feed_part all))) (lt-leb (length all) MOST_FEED many)
 
