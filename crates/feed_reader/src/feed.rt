@@ -3,7 +3,7 @@ ghost use Rattle.std.specs.Prelude.{◌≡◌, ◌≤◌, List, ℕ, Some, lengt
 ghost use Rattle.gx_station.specs.declared.source.TheConstants.{LEAST_READ};
 ghost use Rattle.level_feed.specs.Lines.{listing_of};
 ghost use Rattle.level_feed.specs.Tables.{empty_table};
-ghost use Rattle.feed_reader.specs.Feeds.{ReadsFeed};
+ghost use Rattle.feed_reader.specs.Feeds.{ReadsFeed, read_into};
 ghost use Rattle.feed_reader.specs.WholeFeeds.{IsReadAs};
 
 use crate::reading::Reading;
@@ -31,7 +31,7 @@ pub fn read_feed<I: Source>(
     requires new { table.old ≡ record { capacity = product.now.max_orders; table = empty_table } }
     requires room { LEAST_READ ≤ length chunk.old }
     ensures reads { ReadsFeed I.meanings (listing_of product.now) input.old input.new table.new result }
-    ensures whole { (all : List ℕ) → I.meanings.left input.old ≡ Some all → IsReadAs (listing_of product.now) all table.new result }
+    ensures whole { (all : List ℕ) → I.meanings.left input.old ≡ Some all → IsReadAs (listing_of product.now) all (read_into table.new result) }
 {
     let mut reading = Reading::new();
     'reads: loop {

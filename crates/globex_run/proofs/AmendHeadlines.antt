@@ -73,9 +73,22 @@ module _ {I S : Type 0} (m : StationMeanings S) (product : ProductLists) (text :
   other-status : (k : ℕ) → is_of_amend k ≡ false → outcome.status ≡ k → ⊥
   other-status k off e = let on : is_of_amend k ≡ true = subst (λ (n : ℕ). is_of_amend n ≡ true) e (status-by did.answer did.is) in cc (off, on)
 
+  -- 13 is the highest
+  low-by : (answer : Result ℕ Unamended) → outcome ≡ outcome_amended answer → outcome.status ≤ 13
+  low-by (Ok count) is = omega (arith, ap (λ (o : Outcome). o.status) is)
+  low-by (Err unamended.NoMemory) is = omega (arith, ap (λ (o : Outcome). o.status) is)
+  low-by (Err unamended.Store) is = omega (arith, ap (λ (o : Outcome). o.status) is)
+  low-by (Err (unamended.NotAJournal at)) is = omega (arith, ap (λ (o : Outcome). o.status) is)
+  low-by (Err (unamended.Bad at)) is = omega (arith, ap (λ (o : Outcome). o.status) is)
+  low-by (Err (unamended.ProductDiffers at)) is = omega (arith, ap (λ (o : Outcome). o.status) is)
+  low-by (Err (unamended.Full at)) is = omega (arith, ap (λ (o : Outcome). o.status) is)
+  low-by (Err (unamended.NotAmendable at)) is = omega (arith, ap (λ (o : Outcome). o.status) is)
+
   -- nothing is sent, and no message read
-  pub amend-statuses : (outcome.status ≡ 6) ⊎ ((outcome.status ≡ 7) ⊎ (outcome.status ≡ 8)) → ⊥
-  amend-statuses never = ⊎_elim (other-status 6 refl) (λ more. ⊎_elim (other-status 7 refl) (other-status 8 refl) more) never
+  pub amend-statuses : (outcome.status ≡ 6) ⊎ ((outcome.status ≡ 7) ⊎ ((outcome.status ≡ 8) ⊎ (14 ≤ outcome.status))) → ⊥
+  amend-statuses never =
+      let low = low-by did.answer did.is in
+      ⊎_elim (other-status 6 refl) (λ more. ⊎_elim (other-status 7 refl) (λ more. ⊎_elim (other-status 8 refl) (λ high. omega (arith, high, low)) more) more) never
 
   count-by : (answer : Result ℕ Unamended) → outcome ≡ outcome_amended answer → outcome.status ≢ 0 → outcome.messages ≡ 0
   count-by (Ok count) is other = absurd (other (ap (λ (o : Outcome). o.status) is))

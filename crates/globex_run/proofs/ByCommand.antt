@@ -1,7 +1,7 @@
 -- What holds of each command of a kind, from what holds of its members.
 use Rattle.std.proofs.Common.{ℕ}
 use Rattle.command_words.specs.declared.command.Command.{Command}
-use Rattle.command_words.specs.declared.command.Command.TheVariants.{Run, Replay, Book, Fills, Ledger, Steps, Drill, Checkpoint, Amend, Session, Opening}
+use Rattle.command_words.specs.declared.command.Command.TheVariants.{Run, Replay, Book, Fills, Ledger, Levels, Steps, Drill, Checkpoint, Amend, Session, Opening, Rebuild}
 use Rattle.globex_run.specs.Calls.{Call}
 use Rattle.globex_run.specs.Words.{IsWriting, GoesOn}
 use Rattle.globex_run.specs.Works.{Serves, ServesNone}
@@ -20,6 +20,8 @@ module _ (Holds : Command → Type 0) (run : Holds Run) (drill : (first count : 
   by-going-on checkpoint Steps goes = absurd goes
   by-going-on checkpoint Session goes = absurd goes
   by-going-on checkpoint Opening goes = absurd goes
+  by-going-on checkpoint Levels goes = absurd goes
+  by-going-on checkpoint Rebuild goes = absurd goes
 
   -- that write
   pub by-writing : Holds Checkpoint → Holds Amend → (c : Command) → IsWriting c → Holds c
@@ -34,6 +36,8 @@ module _ (Holds : Command → Type 0) (run : Holds Run) (drill : (first count : 
   by-writing checkpoint amend Steps writing = absurd writing
   by-writing checkpoint amend Session writing = absurd writing
   by-writing checkpoint amend Opening writing = absurd writing
+  by-writing checkpoint amend Levels writing = absurd writing
+  by-writing checkpoint amend Rebuild writing = absurd writing
 
   -- that serve messages
   pub by-serving : {P I S : Type 0} (call : Call P I S) (c : Command) → Serves call c → Holds c
@@ -48,6 +52,8 @@ module _ (Holds : Command → Type 0) (run : Holds Run) (drill : (first count : 
   by-serving call Steps serves = absurd serves
   by-serving call Session serves = absurd serves
   by-serving call Opening serves = absurd serves
+  by-serving call Levels serves = absurd serves
+  by-serving call Rebuild serves = absurd serves
 
 -- that write, and serve none
 pub by-serving-none : {P I S : Type 0} (call : Call P I S) (Holds : Command → Type 0) → Holds Checkpoint → Holds Amend → (c : Command) → ServesNone call c → Holds c
@@ -62,3 +68,5 @@ by-serving-none call Holds checkpoint amend Ledger serves = absurd serves
 by-serving-none call Holds checkpoint amend Steps serves = absurd serves
 by-serving-none call Holds checkpoint amend Session serves = absurd serves
 by-serving-none call Holds checkpoint amend Opening serves = absurd serves
+by-serving-none call Holds checkpoint amend Levels serves = absurd serves
+by-serving-none call Holds checkpoint amend Rebuild serves = absurd serves

@@ -28,7 +28,7 @@ use Rattle.exec_report.specs.declared.texts.SendFault.{SendFault as SendFailed}
 use Rattle.journal_print.specs.Reading.{ReadsAndSends}
 use Rattle.journal_print.specs.declared.unprinted.Unprinted.{Unprinted}
 use Rattle.command_words.specs.declared.command.Command.{Command}
-use Rattle.command_words.specs.declared.command.Command.TheVariants.{Run, Replay, Book, Fills, Ledger, Steps, Drill, Checkpoint, Amend, Session, Opening}
+use Rattle.command_words.specs.declared.command.Command.TheVariants.{Run, Replay, Book, Fills, Ledger, Levels, Steps, Drill, Checkpoint, Amend, Session, Opening, Rebuild}
 use Rattle.globex_run.specs.Outside.{SourceAt, Outside, Streams, IsQuiet, source_at, streams_at}
 use Rattle.globex_run.specs.Outcomes.{outcome_of}
 use Rattle.globex_run.specs.Words.{IsPrinting, OnlyReads, ReadsInput, OpensByText, NeverEndsWith}
@@ -48,13 +48,14 @@ use Rattle.globex_run.specs.Inner.Amending.{AmendResult}
 use Rattle.globex_run.specs.Inner.Executing.{Executes, HasCauses, Runs}
 use Rattle.globex_run.specs.Answering.{AnswersSession, IsAnswered}
 use Rattle.globex_run.specs.OpeningPrices.{ShowsOpenings}
+use Rattle.globex_run.specs.Rebuilding.{RebuildsLevels, CanReadFeed, IsRebuilt}
 use Rattle.globex_run.specs.Calls.{Call}
 use Rattle.globex_run.specs.Steps.{LeavesFronts, LeavesEntryOrFronts}
 use Rattle.globex_run.specs.Amends.{AmendPremises, CanBeAmended}
 use Rattle.globex_run.specs.Works.{GivenFor, Reads, work_of, DoneBy, EndedBy, CanBeDone, CanTakeInput, EndsWell, bytes_for}
 use Rattle.globex_run.specs.Drills.{summary, made_messages, summary_of_all}
 use Rattle.globex_run.specs.Checkpoints.{sends_nothing}
-use Rattle.globex_run.specs.Promises.{DoesAll, EndsAsTold, LeavesAFront, LeavesTheEntry, KeepsWhatIsSent, AddsMessagesAlone, AddsARecordPerRead, ReadsItOnce, IsFullForMessages, IsFullForImage, IsFullForAmendment, SendsNothing, EndsWellWhereItCan, PrintsItsText, AnswersItsInput, ShowsItsOpenings, EndsWhereTold, LeavesAllAtNoMemory, RefusesWhatItMust, RefusesAmendments, OpensAgain, HasItsStatuses}
+use Rattle.globex_run.specs.Promises.{DoesAll, EndsAsTold, LeavesAFront, LeavesTheEntry, KeepsWhatIsSent, AddsMessagesAlone, AddsARecordPerRead, ReadsItOnce, IsFullForMessages, IsFullForImage, IsFullForAmendment, SendsNothing, EndsWellWhereItCan, PrintsItsText, AnswersItsInput, ShowsItsOpenings, RebuildsItsLevels, EndsWhereTold, LeavesAllAtNoMemory, RefusesWhatItMust, RefusesAmendments, OpensAgain, HasItsStatuses}
 use Rattle.globex_run.specs.declared.outcome.Outcome.{Outcome}
 use Rattle.globex_run.proofs.EverySent.{every-sent, all-grows, fronts-of, entry-or-fronts}
 use Rattle.globex_run.proofs.Reported.{fewer-reports}
@@ -78,6 +79,7 @@ use Rattle.globex_run.proofs.StartableImages.{not-refused-by}
 use Rattle.globex_run.proofs.Printed.{events-printed, book-printed, steps-printed}
 use Rattle.globex_run.proofs.Answered.{unprinted-answer, answered-well}
 use Rattle.globex_run.proofs.OpeningHeadlines.{opening-ended, opening-well}
+use Rattle.globex_run.proofs.Rebuilt.{rebuilt-takes, rebuilt-not-refused, rebuilt-statuses, rebuilt-well}
 use Rattle.globex_run.proofs.Lists.{and_left-none}
 
 -- ---- a command that can be done has a product
@@ -97,6 +99,8 @@ product-told m before Replay can = (can.text, can.product, can.text_known, can.g
 product-told m before Book can = (can.text, can.product, can.text_known, can.gives)
 product-told m before Fills can = (can.text, can.product, can.text_known, can.gives)
 product-told m before Ledger can = (can.text, can.product, can.text_known, can.gives)
+product-told m before Levels can = (can.text, can.product, can.text_known, can.gives)
+product-told m before Rebuild can = (can.text, can.product, can.text_known, can.gives)
 product-told m before Steps can = (can.text, can.product, can.text_known, can.gives)
 
 -- ---- a product was taken, and its text lent to the command
@@ -407,6 +411,19 @@ module _ {P I S : Type 0} (m : StationMeanings S) (p q : SourceAt P) (i j : Sour
           opening-well m i j old new outcome faults (λ four. quiet.input ((causes-as Opening asks).read four).1) can.start.product can.start.text can.start.gives image known kept start can.bytes can.input_known
           (shown-as can.start.text can.start.product can.start.text_known can.start.gives)
 
+    -- ---- what was rebuilt
+
+    module _ (asks : asked ≡ Some Rebuild) where
+      pub rebuilt-as : (told : List ℕ) (lists : ProductLists) → p.left ≡ Some told → product_of told ≡ Ok lists → RebuildsLevels lists entry.streams exit.streams outcome
+      rebuilt-as told lists known are =
+          told-product p q text lent same product took gives (λ (l : ProductLists) (bytes : List ℕ). RebuildsLevels l entry.streams exit.streams outcome) told lists known are (did-as Rebuild asks).form
+
+      -- where no fault comes, the status is that of the feed
+      pub all-rebuilt : (can : CanReadFeed entry) → IsQuiet entry exit → IsRebuilt can.product can.bytes outcome.status
+      all-rebuilt can quiet =
+          let faults = no-fault Rebuild (causes-as Rebuild asks) quiet in
+          rebuilt-well entry.streams exit.streams can.product outcome can.bytes can.input_known (λ four. quiet.input ((causes-as Rebuild asks).read four).1) faults.1 (rebuilt-as can.text can.product can.text_known can.gives)
+
     -- ---- what was printed
 
     module _ (c : Command) (asks : asked ≡ Some c) where
@@ -417,15 +434,18 @@ module _ {P I S : Type 0} (m : StationMeanings S) (p q : SourceAt P) (i j : Sour
       reads-by Amend printing did = absurd printing
       reads-by Session printing did = absurd printing
       reads-by Opening printing did = absurd printing
+      reads-by Rebuild printing did = absurd printing
       reads-by Replay printing did = did.reads
       reads-by Book printing did = did.reads
       reads-by Fills printing did = did.reads
       reads-by Ledger printing did = did.reads
+      reads-by Levels printing did = did.reads
       reads-by Steps printing did = did.reads
 
       only-by : (x : Command) → OnlyReads x → Did x → ReadsAndSends m old new
       only-by Session reads did = did.reads
       only-by Opening reads did = did.reads
+      only-by Rebuild reads did = did.reads
       only-by Run reads did = absurd reads
       only-by (Drill first count) reads did = absurd reads
       only-by Checkpoint reads did = absurd reads
@@ -434,6 +454,7 @@ module _ {P I S : Type 0} (m : StationMeanings S) (p q : SourceAt P) (i j : Sour
       only-by Book reads did = reads-by Book reads did
       only-by Fills reads did = reads-by Fills reads did
       only-by Ledger reads did = reads-by Ledger reads did
+      only-by Levels reads did = reads-by Levels reads did
       only-by Steps reads did = reads-by Steps reads did
 
       -- a command that prints or answers only reads
@@ -444,6 +465,7 @@ module _ {P I S : Type 0} (m : StationMeanings S) (p q : SourceAt P) (i j : Sour
       input-by Run other did = absurd (other tt)
       input-by Session other did = absurd (other tt)
       input-by Opening other did = absurd (other tt)
+      input-by Rebuild other did = absurd (other tt)
       input-by (Drill first count) other did = did.1
       input-by Checkpoint other did = did.1
       input-by Amend other did = did.1
@@ -451,6 +473,7 @@ module _ {P I S : Type 0} (m : StationMeanings S) (p q : SourceAt P) (i j : Sour
       input-by Book other did = did.input
       input-by Fills other did = did.input
       input-by Ledger other did = did.input
+      input-by Levels other did = did.input
       input-by Steps other did = did.input
 
       -- few commands read the input
@@ -464,6 +487,7 @@ module _ {P I S : Type 0} (m : StationMeanings S) (p q : SourceAt P) (i j : Sour
       form-of Amend did = tt
       form-of Session did = tt
       form-of Opening did = tt
+      form-of Rebuild did = tt
       form-of Replay printed = printed.form
       form-of Book printed = printed.form
       form-of Fills printed = printed.form
@@ -495,12 +519,15 @@ module _ {P I S : Type 0} (m : StationMeanings S) (p q : SourceAt P) (i j : Sour
         by-command Amend printing lacks startable form = absurd printing
         by-command Session printing lacks startable form = absurd printing
         by-command Opening printing lacks startable form = absurd printing
+        by-command Rebuild printing lacks startable form = absurd printing
         by-command Replay printing lacks startable form =
-            let at = startable (λ e. cc e) in events-printed m can.product can.text old new outcome quiet-print can.gives at.0 at.1.1.0 at.1.1.1 line_of _ form.answer form.outcome_is lacks (form.prints at.0 at.1.0)
+            let at = startable (λ e. cc e) in events-printed m can.product can.text old new outcome quiet-print can.gives at.0 at.1.1.0 at.1.1.1 _ _ form.answer form.outcome_is lacks (form.prints at.0 at.1.0)
         by-command Fills printing lacks startable form =
-            let at = startable (λ e. cc e) in events-printed m can.product can.text old new outcome quiet-print can.gives at.0 at.1.1.0 at.1.1.1 fill_line _ form.answer form.outcome_is lacks (form.prints at.0 at.1.0)
+            let at = startable (λ e. cc e) in events-printed m can.product can.text old new outcome quiet-print can.gives at.0 at.1.1.0 at.1.1.1 _ _ form.answer form.outcome_is lacks (form.prints at.0 at.1.0)
         by-command Ledger printing lacks startable form =
-            let at = startable (λ e. cc e) in events-printed m can.product can.text old new outcome quiet-print can.gives at.0 at.1.1.0 at.1.1.1 (λ names. ledger_line) _ form.answer form.outcome_is lacks (form.prints at.0 at.1.0)
+            let at = startable (λ e. cc e) in events-printed m can.product can.text old new outcome quiet-print can.gives at.0 at.1.1.0 at.1.1.1 _ _ form.answer form.outcome_is lacks (form.prints at.0 at.1.0)
+        by-command Levels printing lacks startable form =
+            let at = startable (λ e. cc e) in events-printed m can.product can.text old new outcome quiet-print can.gives at.0 at.1.1.0 at.1.1.1 _ _ form.answer form.outcome_is lacks (form.prints at.0 at.1.0)
         by-command Book printing lacks startable form =
             let at = startable (λ e. cc e) in book-printed m can.product can.text old new outcome quiet-print can.gives at.0 at.1.1.0 at.1.1.1 form.answer form.outcome_is (form.prints at.0 at.1.0).prints
         by-command Steps printing lacks startable form = steps-printed outcome quiet-print form.result form.outcome_is
@@ -605,6 +632,8 @@ module _ {P I S : Type 0} (m : StationMeanings S) (p q : SourceAt P) (i j : Sour
       ended Book printed told = printed.input
       ended Fills printed told = printed.input
       ended Ledger printed told = printed.input
+      ended Levels printed told = printed.input
+      ended Rebuild did told = rebuilt-takes entry.streams exit.streams product outcome did.form
       ended Steps printed told = printed.input
 
       pub told-ended : outcome.status ≢ 1 → CommandResult entry exit outcome c
@@ -650,19 +679,23 @@ module _ {P I S : Type 0} (m : StationMeanings S) (p q : SourceAt P) (i j : Sour
             by-book Book product text image (λ head. one_place product head product.journal_limit image) outcome (λ head at bad. bad) (λ head at bad. bad) m old new form.answer form.outcome_is (form.prints image known).prints
         refuses-by Replay opens did told =
             let form = formed Replay did in
-            by-events Replay product text image (λ head. one_bad_for_each head product.journal_limit image) outcome (λ head at bad. bad) (λ head at bad. bad) tt m old new line_of _ form.answer form.outcome_is told (form.prints image known)
+            by-events Replay product text image (λ head. one_bad_for_each head product.journal_limit image) outcome (λ head at bad. bad) (λ head at bad. bad) tt m old new _ _ form.answer form.outcome_is told (form.prints image known)
         refuses-by Fills opens did told =
             let form = formed Fills did in
-            by-events Fills product text image (λ head. one_bad_for_each head product.journal_limit image) outcome (λ head at bad. bad) (λ head at bad. bad) tt m old new fill_line _ form.answer form.outcome_is told (form.prints image known)
+            by-events Fills product text image (λ head. one_bad_for_each head product.journal_limit image) outcome (λ head at bad. bad) (λ head at bad. bad) tt m old new _ _ form.answer form.outcome_is told (form.prints image known)
         refuses-by Ledger opens did told =
             let form = formed Ledger did in
-            by-events Ledger product text image (λ head. one_bad_for_each head product.journal_limit image) outcome (λ head at bad. bad) (λ head at bad. bad) tt m old new (λ names. ledger_line) _ form.answer form.outcome_is told (form.prints image known)
+            by-events Ledger product text image (λ head. one_bad_for_each head product.journal_limit image) outcome (λ head at bad. bad) (λ head at bad. bad) tt m old new _ _ form.answer form.outcome_is told (form.prints image known)
+        refuses-by Levels opens did told =
+            let form = formed Levels did in
+            by-events Levels product text image (λ head. one_bad_for_each head product.journal_limit image) outcome (λ head at bad. bad) (λ head at bad. bad) tt m old new _ _ form.answer form.outcome_is told (form.prints image known)
         refuses-by Session opens did told = by-session (subst (λ (l : List ℕ). AnswersSession m product l entry.streams exit.streams outcome) same did.form) told
         refuses-by Opening opens did told =
             let ended = opened-as-text did.form in
             by-ending Opening product text image (λ head. one_place product head product.journal_limit image) outcome (λ head at bad. bad) (λ head at bad. bad)
             ended.ending ended.is (none-counted _ _ outcome ended.ending ended.serving.taken ended.is ended.serving.ends) (at-image image known ended.ending ended.image)
         refuses-by Steps opens did told = absurd opens
+        refuses-by Rebuild opens did told = absurd opens
         refuses-by Amend opens did told = absurd opens
 
         refuses-told : OpensByText c → outcome.status ≢ 1 → (told : List ℕ) (lists : ProductLists) → p.left ≡ Some told → product_of told ≡ Ok lists → RefusesExactly c lists told image outcome
@@ -699,9 +732,11 @@ module _ {P I S : Type 0} (m : StationMeanings S) (p q : SourceAt P) (i j : Sour
         started-by Replay is did = not-started (subst OpensByText (sym is) tt) (λ e. cc (e, is))
         started-by Fills is did = not-started (subst OpensByText (sym is) tt) (λ e. cc (e, is))
         started-by Ledger is did = not-started (subst OpensByText (sym is) tt) (λ e. cc (e, is))
+        started-by Levels is did = not-started (subst OpensByText (sym is) tt) (λ e. cc (e, is))
         started-by Session is did = not-started (subst OpensByText (sym is) tt) (λ e. cc (e, is))
         started-by Opening is did = not-started (subst OpensByText (sym is) tt) (λ e. cc (e, is))
         started-by Steps is did = sent-not-refused did.form.result did.form.outcome_is
+        started-by Rebuild is did = rebuilt-not-refused entry.streams exit.streams product outcome did.form refusal
 
         pub opens-again : ⊥
         opens-again = started-by c refl (did-as c asks)
@@ -715,9 +750,9 @@ module _ {P I S : Type 0} (m : StationMeanings S) (p q : SourceAt P) (i j : Sour
       printing-status : (x : Command) → Causes x → (answer : Result ℕ Unprinted) → outcome ≡ outcome_printed answer → (ReadsInput x → ⊥) → NeverEndsWith Replay outcome.status → ⊥
       printing-status x why answer is other never =
           let low = printed-low outcome answer is in
-          no-frames x why other (λ high. ⊎_elim (λ e. omega (arith, e, low)) (λ e. omega (arith, e, low)) high) never
+          no-frames x why other (λ high. omega (arith, high, low)) never
 
-      answers-low : AnswersSession m product lent entry.streams exit.streams outcome → outcome.status ≡ 13 → ⊥
+      answers-low : AnswersSession m product lent entry.streams exit.streams outcome → 13 ≤ outcome.status → ⊥
       answers-low (inl stopped) never = let low = printed-low outcome (unprinted-answer stopped.why) stopped.is in omega (arith, never, low)
       answers-low (inr did) never = let low = ending-low outcome did.ending outcome.messages did.is in omega (arith, never, low)
 
@@ -737,6 +772,8 @@ module _ {P I S : Type 0} (m : StationMeanings S) (p q : SourceAt P) (i j : Sour
       ending-by Book did why never = printing-status Book why did.form.answer did.form.outcome_is (λ reads. reads) never
       ending-by Fills did why never = printing-status Fills why did.form.answer did.form.outcome_is (λ reads. reads) never
       ending-by Ledger did why never = printing-status Ledger why did.form.answer did.form.outcome_is (λ reads. reads) never
+      ending-by Levels did why never = printing-status Levels why did.form.answer did.form.outcome_is (λ reads. reads) never
+      ending-by Rebuild did why never = rebuilt-statuses entry.streams exit.streams product outcome did.form never
       ending-by Steps did why never = sent-status outcome did.form.result did.form.outcome_is never
 
       pub never-ends : NeverEndsWith c outcome.status → ⊥
@@ -803,6 +840,8 @@ module _ {P I S : Type 0} (m : StationMeanings S) (p q : SourceAt P) (i j : Sour
     sends-grow Steps given read a b le = omega arith
     sends-grow Session given read a b le = omega arith
     sends-grow Opening given read a b le = omega arith
+    sends-grow Levels given read a b le = omega arith
+    sends-grow Rebuild given read a b le = omega arith
 
     pub keeps-what-is-sent : (m.is_honest old → IsHonestNow m old) → KeepsWhatIsSent the-call
     keeps-what-is-sent now c asks writing given read = every-sent the-call (work_of the-call c given read) (sends-grow c given read) (leaves-the-entry now c asks writing given read)
@@ -856,6 +895,8 @@ module _ {P I S : Type 0} (m : StationMeanings S) (p q : SourceAt P) (i j : Sour
     ends-well Book asks can quiet = unless-memory outcome.status (λ there. all-printed asked command is (did there) causes Book asks can quiet tt there)
     ends-well Fills asks can quiet = unless-memory outcome.status (λ there. all-printed asked command is (did there) causes Fills asks can quiet tt there)
     ends-well Ledger asks can quiet = unless-memory outcome.status (λ there. all-printed asked command is (did there) causes Ledger asks can quiet tt there)
+    ends-well Levels asks can quiet = unless-memory outcome.status (λ there. all-printed asked command is (did there) causes Levels asks can quiet tt there)
+    ends-well Rebuild asks can quiet = unless-memory outcome.status (λ there. all-rebuilt asked command is (did there) causes asks can quiet)
     ends-well Steps asks can quiet = unless-memory outcome.status (λ there. all-printed asked command is (did there) causes Steps asks can quiet tt there)
 
     pub prints-its-text : PrintsItsText the-call
@@ -866,6 +907,9 @@ module _ {P I S : Type 0} (m : StationMeanings S) (p q : SourceAt P) (i j : Sour
 
     pub shows-its-openings : ShowsItsOpenings the-call
     shows-its-openings asks given = shown-as asked command is (did given.memory) causes asks given.text given.product given.text_known given.gives
+
+    pub rebuilds-its-levels : RebuildsItsLevels the-call
+    rebuilds-its-levels asks given = rebuilt-as asked command is (did given.memory) causes asks given.text given.product given.text_known given.gives
 
     pub ends-where-told : EndsWhereTold the-call
     ends-where-told c asks told = told-ended asked command is (did told) causes c asks told

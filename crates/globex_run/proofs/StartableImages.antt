@@ -13,7 +13,7 @@ use Rattle.book_recovery.specs.Kept.{IsStartable}
 use Rattle.book_recovery.specs.BadPlaces.{IsBadForEachRecord, IsBadPlace}
 use Rattle.book_recovery.proofs.OneWay.{no_bad_place}
 use Rattle.command_words.specs.declared.command.Command.{Command}
-use Rattle.command_words.specs.declared.command.Command.TheVariants.{Run, Replay, Book, Fills, Ledger, Steps, Drill, Checkpoint, Amend, Session, Opening}
+use Rattle.command_words.specs.declared.command.Command.TheVariants.{Run, Replay, Book, Fills, Ledger, Steps, Drill, Checkpoint, Amend, Session, Opening, Levels, Rebuild}
 use Rattle.globex_run.specs.Refusals.{HasBadRecordFor, IsRefusedWith}
 use Rattle.globex_run.proofs.ProductReads.{short-text}
 use Rattle.globex_run.proofs.KeptMore.{good-startable}
@@ -59,8 +59,10 @@ module _ (product : ProductLists) (text image : List ℕ) (kept : History) (give
   not-bad-for Replay at opened bad = not-bad-record at opened bad
   not-bad-for Fills at opened bad = not-bad-record at opened bad
   not-bad-for Ledger at opened bad = not-bad-record at opened bad
+  not-bad-for Levels at opened bad = not-bad-record at opened bad
   not-bad-for Session at opened bad = not-bad-record at opened bad
   not-bad-for Steps at opened bad = absurd bad
+  not-bad-for Rebuild at opened bad = absurd bad
 
   pub not-refused-by : (command : Command) (status at : ℕ) → IsRefusedWith command product text image status at → ⊥
   not-refused-by command status at refused = ⊎_elim

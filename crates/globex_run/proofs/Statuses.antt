@@ -5,7 +5,7 @@ use Rattle.exec_report.specs.declared.texts.SendFault.{SendFault as SendFailed}
 use Rattle.journal_print.specs.declared.unprinted.Unprinted.{Unprinted}
 use Rattle.journal_print.specs.declared.unprinted.Unprinted.TheVariants as unprinted
 use Rattle.command_words.specs.declared.command.Command.{Command}
-use Rattle.command_words.specs.declared.command.Command.TheVariants.{Run, Replay, Book, Fills, Ledger, Steps, Drill, Checkpoint, Amend, Session, Opening}
+use Rattle.command_words.specs.declared.command.Command.TheVariants.{Run, Replay, Book, Fills, Ledger, Levels, Steps, Drill, Checkpoint, Amend, Session, Opening, Rebuild}
 use Rattle.globex_run.specs.Outcomes.{outcome_of}
 use Rattle.globex_run.specs.Words.{NeverEndsWith}
 use Rattle.globex_run.specs.Prints.{outcome_printed, outcome_sent}
@@ -26,30 +26,29 @@ by-memory status lacks has = elim (eqb_tells status 1) [
 pub unless-memory : {A : Type 0} (status : ℕ) → (status ≢ 1 → A) → (status ≡ 1) ⊎ A
 unless-memory status has = by-memory status (λ one. inl one) (λ other. inr (has other))
 
--- one of several statuses is another than 1
-lacks-four : (status a b c d : ℕ) → a ≢ 1 → b ≢ 1 → c ≢ 1 → d ≢ 1 → (status ≡ a) ⊎ ((status ≡ b) ⊎ ((status ≡ c) ⊎ (status ≡ d))) → status ≢ 1
-lacks-four status a b c d first second third fourth never one =
-    ⊎_elim (λ e. first (sym e ∙ one)) (λ more. ⊎_elim (λ e. second (sym e ∙ one)) (λ more. ⊎_elim (λ e. third (sym e ∙ one)) (λ e. fourth (sym e ∙ one)) more) more) never
+-- 7, 8, or a higher one
+higher-lacks : (status low : ℕ) → 2 ≤ low → (status ≡ 7) ⊎ ((status ≡ 8) ⊎ (low ≤ status)) → status ≢ 1
+higher-lacks status low two never one = ⊎_elim (λ e. omega (arith, e, one)) (λ more. ⊎_elim (λ e. omega (arith, e, one)) (λ high. omega (arith, two, high, one)) more) never
 
-lacks-three : (status a b c : ℕ) → a ≢ 1 → b ≢ 1 → c ≢ 1 → (status ≡ a) ⊎ ((status ≡ b) ⊎ (status ≡ c)) → status ≢ 1
-lacks-three status a b c first second third never one = ⊎_elim (λ e. first (sym e ∙ one)) (λ more. ⊎_elim (λ e. second (sym e ∙ one)) (λ e. third (sym e ∙ one)) more) never
-
-never-prints : (status : ℕ) → (status ≡ 7) ⊎ ((status ≡ 8) ⊎ ((status ≡ 12) ⊎ (status ≡ 13))) → status ≢ 1
-never-prints status never = lacks-four status 7 8 12 13 (λ e. cc e) (λ e. cc e) (λ e. cc e) (λ e. cc e) never
+never-prints : (status : ℕ) → NeverEndsWith Replay status → status ≢ 1
+never-prints status never = higher-lacks status 12 (omega arith) never
 
 -- a status that a command does not end with is another
 pub never-lacks : (command : Command) (status : ℕ) → NeverEndsWith command status → status ≢ 1
 never-lacks Run status never one = omega (arith, never, one)
 never-lacks Session status never one = omega (arith, never, one)
 never-lacks Opening status never one = omega (arith, never, one)
-never-lacks (Drill first count) status never one = lacks-three status 7 8 13 (λ e. cc e) (λ e. cc e) (λ e. cc e) never one
-never-lacks Checkpoint status never one = lacks-four status 6 7 8 13 (λ e. cc e) (λ e. cc e) (λ e. cc e) (λ e. cc e) never one
-never-lacks Amend status never one = lacks-three status 6 7 8 (λ e. cc e) (λ e. cc e) (λ e. cc e) never one
+never-lacks (Drill first count) status never one = higher-lacks status 13 (omega arith) never one
+never-lacks Checkpoint status never one = ⊎_elim (λ six. omega (arith, six, one)) (λ more. higher-lacks status 13 (omega arith) more one) never
+never-lacks Amend status never one = ⊎_elim (λ six. omega (arith, six, one)) (λ more. higher-lacks status 14 (omega arith) more one) never
 never-lacks Steps status never one = ⊎_elim (λ five. omega (arith, five, one)) (λ more. omega (arith, more, one)) never
 never-lacks Replay status never one = never-prints status never one
 never-lacks Book status never one = never-prints status never one
 never-lacks Fills status never one = never-prints status never one
 never-lacks Ledger status never one = never-prints status never one
+never-lacks Levels status never one = never-prints status never one
+never-lacks Rebuild status never one =
+    ⊎_elim (λ five. omega (arith, five, one)) (λ more. ⊎_elim (λ seven. omega (arith, seven, one)) (λ more. ⊎_elim (λ refused. omega (arith, refused.0, one)) (λ more. ⊎_elim (λ e. omega (arith, e, one)) (λ high. omega (arith, high, one)) more) more) more) never
 
 -- ---- with which statuses a command does not end
 

@@ -11,6 +11,7 @@ pub mod Checkpoints
 pub mod Prints
 pub mod Answering
 pub mod OpeningPrices
+pub mod Rebuilding
 pub mod Refusals
 pub mod FullJournals
 pub mod Calls

@@ -9,7 +9,7 @@ use Rattle.order_kinds.specs.Histories.{History, AreOfTexts, IsBalanced}
 use Rattle.report_laws.specs.Sums.{IsReadBalanced}
 use Rattle.resend_laws.specs.Repeats.{RepeatsReports}
 use Rattle.command_words.specs.declared.command.Command.{Command}
-use Rattle.command_words.specs.declared.command.Command.TheVariants.{Run, Checkpoint, Amend, Session, Opening}
+use Rattle.command_words.specs.declared.command.Command.TheVariants.{Run, Checkpoint, Amend, Session, Opening, Rebuild}
 use Rattle.globex_run.specs.Calls.{Call}
 use Rattle.product_file.specs.Products.{ProductLists}
 use Rattle.product_file.specs.ProductTexts.{product_of}
@@ -26,6 +26,7 @@ use Rattle.globex_run.specs.Memory.{StopsAtProducts}
 use Rattle.globex_run.specs.Prints.{PrintsAs}
 use Rattle.globex_run.specs.Answering.{AnswersSession}
 use Rattle.globex_run.specs.OpeningPrices.{ShowsOpenings}
+use Rattle.globex_run.specs.Rebuilding.{RebuildsLevels}
 use Rattle.globex_run.specs.Refusals.{IsRefusal, RefusesExactly, CanStart}
 use Rattle.globex_run.specs.FullJournals.{IsFullJournal}
 use Rattle.globex_run.specs.Works.{Given, GivenFor, Reads, work_of, DoneBy, EndedBy, Serves, ServesNone, bytes_for, CanBeDone, EndsWell}
@@ -115,6 +116,11 @@ module _ {P I S : Type 0} (c : Call P I S) where
   abbrev pub ShowsItsOpenings : Type 0
   ShowsItsOpenings = c.asked ≡ Some Opening → (given : ProductPremises c.before c.after c.outcome.status)
       → ShowsOpenings given.product given.text c.before.streams c.after.streams c.outcome
+
+  -- What `rebuild` sends, whatever its status: the levels at the end of the feed that its input is, or a part of them, or nothing.
+  abbrev pub RebuildsItsLevels : Type 0
+  RebuildsItsLevels = c.asked ≡ Some Rebuild → (given : ProductPremises c.before c.after c.outcome.status)
+      → RebuildsLevels given.product c.before.streams c.after.streams c.outcome
 
   -- The lines that are sent again out of a history are some of its reports, in their order, but for what says that they are sent again.
   abbrev pub RepeatsTheReports : Type 0

@@ -9,16 +9,24 @@ ghost use Rattle.globex_run.specs.Inner.Checkpointing.{CheckpointResult};
 ghost use Rattle.globex_run.specs.Inner.Collecting.{ShowsWithCause};
 ghost use Rattle.globex_run.specs.Inner.Drilling.{DrillsMade};
 ghost use Rattle.globex_run.specs.Inner.Executing.{Executes, HasCauses, IsExecuted};
+ghost use Rattle.globex_run.specs.Inner.Printing.{PrintsKept};
+ghost use Rattle.match_journal.specs.Causes.{ReadsOnly};
+ghost use Rattle.journal_print.specs.Printed.{PrintsMessages};
+ghost use Rattle.journal_print.specs.Works.{work_text, work_whole};
+ghost use Rattle.feed_print.specs.FeedPlaces.{feed_start};
+ghost use Rattle.feed_print.specs.FeedWorks.{feed_work};
 
 use crate::amend::amend;
 use crate::answer::answer_messages;
 use crate::outcome::{Outcome, Status};
 use crate::printing::{list_steps, print_each_record, print_last_book};
+use crate::rebuild::rebuild;
 use crate::session::Session;
 use crate::taken::Taken;
 use book_print::{FillForm, Totals};
 use command_words::Command;
 use exec_report::ReportForm;
+use feed_print::FeedWork;
 use gx_station::{Source, Station};
 use journal_print::Lines;
 use std::alloc::{AllocError, Global};
@@ -48,8 +56,8 @@ pub fn execute<I: Source, S: Station>(
     }
 }
 
-/// Executes a command. `run`, `session` and `opening` alone read the input. `run`, `drill`, `checkpoint` and `amend` add to the journal; the others print or
-/// answer, and write nothing. An `Err` is want of memory, and nothing was touched then.
+/// Executes a command. `run`, `session`, `opening` and `rebuild` alone read the input. `run`, `drill`, `checkpoint` and `amend` add to the
+/// journal; the others print or answer, and write nothing. An `Err` is want of memory, and nothing was touched then.
 fn executed<I: Source, S: Station>(
     alloc: Global,
     command: Command,
@@ -70,6 +78,7 @@ fn executed<I: Source, S: Station>(
         Command::Amend => amend(alloc, taken, station),
         Command::Session => answer_messages(alloc, taken, input, station),
         Command::Opening => opening(alloc, taken, input, station),
+        Command::Rebuild => rebuild(alloc, taken, input, station),
         Command::Replay => print_each_record(
             alloc,
             &mut Lines { form: ReportForm },
@@ -85,6 +94,7 @@ fn executed<I: Source, S: Station>(
             taken,
             station,
         ),
+        Command::Levels => levels(alloc, taken, station),
         Command::Book => print_last_book(alloc, taken, station),
         Command::Steps => list_steps(alloc, taken, station),
     }
@@ -154,4 +164,20 @@ fn opening<I: Source, S: Station>(
 {
     let mut session = Session::new(alloc, taken)?;
     Ok(session.show_openings(input, station))
+}
+
+/// Takes the memory of a feed, and sends the level feed of the messages that the journal keeps. An `Err` is want of memory, and nothing
+/// was touched then.
+fn levels<S: Station>(
+    alloc: Global,
+    taken: &Taken<'_>,
+    station: &mut S,
+) -> Result<Outcome, AllocError>
+    ensures prints { IfOk result (λ outcome. PrintsKept S.meanings station.old station.new outcome (ReadsOnly S.meanings station.old station.new)
+        (λ image. PrintsMessages S.meanings taken.now.product.now taken.now.text.now image station.old station.new
+        (work_text feed_work feed_start) (work_whole feed_work feed_start))) }
+    ensures none { OnErr result (station.new ≡ station.old) }
+{
+    let mut work = FeedWork::new(alloc)?;
+    print_each_record(alloc, &mut work, taken, station)
 }

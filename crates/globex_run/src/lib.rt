@@ -15,6 +15,7 @@ mod opening_prices;
 mod outcome;
 mod printing;
 mod product_text;
+mod rebuild;
 mod reopening;
 mod resender;
 mod run;

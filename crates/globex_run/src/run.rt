@@ -12,8 +12,9 @@ ghost use Rattle.globex_run.specs.Promises.{DoesAll, EndsAsTold, LeavesAFront, L
 ghost use Rattle.globex_run.specs.Promises.{AddsMessagesAlone, AddsARecordPerRead, ReadsItOnce, IsFullForMessages, IsFullForImage, IsFullForAmendment, SendsNothing};
 ghost use Rattle.globex_run.specs.Promises.{EndsWellWhereItCan, AnswersWords, AnswersProductText, LeavesWhatItRefuses};
 ghost use Rattle.globex_run.specs.Promises.{TellsReadFaults, TellsStoreFaults, TellsSendFaults};
-ghost use Rattle.globex_run.specs.Promises.{PrintsItsText, AnswersItsInput, ShowsItsOpenings, RepeatsTheReports, Balances, BalancesAsRead, EndsWhereTold, LeavesAllAtNoMemory, RefusesWhatItMust, RefusesAmendments, OpensAgain, HasItsStatuses};
+ghost use Rattle.globex_run.specs.Promises.{PrintsItsText, AnswersItsInput, ShowsItsOpenings, RebuildsItsLevels, RepeatsTheReports, Balances, BalancesAsRead, EndsWhereTold, LeavesAllAtNoMemory, RefusesWhatItMust, RefusesAmendments, OpensAgain, HasItsStatuses};
 ghost use Rattle.globex_run.specs.OpeningPrices.{OpensAtBestPrices};
+ghost use Rattle.globex_run.specs.Rebuilding.{FeedsFoldToLevels};
 ghost use Rattle.globex_run.specs.Inner.Statuses.{outcome_without, outcome_of_words};
 
 use crate::ending::Ending;
@@ -22,6 +23,7 @@ use crate::outcome::{Outcome, Status};
 use crate::product_text::{NoProduct, take_product};
 use crate::taken::Taken;
 use command_words::{WordsFault, read_command};
+use feed_laws::feeds_of_histories_fold_to_levels;
 use gx_station::{Source, Station};
 use open_auction::{
     candidates_are_the_prices, no_price_opens_more, pairs_add_up, ties_fall_by_the_rules,
@@ -51,8 +53,8 @@ fn outcome_without(reason: NoProduct) -> Outcome
     }
 }
 
-/// Executes the command of the words: `run`, `drill`, `checkpoint`, `amend`, `session`, `opening`, or one of those that only print: `replay`,
-/// `book`, `fills`, `ledger`, `steps`.
+/// Executes the command of the words: `run`, `drill`, `checkpoint`, `amend`, `session`, `opening`, `rebuild`, or one of those that only
+/// print: `replay`, `book`, `fills`, `ledger`, `levels`, `steps`.
 ///
 /// `run` takes the product, opens its journal and recovers the state of the messages kept there, and serves the input: all whole
 /// messages at hand are kept in one record of the journal, then applied, and then their reports are sent, before more is read.
@@ -64,12 +66,12 @@ fn outcome_without(reason: NoProduct) -> Outcome
 /// the journal, from which these commands and `book` begin then, and sends nothing. `amend` has the journal go on under the product handed
 /// in, and sends nothing: it adds one record with the product's text, unless the journal has that text already. `session` answers the session
 /// messages of firms, by what the journal keeps: it sends report lines again, and writes nothing. `opening` collects the orders of the input
-/// on the book that the journal keeps, and sends at which price each instrument would open; it writes nothing. The others send what they print, and write
-/// nothing. `Outcome` lists the statuses.
+/// on the book that the journal keeps, and sends at which price each instrument would open; it writes nothing. `rebuild` reads a level feed, as `levels` sends it, and sends the
+/// levels at its end; it opens no journal. The others send what they print, and write nothing. `Outcome` lists the statuses.
 ///
 /// The words are tried first: 2 comes exactly where they are no command. The product is tried next: 3 comes exactly where its text
 /// breaks a rule. Memory is taken before the first call on the station and the first read of the input, and want of it is status 1. Only
-/// `replay`, `fills`, `ledger`, `session` and `amend` take more, for products that the journal keeps, once their texts were read and before anything
+/// `replay`, `fills`, `ledger`, `levels`, `session` and `amend` take more, for products that the journal keeps, once their texts were read and before anything
 /// is sent or written. Then the journal is opened by its last text: 9, 10 and 11 come exactly where it is foreign, bad, or of another text.
 /// `amend` takes a journal of another text, if the product may follow its own: 13 comes exactly where it may not.
 pub fn globex<P: Source, I: Source, S: Station>(
@@ -109,6 +111,9 @@ pub fn globex<P: Source, I: Source, S: Station>(
     ensures answers { AnswersItsInput (call P.meanings I.meanings S.meanings words.now product input station result) }
     ensures openings { ShowsItsOpenings (call P.meanings I.meanings S.meanings words.now product input station result) }
     ensures best_openings { OpensAtBestPrices }
+    // The levels of a feed, and that the fold of each history's feed is its levels.
+    ensures rebuilds { RebuildsItsLevels (call P.meanings I.meanings S.meanings words.now product input station result) }
+    ensures feeds_fold { FeedsFoldToLevels }
     ensures repeats { RepeatsTheReports (call P.meanings I.meanings S.meanings words.now product input station result) }
     ensures only_reads { (asked : Command) → AsksFor words.now asked → OnlyReads asked → ReadsAndSends S.meanings station.old station.new }
 
@@ -148,6 +153,7 @@ pub fn globex<P: Source, I: Source, S: Station>(
     ties_fall_by_the_rules();
     candidates_are_the_prices();
     pairs_add_up();
+    feeds_of_histories_fold_to_levels();
     let command = match read_command(alloc, words) {
         Ok(command) => command,
         Err(fault) => return outcome_of_words(fault),

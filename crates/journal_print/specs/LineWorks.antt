@@ -42,6 +42,8 @@ module _ {F : Type 0} (f : FormMeanings F) where
 
   abbrev pub line_work : WorkMeanings (Lines F)
   line_work = record {
+    Fits = λ lines state. Unit {0};
+    fits_amended = λ lines product state fits. fits;
     text = lines_text;
     after = lines_after;
     ending = λ lines live. f.ending lines.form live;

@@ -13,6 +13,8 @@ sessions_noted sessions (amended before product messages) = noted_all product (s
 
 abbrev pub note_work : WorkMeanings (List FirmSession)
 note_work = record {
+  Fits = λ sessions state. Unit {0};
+  fits_amended = λ sessions product state fits. fits;
   text = λ sessions product state messages. [];
   after = λ sessions product state messages. noted_all product sessions messages;
   ending = λ sessions live. [];

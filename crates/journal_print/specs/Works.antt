@@ -7,7 +7,10 @@ use Rattle.order_kinds.specs.Step.{state_after}
 use Rattle.order_kinds.specs.Amendments.{amended_state}
 use Rattle.order_kinds.specs.Histories.{History, of_product, amended, state_kept}
 
-pub record WorkMeanings (W : Type 0) : Type 0 where
+pub record WorkMeanings (W : Type 0) : Type 1 where
+  -- the work can go on from this state; an amendment does not end that
+  pub Fits : W → State → Type 0
+  pub fits_amended : (w : W) (product : ProductLists) (state : State) → Fits w state → Fits w (amended_state product state)
   -- what is sent of messages of a product, by the state before them
   pub text : W → ProductLists → State → List (List ℕ) → List ℕ
   -- the work after them

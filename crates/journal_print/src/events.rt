@@ -4,6 +4,7 @@ ghost use Rattle.gx_station.specs.Counts.{Rose};
 ghost use Rattle.product_file.specs.ProductTexts.{product_of};
 ghost use Rattle.product_file.specs.declared.limits.TheConstants.{LONGEST_TEXT};
 ghost use Rattle.match_journal.specs.Causes.{ReadsOnly};
+ghost use Rattle.order_kinds.specs.State.{empty_state};
 ghost use Rattle.journal_print.specs.Reading.{ReadsAndSends};
 ghost use Rattle.journal_print.specs.Readers.{IsNewReader};
 ghost use Rattle.journal_print.specs.Works.{work_text, work_whole};
@@ -23,7 +24,8 @@ use std::alloc::Global;
 /// and answers how many messages these are: what is printed is what the work sends of them. `Lines` sends the lines of their events in some
 /// form. The products of all texts are taken before anything is sent: the last one is that handed in, and only a journal with amendments
 /// needs memory for others. Each record is read whole before its messages are taken, and a book image is held to its form and passed by; a
-/// part of what comes after all messages is sent only if all messages kept were read. The reader is to be new.
+/// part of what comes after all messages is sent only if all messages kept were read. The reader is to be new, and the work to fit a market
+/// without orders.
 ///
 /// `Store` and `Send` come only if the count of store or send faults rose, and `NoMemory` only if the journal has an amendment; nothing was
 /// sent then. `NotAJournal`, `Bad` and `ProductDiffers` come exactly if the image is none, is bad, or is of another product. `Bad` has the
@@ -42,6 +44,7 @@ pub fn print_events<W: RecordWork, B: Book, S: Station>(
     requires short { length text.now ≤ LONGEST_TEXT }
     requires gives { product_of text.now ≡ Ok product.now }
     requires new { IsNewReader product.now reader.old }
+    requires work { W.meanings.Fits work.old (empty_state product.now) }
     ensures reads { ReadsAndSends S.meanings station.old station.new }
     ensures store { IsErrOf result Unprinted.Store → Rose (S.meanings.store_faults station.old) (S.meanings.store_faults station.new) }
     ensures no_store { (IsErrOf result Unprinted.Store → ⊥) → S.meanings.store_faults station.new ≡ S.meanings.store_faults station.old }

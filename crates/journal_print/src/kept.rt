@@ -4,6 +4,7 @@ ghost use Rattle.gx_station.specs.Counts.{Rose};
 ghost use Rattle.product_file.specs.ProductTexts.{product_of};
 ghost use Rattle.product_file.specs.declared.limits.TheConstants.{LONGEST_TEXT};
 ghost use Rattle.match_journal.specs.Causes.{ReadsOnly};
+ghost use Rattle.order_kinds.specs.State.{empty_state};
 ghost use Rattle.order_kinds.specs.declared.core_state.TheConstants.{MOST_MESSAGES};
 ghost use Rattle.book_recovery.specs.Recovering.{HasRoomFor};
 ghost use Rattle.journal_print.specs.KeptJournals.{CanBeReadAgain};
@@ -78,6 +79,7 @@ pub(crate) fn publish_kept<'p, W: RecordWork, B: Book, S: Station>(
     requires short { length text.now ≤ LONGEST_TEXT }
     requires gives { product_of text.now ≡ Ok product.now }
     requires new { IsNewReader product.now reader.old }
+    requires work { W.meanings.Fits work.old (empty_state product.now) }
     ensures reads { ReadsAndSends S.meanings station.old station.new }
     ensures store { IsErrOf result Unprinted.Store → Rose (S.meanings.store_faults station.old) (S.meanings.store_faults station.new) }
     ensures no_store { (IsErrOf result Unprinted.Store → ⊥) → S.meanings.store_faults station.new ≡ S.meanings.store_faults station.old }

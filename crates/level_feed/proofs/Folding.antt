@@ -17,7 +17,7 @@ use Rattle.level_feed.specs.Lines.{Listing, line_of, greatest_number}
 use Rattle.level_feed.specs.declared.line.Line.{Line}
 use Rattle.level_feed.specs.declared.line.Line.TheVariants as kind
 use Rattle.level_feed.specs.Tables.{Table, empty_table, is_inside, longest_line, line_taken, read_by, text_taken}
-use Rattle.level_feed.specs.Folds.{FoldFault, Cut, pieces_of, levels_in, ended, where_taken, fold_from}
+use Rattle.level_feed.specs.Folds.{FoldFault, Cut, pieces_of, table_in, ended, where_taken, fold_from, rows_of}
 use Rattle.level_feed.specs.Laws.{IsRightListing, IsPriced, IsShown, AreLevels, levels_at, FoldsAtBlocks, FoldsBetweenBlocks}
 use Rattle.level_feed.proofs.Taking.{then_lines, lines_taken, block_lines_of}
 use Rattle.level_feed.proofs.Chains.{Chain, part-chain, part-takes, part-still, all-are-levels}
@@ -69,25 +69,25 @@ module _ (listing : Listing) (right : IsRightListing listing) where
   one-line t at block text [] = refl
   one-line t at block text (next ∷ texts) = refl
 
-  at-end : (t : Table) (at block number : ℕ) → t.due ≡ 0 → t.number ≡ Some number → ended t at block [] ≡ Ok t.rows
+  at-end : (t : Table) (at block number : ℕ) → t.due ≡ 0 → t.number ≡ Some number → ended t at block [] ≡ Ok t
   at-end t at block number d n =
-      cond-false (is_inside t) (Err (Cut block)) (levels_in t t.number) (le-ltb 0 t.due (omega arith)) ∙ ap (levels_in t) n
+      cond-false (is_inside t) (Err (Cut block)) (table_in t t.number) (le-ltb 0 t.due (omega arith)) ∙ ap (table_in t) n
 
-  then-fold : (at : ℕ) (r : Result Table FeedFault) (u : Table) (lines : List Line) (more : Table → Result (List Row) FoldFault) → ((v : Table) → lines_taken listing v lines ≡ Ok u → more v ≡ Ok u.rows) → then_lines r (λ v. lines_taken listing v lines) ≡ Ok u → where_taken at r more ≡ Ok u.rows
+  then-fold : (at : ℕ) (r : Result Table FeedFault) (u : Table) (lines : List Line) (more : Table → Result Table FoldFault) → ((v : Table) → lines_taken listing v lines ≡ Ok u → more v ≡ Ok u) → then_lines r (λ v. lines_taken listing v lines) ≡ Ok u → where_taken at r more ≡ Ok u
   then-fold at (Ok v) u lines more all e = all v e
   then-fold at (Err fault) u lines more all e = cc
 
   same-table : (listing : Listing) (t u : Table) → lines_taken listing t [] ≡ Ok u → t ≡ u
   same-table l t u e = cc
 
-  pub fold-lines : (t u : Table) (at block number : ℕ) (texts : List (List ℕ)) (lines : List Line) → AreRead texts lines → lines_taken listing t lines ≡ Ok u → u.due ≡ 0 → u.number ≡ Some number → fold_from listing t at block (texts ++ [] ∷ []) ≡ Ok u.rows
+  pub fold-lines : (t u : Table) (at block number : ℕ) (texts : List (List ℕ)) (lines : List Line) → AreRead texts lines → lines_taken listing t lines ≡ Ok u → u.due ≡ 0 → u.number ≡ Some number → fold_from listing t at block (texts ++ [] ∷ []) ≡ Ok u
   fold-lines t u at block number [] [] r e d n =
       let same = same-table listing t u e in
       ap (λ (v : Table). ended v at block []) same ∙ at-end u at block number d n
   fold-lines t u at block number [] (line ∷ lines) r e d n = absurd r
   fold-lines t u at block number (text ∷ texts) [] r e d n = absurd r
   fold-lines t u at block number (text ∷ texts) (line ∷ lines) r e d n =
-      let more : Table → Result (List Row) FoldFault = λ v. fold_from listing v (at + length text + 1) (next_block t at block) (texts ++ [] ∷ []) in
+      let more : Table → Result Table FoldFault = λ v. fold_from listing v (at + length text + 1) (next_block t at block) (texts ++ [] ∷ []) in
       one-line t at block text texts
       ∙ ap (λ (q : Result Table FeedFault). where_taken at q more) (text-taken t text line r.0)
       ∙ then-fold at (line_taken listing.max_orders t line) u lines more (λ v f. fold-lines v u (at + length text + 1) (next_block t at block) number texts lines r.1 f d n) e
@@ -192,8 +192,9 @@ folds-at-blocks listing levels part back number right are few p =
     let texts = flat_map (block_lines listing.instruments) part in
     let lines = flat_map block_lines_of part in
     let read = blocks-read listing right part readable in
+    ap rows_of (
     ap (fold_from listing empty_table 0 0) (pieces-of-lines texts (all-lack listing right texts lines read))
-    ∙ fold-lines listing right empty_table taken.table 0 0 number texts lines read taken.takes taken.is_done taken.is_number
+    ∙ fold-lines listing right empty_table taken.table 0 0 number texts lines read taken.takes taken.is_done taken.is_number)
     ∙ ap Ok taken.is_rows
 
 pub folds-between-blocks : FoldsBetweenBlocks

@@ -1,13 +1,8 @@
 -- The order of rows, and one row that takes effect.
-use Rattle.std.proofs.Common.{◌≡◌, ◌≢◌, ℕ, Bool, true, false, cond, ◌&&◌, ◌||◌, List, [], ◌∷◌, ◌++◌, filter, refl, sym, ap, ap₂, ◌∙◌, arith, inl, inr}
-use Rattle.std.specs.Prelude.{ℤ, pos, negsuc, int_lt, nat_lt, ◌==◌}
-use Rattle.std.proofs.lemmas.Bool.Decides.{nat_tests, Decides-int_eq}
+use Rattle.std.proofs.Common.{◌≡◌, Bool, true, false, cond, List, [], ◌∷◌, ◌++◌, filter, refl, sym, ap, ap₂, ◌∙◌, inl, inr}
 use Rattle.std.proofs.lemmas.Bool.{cases_Bool, false_from_ne_true, true≢false}
-use Rattle.std.specs.Ordering.{int_eq}
 use Rattle.std.specs.List.{AllByRecursion}
-use Rattle.gx_base.specs.declared.order.Side.{Side}
-use Rattle.gx_base.specs.declared.order.Side.TheVariants.{Buy, Sell}
-use Rattle.book_order.specs.Levels.{Level, is_level, is_before, is_better, is_side, side_before}
+use Rattle.book_order.specs.Levels.{Level, is_level, is_before}
 use Rattle.book_order.proofs.Before.{before-past, before-apart, before-other}
 use Rattle.book_order.proofs.Levels.{is_level-same, is_level-refl, is_before-irrefl}
 use Rattle.level_feed.specs.declared.row.Row.{Row}

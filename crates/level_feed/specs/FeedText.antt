@@ -1,5 +1,5 @@
 -- The level feed as text (our own rule). Each line ends with a line feed.
-use Rattle.std.specs.Prelude.{ℕ, List, [], ◌∷◌, ◌++◌, length, map, flat_map, option_map, unwrap_or, slice_get, codes, decimal}
+use Rattle.std.specs.Prelude.{ℕ, List, ◌∷◌, ◌++◌, length, map, flat_map, option_map, unwrap_or, slice_get, codes, decimal}
 use Rattle.gx_base.specs.Numbers.{price_text}
 use Rattle.gx_base.specs.declared.names.Listed.{Listed}
 use Rattle.line_parts.specs.Words.{line_feed, side_letter}

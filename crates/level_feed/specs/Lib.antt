@@ -4,6 +4,8 @@ pub mod FeedText
 pub mod Lines
 pub mod Tables
 pub mod Folds
+pub mod Feeds
 pub mod Laws
 pub mod Held
+pub mod Noted
 pub mod Inner

@@ -1,8 +1,9 @@
 use Rattle.std.proofs.Common.{IfOk, sym, subst}
 use Rattle.command_words.specs.declared.command.Command.{Command}
-use Rattle.command_words.specs.declared.command.Command.TheVariants.{Replay, Fills, Ledger}
+use Rattle.command_words.specs.declared.command.Command.TheVariants.{Replay, Fills, Ledger, Levels}
 use Rattle.book_print.specs.declared.ledger.Totals.{Totals}
 use Rattle.journal_print.specs.declared.work.Lines.{Lines}
+use Rattle.feed_print.proofs.WholeFeeds.{levels_printed}
 use Rattle.journal_print.proofs.WholeTexts.{reports_printed, fills_printed, ledger_printed}
 use Rattle.globex_run.specs.Outside.{source_at, streams_at}
 use Rattle.globex_run.specs.Inner.Executing.{IsExecuted}
@@ -10,6 +11,7 @@ use Rattle.globex_run.specs.declared.outcome.Outcome.{Outcome}
 use Rattle.globex_run.proofs.AmendExecuted.{amend-executed}
 use Rattle.globex_run.proofs.Executed.{if-ok, if-ok-three, drill-executed, checkpoint-executed, steps-executed, book-executed, each-executed, session-executed}
 use Rattle.globex_run.proofs.OpeningHeadlines.{opening-executed}
+use Rattle.globex_run.proofs.Rebuilt.{rebuild-executed}
 use Rattle.globex_run.proofs.execute.executed.Goals as goal
 
 pub returns-in-Drill-clause-did : goal.returns-in-Drill-clause-did
@@ -94,3 +96,20 @@ returns-in-Opening-clause-did g c =
     let after = streams_at g.I.Source.meanings m c.opening.new.input c.opening.new.station in
     subst (λ (x : Command). IfOk c.opening.result (λ (outcome : Outcome). IsExecuted m c.args.taken.now.product.now c.args.taken.now.text.now before after outcome x)) (sym c.in-Opening.is)
     (if-ok c.opening.result _ _ (λ outcome did. opening-executed m c.args.taken.now.product.now c.args.taken.now.text.now before after outcome c.limits.ensures did) c.opening.ensures.shows)
+
+pub returns-in-Rebuild-clause-did : goal.returns-in-Rebuild-clause-did
+returns-in-Rebuild-clause-did g c =
+    let m = g.S.Station.meanings in
+    let before = streams_at g.I.Source.meanings m c.args.input.now c.args.station.now in
+    let after = streams_at g.I.Source.meanings m c.rebuild.new.input c.rebuild.new.station in
+    subst (λ (x : Command). IfOk c.rebuild.result (λ (outcome : Outcome). IsExecuted m c.args.taken.now.product.now c.args.taken.now.text.now before after outcome x)) (sym c.in-Rebuild.is)
+    (if-ok c.rebuild.result _ _ (λ outcome did. rebuild-executed m c.args.taken.now.product.now c.args.taken.now.text.now before after outcome c.limits.ensures did) c.rebuild.ensures.rebuilds)
+
+pub returns-in-Levels-clause-did : goal.returns-in-Levels-clause-did
+returns-in-Levels-clause-did g c =
+    let m = g.S.Station.meanings in
+    let before = streams_at g.I.Source.meanings m c.args.input.now c.args.station.now in
+    let after = streams_at g.I.Source.meanings m c.args.input.now c.levels.new.station in
+    subst (λ (x : Command). IfOk c.levels.result (λ (outcome : Outcome). IsExecuted m c.args.taken.now.product.now c.args.taken.now.text.now before after outcome x)) (sym c.in-Levels.is)
+    (if-ok c.levels.result _ _ (λ outcome printed. each-executed m c.args.taken.now.product.now c.args.taken.now.text.now (source_at g.I.Source.meanings c.args.input.now) c.args.station.now c.levels.new.station outcome c.limits.ensures Levels (λ never. never) _ printed tt (λ image told. told.0) (λ prints. prints)
+    (λ form. record { answer = form.answer; outcome_is = form.outcome_is; prints = λ image read. levels_printed m c.args.taken.now.product.now c.args.taken.now.text.now image c.args.station.now c.levels.new.station c.limits.ensures form.answer (form.prints image read) })) c.levels.ensures.prints)

@@ -5,7 +5,7 @@ use Rattle.globex_run.specs.Outside.{source_at}
 use Rattle.globex_run.specs.Words.{IsWriting}
 use Rattle.globex_run.proofs.ProductReads.{none-taken, short-text}
 use Rattle.globex_run.proofs.Runs.{memory-without, few-without, product-early, product-none, product-taken, words-early, early-words, early-product, not-begun}
-use Rattle.globex_run.proofs.Commands.{product-told, leaves-all, only-reads, leaves-the-input, does-all, ends-as-told, leaves-a-front, leaves-the-entry, keeps-what-is-sent, adds-messages-alone, adds-a-record-per-read, reads-it-once, is-full-for-messages, is-full-for-image, is-full-for-amendment, sends-nothing-then, prints-its-text, answers-its-input, shows-its-openings, ends-well, ends-where-told, refuses-what-it-must, refuses-amendments, opens-it-again, has-its-statuses}
+use Rattle.globex_run.proofs.Commands.{product-told, leaves-all, only-reads, leaves-the-input, does-all, ends-as-told, leaves-a-front, leaves-the-entry, keeps-what-is-sent, adds-messages-alone, adds-a-record-per-read, reads-it-once, is-full-for-messages, is-full-for-image, is-full-for-amendment, sends-nothing-then, prints-its-text, answers-its-input, shows-its-openings, rebuilds-its-levels, ends-well, ends-where-told, refuses-what-it-must, refuses-amendments, opens-it-again, has-its-statuses}
 use Rattle.globex_run.proofs.Balanced.{all-balance, all-balance-as-read}
 use Rattle.globex_run.proofs.run.globex.Goals as goal
 
@@ -105,6 +105,10 @@ pub returns-clause-openings : goal.returns-clause-openings
 returns-clause-openings g c = shows-its-openings g.S.Station.meanings (source_at g.P.Source.meanings c.args.product.now) (source_at g.P.Source.meanings c.take_product.new.source) (source_at g.I.Source.meanings c.args.input.now) (source_at g.I.Source.meanings c.execute.new.input)
     c.args.station.now c.execute.new.station c.execute.result _ _ c.deref.ensures.value c.in-Ok-take_product.taken.product c.in-Ok-take_product.ensures.0 c.in-Ok-take_product.ensures.1 _ _ c.in-Ok.ensures.given c.execute.ensures.executes c.execute.ensures.causes
 
+pub returns-clause-rebuilds : goal.returns-clause-rebuilds
+returns-clause-rebuilds g c = rebuilds-its-levels g.S.Station.meanings (source_at g.P.Source.meanings c.args.product.now) (source_at g.P.Source.meanings c.take_product.new.source) (source_at g.I.Source.meanings c.args.input.now) (source_at g.I.Source.meanings c.execute.new.input)
+    c.args.station.now c.execute.new.station c.execute.result _ _ c.deref.ensures.value c.in-Ok-take_product.taken.product c.in-Ok-take_product.ensures.0 c.in-Ok-take_product.ensures.1 _ _ c.in-Ok.ensures.given c.execute.ensures.executes c.execute.ensures.causes
+
 pub returns-in-Err-clause-best_openings : goal.returns-in-Err-clause-best_openings
 returns-in-Err-clause-best_openings g c =
     record { greatest = c.no_price_opens_more.ensures; ties = c.ties_fall_by_the_rules.ensures; candidates = c.candidates_are_the_prices.ensures; pairs = c.pairs_add_up.ensures }
@@ -116,6 +120,15 @@ returns-in-Err-take_product-clause-best_openings g c =
 pub returns-clause-best_openings : goal.returns-clause-best_openings
 returns-clause-best_openings g c =
     record { greatest = c.no_price_opens_more.ensures; ties = c.ties_fall_by_the_rules.ensures; candidates = c.candidates_are_the_prices.ensures; pairs = c.pairs_add_up.ensures }
+
+pub returns-in-Err-clause-feeds_fold : goal.returns-in-Err-clause-feeds_fold
+returns-in-Err-clause-feeds_fold g c = record { at_blocks = c.feeds_of_histories_fold_to_levels.ensures.at_blocks; between_blocks = c.feeds_of_histories_fold_to_levels.ensures.between_blocks; whole = c.feeds_of_histories_fold_to_levels.ensures.whole }
+
+pub returns-in-Err-take_product-clause-feeds_fold : goal.returns-in-Err-take_product-clause-feeds_fold
+returns-in-Err-take_product-clause-feeds_fold g c = record { at_blocks = c.feeds_of_histories_fold_to_levels.ensures.at_blocks; between_blocks = c.feeds_of_histories_fold_to_levels.ensures.between_blocks; whole = c.feeds_of_histories_fold_to_levels.ensures.whole }
+
+pub returns-clause-feeds_fold : goal.returns-clause-feeds_fold
+returns-clause-feeds_fold g c = record { at_blocks = c.feeds_of_histories_fold_to_levels.ensures.at_blocks; between_blocks = c.feeds_of_histories_fold_to_levels.ensures.between_blocks; whole = c.feeds_of_histories_fold_to_levels.ensures.whole }
 
 pub returns-in-Err-clause-repeats : goal.returns-in-Err-clause-repeats
 returns-in-Err-clause-repeats g c = c.resends_repeat_reports.ensures

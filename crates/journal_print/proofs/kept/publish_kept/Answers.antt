@@ -1,5 +1,6 @@
 use Rattle.std.proofs.Common.{ℕ, Option, Ok, Err, refl, sym, subst, ◌∙◌}
 use Rattle.match_journal.specs.Journal.{IsJournal}
+use Rattle.order_kinds.specs.State.{State}
 use Rattle.book_recovery.specs.Products.{all_products}
 use Rattle.book_recovery.proofs.Standings.{stands_first}
 use Rattle.journal_print.specs.KeptJournals.{CanBeReadAgain}
@@ -11,6 +12,10 @@ use Rattle.journal_print.proofs.KeptJournals.{kept_of, kept_moved}
 use Rattle.journal_print.proofs.Printing.{some_found, none_kept, all_kept, stopped}
 use Rattle.journal_print.proofs.Stations.{looking_then}
 use Rattle.journal_print.proofs.kept.publish_kept.Goals as goal
+
+pub publish_records-gone-requires-clause-work : goal.publish_records-gone-requires-clause-work
+publish_records-gone-requires-clause-work g c =
+    subst (λ (x : State). g.W.RecordWork.meanings.Fits c.args.work.now x) (sym c.requires.new.core) c.requires.work
 
 pub returns-in-Ok-None-clause-publishes : goal.returns-in-Ok-None-clause-publishes
 returns-in-Ok-None-clause-publishes g c = λ image read.

@@ -1,0 +1,2 @@
+pub mod FeedPlaces
+pub mod FeedWorks
