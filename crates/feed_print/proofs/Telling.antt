@@ -15,7 +15,7 @@ use Rattle.level_feed.specs.FeedText.{text_of_blocks}
 use Rattle.level_feed.specs.Feeds.{levels_of_state}
 use Rattle.level_feed.proofs.GoingOn.{text-append}
 use Rattle.feed_print.specs.FeedPlaces.{FeedPlace}
-use Rattle.feed_print.specs.FeedTexts.{opening_text, beginning, message_text, place_behind, messages_text, place_after, text-then, after-then, levels-numbered}
+use Rattle.feed_print.specs.FeedTexts.{opening_text, beginning, message_text, next_place, messages_text, place_after, text-then, after-then, levels-numbered}
 
 -- the first snapshot, of a feed that has not begun
 opening-is : 83 ∷ 32 ∷ 48 ∷ 32 ∷ 48 ∷ 10 ∷ [] ≡ opening_text
@@ -39,7 +39,7 @@ module _ (product : ProductLists) (number : ℕ) (levels : List Row) (place : Fe
       ≡ beginning place ++ (text_of_blocks product.names.instruments changes ++ text_of_blocks product.names.instruments (due_snapshot number levels))
   message-parts = ap (λ (l : List ℕ). beginning place ++ l) (text-append product.names.instruments changes (due_snapshot number levels))
 
-  pub last-parts : last_number (last_number place.last changes) (due_snapshot number levels) ≡ (place_behind number levels place).last
+  pub last-parts : last_number (last_number place.last changes) (due_snapshot number levels) ≡ (next_place number levels place).last
   last-parts = sym (last-append place.last changes (due_snapshot number levels))
 
 -- ---- one message more
@@ -82,9 +82,9 @@ module _ (product : ProductLists) (start : State) (place : FeedPlace) (frames : 
         ∙ ap (λ (l : List ℕ). so_far ++ l) (append-nil _)
         ∙ ap₂ (λ (n : ℕ) (levels : List Row). so_far ++ message_text product n levels at) same-number same-levels
 
-    pub place-more : place_after place product start (take (k + 1) frames) ≡ place_behind after.desk.messages (levels_of_state after) (place_after place product start (take k frames))
+    pub place-more : place_after place product start (take (k + 1) frames) ≡ next_place after.desk.messages (levels_of_state after) (place_after place product start (take k frames))
     place-more =
         let at = place_after place product start (take k frames) in
         ap (place_after place product start) one-more
         ∙ after-then place product start (take k frames) (frame ∷ [])
-        ∙ ap₂ (λ (n : ℕ) (levels : List Row). place_behind n levels at) same-number same-levels
+        ∙ ap₂ (λ (n : ℕ) (levels : List Row). next_place n levels at) same-number same-levels
