@@ -1,6 +1,6 @@
 -- A level that is not noted shows as much after a message as before it, of as many orders.
-use Rattle.std.proofs.Common.{◌≡◌, ℕ, Bool, true, false, List, [], ◌∷◌, Option, Some, refl, sym, ap, ◌∙◌, inl, inr}
-use Rattle.std.proofs.lemmas.Bool.{cases_Bool, true≢false, or_cases, false_from_ne_true}
+use Rattle.std.proofs.Common.{◌≡◌, ℕ, true, false, List, [], ◌∷◌, Option, Some, sym, ap, ◌∙◌, inl, inr}
+use Rattle.std.proofs.lemmas.Bool.{true≢false, or_cases, false_from_ne_true}
 use Rattle.std.specs.Prelude.{option_map}
 use Rattle.gx_base.specs.declared.event.Event.{Event}
 use Rattle.gx_base.specs.declared.event.Event.TheVariants.{Accepted, Triggered, Fill, Cancelled, Expired, Replaced, RefusedNew, RefusedChange, RefusedSession}
@@ -11,14 +11,14 @@ use Rattle.book_order.proofs.Levels.{is_level-same}
 use Rattle.product_file.specs.Products.{ProductLists}
 use Rattle.fix_request.specs.declared.request.Request.{Request}
 use Rattle.plain_book.specs.declared.entry.Entry.{Entry}
-use Rattle.plain_book.specs.Orders.{HasSlot, level_of, is_named, slot_named, order_of}
+use Rattle.plain_book.specs.Orders.{HasSlot, level_of, is_named, slot_named}
 use Rattle.plain_book.specs.Book.{EachPair, AreInBookOrder, AllDiffer, live_orders, slot_number}
 use Rattle.plain_book.proofs.Live.{first-has}
 use Rattle.plain_book.proofs.Levels.{HasSlot-filter}
 use Rattle.order_kinds.specs.State.{State, state_numbered}
 use Rattle.order_kinds.specs.Cores.{AreNumbered}
 use Rattle.order_kinds.specs.Step.{with_message, request_step}
-use Rattle.level_laws.specs.Told.{tells_of, is_told, is_slot_at, asks_at, IsSameLevel}
+use Rattle.level_laws.specs.Told.{tells_of, is_told, asks_at, IsSameLevel}
 use Rattle.level_laws.proofs.Cores.{levels-stay-in-cores}
 use Rattle.level_feed.specs.Rows.{levels_of}
 use Rattle.level_feed.specs.Noted.{Noted, is_noted, noted_events, IsEventAt, HasEventAt, AreNoted}

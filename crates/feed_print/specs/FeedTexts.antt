@@ -1,5 +1,5 @@
 -- What is sent of messages, and how far the feed is sent then. Our own rules.
-use Rattle.std.specs.Prelude.{◌≡◌, ℕ, true, false, if◌then◌else◌, ◌==◌, List, [], ◌∷◌, ◌++◌, map, refl}
+use Rattle.std.specs.Prelude.{◌≡◌, ℕ, true, if◌then◌else◌, ◌==◌, List, [], ◌∷◌, ◌++◌, map, refl}
 use Rattle.std.proofs.Common.{sym, ◌∙◌, ap, append_assoc}
 use Rattle.gx_base.specs.declared.order.Order.{Order}
 use Rattle.product_file.specs.Products.{ProductLists}

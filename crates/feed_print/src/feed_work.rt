@@ -64,7 +64,9 @@ impl RecordWork for FeedWork {
         for number in 0..framer.given_count() {
             let request = read_request(framer.given(number), product);
             apply_noting(core, product, &request, &mut self.noted);
-            told = self.sent.tell_next(told, &self.noted, core, product, buffer, station);
+            told = self
+                .sent
+                .tell_next(told, &self.noted, core, product, buffer, station);
         }
         told?;
         send_waiting(buffer, station)

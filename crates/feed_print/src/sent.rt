@@ -109,12 +109,21 @@ impl SentFeed {
         ensures pushes { Pushes S.meanings station.old station.new buffer.old buffer.new
             (text_of_blocks product.now.names.instruments (increment core.now.desk.messages self.old.last (difference self.old.rows (levels_of_state core.now)))) result }
         ensures place { OnOk result (self.new ≡ record self.old {
-            last = last_number self.old.last (increment core.now.desk.messages self.old.last (difference self.old.rows (levels_of_state core.now)));
-            rows = levels_of_state core.now }) }
+          last = last_number self.old.last (increment core.now.desk.messages self.old.last (difference self.old.rows (levels_of_state core.now)));
+          rows = levels_of_state core.now;
+        }) }
     {
         product.limits();
         let number = core.messages();
-        if self.feed.push_step(noted, core.book(), product, number, self.last, buffer, station)? {
+        if self.feed.push_step(
+            noted,
+            core.book(),
+            product,
+            number,
+            self.last,
+            buffer,
+            station,
+        )? {
             self.last = number;
         }
         Ok(())
