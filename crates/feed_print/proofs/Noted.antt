@@ -1,13 +1,11 @@
 -- A level that is not noted shows as much after a message as before it, of as many orders.
-use Rattle.std.proofs.Common.{◌≡◌, ℕ, true, false, List, [], ◌∷◌, Option, Some, sym, ap, ◌∙◌, inl, inr}
-use Rattle.std.proofs.lemmas.Bool.{true≢false, or_cases, false_from_ne_true}
-use Rattle.std.specs.Prelude.{option_map}
+use Rattle.std.proofs.Common.{◌≡◌, ℕ, Bool, true, false, List, [], ◌∷◌, Option, Some, refl, sym, ap, ap₂, ◌∙◌}
+use Rattle.std.proofs.lemmas.Bool.{true≢false, false_from_ne_true}
+use Rattle.std.specs.Prelude.{◌||◌, option_map}
 use Rattle.gx_base.specs.declared.event.Event.{Event}
 use Rattle.gx_base.specs.declared.event.Event.TheVariants.{Accepted, Triggered, Fill, Cancelled, Expired, Replaced, RefusedNew, RefusedChange, RefusedSession}
-use Rattle.gx_base.specs.declared.order.Order.{Order}
 use Rattle.gx_base.specs.declared.order.Slot.{Slot}
-use Rattle.book_order.specs.Levels.{Level, is_level}
-use Rattle.book_order.proofs.Levels.{is_level-same}
+use Rattle.book_order.specs.Levels.{Level}
 use Rattle.product_file.specs.Products.{ProductLists}
 use Rattle.fix_request.specs.declared.request.Request.{Request}
 use Rattle.plain_book.specs.declared.entry.Entry.{Entry}
@@ -21,7 +19,7 @@ use Rattle.order_kinds.specs.Step.{with_message, request_step}
 use Rattle.level_laws.specs.Told.{tells_of, is_told, asks_at, IsSameLevel}
 use Rattle.level_laws.proofs.Cores.{levels-stay-in-cores}
 use Rattle.level_feed.specs.Rows.{levels_of}
-use Rattle.level_feed.specs.Noted.{Noted, is_noted, noted_events, IsEventAt, HasEventAt, AreNoted}
+use Rattle.level_feed.specs.Noted.{Noted, is_noted, noted_events, is_event_at, has_event_at, AreNoted}
 use Rattle.level_feed.proofs.Noting.{events-kept, events-note}
 use Rattle.level_feed.proofs.RowsAt.{noted-by-sums}
 
@@ -34,24 +32,21 @@ found-has firm id es found s named is =
 
 -- ---- events
 
-at-level : (k : Level) (o : Order) → is_level (level_of o) k ≡ true → Some (level_of o) ≡ Some k
-at-level k o h = ap Some (is_level-same (level_of o) k h)
+-- the levels that an event tells of are those that the emitter notes
+event-told : (k : Level) (e : Event) → tells_of k e ≡ is_event_at k e
+event-told k (Accepted head o) = refl
+event-told k (Triggered head o) = refl
+event-told k (Fill head o lots price step trade) = refl
+event-told k (Cancelled head o gone by cause) = refl
+event-told k (Expired head o gone) = refl
+event-told k (Replaced head o old before) = refl
+event-told k (RefusedNew head new fault) = refl
+event-told k (RefusedChange head id old number filled replace fault) = refl
+event-told k (RefusedSession head seq tag reason rule) = refl
 
-event-told : (k : Level) (e : Event) → tells_of k e ≡ true → IsEventAt k e
-event-told k (Accepted head o) h = at-level k o h
-event-told k (Triggered head o) h = at-level k o h
-event-told k (Fill head o lots price step trade) h = at-level k o h
-event-told k (Cancelled head o gone by cause) h = at-level k o h
-event-told k (Expired head o gone) h = at-level k o h
-event-told k (Replaced head o old before) h = at-level k o h
-event-told k (RefusedNew head new fault) h = absurd (true≢false (sym h))
-event-told k (RefusedChange head id old number filled replace fault) h = absurd (true≢false (sym h))
-event-told k (RefusedSession head seq tag reason rule) h = absurd (true≢false (sym h))
-
-events-told : (k : Level) (events : List Event) → is_told k events ≡ true → HasEventAt k events
-events-told k [] h = absurd (true≢false (sym h))
-events-told k (e ∷ events) h =
-    elim (or_cases (tells_of k e) (is_told k events) h) [ inl here ↦ inl (event-told k e here) | inr later ↦ inr (events-told k events later) ]
+events-told : (k : Level) (events : List Event) → is_told k events ≡ has_event_at k events
+events-told k [] = refl
+events-told k (e ∷ events) = ap₂ (λ (a b : Bool). a || b) (event-told k e) (events-told k events)
 
 -- ---- a core that took the step of the engine
 
@@ -65,7 +60,7 @@ module _ (product : ProductLists) (request : Request) (old new : State) (slots :
         let off : is_noted k (noted_events events before) ≡ false = ap (is_noted k) (sym emitted) ∙ h in
         levels-stay-in-cores product request old new k slots are took
         (false_from_ne_true (asks_at k request old) (λ t. true≢false (sym (events-kept k events before (asked k t)) ∙ off)))
-        (false_from_ne_true (is_told k events) (λ t. true≢false (sym (events-note k events before (events-told k events t)) ∙ off)))
+        (false_from_ne_true (is_told k events) (λ t. true≢false (sym (events-note k events before (sym (events-told k events) ∙ t)) ∙ off)))
 
     pub are-noted : EachPair AreInBookOrder old.book.resting → EachPair AreInBookOrder new.book.resting → AreNoted after (levels_of old.book.resting) (levels_of new.book.resting)
     are-noted ordered then =

@@ -15,7 +15,7 @@ use Rattle.level_feed.specs.FeedText.{text_of_blocks}
 use Rattle.level_feed.specs.Feeds.{levels_of_state}
 use Rattle.level_feed.proofs.GoingOn.{text-append}
 use Rattle.feed_print.specs.FeedPlaces.{FeedPlace}
-use Rattle.feed_print.specs.FeedTexts.{opening_text, beginning, message_text, place_behind, messages_text, place_after, text-then, after-then, levels-numbered}
+use Rattle.feed_print.specs.FeedTexts.{opening_text, beginning, message_text, next_place, messages_text, place_after, text-then, after-then, levels-numbered}
 
 -- the first snapshot, of a feed that has not begun
 opening-is : 83 ∷ 32 ∷ 48 ∷ 32 ∷ 48 ∷ 10 ∷ [] ≡ opening_text
@@ -54,9 +54,6 @@ module _ (product : ProductLists) (start : State) (place : FeedPlace) (frames : 
 
   module _ (before after : State) (request : Request) (s_is : state_numbered before ≡ state_after product start (take k frames)) (asked : request ≡ request_of product frame)
       (did : state_numbered after ≡ (request_step product request (with_message (state_numbered before))).0) where
-    next : State
-    next = (step_of product (state_after product start (take k frames)) frame).0
-
     stepped : state_numbered after ≡ (step_of product (state_after product start (take k frames)) frame).0
     stepped =
         did
@@ -86,9 +83,9 @@ module _ (product : ProductLists) (start : State) (place : FeedPlace) (frames : 
         ∙ ap (λ (l : List ℕ). so_far ++ l) (append-nil _)
         ∙ ap₂ (λ (n : ℕ) (levels : List Row). so_far ++ message_text product n levels at) same-number same-levels
 
-    pub place-more : place_after place product start (take (k + 1) frames) ≡ place_behind after.desk.messages (levels_of_state after) (place_after place product start (take k frames))
+    pub place-more : place_after place product start (take (k + 1) frames) ≡ next_place after.desk.messages (levels_of_state after) (place_after place product start (take k frames))
     place-more =
         let at = place_after place product start (take k frames) in
         ap (place_after place product start) one-more
         ∙ after-then place product start (take k frames) (frame ∷ [])
-        ∙ ap₂ (λ (n : ℕ) (levels : List Row). place_behind n levels at) same-number same-levels
+        ∙ ap₂ (λ (n : ℕ) (levels : List Row). next_place n levels at) same-number same-levels

@@ -29,8 +29,8 @@ abbrev pub message_text : ProductLists → ℕ → List Row → FeedPlace → Li
 message_text product number levels place = beginning place ++ text_of_blocks product.names.instruments (blocks_of number place.last place.rows levels)
 
 -- the feed is then sent so far
-abbrev pub place_behind : ℕ → List Row → FeedPlace → FeedPlace
-place_behind number levels place = record { begun = true; last = last_number place.last (blocks_of number place.last place.rows levels); rows = levels }
+abbrev pub next_place : ℕ → List Row → FeedPlace → FeedPlace
+next_place number levels place = record { begun = true; last = last_number place.last (blocks_of number place.last place.rows levels); rows = levels }
 
 -- what is sent of some messages, where each has the number that the engine counts it by
 abbrev pub messages_text : FeedPlace → ProductLists → State → List (List ℕ) → List ℕ
@@ -38,13 +38,13 @@ messages_text place product state [] = []
 messages_text place product state (frame ∷ frames) =
     let next = (step_of product state frame).0 in
     let levels = levels_of_state next in
-    message_text product next.desk.messages levels place ++ messages_text (place_behind next.desk.messages levels place) product next frames
+    message_text product next.desk.messages levels place ++ messages_text (next_place next.desk.messages levels place) product next frames
 
 abbrev pub place_after : FeedPlace → ProductLists → State → List (List ℕ) → FeedPlace
 place_after place product state [] = place
 place_after place product state (frame ∷ frames) =
     let next = (step_of product state frame).0 in
-    place_after (place_behind next.desk.messages (levels_of_state next) place) product next frames
+    place_after (next_place next.desk.messages (levels_of_state next) place) product next frames
 
 -- ---- the levels of a state
 
@@ -71,7 +71,7 @@ text-then place product state (frame ∷ frames) more =
     let next = (step_of product state frame).0 in
     let levels = levels_of_state next in
     let first = message_text product next.desk.messages levels place in
-    let behind = place_behind next.desk.messages levels place in
+    let behind = next_place next.desk.messages levels place in
     ap (λ (l : List ℕ). first ++ l) (text-then behind product next frames more)
     ∙ sym (append_assoc first (messages_text behind product next frames) (messages_text (place_after behind product next frames) product (state_after product next frames) more))
 
@@ -80,7 +80,7 @@ pub after-then : (place : FeedPlace) (product : ProductLists) (state : State) (f
 after-then place product state [] more = refl
 after-then place product state (frame ∷ frames) more =
     let next = (step_of product state frame).0 in
-    after-then (place_behind next.desk.messages (levels_of_state next) place) product next frames more
+    after-then (next_place next.desk.messages (levels_of_state next) place) product next frames more
 
 -- what is sent of a history before its end: nothing, as long as it has no message
 abbrev pub feed_so_far : History → List ℕ

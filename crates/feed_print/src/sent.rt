@@ -8,7 +8,7 @@ ghost use Rattle.level_feed.specs.FeedText.{text_of_blocks};
 ghost use Rattle.level_feed.specs.Feeds.{levels_of_state};
 ghost use Rattle.level_feed.specs.Noted.{AreNoted};
 ghost use Rattle.feed_print.specs.FeedPlaces.{feed_start};
-ghost use Rattle.feed_print.specs.FeedTexts.{opening_text, beginning, message_text, place_behind};
+ghost use Rattle.feed_print.specs.FeedTexts.{opening_text, beginning, message_text, next_place};
 
 use exec_report::{ReportBuffer, SendFault, push_text};
 use gx_station::Station;
@@ -160,7 +160,7 @@ impl SentFeed {
         requires fits { FitsProduct product.now core.now }
         requires noted { AreNoted noted.now self.old.rows (levels_of_state core.now) }
         ensures pushes { Pushes S.meanings station.old station.new buffer.old buffer.new (message_text product.now core.now.desk.messages (levels_of_state core.now) self.old) result }
-        ensures place { OnOk result (self.new ≡ place_behind core.now.desk.messages (levels_of_state core.now) self.old) }
+        ensures place { OnOk result (self.new ≡ next_place core.now.desk.messages (levels_of_state core.now) self.old) }
     {
         self.begin(buffer, station)?;
         self.push_changes(noted, core, product, buffer, station)?;
@@ -181,7 +181,7 @@ impl SentFeed {
         requires noted { OnOk told (AreNoted noted.now self.old.rows (levels_of_state core.now)) }
         ensures failed { OnErr told (IsErr result × (station.new ≡ station.old)) }
         ensures pushes { OnOk told (Pushes S.meanings station.old station.new buffer.old buffer.new (message_text product.now core.now.desk.messages (levels_of_state core.now) self.old) result) }
-        ensures place { OnOk told (OnOk result (self.new ≡ place_behind core.now.desk.messages (levels_of_state core.now) self.old)) }
+        ensures place { OnOk told (OnOk result (self.new ≡ next_place core.now.desk.messages (levels_of_state core.now) self.old)) }
     {
         told?;
         self.tell(noted, core, product, buffer, station)

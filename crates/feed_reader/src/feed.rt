@@ -20,7 +20,8 @@ pub const MOST_FEED: u64 = 268_435_456;
 /// of the input, or of those before a read that failed.
 ///
 /// A fault in a line that was read is answered before a read that fails behind it, and before the end of the input. It ends since each
-/// turn takes a byte, of at most `MOST_FEED`. `chunk` is what a read places its bytes in. No memory is taken.
+/// turn takes a byte, of at most `MOST_FEED`. `chunk` is what a read places its bytes in, and has at least `LEAST_READ`. No memory is
+/// taken. After an `Err` nothing is told of the table.
 pub fn read_feed<I: Source>(
     table: &mut FeedTable,
     product: &Product,

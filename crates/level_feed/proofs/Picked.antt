@@ -1,7 +1,7 @@
 -- The rows at noted levels differ as all the rows do.
-use Rattle.std.proofs.Common.{◌≡◌, ℕ, ◌+◌, ◌<◌, ◌≤◌, Bool, true, false, cond, not, ◌&&◌, ◌||◌, List, [], ◌∷◌, ◌++◌, length, map, filter, take, get_or, refl, sym, ap, ap₂, subst, ◌∙◌, arith, inl, inr}
+use Rattle.std.proofs.Common.{◌≡◌, ℕ, ◌≤◌, Bool, true, false, cond, not, ◌&&◌, ◌||◌, List, [], ◌∷◌, ◌++◌, length, map, filter, refl, sym, ap, ap₂, subst, ◌∙◌, arith, inl, inr}
 use Prim.Native.Nat.{suc}
-use Rattle.std.specs.Prelude.{flat_map, ◌==◌}
+use Rattle.std.specs.Prelude.{◌==◌}
 use Rattle.std.specs.List.{AllByRecursion, list_any}
 use Rattle.std.proofs.lemmas.Bool.{cases_Bool, true≢false, and_parts, or_left, or_right}
 use Rattle.book_order.specs.Levels.{Level}
@@ -10,7 +10,7 @@ use Rattle.level_feed.specs.declared.row.Row.{Row}
 use Rattle.level_feed.specs.Rows.{level_of_row, is_at_level, is_same_row, gone_row, gone, changed, difference, is_gone, with_row, with_rows, AreOrdered}
 use Rattle.level_feed.specs.Noted.{Noted, is_among, rows_at, AreNoted}
 use Rattle.level_feed.specs.Inner.{picked, Stays}
-use Rattle.level_feed.proofs.Order.{Behind, AllBehind, First, Last, Level_of, order-of, alike-at, at-alike, all-behind-then, all-alike-behind, behind-not-at, behind-not-from, filter-yes, filter-no, filter-none, with-rows-append}
+use Rattle.level_feed.proofs.Order.{AllBehind, First, Last, Level_of, order-of, alike-at, at-alike, all-behind-then, all-alike-behind, behind-not-from, filter-yes, filter-no, filter-none, with-rows-append}
 use Rattle.level_feed.proofs.Changes.{AllOpen, same-row-refl, difference-takes-effect}
 use Rattle.level_feed.proofs.Lengths.{ordered-filter, stays-gone}
 use Rattle.level_feed.proofs.Taking.{gone-gone}

@@ -6,7 +6,7 @@ use Rattle.order_kinds.specs.Step.{state_after}
 use Rattle.level_feed.specs.Noted.{AreNoted}
 use Rattle.level_feed.specs.Feeds.{levels_of_state}
 use Rattle.feed_print.specs.FeedPlaces.{FeedPlace}
-use Rattle.feed_print.specs.FeedTexts.{message_text, messages_text, place_behind, place_after}
+use Rattle.feed_print.specs.FeedTexts.{message_text, messages_text, next_place, place_after}
 use Rattle.feed_print.proofs.Telling.{state-more, text-more, place-more}
 use Rattle.feed_print.proofs.Taking.{on-any, on-known, on-failed, on-map, on-next, pushes-more, sends-failed, sends-rest}
 use Rattle.feed_print.proofs.feed_work.FeedWorkRecordWork.take.Goals as goal
@@ -72,15 +72,15 @@ loop-number-preserved g c =
           (text-more product start place given k within frame is c.loop-number.core core request before.state asked did) before.pushes c.tell_next-told.ensures.failed before.place c.tell_next-told.ensures.pushes;
       place =
           on-next (sent ≡ at) (new ≡ place_after place product start (take (k + 1) given)) (c.tell_next-told.new.station ≡ c.loop-number.station) told result c.tell_next-told.ensures.failed
-          (on-map (OnOk result (new ≡ place_behind number levels sent)) (sent ≡ at → OnOk result (new ≡ place_after place product start (take (k + 1) given))) told
-          (λ did_tell. λ same. on-map (new ≡ place_behind number levels sent) (new ≡ place_after place product start (take (k + 1) given)) result
-          (λ is_behind. is_behind ∙ ap (place_behind number levels) same ∙ sym (place-more product start place given k within frame is c.loop-number.core core request before.state asked did)) did_tell)
+          (on-map (OnOk result (new ≡ next_place number levels sent)) (sent ≡ at → OnOk result (new ≡ place_after place product start (take (k + 1) given))) told
+          (λ did_tell. λ same. on-map (new ≡ next_place number levels sent) (new ≡ place_after place product start (take (k + 1) given)) result
+          (λ is_behind. is_behind ∙ ap (next_place number levels) same ∙ sym (place-more product start place given k within frame is c.loop-number.core core request before.state asked did)) did_tell)
           c.tell_next-told.ensures.place)
           before.place;
       rows =
           on-next (sent ≡ at) (new.rows ≡ levels) (c.tell_next-told.new.station ≡ c.loop-number.station) told result c.tell_next-told.ensures.failed
-          (on-map (OnOk result (new ≡ place_behind number levels sent)) (sent ≡ at → OnOk result (new.rows ≡ levels)) told
-          (λ did_tell. λ same. on-map (new ≡ place_behind number levels sent) (new.rows ≡ levels) result (λ is_behind. ap (λ (p : FeedPlace). p.rows) is_behind) did_tell)
+          (on-map (OnOk result (new ≡ next_place number levels sent)) (sent ≡ at → OnOk result (new.rows ≡ levels)) told
+          (λ did_tell. λ same. on-map (new ≡ next_place number levels sent) (new.rows ≡ levels) result (λ is_behind. ap (λ (p : FeedPlace). p.rows) is_behind) did_tell)
           c.tell_next-told.ensures.place)
           before.place;
     }

@@ -1,4 +1,4 @@
-use Rattle.std.proofs.Common.{◌≡◌, ◌∷◌, ◌++◌, ◌∙◌, [], ℕ, length, ap, sym, arith}
+use Rattle.std.proofs.Common.{◌≡◌, ◌∷◌, ◌++◌, ◌∙◌, [], ℕ, length, ap, arith}
 use Rattle.level_feed.specs.Blocks.{Snapshot}
 use Rattle.level_feed.specs.FeedText.{text_of_blocks}
 use Rattle.level_feed.specs.Held.{FeedRows}

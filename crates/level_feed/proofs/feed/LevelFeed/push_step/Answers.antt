@@ -1,4 +1,4 @@
-use Rattle.std.proofs.Common.{◌≡◌, ◌≤◌, ◌∙◌, ◌++◌, List, false, length, length-append, ap, ap₂, subst, sym, arith}
+use Rattle.std.proofs.Common.{◌≡◌, ◌≤◌, ◌∙◌, ◌++◌, List, length, length-append, ap, ap₂, subst, sym, arith}
 use Rattle.std.specs.Prelude.{not, IfOk}
 use Rattle.gx_base.specs.NameLists.{NameLists}
 use Rattle.level_feed.specs.declared.row.Row.{Row}
