@@ -492,6 +492,7 @@ module _ {P I S : Type 0} (m : StationMeanings S) (p q : SourceAt P) (i j : Sour
       form-of Book printed = printed.form
       form-of Fills printed = printed.form
       form-of Ledger printed = printed.form
+      form-of Levels printed = printed.form
       form-of Steps printed = printed.form
 
       printed-as : (told : List ℕ) (lists : ProductLists) → p.left ≡ Some told → product_of told ≡ Ok lists → PrintsAs m lists told entry.streams.station exit.streams.station outcome c
