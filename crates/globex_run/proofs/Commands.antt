@@ -5,9 +5,6 @@ use Rattle.std.proofs.Common.{[], ◌≡◌, ◌≢◌, ◌⊎◌, inl, inr, ⊎
 use Rattle.std.specs.Prelude.{IfSome}
 use Rattle.std.proofs.lemmas.Bool.Decides.{eqb_tells}
 use Rattle.std.proofs.lemmas.Option.{same_Some}
-use Rattle.gx_base.specs.Line.{line_of}
-use Rattle.book_print.specs.FillText.{fill_line}
-use Rattle.book_print.specs.LedgerText.{ledger_line}
 use Rattle.gx_base.specs.declared.event.Event.{Event}
 use Rattle.gx_station.specs.Stations.{StationMeanings}
 use Rattle.gx_station.specs.Honest.{IsHonestNow}

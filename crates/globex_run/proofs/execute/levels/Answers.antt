@@ -15,5 +15,5 @@ returns-clause-prints g c =
     let new = c.print_each_record.new.station in
     let is_new : c.in_ok-work.work ≡ feed_start = c.in_ok-work.ensures in
     subst (λ (work : FeedPlace). IfOk c.print_each_record.result (λ (outcome : Outcome). PrintsKept m old new outcome (ReadsOnly m old new)
-        (λ (image : List ℕ). PrintsMessages m c.args.taken.now.product.now c.args.taken.now.text.now image old new (work_text feed_work work) (work_whole feed_work work))))
+    (λ (image : List ℕ). PrintsMessages m c.args.taken.now.product.now c.args.taken.now.text.now image old new (work_text feed_work work) (work_whole feed_work work))))
     is_new c.print_each_record.ensures.prints

@@ -1,5 +1,5 @@
 use Rattle.std.specs.Option.{unwrap_or}
-use Rattle.std.proofs.Common.{◌≡◌, ℕ, List, Option, Some, Result, Ok, Err, refl, ap, subst, ◌∙◌}
+use Rattle.std.proofs.Common.{◌≡◌, ℕ, Option, Result, Ok, Err, refl, ap, subst, ◌∙◌}
 use Rattle.gx_station.specs.Quiet.{quiet_itself}
 use Rattle.level_feed.specs.Lines.{listing_of}
 use Rattle.level_feed.specs.Tables.{Table}
@@ -7,7 +7,6 @@ use Rattle.feed_reader.specs.Feeds.{EndsFeed, HasReadCause, read_into}
 use Rattle.feed_reader.specs.declared.unread.Unread.{Unread}
 use Rattle.journal_print.specs.ReadingLaws.{sending_only}
 use Rattle.globex_run.specs.Rebuilding.{outcome_rebuilt}
-use Rattle.globex_run.specs.declared.outcome.Outcome.{Outcome}
 use Rattle.globex_run.proofs.rebuild.rebuild_into.Goals as goal
 
 pub returns-in-Err : goal.returns-in-Err
@@ -37,7 +36,7 @@ returns g c =
     let table : Table = c.read_feed.new.table.table in
     let sends = c.print_levels-sent.ensures.sends in
     let ends : EndsFeed (listing_of c.args.product.now) feed.taken (i.left c.read_feed.new.input) (Ok table) =
-        subst (λ (r : Result (Unit {0}) Unread). EndsFeed (listing_of c.args.product.now) feed.taken (i.left c.read_feed.new.input) (read_into c.read_feed.new.table r)) c.in_default.is feed.ends in
+    subst (λ (r : Result (Unit {0}) Unread). EndsFeed (listing_of c.args.product.now) feed.taken (i.left c.read_feed.new.input) (read_into c.read_feed.new.table r)) c.in_default.is feed.ends in
     let number : ℕ = ends.1.0 in
     let is_number : c.unwrap_or-number.result ≡ number = c.unwrap_or-number.ensures ∙ ap (λ (n : Option ℕ). unwrap_or n 0) (c.number.ensures ∙ ends.1.1) in
     record {
