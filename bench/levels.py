@@ -37,15 +37,17 @@ def drill(first, count):
 
 
 def resting(orders, levels):
-    """Buys that rest, at so many prices in turn."""
-    return [streams.order("AAA", k, 1, 2, LOWEST + k % levels) for k in range(orders)]
+    """Buys that rest, at so many prices in turn, every other of which stays free."""
+    return [streams.order("AAA", k, 1, 2, LOWEST + 2 * (k % levels)) for k in range(orders)]
 
 
-def coming_and_going(first, count, levels):
-    """Sells that each come at one of so many prices above those buys, every one of which is cancelled by the message after it."""
+def coming_and_going(first, count, levels, side=2):
+    """Sells that each come at one of so many prices above those buys, or buys at the free prices between them. Every one of them is
+    cancelled by the message after it."""
+    lowest = LOWEST + 1 if side == 1 else LOWEST + 2 * FULL
     found = []
     for k in range(first, first + count // 2):
-        found += [streams.order("BBB", 2 * k, 2, 1, LOWEST + FULL + 37 * k % levels), streams.cancel("BBB", 2 * k + 1, 2 * k)]
+        found += [streams.order("BBB", 2 * k, side, 1, lowest + 2 * (37 * k % levels)), streams.cancel("BBB", 2 * k + 1, 2 * k)]
     return found
 
 
@@ -77,7 +79,7 @@ def row(program, parent, rounds, what, begin, go_on, messages):
         feed = os.path.join(folder, "feed")
         rebuilt = statistics.median(processor_time(program, ["rebuild"], folder, given=feed) for _ in range(rounds))
         live = len(subprocess.run([program, "rebuild"], cwd=folder, stdin=open(feed, "rb"), stdout=subprocess.PIPE, check=True).stdout.splitlines())
-        print(f"{what:44} {live:7,} levels  replay {each['replay']:7.0f} ns  levels {each['levels']:7.0f} ns  {each['levels'] / each['replay']:4.2f} times"
+        print(f"{what:55} {live:7,} levels  replay {each['replay']:7.0f} ns  levels {each['levels']:7.0f} ns  {each['levels'] / each['replay']:4.2f} times"
               f"  {(length - front) / messages:6.0f} bytes a message  rebuild {length / rebuilt / 1e6:5.0f} MB/s", flush=True)
 
 
@@ -99,9 +101,10 @@ def main():
 
     run("made messages, an empty book before", by_drill(1, 1_000), by_drill(1_001, many))
     run("made messages, some 95,000 orders live", by_drill(1, 155_000), by_drill(155_001, many))
-    for levels in (10, 1_000, 40_000):
-        run(f"one order comes and goes, {FULL - 10:,} live", lambda folder, n=levels: served(program, folder, resting(FULL - 10, n)),
-            lambda folder, n=levels: served(program, folder, coming_and_going(FULL, many, n)))
+    for what, side in (("above all others", 2), ("between others", 1)):
+        for levels in (10, 1_000, 40_000):
+            run(f"a level comes and goes {what}, {FULL - 10:,} live", lambda folder, n=levels: served(program, folder, resting(FULL - 10, n)),
+                lambda folder, n=levels, s=side: served(program, folder, coming_and_going(FULL, many, n, s)))
 
 
 if __name__ == "__main__":
