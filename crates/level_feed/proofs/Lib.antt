@@ -4,6 +4,9 @@ pub mod Chains
 pub mod LevelsOf
 pub mod Sums
 pub mod GoingOn
+-- what is noted,
+pub mod Noting
+pub mod RowsAt
 -- What the proofs of this crate alone cite: of rows,
 pub mod Order
 mod Changes
@@ -18,5 +21,7 @@ mod Collected
 mod PrintedRows
 mod BlockTexts
 mod Placed
+mod AtLevel
+mod Picked
 mod PlainNumbers
 mod RowsRead

@@ -76,7 +76,7 @@ not-here k [] e h is has = has
 not-here k (r ∷ rows) e h is has =
     elim has [ inl t ↦ true≢false (sym t ∙ ap (is_level (level_of_row r)) is ∙ h.0) | inr more ↦ not-here k rows e h.1 is more ]
 
-no-orders : (k : Level) (es : List Entry) (rows : List Row) → AllByRecursion (λ (r : Row). is_level (level_of_row r) k ≡ false) rows → AllByRecursion (λ (e : Entry). HasRow rows e) es → orders_at k es ≡ []
+pub no-orders : (k : Level) (es : List Entry) (rows : List Row) → AllByRecursion (λ (r : Row). is_level (level_of_row r) k ≡ false) rows → AllByRecursion (λ (e : Entry). HasRow rows e) es → orders_at k es ≡ []
 no-orders k es rows none each = filter-none (is_at k) es (all-with (λ (e : Entry). HasRow rows e) (λ (e : Entry). is_at k e ≡ false) (λ e has. false_from_ne_true (is_at k e) (λ t. absurd (not-here k rows e none (is_level-same (level_of e.order) k t) has))) es each)
 
 -- ---- all of them

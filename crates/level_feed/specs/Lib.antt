@@ -7,4 +7,5 @@ pub mod Folds
 pub mod Feeds
 pub mod Laws
 pub mod Held
+pub mod Noted
 pub mod Inner
