@@ -1,0 +1,189 @@
+//! Streams of made messages: the levels that a feed tells are those of a walk over the lines of the book.
+use super::expects::{expect_bytes, expect_count, expect_outcome};
+use super::{execute_from, execute_well, roomy_station, source_of};
+use gx_station::MemStation;
+use run_fixtures::{PRODUCT, ended, product_text};
+use std::process::Abort;
+use std::str;
+
+/// How many bytes the image of a station may have, and what is sent.
+const ROOM: usize = 1 << 21;
+
+/// How many calls it lists.
+const CALLS: usize = 50_000;
+
+/// A station over a journal of so many made messages under the product of this text.
+fn drilled(rt: &(impl Abort + AllocGlobal), text: &str, count: u64) -> MemStation {
+    let mut station = roomy_station(rt, ROOM, CALLS);
+    let line = format!(in rt.alloc(); "drill --first 1 --count {count}").expect(rt, "memory");
+    execute_well(rt, text, line.as_str(), b"", &mut station, count);
+    station
+}
+
+/// What a command over the journal of a station sends, which keeps so many messages.
+fn sent_by(
+    rt: &(impl Abort + AllocGlobal),
+    text: &str,
+    line: &str,
+    station: &mut MemStation,
+    count: u64,
+) -> Vec<u8> {
+    let before = station.output().len();
+    execute_well(rt, text, line, b"", station, count);
+    assert!(rt; before <= station.output().len());
+    station.output()[before..]
+        .to_vec(rt.alloc())
+        .expect(rt, "memory")
+}
+
+/// The level of some orders that stand one behind the other in the book: its side and price, and their sums.
+#[derive(Clone, Copy)]
+struct Level<'a> {
+    side: &'a str,
+    price: &'a str,
+    shown: u64,
+    orders: u64,
+}
+
+/// No order.
+fn no_level() -> Level<'static> {
+    Level {
+        side: "",
+        price: "",
+        shown: 0,
+        orders: 0,
+    }
+}
+
+/// Adds the line of a level to a table, if it has orders.
+fn push_level(rt: &(impl Abort + AllocGlobal), table: &mut String, name: &str, level: &Level<'_>) {
+    if level.orders == 0 {
+        return;
+    }
+    let line = format!(in rt.alloc(); "{name} {} {} {} {}\n", level.side, level.price, level.shown, level.orders);
+    table
+        .push_str(line.expect(rt, "memory").as_str())
+        .expect(rt, "memory");
+}
+
+/// The next word.
+fn word<'a>(rt: &impl Abort, words: &mut impl Iterator<Item = &'a str>) -> &'a str {
+    words.next().expect(rt, "a word")
+}
+
+/// The table that the lines of a book give: the orders of each side and price stand together, as `SIDE PRICE SHOWN/OPEN ..`, behind a line
+/// that begins with the name of their instrument, which has no space.
+fn walked(rt: &(impl Abort + AllocGlobal), book: &[u8]) -> String {
+    let book = str::from_utf8(book).expect(rt, "a text");
+    let mut table = String::new(rt.alloc());
+    let mut name = "";
+    let mut level = no_level();
+    for line in book.lines() {
+        let mut words = line.split(' ');
+        let first = word(rt, &mut words);
+        let second = word(rt, &mut words);
+        if second == "last" {
+            push_level(rt, &mut table, name, &level);
+            level = no_level();
+            name = first;
+        } else {
+            let third = word(rt, &mut words);
+            let shown = word(rt, &mut third.split('/'));
+            let shown = shown.parse::<u64>().expect(rt, "a number");
+            if first != level.side || second != level.price {
+                push_level(rt, &mut table, name, &level);
+                level = no_level();
+            }
+            assert!(rt; shown < 1_000_000);
+            assert!(rt; level.orders < 100_000);
+            level = Level {
+                side: first,
+                price: second,
+                shown: level.shown.saturating_add(shown),
+                orders: level.orders + 1,
+            };
+        }
+    }
+    push_level(rt, &mut table, name, &level);
+    table
+}
+
+/// A feed from one of its places on rebuilds this table, and its last block has this number.
+fn expect_rebuilt_from(
+    rt: &(impl Abort + AllocGlobal),
+    text: &str,
+    feed: &[u8],
+    number: u64,
+    table: &str,
+) {
+    let mut station = roomy_station(rt, ROOM, CALLS);
+    let mut input = source_of(rt, feed);
+    let got = execute_from(rt, text, "rebuild", &mut input, &mut station);
+    expect_outcome(rt, "a made feed", got, ended(0, 0, number));
+    expect_bytes(rt, "a made feed", station.output(), table.as_bytes());
+}
+
+/// The feed has a snapshot at its front and behind each thousand messages, and from each on it rebuilds the levels of the book.
+fn expect_levels_of_book(rt: &(impl Abort + AllocGlobal), text: &str, count: u64) {
+    let mut station = drilled(rt, text, count);
+    let book = sent_by(rt, text, "book", &mut station, count);
+    let table = walked(rt, book.as_slice());
+    let feed = sent_by(rt, text, "levels", &mut station, count);
+    let feed = feed.as_slice();
+    let mut snapshots = 0;
+    let mut is_front = true;
+    for at in 0..feed.len() {
+        if is_front && feed[at] == b'S' {
+            snapshots += 1;
+            expect_rebuilt_from(rt, text, &feed[at..], count, table.as_str());
+        }
+        is_front = feed[at] == b'\n';
+    }
+    expect_count(rt, "snapshots", snapshots, 1 + (count / 1_000) as usize);
+}
+
+/// The last of five thousand messages has a snapshot.
+#[test]
+fn five_thousand_messages(rt: HostRuntime) {
+    expect_levels_of_book(&rt, PRODUCT, 5_000);
+}
+
+/// A product of three instruments, each with another algorithm.
+const THREE: &str = product_text!(
+    letter: "A",
+    "[[instrument]]",
+    "name = \"NQZ4\"",
+    "decimals = 2",
+    "tick = 25",
+    "protection = 2",
+    "algorithm = \"C\"",
+    "[[instrument]]",
+    "name = \"ZNZ4\"",
+    "decimals = 4",
+    "tick = 5",
+    "protection = 2",
+    "algorithm = \"F\"",
+);
+
+#[test]
+fn two_thousand_messages_of_three_instruments(rt: HostRuntime) {
+    expect_levels_of_book(&rt, THREE, 2_000);
+}
+
+/// The number of the last block is that of the last message that changed a level, as the books before and after it tell.
+#[test]
+fn last_numbers(rt: HostRuntime) {
+    let mut last = 0;
+    let mut before = String::new(rt.alloc());
+    for count in 1..=150 {
+        let mut station = drilled(&rt, THREE, count);
+        let book = sent_by(&rt, THREE, "book", &mut station, count);
+        let table = walked(&rt, book.as_slice());
+        if table.as_str() != before.as_str() {
+            last = count;
+        }
+        let feed = sent_by(&rt, THREE, "levels", &mut station, count);
+        expect_rebuilt_from(&rt, THREE, feed.as_slice(), last, table.as_str());
+        before = table;
+    }
+}
