@@ -39,6 +39,7 @@ macro_rules! cancel {
 
 mod expects;
 mod failed_calls;
+mod feeds;
 mod full;
 mod gaps;
 mod headers;
@@ -55,6 +56,7 @@ mod wide;
 mod worked;
 
 use expects::{expect_bytes, expect_cut, expect_outcome};
+use feeds::feeds_of;
 use globex_run::Outcome;
 use gx_station::{MemSource, MemStation};
 use run_fixtures::{ROOM, ended, frames_of, product_text, run_over, station_over};
@@ -228,22 +230,6 @@ fn expect_input(
     );
 }
 
-/// A feed that comes in two reads, the first one of so many bytes, ends so and has sent these levels.
-fn expect_pieces(
-    rt: &(impl Abort + AllocGlobal),
-    text: &str,
-    feed: &str,
-    cut: usize,
-    outcome: Outcome,
-    table: &str,
-) {
-    let mut input = cut_source(rt, feed.as_bytes(), cut, NEVER);
-    let mut station = station_of(rt, b"");
-    let got = execute_from(rt, text, "rebuild", &mut input, &mut station);
-    expect_cut(rt, feed, cut, got, outcome);
-    expect_bytes(rt, feed, station.output(), table.as_bytes());
-}
-
 /// However it is cut in two, this feed under the product of this text ends so and has sent these levels.
 fn expect_rebuilt(
     rt: &(impl Abort + AllocGlobal),
@@ -253,8 +239,11 @@ fn expect_rebuilt(
     table: &str,
 ) {
     expect_input(rt, text, source_of(rt, feed.as_bytes()), outcome, table);
+    let mut feeds = feeds_of(rt, text);
     for cut in 1..feed.len() {
-        expect_pieces(rt, text, feed, cut, outcome, table);
+        let input = cut_source(rt, feed.as_bytes(), cut, NEVER);
+        let got = feeds.read(rt, input, table);
+        expect_cut(rt, feed, cut, got, outcome);
     }
 }
 
@@ -275,13 +264,8 @@ fn expect_fault(rt: &(impl Abort + AllocGlobal), front: &str, line: &str, status
     let fault = ended(status, front.len() as u64, 0);
     expect_rebuilt(rt, PAIR, feed.as_str(), fault, "");
     let longer = joined(rt, feed.as_str(), "S 9 0\n");
-    expect_input(
-        rt,
-        PAIR,
-        source_of(rt, longer.as_bytes()),
-        fault,
-        "",
-    );
+    let got = feeds_of(rt, PAIR).read(rt, source_of(rt, longer.as_bytes()), "");
+    expect_outcome(rt, longer.as_str(), got, fault);
 }
 
 /// The line has no form that is due.

@@ -67,7 +67,7 @@ fn expect_failed(
     expect_count(rt, "a fault", station.calls(), call);
 }
 
-/// The blocks of each record are sent in one call, before the next record is read.
+/// The blocks of each record are sent in one call, before the next record is read; behind the last one the end is read.
 #[test]
 fn each_call_failing(rt: HostRuntime) {
     let first = kept(&rt, &SELL);
@@ -82,7 +82,11 @@ fn each_call_failing(rt: HostRuntime) {
         let mut station = failing_station(&rt, both, call);
         let got = serve(&rt, "levels", &mut station);
         let is_send = got.status == 6;
-        let sent = if sends == 0 { "" } else { FRONT };
+        let sent = match sends {
+            0 => "",
+            1 => FRONT,
+            _ => FEED,
+        };
         let status = if is_send { 6 } else { 5 };
         expect_failed(&rt, both, call, ended(status, 0, 0), sent);
         sends += usize::from(is_send);

@@ -170,20 +170,32 @@ fn two_thousand_messages_of_three_instruments(rt: HostRuntime) {
     expect_levels_of_book(&rt, THREE, 2_000);
 }
 
+/// A product of two instruments and few live orders, which takes little memory.
+const FEW: &str = product_text!(
+    "max_orders = 60",
+    letter: "A",
+    "[[instrument]]",
+    "name = \"NQZ4\"",
+    "decimals = 2",
+    "tick = 25",
+    "protection = 2",
+    "algorithm = \"C\"",
+);
+
 /// The number of the last block is that of the last message that changed a level, as the books before and after it tell.
 #[test]
 fn last_numbers(rt: HostRuntime) {
     let mut last = 0;
     let mut before = String::new(rt.alloc());
-    for count in 1..=150 {
-        let mut station = drilled(&rt, THREE, count);
-        let book = sent_by(&rt, THREE, "book", &mut station, count);
+    for count in 1..=40 {
+        let mut station = drilled(&rt, FEW, count);
+        let book = sent_by(&rt, FEW, "book", &mut station, count);
         let table = walked(&rt, book.as_slice());
         if table.as_str() != before.as_str() {
             last = count;
         }
-        let feed = sent_by(&rt, THREE, "levels", &mut station, count);
-        expect_rebuilt_from(&rt, THREE, feed.as_slice(), last, table.as_str());
+        let feed = sent_by(&rt, FEW, "levels", &mut station, count);
+        expect_rebuilt_from(&rt, FEW, feed.as_slice(), last, table.as_str());
         before = table;
     }
 }

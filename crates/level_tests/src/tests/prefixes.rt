@@ -1,5 +1,7 @@
 //! Feeds that end anywhere: each front of a good feed is answered by the places of its blocks alone.
-use super::{PAIR, expect_input, expect_rebuilt, source_of};
+use super::expects::expect_cut;
+use super::feeds::feeds_of;
+use super::{PAIR, expect_rebuilt, source_of};
 use globex_run::Outcome;
 use run_fixtures::ended;
 use std::process::Abort;
@@ -15,11 +17,12 @@ fn push_block(
     table: &str,
 ) {
     let at = feed.len() as u64;
+    let mut feeds = feeds_of(rt, PAIR);
     let (last, front) = block.as_bytes().split_last().expect(rt, "a block");
     for byte in front {
         feed.push(*byte).expect(rt, "memory");
-        let input = source_of(rt, feed.as_slice());
-        expect_input(rt, PAIR, input, ended(8, at, 0), "");
+        let got = feeds.read(rt, source_of(rt, feed.as_slice()), "");
+        expect_cut(rt, block, feed.len(), got, ended(8, at, 0));
     }
     feed.push(*last).expect(rt, "memory");
     let text = str::from_utf8(feed.as_slice()).expect(rt, "a text");

@@ -1,4 +1,6 @@
 //! Reads of the feed that fail. A line with a fault that was read before is told first, and of the levels none is sent.
+use super::expects::expect_cut;
+use super::feeds::{Feeds, feeds_of};
 use super::{PAIR, cut_source, execute_from, expect_input, source_of, station_of};
 use globex_run::Outcome;
 use run_fixtures::{ended, run_over};
@@ -8,6 +10,20 @@ const FEED: &str = "S 3 1\nR ESZ4 S 100.00 5 1\nI 4 3 1\nR ESZ4 S 100.00 2 1\n";
 
 /// The first read gives so many bytes, and the read of this number fails: it ends so.
 fn expect_failing(
+    rt: &(impl Abort + AllocGlobal),
+    feeds: &mut Feeds,
+    feed: &str,
+    first: usize,
+    failing: u64,
+    outcome: Outcome,
+) {
+    let input = cut_source(rt, feed.as_bytes(), first, failing);
+    let got = feeds.read(rt, input, "");
+    expect_cut(rt, feed, first, got, outcome);
+}
+
+/// The command ends so, too, and has sent nothing.
+fn expect_command_failing(
     rt: &(impl Abort + AllocGlobal),
     feed: &str,
     first: usize,
@@ -21,14 +37,19 @@ fn expect_failing(
 /// The place is the number of bytes that were read, wherever they end.
 #[test]
 fn failing_reads(rt: HostRuntime) {
-    expect_failing(&rt, FEED, 1, 1, ended(4, 0, 0));
+    let whole = FEED.len() as u64;
+    expect_command_failing(&rt, FEED, 1, 1, ended(4, 0, 0));
+    expect_command_failing(&rt, FEED, 30, 2, ended(4, 30, 0));
+    expect_command_failing(&rt, FEED, 30, 3, ended(4, whole, 0));
+    expect_command_failing(&rt, "", 1, 1, ended(4, 0, 0));
+    let mut feeds = feeds_of(&rt, PAIR);
     for first in 1..=FEED.len() {
-        expect_failing(&rt, FEED, first, 2, ended(4, first as u64, 0));
+        let fault = ended(4, first as u64, 0);
+        expect_failing(&rt, &mut feeds, FEED, first, 2, fault);
     }
     for first in 1..FEED.len() {
-        expect_failing(&rt, FEED, first, 3, ended(4, FEED.len() as u64, 0));
+        expect_failing(&rt, &mut feeds, FEED, first, 3, ended(4, whole, 0));
     }
-    expect_failing(&rt, "", 1, 1, ended(4, 0, 0));
 }
 
 /// Behind this front stands a line with a fault. Where the line was read the fault is told; before it the failed read.
@@ -37,11 +58,14 @@ fn expect_fault_first(rt: &(impl Abort + AllocGlobal), front: &str, line: &str, 
     let feed = feed.as_str();
     let whole = front.len() + line.len() + 1;
     let fault = ended(status, front.len() as u64, 0);
+    expect_command_failing(rt, feed, whole, 2, fault);
+    let mut feeds = feeds_of(rt, PAIR);
     for first in 1..whole {
-        expect_failing(rt, feed, first, 2, ended(4, first as u64, 0));
+        let before = ended(4, first as u64, 0);
+        expect_failing(rt, &mut feeds, feed, first, 2, before);
     }
     for first in whole..feed.len() {
-        expect_failing(rt, feed, first, 2, fault);
+        expect_failing(rt, &mut feeds, feed, first, 2, fault);
     }
 }
 
@@ -62,11 +86,16 @@ fn long_line_before_a_failing_read(rt: HostRuntime) {
     let feed = format!(in rt.alloc(); "{FEED}{}", line.as_str()).expect(&rt, "memory");
     let feed = feed.as_str();
     let at = FEED.len();
+    let fault = ended(14, at as u64, 0);
+    expect_command_failing(&rt, feed, at + 127, 2, ended(4, (at + 127) as u64, 0));
+    expect_command_failing(&rt, feed, at + 128, 2, fault);
+    let mut feeds = feeds_of(&rt, PAIR);
     for count in 1..=127 {
-        expect_failing(&rt, feed, at + count, 2, ended(4, (at + count) as u64, 0));
+        let before = ended(4, (at + count) as u64, 0);
+        expect_failing(&rt, &mut feeds, feed, at + count, 2, before);
     }
     for count in 128..200 {
-        expect_failing(&rt, feed, at + count, 2, ended(14, at as u64, 0));
+        expect_failing(&rt, &mut feeds, feed, at + count, 2, fault);
     }
 }
 
