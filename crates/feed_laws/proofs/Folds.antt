@@ -1,6 +1,6 @@
 -- The fold law over histories.
-use Rattle.std.proofs.Common.{◌≡◌, ℕ, ◌<◌, ◌≤◌, List, [], ◌∷◌, length, length-take, take, get_or, append-nil, Ok, refl, sym, ap, subst, ◌∙◌, arith}
-use Prim.Native.Nat.{zero, suc}
+use Rattle.std.proofs.Common.{◌≡◌, ℕ, ◌<◌, List, [], ◌∷◌, length, length-take, take, get_or, append-nil, Ok, refl, sym, ap, subst, ◌∙◌, arith}
+use Prim.Native.Nat.{suc}
 use Rattle.std.specs.List.{AllByRecursion}
 use Rattle.book_order.proofs.Each.{all-append}
 use Rattle.product_file.specs.Products.{ProductLists}

@@ -1,8 +1,7 @@
 -- What a listing takes from a product is the same in a product that may follow it.
-use Rattle.std.proofs.Common.{◌≡◌, ℕ, ◌+◌, Bool, true, false, not, ◌&&◌, List, [], ◌∷◌, map, Option, Some, None, Ok, Result, bytes_eq, refl, sym, ap, ap₂, subst, ◌∙◌}
+use Rattle.std.proofs.Common.{◌≡◌, ℕ, Bool, true, false, not, List, [], ◌∷◌, map, Option, Some, None, Ok, Result, bytes_eq, refl, sym, ap, ap₂, subst, ◌∙◌}
 use Rattle.std.specs.Prelude.{◌==◌, nat_lt, unsigned_abs}
 use Rattle.std.specs.Option.{option_or}
-use Rattle.std.specs.Ordering.{int_eq}
 use Rattle.std.proofs.lemmas.Bool.{and_parts}
 use Rattle.std.proofs.lemmas.Bool.Decides.{Decides-eqb, Decides-int_eq}
 use Rattle.std.proofs.lemmas.Slice.Eq.{bytes_eq-Decides}
@@ -13,7 +12,7 @@ use Rattle.product_file.specs.Amendments.{begins_with, are_same, is_same_listed,
 use Rattle.product_file.specs.declared.product.InstrumentRule.{InstrumentRule}
 use Rattle.product_file.specs.declared.amendments.AmendFault.{AmendFault}
 use Rattle.product_file.specs.declared.amendments.AmendFault.TheVariants as fault
-use Rattle.order_kinds.specs.Histories.{History, of_product, amended, last_product, IsHistory}
+use Rattle.order_kinds.specs.Histories.{History, of_product, amended, last_product}
 use Rattle.level_feed.specs.Lines.{Listing, listing_of}
 use Rattle.feed_laws.specs.Laws.{HaveListing, SameListings}
 

@@ -1,2 +1,3 @@
 pub mod FeedPlaces
+pub mod FeedTexts
 pub mod FeedWorks

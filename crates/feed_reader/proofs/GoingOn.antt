@@ -5,7 +5,7 @@ use Rattle.level_feed.specs.declared.fault.FeedFault.{FeedFault}
 use Rattle.level_feed.specs.declared.fault.FeedFault.TheVariants.{Form}
 use Rattle.level_feed.specs.Lines.{Listing}
 use Rattle.level_feed.specs.Tables.{Table, is_inside, empty_table, longest_line, text_taken}
-use Rattle.level_feed.specs.Folds.{pieces_of, ended, where_taken, fold_from, fold_of}
+use Rattle.level_feed.specs.Folds.{pieces_of, ended, where_taken, fold_from, table_of}
 use Rattle.feed_reader.specs.declared.reading.BrokenLine.{BrokenLine}
 use Rattle.feed_reader.specs.Feeds.{IsUnbroken}
 use Rattle.feed_reader.specs.Inner.{Place, HasNoEnd, IsFront, fold_on, GoesOn, IsBrokenAt}
@@ -114,9 +114,9 @@ module _ (listing : Listing) where
 
   -- ---- from the front of a feed
 
-  pub goes-to-end : (taken : List ℕ) (t : Table) (p : Place) → GoesOn listing empty_table new_place taken t p → fold_of listing taken ≡ ended t p.at p.block p.kept
+  pub goes-to-end : (taken : List ℕ) (t : Table) (p : Place) → GoesOn listing empty_table new_place taken t p → table_of listing taken ≡ ended t p.at p.block p.kept
   goes-to-end taken t p g =
-      ap (fold_of listing) (sym (append-nil taken))
+      ap (table_of listing) (sym (append-nil taken))
       ∙ g.folds []
       ∙ ap (λ (text : List ℕ). fold_from listing t p.at p.block (pieces_of text)) (append-nil p.kept)
       ∙ fold-rest listing t p.at p.block p.kept g.front.no_end

@@ -6,16 +6,15 @@ use Rattle.std.proofs.lemmas.List.{append-nil}
 use Rattle.std.proofs.lemmas.List.Elements.{All-from_recursion}
 use Rattle.std.proofs.lemmas.List.Splits.{slice_split_none, slice_split_at, length-slice_split}
 use Rattle.gx_base.proofs.NumberTexts.{lacks-append}
-use Rattle.level_feed.specs.declared.row.Row.{Row}
 use Rattle.level_feed.specs.declared.fault.FeedFault.{FeedFault}
 use Rattle.level_feed.specs.declared.fault.FeedFault.TheVariants.{Form}
 use Rattle.level_feed.specs.Lines.{Listing, line_of}
 use Rattle.level_feed.specs.Tables.{Table, is_inside, longest_line, read_by, text_taken}
-use Rattle.level_feed.specs.Folds.{FoldFault, Cut, Broken, pieces_of, levels_in, ended, where_taken, fold_from}
+use Rattle.level_feed.specs.Folds.{FoldFault, Cut, Broken, pieces_of, table_in, ended, where_taken, fold_from}
 use Rattle.feed_reader.specs.Inner.{HasNoEnd, IsFront}
 
 abbrev pub Fold : Type 0
-Fold = Result (List Row) FoldFault
+Fold = Result Table FoldFault
 
 pub no-end-append : (xs ys : List ℕ) → HasNoEnd xs → HasNoEnd ys → HasNoEnd (xs ++ ys)
 no-end-append xs ys h g = lacks-append 10 xs ys h g
@@ -27,7 +26,7 @@ same-text k c more = append_assoc k (c ∷ []) more
 -- ---- the end
 
 ended-cases : (at block a : ℕ) (f : FeedFault) (long inside some : Bool) (t : Table) (n : Option ℕ)
-    → cond long (Err (Broken at Form)) (cond inside (Err (Cut block)) (cond some (Err (Cut at)) (levels_in t n))) ≡ Err (Broken a f)
+    → cond long (Err (Broken at Form)) (cond inside (Err (Cut block)) (cond some (Err (Cut at)) (table_in t n))) ≡ Err (Broken a f)
     → (long ≡ true) × (at ≡ a) × (Form ≡ f)
 ended-cases at block a f true inside some t n e = (refl, cc, cc)
 ended-cases at block a f false true some t n e = cc

@@ -9,7 +9,7 @@ use Rattle.gx_station.specs.declared.station.Failed.{Failed}
 use Rattle.level_feed.specs.declared.fault.FeedFault.TheVariants.{Form}
 use Rattle.level_feed.specs.Lines.{Listing}
 use Rattle.level_feed.specs.Tables.{Table, is_inside, empty_table, longest_line}
-use Rattle.level_feed.specs.Folds.{Cut, Broken, NoSnapshot, levels_in, ended, fold_of}
+use Rattle.level_feed.specs.Folds.{Cut, Broken, NoSnapshot, table_in, ended, table_of}
 use Rattle.level_feed.specs.Held.{HeldTable}
 use Rattle.feed_reader.specs.declared.feed.TheConstants.{MOST_FEED}
 use Rattle.feed_reader.specs.declared.reading.BrokenLine.{BrokenLine}
@@ -43,7 +43,7 @@ ended-line t at block k front outside some =
     ∙ cond-false (is_inside t) (Err (Cut block)) _ outside
     ∙ cond-true (nat_lt 0 (length k)) (Err (Cut at)) _ (lt-ltb 0 (length k) some)
 
-ended-between : (t : Table) (at block : ℕ) (k : List ℕ) → IsFront k → is_inside t ≡ false → length k ≡ 0 → ended t at block k ≡ levels_in t t.number
+ended-between : (t : Table) (at block : ℕ) (k : List ℕ) → IsFront k → is_inside t ≡ false → length k ≡ 0 → ended t at block k ≡ table_in t t.number
 ended-between t at block k front outside empty =
     cond-false (nat_lt longest_line (length k)) (Err (Broken at Form)) _ (le-ltb longest_line (length k) front.short)
     ∙ cond-false (is_inside t) (Err (Cut block)) _ outside
@@ -107,7 +107,7 @@ module _ {I : Type 0} (m : SourceMeanings I) (listing : Listing) where
       read-broken broken table h = record {
         taken = all;
         took = all-took;
-        ends = ap (fold_of listing) (first-of-all ∙ sym (append-nil (r.taken ++ take most into))) ∙ breaks-then listing empty_table new_place r.taken t p (take most into) broken r.goes h [];
+        ends = ap (table_of listing) (first-of-all ∙ sym (append-nil (r.taken ++ take most into))) ∙ breaks-then listing empty_table new_place r.taken t p (take most into) broken r.goes h [];
         cause = no-fault;
       }
 
@@ -176,7 +176,7 @@ module _ {I : Type 0} (m : SourceMeanings I) (listing : Listing) where
       read-no-snapshot outside empty number = record {
         taken = r.taken;
         took = took-all;
-        ends = folds-whole (Err NoSnapshot) (ended-between t p.at p.block p.kept r.goes.front outside empty ∙ ap (levels_in t) (none-is t.number number));
+        ends = folds-whole (Err NoSnapshot) (ended-between t p.at p.block p.kept r.goes.front outside empty ∙ ap (table_in t) (none-is t.number number));
         cause = no-fault-at-end;
       }
 
@@ -185,7 +185,7 @@ module _ {I : Type 0} (m : SourceMeanings I) (listing : Listing) where
         taken = r.taken;
         took = took-all;
         ends = (
-          folds-whole (Ok table.table.rows) (ended-between t p.at p.block p.kept r.goes.front outside empty ∙ ap (levels_in t) (some-is t.number some).1 ∙ ap (λ (u : Table). Ok u.rows) (sym is)),
+          folds-whole (Ok table.table) (ended-between t p.at p.block p.kept r.goes.front outside empty ∙ ap (table_in t) (some-is t.number some).1 ∙ ap (λ (u : Table). Ok u) (sym is)),
           ((some-is t.number some).0, ap (λ (u : Table). u.number) is ∙ (some-is t.number some).1),
         );
         cause = no-fault-at-end;

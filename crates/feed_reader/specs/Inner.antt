@@ -1,7 +1,6 @@
 -- What the private functions of this crate promise each other. A reader need not believe any of it.
 use Rattle.std.specs.Prelude.{◌≡◌, ◌≤◌, ℕ, ◌+◌, ◌==◌, false, List, ◌++◌, length, Result, Err}
 use Rattle.std.specs.List.{AllByRecursion}
-use Rattle.level_feed.specs.declared.row.Row.{Row}
 use Rattle.level_feed.specs.Lines.{Listing}
 use Rattle.level_feed.specs.Tables.{Table, longest_line}
 use Rattle.level_feed.specs.Folds.{FoldFault, Broken, pieces_of, fold_from}
@@ -29,7 +28,7 @@ pub record IsFront (kept : List ℕ) : Type 0 where
   pub short : length kept ≤ longest_line
 
 -- the fold from here on, where these bytes come next
-abbrev pub fold_on : Listing → Table → Place → List ℕ → Result (List Row) FoldFault
+abbrev pub fold_on : Listing → Table → Place → List ℕ → Result Table FoldFault
 fold_on listing t p bytes = fold_from listing t p.at p.block (pieces_of (p.kept ++ bytes))
 
 -- these bytes were taken, and whatever comes next, the fold goes on from there

@@ -3,7 +3,7 @@ ghost use Rattle.std.specs.Prelude.{◌≡◌, ◌≤◌, List, ℕ, Some, lengt
 ghost use Rattle.gx_station.specs.declared.source.TheConstants.{LEAST_READ};
 ghost use Rattle.level_feed.specs.Lines.{listing_of};
 ghost use Rattle.level_feed.specs.Tables.{empty_table};
-ghost use Rattle.feed_reader.specs.Feeds.{ReadsFeed};
+ghost use Rattle.feed_reader.specs.Feeds.{ReadsFeed, read_into};
 ghost use Rattle.feed_reader.specs.WholeFeeds.{IsReadAs};
 
 use crate::reading::Reading;
@@ -20,7 +20,8 @@ pub const MOST_FEED: u64 = 268_435_456;
 /// of the input, or of those before a read that failed.
 ///
 /// A fault in a line that was read is answered before a read that fails behind it, and before the end of the input. It ends since each
-/// turn takes a byte, of at most `MOST_FEED`. `chunk` is what a read places its bytes in. No memory is taken.
+/// turn takes a byte, of at most `MOST_FEED`. `chunk` is what a read places its bytes in, and has at least `LEAST_READ`. No memory is
+/// taken. After an `Err` nothing is told of the table.
 pub fn read_feed<I: Source>(
     table: &mut FeedTable,
     product: &Product,
@@ -30,7 +31,7 @@ pub fn read_feed<I: Source>(
     requires new { table.old ≡ record { capacity = product.now.max_orders; table = empty_table } }
     requires room { LEAST_READ ≤ length chunk.old }
     ensures reads { ReadsFeed I.meanings (listing_of product.now) input.old input.new table.new result }
-    ensures whole { (all : List ℕ) → I.meanings.left input.old ≡ Some all → IsReadAs (listing_of product.now) all table.new result }
+    ensures whole { (all : List ℕ) → I.meanings.left input.old ≡ Some all → IsReadAs (listing_of product.now) all (read_into table.new result) }
 {
     let mut reading = Reading::new();
     'reads: loop {

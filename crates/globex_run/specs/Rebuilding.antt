@@ -16,7 +16,7 @@ use Rattle.feed_reader.specs.WholeFeeds.{feed_end}
 use Rattle.feed_reader.specs.declared.feed.TheConstants.{MOST_FEED}
 use Rattle.feed_reader.specs.declared.unread.Unread.{Unread}
 use Rattle.feed_reader.specs.declared.unread.Unread.TheVariants as unread
-use Rattle.feed_laws.specs.Laws.{FoldsAtBlocks, FoldsBetweenBlocks}
+use Rattle.feed_laws.specs.Laws.{FoldsAtBlocks, FoldsBetweenBlocks, FoldsWhole}
 use Rattle.globex_run.specs.Outside.{Outside, Streams}
 use Rattle.globex_run.specs.declared.outcome.Outcome.{Outcome}
 
@@ -80,8 +80,9 @@ feed_status (Err why) = (outcome_unread why).status
 abbrev pub IsRebuilt : ProductLists → List ℕ → ℕ → Type 0
 IsRebuilt product bytes status = status ≡ feed_status (feed_end (listing_of product) bytes)
 
--- The fold of the level feed is the levels of the book, for every history: at each block, and at each later state before the message of
--- the next increment.
+-- The fold of the level feed is the levels of the book, for every history: from any snapshot to the end of any block, and at each later
+-- state before the message of the next increment; and that of the whole feed.
 pub record FeedsFoldToLevels : Type 0 where
   pub at_blocks : FoldsAtBlocks
   pub between_blocks : FoldsBetweenBlocks
+  pub whole : FoldsWhole

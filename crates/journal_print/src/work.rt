@@ -22,9 +22,9 @@ pub trait RecordWork {
 
     ghost meanings: { WorkMeanings Self };
 
-    /// Applies the messages of the frames that a framer has given, in their order, and sends what the work says of them. The work is to
-    /// fit the state of the core, and then it does so again. `SendFault` comes only if the count of send faults rose; a part is sent then,
-    /// and all messages are applied.
+    /// Applies the messages of the frames that a framer has given, in their order, and sends what the work says of them. The order numbers
+    /// of the core are to differ, and the work to fit its state; both holds again then. `SendFault` comes only if the count of send faults
+    /// rose; a part is sent then, and all messages are applied.
     fn take<B: Book, S: Station>(
         &mut self,
         product: &Product,
@@ -36,19 +36,20 @@ pub trait RecordWork {
         requires few { core.old.desk.messages + length framer.now.given ≤ MOST_MESSAGES }
         requires fits { FitsProduct product.now core.old }
         requires empty { buffer.old ≡ [] }
+        requires numbered { AreNumbered core.old }
         requires work { meanings.Fits self.old core.old }
-        ensures work { AreNumbered core.old → OnOk result (meanings.Fits self.new core.new) }
         ensures count { core.new.desk.messages ≡ core.old.desk.messages + length framer.now.given }
         ensures fits { FitsProduct product.now core.new }
         ensures quiet { Quiet S.meanings station.old station.new }
         ensures cause { HasCause (S.meanings.send_faults station.old) (S.meanings.send_faults station.new) result }
         ensures silent { IsTrue meanings.is_silent → IsOk result × (station.new ≡ station.old) }
         ensures empty { OnOk result (buffer.new ≡ []) }
-        ensures numbered { AreNumbered core.old → AreNumbered core.new }
-        ensures state { AreNumbered core.old → state_numbered core.new ≡ state_after product.now (state_numbered core.old) framer.now.given }
-        ensures sends { AreNumbered core.old → Sends S.meanings station.old station.new
+        ensures numbered { AreNumbered core.new }
+        ensures work { OnOk result (meanings.Fits self.new core.new) }
+        ensures state { state_numbered core.new ≡ state_after product.now (state_numbered core.old) framer.now.given }
+        ensures sends { Sends S.meanings station.old station.new
             (meanings.text self.old product.now (state_numbered core.old) framer.now.given) result }
-        ensures after { AreNumbered core.old → OnOk result (self.new ≡ meanings.after self.old product.now (state_numbered core.old) framer.now.given) };
+        ensures after { OnOk result (self.new ≡ meanings.after self.old product.now (state_numbered core.old) framer.now.given) };
 
     /// Sends what comes after all messages, if so many lots are open of all live orders. `SendFault` comes only if the count of
     /// send faults rose, and a part is sent then.

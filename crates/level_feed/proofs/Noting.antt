@@ -1,16 +1,17 @@
 -- What is noted stays noted, and the level of each event's order is noted.
 use Rattle.std.proofs.Common.{◌≡◌, ◌<◌, Bool, true, false, cond, ◌||◌, List, [], ◌∷◌, ◌++◌, filter, Option, Some, None, refl, sym, ap, ◌∙◌, inl, inr, ◌⊎◌}
 use Rattle.std.specs.Prelude.{nat_le, length}
-use Rattle.std.specs.List.{AllByRecursion, list_any}
-use Rattle.std.proofs.lemmas.Bool.{cases_Bool, cond-true, cond-false, true≢false, or_cases, or_left, or_right, lt-leb}
+use Rattle.std.specs.List.{list_any}
+use Rattle.std.proofs.lemmas.Bool.{cases_Bool, cond-true, cond-false, true≢false, false_from_ne_true, or_cases, or_left, or_right, lt-leb}
 use Rattle.std.proofs.lemmas.List.Folds.{list_any-append}
 use Rattle.gx_base.specs.declared.event.Event.{Event}
+use Rattle.gx_base.specs.Emits.{Emits}
 use Rattle.book_order.specs.Levels.{Level, is_level}
-use Rattle.book_order.proofs.Levels.{is_level-refl}
+use Rattle.book_order.proofs.Levels.{is_level-same, is_level-refl}
 use Rattle.level_feed.specs.declared.noted.TheConstants.{MOST_NOTED}
 use Rattle.level_feed.specs.declared.row.Row.{Row}
 use Rattle.level_feed.specs.Rows.{level_of_row, row_before, is_gone, with_row}
-use Rattle.level_feed.specs.Noted.{Noted, is_among, is_noted, row_noting, noted_new, noted_with, level_of_event, noted_if, noted_event, noted_events, IsEventAt, HasEventAt}
+use Rattle.level_feed.specs.Noted.{Noted, is_among, is_noted, row_noting, noted_new, noted_with, level_of_event, noted_if, noted_event, noted_events, noted_meanings, is_level_if, is_event_at, has_event_at}
 use Rattle.level_feed.proofs.Order.{First, Last, Level_of, order-of, own, ahead, rest}
 
 -- ---- one row more
@@ -57,10 +58,10 @@ among-kept k r rows g h =
     elim (cases_Bool (is_level (level_of_row r) k)) [
       | inl t ↦ among-own k r rows g t
       | inr f ↦ any-of-three p (ahead r rows) (own r) (rest r rows) (any-parts p (λ x. row_before x r) (λ x. row_before r x) rows (λ x t. elim (order-of x r) [
-          | First a ↦ inl a
-          | Last b ↦ inr b
-          | Level_of e ↦ absurd (true≢false (sym t ∙ ap (λ (q : Level). is_level q k) e ∙ f))
-        ]) h)
+        | First a ↦ inl a
+        | Last b ↦ inr b
+        | Level_of e ↦ absurd (true≢false (sym t ∙ ap (λ (q : Level). is_level q k) e ∙ f))
+      ]) h)
     ]
 
 -- ---- one level more
@@ -113,9 +114,13 @@ if-kept k (Some j) n h = noted-kept k j n h
 pub event-kept : (k : Level) (e : Event) (n : Noted) → is_noted k n ≡ true → is_noted k (noted_event e n) ≡ true
 event-kept k e n h = if-kept k (level_of_event e) n h
 
+if-itself : (k : Level) (o : Option Level) (n : Noted) → is_level_if k o ≡ true → is_noted k (noted_if o n) ≡ true
+if-itself k None n h = absurd (true≢false (sym h))
+if-itself k (Some j) n h = ap (λ (q : Level). is_noted k (noted_with q n)) (is_level-same j k h) ∙ noted-itself k n
+
 -- the level of the event's order is noted
-pub event-itself : (k : Level) (e : Event) (n : Noted) → IsEventAt k e → is_noted k (noted_event e n) ≡ true
-event-itself k e n h = ap (λ (o : Option Level). is_noted k (noted_if o n)) h ∙ noted-itself k n
+pub event-itself : (k : Level) (e : Event) (n : Noted) → is_event_at k e ≡ true → is_noted k (noted_event e n) ≡ true
+event-itself k e n h = if-itself k (level_of_event e) n h
 
 -- ---- events one after the other
 
@@ -124,18 +129,23 @@ events-kept k [] n h = h
 events-kept k (e ∷ events) n h = events-kept k events (noted_event e n) (event-kept k e n h)
 
 -- the level of the order of each event is noted
-pub events-note : (k : Level) (events : List Event) (n : Noted) → HasEventAt k events → is_noted k (noted_events events n) ≡ true
-events-note k [] n h = absurd h
+pub events-note : (k : Level) (events : List Event) (n : Noted) → has_event_at k events ≡ true → is_noted k (noted_events events n) ≡ true
+events-note k [] n h = absurd (true≢false (sym h))
 events-note k (e ∷ events) n h =
-    elim h [ inl here ↦ events-kept k events (noted_event e n) (event-itself k e n here) | inr later ↦ events-note k events (noted_event e n) later ]
+    elim (or_cases (is_event_at k e) (has_event_at k events) h) [
+      | inl here ↦ events-kept k events (noted_event e n) (event-itself k e n here)
+      | inr later ↦ events-note k events (noted_event e n) later
+    ]
 
--- so no event has an order at a level that is not noted, and that was not noted before
-pub events-elsewhere : (k : Level) (events : List Event) (n : Noted) → is_noted k (noted_events events n) ≡ false → (is_noted k n ≡ false) × AllByRecursion (λ e. IsEventAt k e → ⊥) events
-events-elsewhere k events n h = (before n events h, each n events h)
-  where
-    before : (n : Noted) (events : List Event) → is_noted k (noted_events events n) ≡ false → is_noted k n ≡ false
-    before n events h = elim (cases_Bool (is_noted k n)) [ inl t ↦ absurd (true≢false (sym (events-kept k events n t) ∙ h)) | inr f ↦ f ]
+-- so a level that is not noted then was not noted before, and no event tells of it
+pub events-elsewhere : (k : Level) (events : List Event) (n : Noted) → is_noted k (noted_events events n) ≡ false → (is_noted k n ≡ false) × (has_event_at k events ≡ false)
+events-elsewhere k events n h = (
+  false_from_ne_true (is_noted k n) (λ t. true≢false (sym (events-kept k events n t) ∙ h)),
+  false_from_ne_true (has_event_at k events) (λ t. true≢false (sym (events-note k events n t) ∙ h)),
+)
 
-    each : (n : Noted) (events : List Event) → is_noted k (noted_events events n) ≡ false → AllByRecursion (λ e. IsEventAt k e → ⊥) events
-    each n [] h = tt
-    each n (e ∷ events) h = (λ is. true≢false (sym (events-note k (e ∷ events) n (inl is)) ∙ h), each (noted_event e n) events h)
+-- ---- what the emitter has seen
+
+-- it has noted the events that were put
+pub noted-by-emits : (old new : Noted) (events : List Event) → Emits noted_meanings old new events → new ≡ noted_events events old
+noted-by-emits old new events e = e.all refl

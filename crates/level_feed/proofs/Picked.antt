@@ -1,20 +1,17 @@
 -- The rows at noted levels differ as all the rows do.
-use Rattle.std.proofs.Common.{◌≡◌, ℕ, ◌+◌, ◌<◌, ◌≤◌, Bool, true, false, cond, not, ◌&&◌, ◌||◌, List, [], ◌∷◌, ◌++◌, length, map, filter, take, get_or, refl, sym, ap, ap₂, subst, ◌∙◌, arith, inl, inr}
+use Rattle.std.proofs.Common.{◌≡◌, ℕ, ◌≤◌, Bool, true, false, cond, not, ◌&&◌, ◌||◌, List, [], ◌∷◌, ◌++◌, length, map, filter, refl, sym, ap, ap₂, subst, ◌∙◌, arith, inl, inr}
 use Prim.Native.Nat.{suc}
-use Rattle.std.specs.Prelude.{flat_map, ◌==◌}
+use Rattle.std.specs.Prelude.{◌==◌}
 use Rattle.std.specs.List.{AllByRecursion, list_any}
 use Rattle.std.proofs.lemmas.Bool.{cases_Bool, true≢false, and_parts, or_left, or_right}
-use Rattle.std.proofs.lemmas.List.{append-nil, take_more, take_all}
-use Rattle.std.proofs.lemmas.List.Concat.{flat_map-append}
 use Rattle.book_order.specs.Levels.{Level}
 use Rattle.book_order.proofs.Each.{all-with, all-filter}
 use Rattle.level_feed.specs.declared.row.Row.{Row}
 use Rattle.level_feed.specs.Rows.{level_of_row, is_at_level, is_same_row, gone_row, gone, changed, difference, is_gone, with_row, with_rows, AreOrdered}
-use Rattle.level_feed.specs.Noted.{is_among, rows_at, AreNoted}
+use Rattle.level_feed.specs.Noted.{Noted, is_among, rows_at, AreNoted}
 use Rattle.level_feed.specs.Inner.{picked, Stays}
-use Rattle.level_feed.proofs.Order.{Behind, AllBehind, First, Last, Level_of, order-of, alike-at, at-alike, all-behind-then, all-alike-behind, behind-not-at, behind-not-from, filter-yes, filter-no, filter-none, with-rows-append}
+use Rattle.level_feed.proofs.Order.{AllBehind, First, Last, Level_of, order-of, alike-at, at-alike, all-behind-then, all-alike-behind, behind-not-from, filter-yes, filter-no, filter-none, with-rows-append}
 use Rattle.level_feed.proofs.Changes.{AllOpen, same-row-refl, difference-takes-effect}
-use Rattle.level_feed.proofs.Compared.{no_row}
 use Rattle.level_feed.proofs.Lengths.{ordered-filter, stays-gone}
 use Rattle.level_feed.proofs.Taking.{gone-gone}
 use Rattle.level_feed.proofs.AtLevel.{any-none, none-at-behind}
@@ -82,19 +79,6 @@ kept-few p (r ∷ rows) =
 pub picked-few : (levels rows : List Row) → AreOrdered levels → AreOrdered rows → length (picked levels rows) ≤ length rows
 picked-few levels rows l o = omega (arith, ap length (picked-is levels rows l o), kept-few (among levels) rows)
 
--- ---- the walk over the levels
-
-pub picked-more : (levels rows : List Row) (i : ℕ) → i < length levels → picked (take (i + 1) levels) rows ≡ picked (take i levels) rows ++ rows_at (level_of_row (get_or levels i no_row)) rows
-picked-more levels rows i lt =
-    let n = get_or levels i no_row in
-    let f : Row → List Row = λ (r : Row). rows_at (level_of_row r) rows in
-    ap (λ (q : List Row). picked q rows) (take_more levels i no_row lt)
-    ∙ flat_map-append f (take i levels) (n ∷ [])
-    ∙ ap (λ (q : List Row). picked (take i levels) rows ++ q) (append-nil (rows_at (level_of_row n) rows))
-
-pub picked-all : (levels rows : List Row) (i : ℕ) → length levels ≤ i → picked (take i levels) rows ≡ picked levels rows
-picked-all levels rows i le = ap (λ (q : List Row). picked q rows) (take_all i levels le)
-
 -- ---- where no other level changed
 
 any-filter : (f p : Row → Bool) (rows : List Row) → ((x : Row) → f x ≡ true → p x ≡ true) → list_any f (filter p rows) ≡ list_any f rows
@@ -127,13 +111,16 @@ same-at : (r x : Row) → is_same_row r x ≡ true → is_at_level r x ≡ true
 same-at r x t = (and_parts (is_at_level r x) (r.shown == x.shown) (and_parts (is_at_level r x && (r.shown == x.shown)) (r.orders == x.orders) t).0).0
 
 -- at a level that is not noted a test that only rows of the level pass finds the same in both lists
-module _ (levels old new : List Row) (noted : AreNoted (record { any = false; levels = levels }) old new) where
+module _ (n : Noted) (old new : List Row) (each : n.any ≡ false) (noted : AreNoted n old new) where
+  abbrev levels : List Row
+  levels = n.levels
+
   found-in-both : (f : Row → Row → Bool) → ((r x : Row) → f r x ≡ true → is_at_level r x ≡ true) → (r : Row) → among levels r ≡ false → list_any (f r) new ≡ list_any (f r) old
   found-in-both f only r h =
       let k = level_of_row r in
       let at : (x : Row) → f r x ≡ true → is_at_level x r ≡ true = λ (x : Row) (t : f r x ≡ true). at-alike x r (sym (alike-at r x (only r x t))) in
       sym (any-filter (f r) (λ x. is_at_level x r) new at)
-      ∙ ap (list_any (f r)) (noted k h)
+      ∙ ap (list_any (f r)) (noted k (ap (λ (b : Bool). b || is_among k levels) each ∙ h))
       ∙ any-filter (f r) (λ x. is_at_level x r) old at
 
   -- among the rows picked it finds the same as among all

@@ -1,10 +1,9 @@
 -- The row of a level of orders in book order: there is one exactly where there are orders, and it tells their sums.
-use Rattle.std.proofs.Common.{◌≡◌, ℕ, ◌+◌, ◌<◌, ◌≤◌, Bool, true, false, cond, List, [], ◌∷◌, length, refl, sym, ap, ap₂, subst, ◌∙◌, arith, inl, inr}
-use Prim.Native.Nat.{suc}
+use Rattle.std.proofs.Common.{◌≡◌, ℕ, ◌<◌, ◌≤◌, Bool, true, false, cond, List, [], ◌∷◌, length, sym, ap, ap₂, subst, ◌∙◌, arith, inl, inr}
 use Rattle.std.specs.Prelude.{◌==◌, ◌&&◌}
-use Rattle.std.specs.List.{AllByRecursion, list_any}
+use Rattle.std.specs.List.{AllByRecursion}
 use Rattle.std.specs.Ordering.{int_eq}
-use Rattle.std.proofs.lemmas.Bool.{cases_Bool, cases_lt, false_from_ne_true, true≢false, or_parts, or_cases, and_left, and_right, ne_eqb}
+use Rattle.std.proofs.lemmas.Bool.{cases_Bool, cases_lt, false_from_ne_true, true≢false, or_cases, and_left, and_right, ne_eqb}
 use Rattle.book_order.specs.Levels.{Level, is_level, is_side}
 use Rattle.book_order.proofs.Each.{all-with, all-both}
 use Rattle.book_order.proofs.Levels.{is_level-same}
@@ -12,8 +11,8 @@ use Rattle.plain_book.specs.declared.entry.Entry.{Entry}
 use Rattle.plain_book.specs.Orders.{level_of, is_at, orders_at, shown_at}
 use Rattle.plain_book.specs.Book.{EachPair, AreInBookOrder}
 use Rattle.level_feed.specs.declared.row.Row.{Row}
-use Rattle.level_feed.specs.Rows.{level_of_row, is_at_level, is_gone, row_of, with_order, counted, levels_of, AreOrdered}
-use Rattle.level_feed.specs.Laws.{Sums, HasRow}
+use Rattle.level_feed.specs.Rows.{level_of_row, is_gone, row_of, with_order, counted, levels_of, AreOrdered}
+use Rattle.level_feed.specs.Laws.{Sums}
 use Rattle.level_feed.specs.Noted.{Noted, is_among, is_noted, rows_at, AreNoted}
 use Rattle.level_feed.proofs.Order.{filter-yes, filter-no, filter-none}
 use Rattle.level_feed.proofs.Changes.{AllOpen}

@@ -1,5 +1,5 @@
 -- Levels that may have changed, as events name them. Our own rules.
-use Rattle.std.specs.Prelude.{◌≡◌, Bool, true, false, ◌||◌, nat_le, if◌then◌else◌, List, [], ◌∷◌, length, filter, fold, Option, Some, None, ◌⊎◌, refl}
+use Rattle.std.specs.Prelude.{◌≡◌, Bool, true, false, ◌||◌, nat_le, if◌then◌else◌, List, [], length, filter, fold, Option, Some, None, refl}
 use Rattle.std.specs.List.{list_any}
 use Rattle.gx_base.specs.declared.event.Event.{Event}
 use Rattle.gx_base.specs.declared.event.Event.TheVariants.{Accepted, Triggered, Fill, Cancelled, Expired, Replaced, RefusedNew, RefusedChange, RefusedSession}
@@ -66,14 +66,18 @@ noted_event event noted = noted_if (level_of_event event) noted
 abbrev pub noted_events : List Event → Noted → Noted
 noted_events events noted = fold (λ (n : Noted) (e : Event). noted_event e n) noted events
 
+-- the level is that one
+abbrev pub is_level_if : Level → Option Level → Bool
+is_level_if k None = false
+is_level_if k (Some j) = is_level j k
+
 -- the event tells of an order at the level
-abbrev pub IsEventAt : Level → Event → Type 0
-IsEventAt k event = level_of_event event ≡ Some k
+abbrev pub is_event_at : Level → Event → Bool
+is_event_at k event = is_level_if k (level_of_event event)
 
 -- one of the events does
-abbrev pub HasEventAt : Level → List Event → Type 0
-HasEventAt k [] = ⊥
-HasEventAt k (event ∷ events) = IsEventAt k event ⊎ HasEventAt k events
+abbrev pub has_event_at : Level → List Event → Bool
+has_event_at k events = list_any (is_event_at k) events
 
 -- it sees the levels, and never fails
 abbrev pub noted_meanings : EmitMeanings Noted

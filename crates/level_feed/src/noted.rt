@@ -114,7 +114,7 @@ impl NotedLevels {
         self.any
     }
 
-    /// Lends the levels that may have changed where not any may have.
+    /// Lends the levels noted one by one.
     pub(crate) fn levels(&self) -> &[Row]
         ensures levels { result.now ≡ self.now.levels }
         ensures ordered { AreOrdered self.now.levels }
@@ -145,9 +145,9 @@ impl Emit for NotedLevels {
             | Event::Cancelled { order, .. }
             | Event::Expired { order, .. }
             | Event::Replaced { order, .. } => self.note_order(order),
-            Event::RefusedNew { .. }
-            | Event::RefusedChange { .. }
-            | Event::RefusedSession { .. } => {}
+            Event::RefusedNew { .. } => {}
+            Event::RefusedChange { .. } => {}
+            Event::RefusedSession { .. } => {}
         }
     }
 

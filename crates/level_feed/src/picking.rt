@@ -59,12 +59,7 @@ pub(crate) fn take_sent(rows: &[Row], levels: &[Row], was: &mut Vec<Row>)
 }
 
 /// Makes the rows those of some levels of a book, which has so many instruments, level by level.
-pub(crate) fn take_noted<B: Book>(
-    book: &B,
-    instruments: usize,
-    levels: &[Row],
-    rows: &mut Vec<Row>,
-)
+pub(crate) fn take_noted<B: Book>(book: &B, instruments: usize, levels: &[Row], rows: &mut Vec<Row>)
     requires instruments { instruments ≡ (B.book book.now).instruments }
     requires room { length levels.now ≤ vec_capacity rows.old }
     ensures rows { rows.new.items ≡ picked levels.now (levels_of (B.book book.now).resting) }

@@ -122,13 +122,13 @@ returns-clause-best_openings g c =
     record { greatest = c.no_price_opens_more.ensures; ties = c.ties_fall_by_the_rules.ensures; candidates = c.candidates_are_the_prices.ensures; pairs = c.pairs_add_up.ensures }
 
 pub returns-in-Err-clause-feeds_fold : goal.returns-in-Err-clause-feeds_fold
-returns-in-Err-clause-feeds_fold g c = record { at_blocks = c.feeds_of_histories_fold_to_levels.ensures.at_blocks; between_blocks = c.feeds_of_histories_fold_to_levels.ensures.between_blocks }
+returns-in-Err-clause-feeds_fold g c = record { at_blocks = c.feeds_of_histories_fold_to_levels.ensures.at_blocks; between_blocks = c.feeds_of_histories_fold_to_levels.ensures.between_blocks; whole = c.feeds_of_histories_fold_to_levels.ensures.whole }
 
 pub returns-in-Err-take_product-clause-feeds_fold : goal.returns-in-Err-take_product-clause-feeds_fold
-returns-in-Err-take_product-clause-feeds_fold g c = record { at_blocks = c.feeds_of_histories_fold_to_levels.ensures.at_blocks; between_blocks = c.feeds_of_histories_fold_to_levels.ensures.between_blocks }
+returns-in-Err-take_product-clause-feeds_fold g c = record { at_blocks = c.feeds_of_histories_fold_to_levels.ensures.at_blocks; between_blocks = c.feeds_of_histories_fold_to_levels.ensures.between_blocks; whole = c.feeds_of_histories_fold_to_levels.ensures.whole }
 
 pub returns-clause-feeds_fold : goal.returns-clause-feeds_fold
-returns-clause-feeds_fold g c = record { at_blocks = c.feeds_of_histories_fold_to_levels.ensures.at_blocks; between_blocks = c.feeds_of_histories_fold_to_levels.ensures.between_blocks }
+returns-clause-feeds_fold g c = record { at_blocks = c.feeds_of_histories_fold_to_levels.ensures.at_blocks; between_blocks = c.feeds_of_histories_fold_to_levels.ensures.between_blocks; whole = c.feeds_of_histories_fold_to_levels.ensures.whole }
 
 pub returns-in-Err-clause-repeats : goal.returns-in-Err-clause-repeats
 returns-in-Err-clause-repeats g c = c.resends_repeat_reports.ensures

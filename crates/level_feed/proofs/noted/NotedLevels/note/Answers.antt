@@ -1,4 +1,4 @@
-use Rattle.std.proofs.Common.{◌≡◌, ◌∙◌, List, Err, false, ap, sym, subst}
+use Rattle.std.proofs.Common.{◌∙◌, List, Err, ap, sym, subst}
 use Rattle.book_order.specs.Levels.{level}
 use Rattle.level_feed.specs.declared.row.Row.{Row}
 use Rattle.level_feed.specs.Noted.{Noted, noted_new, noted_with}

@@ -1,10 +1,10 @@
-use Rattle.std.proofs.Common.{◌≡◌, ◌≤◌, ◌∙◌, Bool, List, cond, false, length, refl, sym, ap, subst, arith}
+use Rattle.std.proofs.Common.{◌≡◌, ◌≤◌, ◌∙◌, Bool, List, cond, length, sym, ap, subst, arith}
 use Rattle.std.specs.List.{insert}
 use Rattle.std.proofs.lemmas.List.Edits.{length-insert}
 use Rattle.level_feed.specs.declared.noted.TheConstants.{MOST_NOTED}
 use Rattle.level_feed.specs.declared.row.Row.{Row}
 use Rattle.level_feed.specs.Rows.{is_gone, level_of_row, with_row, AreOrdered}
-use Rattle.level_feed.specs.Noted.{Noted, row_noting, noted_new}
+use Rattle.level_feed.specs.Noted.{Noted, noted_new}
 use Rattle.level_feed.specs.Inner.{IsNewPlace}
 use Rattle.level_feed.proofs.Compared.{no_row}
 use Rattle.level_feed.proofs.Lengths.{ordered-with-row}
