@@ -38,12 +38,7 @@ fn serve(rt: &(impl Abort + AllocGlobal), line: &str, station: &mut MemStation) 
 }
 
 /// How many calls `levels` takes over this image, if none fails and it sends this feed.
-fn calls_for(
-    rt: &(impl Abort + AllocGlobal),
-    image: &[u8],
-    messages: u64,
-    feed: &str,
-) -> usize {
+fn calls_for(rt: &(impl Abort + AllocGlobal), image: &[u8], messages: u64, feed: &str) -> usize {
     let mut station = station_of(rt, image);
     let got = serve(rt, "levels", &mut station);
     expect_outcome(rt, "no fault", got, ended(0, 0, messages));

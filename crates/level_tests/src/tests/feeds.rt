@@ -62,8 +62,14 @@ impl Feeds {
     /// The table has these levels.
     fn expect_levels(&self, rt: &(impl Abort + AllocGlobal), table: &FeedTable, levels: &str) {
         let alloc = rt.alloc();
-        let mut station = MemStation::new(alloc, Vec::new(alloc), 0, ROOM, 10, Vec::new(alloc))
-            .expect(rt, "memory");
+        let mut station = MemStation::new(
+            alloc,
+            Vec::new(alloc),
+            0,
+            ROOM,
+            10,
+            Vec::new(alloc),
+        ).expect(rt, "memory");
         let mut buffer = ReportBuffer::new(alloc).expect(rt, "memory");
         let sent = table.print_levels(&self.product, &mut buffer, &mut station);
         assert!(rt; sent.is_ok());

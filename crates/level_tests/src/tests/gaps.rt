@@ -58,7 +58,8 @@ fn snapshots_that_follow(rt: HostRuntime) {
 fn increments_that_follow(rt: HostRuntime) {
     let feed = "S 5 0\nI 70 5 1\nR ESZ4 S 100.00 1 1\nI 71 70 1\nR ESZ4 S 100.00 2 1\n";
     expect_table(&rt, feed, 71, "ESZ4 S 100.00 2 1\n");
-    let feed = "S 5 0\nI 7 5 1\nR ESZ4 S 100.00 1 1\nS 7 1\nR ESZ4 S 100.00 1 1\nI 8 7 1\nR ESZ4 S 100.00 0 0\n";
+    let feed =
+        "S 5 0\nI 7 5 1\nR ESZ4 S 100.00 1 1\nS 7 1\nR ESZ4 S 100.00 1 1\nI 8 7 1\nR ESZ4 S 100.00 0 0\n";
     expect_table(&rt, feed, 8, "");
 }
 

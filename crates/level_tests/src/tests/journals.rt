@@ -5,7 +5,10 @@ use run_fixtures::ended;
 use std::process::Abort;
 
 /// Two sells at two prices.
-const SELLS: [&str; 2] = [sell!("AAA", "a1", 3, "100.00"), sell!("BBB", "b1", 1, "100.01")];
+const SELLS: [&str; 2] = [
+    sell!("AAA", "a1", 3, "100.00"),
+    sell!("BBB", "b1", 1, "100.01"),
+];
 
 const SELLS_FEED: &str = "S 0 0
 I 1 0 1
@@ -37,12 +40,7 @@ fn with_end(rt: &(impl Abort + AllocGlobal), journal: &[u8], end: &[u8]) -> Vec<
 }
 
 /// The levels of this image end so, behind this feed.
-fn expect_bad(
-    rt: &(impl Abort + AllocGlobal),
-    image: &[u8],
-    outcome: Outcome,
-    feed: &str,
-) {
+fn expect_bad(rt: &(impl Abort + AllocGlobal), image: &[u8], outcome: Outcome, feed: &str) {
     let mut input = source_of(rt, b"");
     expect_ended(
         rt,
@@ -110,5 +108,13 @@ fn rebuild_opens_no_journal(rt: HostRuntime) {
 fn expect_rebuilt_over(rt: &(impl Abort + AllocGlobal), image: &[u8]) {
     let mut input = source_of(rt, ALL_FEED.as_bytes());
     let table = b"ESZ4 S 100.00 3 1\nESZ4 S 100.01 5 2\n";
-    expect_ended(rt, FIFO, "rebuild", image, &mut input, ended(0, 0, 3), table);
+    expect_ended(
+        rt,
+        FIFO,
+        "rebuild",
+        image,
+        &mut input,
+        ended(0, 0, 3),
+        table,
+    );
 }

@@ -16,13 +16,7 @@ fn front_and(rt: &(impl Abort + AllocGlobal), front: &str, count: usize) -> Vec<
 }
 
 /// A feed that ends behind this front and so many bytes ends so, however it is cut in two.
-fn expect_end(
-    rt: &(impl Abort + AllocGlobal),
-    front: &str,
-    count: usize,
-    status: u8,
-    at: usize,
-) {
+fn expect_end(rt: &(impl Abort + AllocGlobal), front: &str, count: usize, status: u8, at: usize) {
     let bytes = front_and(rt, front, count);
     let text = str::from_utf8(bytes.as_slice()).expect(rt, "a text");
     expect_rebuilt(rt, PAIR, text, ended(status, at as u64, 0), "");
@@ -89,12 +83,7 @@ fn byte_source(rt: &(impl Abort + AllocGlobal), bytes: &[u8]) -> MemSource {
 }
 
 /// A feed that comes byte by byte ends so.
-fn expect_bytewise(
-    rt: &(impl Abort + AllocGlobal),
-    feed: &[u8],
-    outcome: Outcome,
-    table: &str,
-) {
+fn expect_bytewise(rt: &(impl Abort + AllocGlobal), feed: &[u8], outcome: Outcome, table: &str) {
     expect_input(rt, PAIR, byte_source(rt, feed), outcome, table);
 }
 

@@ -60,7 +60,10 @@ fn push_level(rt: &(impl Abort + AllocGlobal), table: &mut String, name: &str, l
     if level.orders == 0 {
         return;
     }
-    let line = format!(in rt.alloc(); "{name} {} {} {} {}\n", level.side, level.price, level.shown, level.orders);
+    let line = format!(in rt.alloc();
+        "{name} {} {} {} {}\n",
+        level.side, level.price, level.shown, level.orders
+    );
     table
         .push_str(line.expect(rt, "memory").as_str())
         .expect(rt, "memory");

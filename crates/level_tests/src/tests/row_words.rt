@@ -61,8 +61,7 @@ fn names(rt: HostRuntime) {
 }
 
 /// A product whose instrument has a name that looks like a row.
-const ROW_NAME: &str =
-    product_text!(name: "R A S 5 10 1", tick: 1, protection: 2, letter: "F");
+const ROW_NAME: &str = product_text!(name: "R A S 5 10 1", tick: 1, protection: 2, letter: "F");
 
 /// A line is taken apart from its end, so that a name may look like anything.
 #[test]

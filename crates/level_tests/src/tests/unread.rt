@@ -75,7 +75,8 @@ fn faults_before_failing_reads(rt: HostRuntime) {
     expect_fault_first(&rt, FEED, "S 4 01", 14);
     expect_fault_first(&rt, FEED, "I 5 3 1", 15);
     expect_fault_first(&rt, FEED, "S 3 0", 15);
-    let front = "S 3 5\nR ESZ4 S 1.00 1 1\nR ESZ4 S 2.00 1 1\nR ESZ4 S 3.00 1 1\nR ESZ4 S 4.00 1 1\n";
+    let front =
+        "S 3 5\nR ESZ4 S 1.00 1 1\nR ESZ4 S 2.00 1 1\nR ESZ4 S 3.00 1 1\nR ESZ4 S 4.00 1 1\n";
     expect_fault_first(&rt, front, "R ESZ4 S 5.00 1 1", 16);
 }
 
@@ -105,7 +106,13 @@ fn failing_read_of_the_product(rt: HostRuntime) {
     let mut product = cut_source(&rt, PAIR.as_bytes(), 10, 2);
     let mut input = source_of(&rt, FEED.as_bytes());
     let mut station = station_of(&rt, b"");
-    let got = run_over(rt.alloc(), "rebuild", &mut product, &mut input, &mut station);
+    let got = run_over(
+        rt.alloc(),
+        "rebuild",
+        &mut product,
+        &mut input,
+        &mut station,
+    );
     assert_eq!(rt; got.expect(&rt, "memory"), ended(4, 0, 0));
     assert_eq!(rt; station.calls(), 0);
     let got = execute_from(&rt, PAIR, "rebuild", &mut input, &mut station);

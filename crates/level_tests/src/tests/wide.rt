@@ -13,7 +13,9 @@ const CALLS: usize = 20_000;
 
 /// Adds a text to some bytes.
 fn push(rt: &(impl Abort + AllocGlobal), bytes: &mut Vec<u8>, text: &str) {
-    bytes.extend_from_slice(text.as_bytes()).expect(rt, "memory");
+    bytes
+        .extend_from_slice(text.as_bytes())
+        .expect(rt, "memory");
 }
 
 /// Adds the frame of an order of one lot, of a side and a price in hundredths.
@@ -26,7 +28,9 @@ fn push_order(
 ) {
     let body = format!(in rt.alloc();
         "35=D|49=AAA|56=GX|34=1|52=20240102-09:30:00|11=a{side}-{price}|55=ESZ4|54={side}|38={lots}|40=2|44={}.{}{}|59=0|",
-        price / 100, price / 10 % 10, price % 10
+        price / 100,
+        price / 10 % 10,
+        price % 10
     );
     push_frame(rt.alloc(), bytes, body.expect(rt, "memory").as_str()).expect(rt, "memory");
 }
@@ -40,7 +44,12 @@ fn push_row(
     shown: u32,
     orders: u32,
 ) {
-    let line = format!(in rt.alloc(); "R ESZ4 {side} {}.{}{} {shown} {orders}\n", price / 100, price / 10 % 10, price % 10);
+    let line = format!(in rt.alloc();
+        "R ESZ4 {side} {}.{}{} {shown} {orders}\n",
+        price / 100,
+        price / 10 % 10,
+        price % 10
+    );
     push(rt, feed, line.expect(rt, "memory").as_str());
 }
 
@@ -136,7 +145,13 @@ fn expect_close(rt: &(impl Abort + AllocGlobal), buys: u32, sells: u32) {
     let count = buys + sells;
     push_increment(rt, &mut stream.feed, count + 1, count);
     push_rows(rt, &mut stream.feed, buys, sells, 0);
-    expect_feed(rt, stream.bytes.as_slice(), count + 1, stream.feed.as_slice(), "");
+    expect_feed(
+        rt,
+        stream.bytes.as_slice(),
+        count + 1,
+        stream.feed.as_slice(),
+        "",
+    );
 }
 
 #[test]
@@ -179,7 +194,12 @@ fn long_table(rt: &(impl Abort + AllocGlobal)) -> Vec<u8> {
     let mut table = Vec::new(rt.alloc());
     for more in 0..MANY {
         let price = LOWEST_SELL + more;
-        let line = format!(in rt.alloc(); "ESZ4 S {}.{}{} 9 9\n", price / 100, price / 10 % 10, price % 10);
+        let line = format!(in rt.alloc();
+            "ESZ4 S {}.{}{} 9 9\n",
+            price / 100,
+            price / 10 % 10,
+            price % 10
+        );
         push(rt, &mut table, line.expect(rt, "memory").as_str());
     }
     table
