@@ -229,7 +229,7 @@ look_amend() {
     same journal.gxj was
     # Each command wants the file that the journal has, and a firm cannot be taken out again.
     mkdir former && cp former.toml former/product.toml && cp journal.gxj former/
-    for word in run replay fills ledger book session opening checkpoint 'drill --first 1 --count 1'; do
+    for word in run replay fills ledger levels book session opening checkpoint 'drill --first 1 --count 1'; do
         (cd former && "$globex" $word </dev/null >/dev/null 2>&1)
         expect $? 11 "the status of $word with the former file"
     done
@@ -344,6 +344,113 @@ end_opening() {
     expect "$(cat err)" "$2" 'the line of an opening'
     [ "$1" = 0 ] || expect "$(in_bytes text)" 0 'bytes sent by an opening that did not end well'
     same journal.gxj was
+}
+
+prepare_levels() {
+    take_example F
+    serve
+    cp journal.gxj was
+}
+look_levels() {
+    local number
+    same journal.gxj was
+    # The feed of the first messages is the front of the feed of all.
+    for number in 0 1 2 3 4 5; do
+        mkdir "cut$number" && cp product.toml "cut$number/"
+        "$tools/journal" cut --messages $number --output "cut$number/journal.gxj" journal.gxj
+        (cd "cut$number" && "$globex" levels) >front
+        head -c "$(in_bytes front)" feed | cmp - front >&2 || fail "the feed of $number messages is no front of the whole"
+    done
+    # A checkpoint and an amendment change no level.
+    "$globex" checkpoint || fail 'no checkpoint'
+    "$globex" levels | cmp - feed >&2 || fail 'a checkpoint changes the feed'
+    sed -i 's/^algorithm = "F"/algorithm = "C"/' product.toml
+    "$globex" amend || fail 'no amendment'
+    "$globex" levels | cmp - feed >&2 || fail 'an amendment changes the feed'
+    # A closed output, if there is something to send.
+    "$globex" rebuild <feed >&- 2>err
+    expect $? 6 'the status of a rebuild whose output is closed'
+    # Without a message it is a snapshot of no level. `rebuild` needs no journal.
+    mkdir alone && cp product.toml alone/ && cd alone || return
+    expect "$("$globex" levels)" 'S 0 0' 'the feed without a message'
+    [ ! -s journal.gxj ] || fail 'levels has written a journal'
+    rm journal.gxj
+    end_rebuild 0 '' < <(printf 'S 0 0\n')
+    [ ! -e journal.gxj ] || fail 'rebuild has made a journal'
+}
+
+# A rebuild over standard input ends with a status and this line, and sends nothing.
+end_rebuild() {
+    "$globex" rebuild >text 2>err
+    expect $? "$1" 'the status of a rebuild'
+    expect "$(cat err)" "$2" 'the line of a rebuild'
+    expect "$(in_bytes text)" 0 'bytes sent by a rebuild'
+}
+
+# A journal of 2,500 made messages.
+prepare_join-feed() {
+    cp "$top/crates/globex_cli/data/product.toml" product.toml
+    made 1 2500 >orders
+    serve
+}
+look_join-feed() {
+    local at
+    expect "$(in_bytes feed)" 91374 'bytes of the feed'
+    # Blocks before the snapshot may stay, and a block that is there twice may not.
+    sed -n '/^I 1900 /,$p' feed | "$globex" rebuild | cmp - table >&2 || fail 'blocks before the snapshot are not passed over'
+    awk '{ print } /^I 2400 / { header = $0; rows = "" ; for (k = $4; k > 0; k--) { getline; print; rows = rows $0 "\n" }
+        print header; printf "%s", rows }' feed >twice
+    at=$(awk '/^I 2400 / && had++ { print at; exit } { at += length($0) + 1 }' twice)
+    end_rebuild 15 "globex: status 15 at $at after 0 messages" <twice
+    # What is no line of a feed.
+    end_rebuild 14 'globex: status 14 at 0 after 0 messages' <orders
+    end_rebuild 14 'globex: status 14 at 6 after 0 messages' < <(printf 'S 0 0\n%128s' x)
+    end_rebuild 14 'globex: status 14 at 6 after 0 messages' < <(printf 'S 0 0\nI 1 0 1\r\n')
+    end_rebuild 8 'globex: status 8 at 6 after 0 messages' < <(printf 'S 0 0\n%127s' x)
+    # More levels than there may be orders.
+    mkdir few && cd few && sed '1i max_orders = 100' ../product.toml >product.toml || return
+    "$globex" rebuild <../feed >text 2>err
+    expect $? 16 'the status of a feed with too many levels'
+    expect "$(in_bytes text)" 0 'bytes sent of a feed with too many levels'
+}
+
+# The session whose feed docs/FORMATS.md reads line by line.
+prepare_screen() {
+    cp "$top/examples/F/product.toml" product.toml
+    "$tools/frames" make --product product.toml >orders <<'END'
+35=D|49=AAA|56=GX|34=1|52=20240102-09:30:00|11=a1|55=ESZ4|54=2|38=10|40=2|44=100.02|59=0|
+35=D|49=BBB|56=GX|34=1|52=20240102-09:30:01|11=b1|55=ESZ4|54=1|38=5|40=2|44=100.00|59=0|
+35=D|49=CCC|56=GX|34=1|52=20240102-09:30:02|11=c1|55=ESZ4|54=1|38=50|40=2|44=100.00|59=0|210=10|
+35=D|49=CCC|56=GX|34=2|52=20240102-09:30:03|11=c1|55=ESZ4|54=1|38=7|40=2|44=99.99|59=0|
+35=D|49=DDD|56=GX|34=1|52=20240102-09:30:04|11=d1|55=ESZ4|54=2|38=9|40=2|44=100.00|59=0|
+35=F|49=CCC|56=GX|34=3|52=20240102-09:30:05|11=c2|41=c1|
+35=G|49=AAA|56=GX|34=2|52=20240102-09:30:06|11=a2|41=a1|55=ESZ4|54=2|38=10|40=2|44=100.03|
+END
+    serve
+}
+look_screen() {
+    sed -n '/^A longer one, with what each line says/,/^If the next/s/^| `\([SIR] [^`]*\)` |.*/\1/p' "$top/docs/FORMATS.md" >documented
+    "$globex" levels | cmp - documented >&2 || fail 'the feed is not the one that docs/FORMATS.md reads'
+}
+
+prepare_follow() {
+    take_example F
+    cp orders input
+    head -c "$("$tools/frames" offset 3 input)" input >orders
+    serve
+    "$tools/frames" skip 3 input >orders
+}
+look_follow() {
+    local place at
+    nothing_lost_or_doubled input
+    # Wherever a feed was cut, what is before the place of status 8 is whole blocks.
+    for place in $(seq 1 9 "$(in_bytes feed)"); do
+        head -c "$place" feed >cut
+        "$globex" rebuild <cut >text 2>err
+        at=$(sed -n 's/^globex: status 8 at \([0-9]*\) .*/\1/p' err)
+        head -c "${at:-$place}" cut >whole
+        [ ! -s whole ] || "$globex" rebuild <whole >text || fail "a feed cut at $place is not whole up to ${at:-$place}"
+    done
 }
 
 prepare_copy() {
@@ -653,7 +760,7 @@ two-runs() {
         expect "$(in_bytes out)" 0 "what $word sends beside a run"
         same journal.gxj was
     done
-    for word in replay fills ledger book session opening steps; do
+    for word in replay fills ledger levels book session opening steps; do
         "$globex" $word </dev/null >/dev/null
         expect $? 0 "the status of $word beside a run"
     done
@@ -688,7 +795,7 @@ closed-streams() {
     (cd with && "$globex" run <orders >/dev/null)
     cp with/journal.gxj kept.gxj
     for kept in with without; do
-        for command in run replay book fills ledger session opening steps checkpoint amend 'drill --first 1 --count 3'; do
+        for command in run replay book fills ledger levels session opening rebuild steps checkpoint amend 'drill --first 1 --count 3'; do
             for closed in 0 1 2 01 02 12 012; do
                 (try_closed)
             done
@@ -709,7 +816,9 @@ try_closed() {
     eval "\"\$globex\" $command <orders >../out 2>../err $words"
     status=$?
     case $command:$closed in
-    run:*0* | session:*0* | opening:*0*) wanted=4 ;;
+    run:*0* | session:*0* | opening:*0* | rebuild:*0*) wanted=4 ;;
+    # These orders are no level feed.
+    rebuild:*) wanted=14 ;;
     checkpoint:* | amend:*) ;;
     *:*1*)
         wanted=6
@@ -727,9 +836,13 @@ try_closed() {
     drill*) has=$((before + 3)) ;;
     esac
     case $kept:$command in
-    with:replay | with:book | with:fills | with:ledger | with:session | with:opening | with:steps) same journal.gxj ../kept.gxj ;;
-    without:replay | without:book | without:fills | without:ledger | without:session | without:opening) [ ! -s journal.gxj ] || fail "$what: bytes in the journal" ;;
-    without:steps) [ ! -e journal.gxj ] || fail "$what: a journal was made" ;;
+    with:replay | with:book | with:fills | with:ledger | with:levels | with:session | with:opening | with:rebuild | with:steps)
+        same journal.gxj ../kept.gxj
+        ;;
+    without:replay | without:book | without:fills | without:ledger | without:levels | without:session | without:opening)
+        [ ! -s journal.gxj ] || fail "$what: bytes in the journal"
+        ;;
+    without:rebuild | without:steps) [ ! -e journal.gxj ] || fail "$what: a journal was made" ;;
     *)
         expect "$("$tools/journal" count journal.gxj)" $has "$what: messages kept"
         "$tools/journal" check journal.gxj --product product.toml >/dev/null || fail "$what: the journal is not good"
@@ -746,7 +859,7 @@ try_closed() {
 wrong-words() {
     local words
     for words in '' nothing --help 'run book' drill 'drill --first 1' 'steps --first 1' 'run --count 1' 'amend book' 'session run' 'session --first 1' sessions \
-        'opening book' 'opening --count 1' openings Run; do
+        'opening book' 'opening --count 1' openings Run level 'levels book' 'levels rebuild' 'rebuild --count 1' rebuilds; do
         "$globex" $words </dev/null >out 2>/dev/null
         expect $? 2 "the status of the words '$words'"
         expect "$(ls)" out "files after the words '$words'"
@@ -808,7 +921,7 @@ read-only() {
     chmod 444 journal.gxj product.toml orders
     cp "$globex" ./program && chmod 755 program
     [ "$(id -u)" != 0 ] || somebody=(setpriv --reuid=65534 --regid=65534 --clear-groups)
-    for word in run replay fills ledger book session opening checkpoint amend; do
+    for word in run replay fills ledger levels book session opening checkpoint amend; do
         "${somebody[@]}" ./program $word <orders >/dev/null 2>&1
         expect $? 5 "the status of $word over a read-only journal"
     done
@@ -819,7 +932,7 @@ strange-journals() {
     local kind word status
     take_example F
     for kind in pipe folder null full; do
-        for word in replay book session opening run checkpoint amend; do
+        for word in replay levels book session opening run checkpoint amend; do
             rm -rf journal.gxj
             case $kind in
             pipe) mkfifo journal.gxj ;;

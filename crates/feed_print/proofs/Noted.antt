@@ -9,7 +9,7 @@ use Rattle.book_order.specs.Levels.{Level}
 use Rattle.product_file.specs.Products.{ProductLists}
 use Rattle.fix_request.specs.declared.request.Request.{Request}
 use Rattle.plain_book.specs.declared.entry.Entry.{Entry}
-use Rattle.plain_book.specs.Orders.{HasSlot, level_of, is_named, slot_named}
+use Rattle.plain_book.specs.Orders.{HasSlot, is_named, slot_named}
 use Rattle.plain_book.specs.Book.{EachPair, AreInBookOrder, AllDiffer, live_orders, slot_number}
 use Rattle.plain_book.proofs.Live.{first-has}
 use Rattle.plain_book.proofs.Levels.{HasSlot-filter}

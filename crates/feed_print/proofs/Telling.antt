@@ -1,7 +1,7 @@
 -- What is sent of a message, part by part, and of one message more.
 use Rattle.std.specs.Prelude.{if◌then◌else◌}
 use Rattle.std.specs.Fmt.{digits}
-use Rattle.std.proofs.Common.{◌≡◌, ℕ, ◌+◌, ◌<◌, Bool, false, List, [], ◌∷◌, ◌++◌, length, take, get_or, refl, sym, ap, ap₂, ◌∙◌, append-nil}
+use Rattle.std.proofs.Common.{◌≡◌, ℕ, ◌+◌, ◌<◌, Bool, true, false, List, [], ◌∷◌, ◌++◌, length, take, get_or, refl, sym, ap, ap₂, ◌∙◌, append-nil}
 use Rattle.std.proofs.lemmas.List.{take_more}
 use Rattle.product_file.specs.Products.{ProductLists}
 use Rattle.fix_request.specs.Requests.{request_of}
@@ -10,7 +10,7 @@ use Rattle.order_kinds.specs.State.{State, state_numbered}
 use Rattle.order_kinds.specs.Step.{with_message, request_step, step_of, state_after}
 use Rattle.level_feed.specs.declared.row.Row.{Row}
 use Rattle.level_feed.specs.Rows.{difference}
-use Rattle.level_feed.specs.Blocks.{Block, number_of_block, last_number, increment, due_snapshot}
+use Rattle.level_feed.specs.Blocks.{Block, increment, due_snapshot}
 use Rattle.level_feed.specs.FeedText.{text_of_blocks}
 use Rattle.level_feed.specs.Feeds.{levels_of_state}
 use Rattle.level_feed.proofs.GoingOn.{text-append}
@@ -27,10 +27,6 @@ not-begun begun not = opening-is ∙ ap (λ (b : Bool). if b then [] else openin
 
 -- ---- one message
 
-last-append : (last : ℕ) (blocks others : List Block) → last_number last (blocks ++ others) ≡ last_number (last_number last blocks) others
-last-append last [] others = refl
-last-append last (b ∷ blocks) others = last-append (number_of_block b) blocks others
-
 module _ (product : ProductLists) (number : ℕ) (levels : List Row) (place : FeedPlace) where
   abbrev pub changes : List Block
   changes = increment number place.last (difference place.rows levels)
@@ -39,8 +35,16 @@ module _ (product : ProductLists) (number : ℕ) (levels : List Row) (place : Fe
       ≡ beginning place ++ (text_of_blocks product.names.instruments changes ++ text_of_blocks product.names.instruments (due_snapshot number levels))
   message-parts = ap (λ (l : List ℕ). beginning place ++ l) (text-append product.names.instruments changes (due_snapshot number levels))
 
-  pub last-parts : last_number (last_number place.last changes) (due_snapshot number levels) ≡ (next_place number levels place).last
-  last-parts = sym (last-append place.last changes (due_snapshot number levels))
+  -- the feed has begun, and nothing else of it is changed
+  pub changes-begun : (p : FeedPlace) → p ≡ record place { begun = true }
+      → text_of_blocks product.names.instruments (increment number p.last (difference p.rows levels)) ≡ text_of_blocks product.names.instruments changes
+  changes-begun p is = ap (λ (q : FeedPlace). text_of_blocks product.names.instruments (increment number q.last (difference q.rows levels))) is
+
+-- the snapshot that is due has the levels of the book
+pub due-after : (product : ProductLists) (given number last : ℕ) (levels : List Row) (p before : FeedPlace) → given ≡ number → p ≡ record before { last = last; rows = levels }
+    → text_of_blocks product.names.instruments (due_snapshot given p.rows) ≡ text_of_blocks product.names.instruments (due_snapshot number levels)
+due-after product given number last levels p before same is =
+    ap₂ (λ (n : ℕ) (q : FeedPlace). text_of_blocks product.names.instruments (due_snapshot n q.rows)) same is
 
 -- ---- one message more
 
@@ -50,9 +54,6 @@ module _ (product : ProductLists) (start : State) (place : FeedPlace) (frames : 
 
   module _ (before after : State) (request : Request) (s_is : state_numbered before ≡ state_after product start (take k frames)) (asked : request ≡ request_of product frame)
       (did : state_numbered after ≡ (request_step product request (with_message (state_numbered before))).0) where
-    next : State
-    next = (step_of product (state_after product start (take k frames)) frame).0
-
     stepped : state_numbered after ≡ (step_of product (state_after product start (take k frames)) frame).0
     stepped =
         did

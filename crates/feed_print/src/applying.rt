@@ -18,8 +18,7 @@ use product_file::Product;
 
 /// Notes the level of the order that a replace is to change: its report names the level that the order has then.
 fn note_asked<B: Book>(noted: &mut NotedLevels, core: &Core<B>, request: &Request)
-    ensures asked { (k : Level) → asks_at k request.now core.now ≡ true → is_noted k noted.new ≡ true }
-    ensures kept { (k : Level) → is_noted k noted.old ≡ true → is_noted k noted.new ≡ true }
+    ensures { (k : Level) → asks_at k request.now core.now ≡ true → is_noted k noted.new ≡ true }
 {
     let book = core.book();
     if let Request::Replace(asked) = request {

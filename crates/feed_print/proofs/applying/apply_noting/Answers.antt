@@ -9,4 +9,4 @@ returns-clause-noted g c =
     let before = subst IsRight c.book.ensures c.rules.ensures in
     let after = subst IsRight c.book-2.ensures c.rules-2.ensures in
     are-noted c.args.product.now c.args.request.now c.args.core.now c.apply.new.self before.differ c.requires.numbered step.state
-    c.note_asked.new.noted c.apply.new.out (step.emits.all refl) c.note_asked.ensures.asked before.ordered after.ordered
+    c.note_asked.new.noted c.apply.new.out (step.emits.all refl) c.note_asked.ensures before.ordered after.ordered
