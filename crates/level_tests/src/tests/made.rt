@@ -36,79 +36,89 @@ fn sent_by(
         .expect(rt, "memory")
 }
 
-/// The level of some orders that stand one behind the other in the book: its side and price, and their sums.
-#[derive(Clone, Copy)]
-struct Level<'a> {
-    side: &'a str,
-    price: &'a str,
+/// A walk over the lines of a book: the table so far, the instrument, and the level of the orders that were met last, as `SIDE PRICE`, with
+/// their sums.
+#[derive(Drop)]
+struct Walk {
+    table: String,
+    name: String,
+    level: String,
     shown: u64,
     orders: u64,
 }
 
-/// No order.
-fn no_level() -> Level<'static> {
-    Level {
-        side: "",
-        price: "",
-        shown: 0,
-        orders: 0,
+/// What stands before the first space, and what behind it.
+fn split<'a>(rt: &impl Abort, text: &'a str) -> (&'a str, &'a str) {
+    text.split_once(' ').expect(rt, "a space")
+}
+
+/// A text of its own.
+fn owned(rt: &(impl Abort + AllocGlobal), text: &str) -> String {
+    String::from_str(rt.alloc(), text).expect(rt, "memory")
+}
+
+impl Walk {
+    /// Adds the row of the last level to the table, if it has orders, and begins another one.
+    fn begin_level(&mut self, rt: &(impl Abort + AllocGlobal), level: &str) {
+        if self.orders > 0 {
+            let row = format!(in rt.alloc();
+                "{} {} {} {}\n",
+                self.name.as_str(),
+                self.level.as_str(),
+                self.shown,
+                self.orders
+            );
+            let row = row.expect(rt, "memory");
+            self.table.push_str(row.as_str()).expect(rt, "memory");
+        }
+        self.level = owned(rt, level);
+        self.shown = 0;
+        self.orders = 0;
     }
-}
 
-/// Adds the line of a level to a table, if it has orders.
-fn push_level(rt: &(impl Abort + AllocGlobal), table: &mut String, name: &str, level: &Level<'_>) {
-    if level.orders == 0 {
-        return;
+    /// Takes the line of an order: its side, its price, and what it shows before a slash.
+    fn take_order(&mut self, rt: &(impl Abort + AllocGlobal), side: &str, rest: &str) {
+        let (price, rest) = split(rt, rest);
+        let (shown, _) = rest.split_once('/').expect(rt, "a slash");
+        let shown = shown.parse::<u64>().expect(rt, "a number");
+        let level = format!(in rt.alloc(); "{side} {price}").expect(rt, "memory");
+        if level.as_str() != self.level.as_str() {
+            self.begin_level(rt, level.as_str());
+        }
+        assert!(rt; shown < 1_000_000);
+        assert!(rt; self.shown < 1_000_000_000);
+        assert!(rt; self.orders < 100_000);
+        self.shown += shown;
+        self.orders += 1;
     }
-    let line = format!(in rt.alloc();
-        "{name} {} {} {} {}\n",
-        level.side, level.price, level.shown, level.orders
-    );
-    table
-        .push_str(line.expect(rt, "memory").as_str())
-        .expect(rt, "memory");
-}
 
-/// The next word.
-fn word<'a>(rt: &impl Abort, words: &mut impl Iterator<Item = &'a str>) -> &'a str {
-    words.next().expect(rt, "a word")
-}
-
-/// The table that the lines of a book give: the orders of each side and price stand together, as `SIDE PRICE SHOWN/OPEN ..`, behind a line
-/// that begins with the name of their instrument, which has no space.
-fn walked(rt: &(impl Abort + AllocGlobal), book: &[u8]) -> String {
-    let book = str::from_utf8(book).expect(rt, "a text");
-    let mut table = String::new(rt.alloc());
-    let mut name = "";
-    let mut level = no_level();
-    for line in book.lines() {
-        let mut words = line.split(' ');
-        let first = word(rt, &mut words);
-        let second = word(rt, &mut words);
-        if second == "last" {
-            push_level(rt, &mut table, name, &level);
-            level = no_level();
-            name = first;
+    /// Takes a line: that of an instrument, whose name has no space, or that of an order.
+    fn take_line(&mut self, rt: &(impl Abort + AllocGlobal), line: &str) {
+        let (first, rest) = split(rt, line);
+        if rest.starts_with("last ") {
+            self.begin_level(rt, "");
+            self.name = owned(rt, first);
         } else {
-            let third = word(rt, &mut words);
-            let shown = word(rt, &mut third.split('/'));
-            let shown = shown.parse::<u64>().expect(rt, "a number");
-            if first != level.side || second != level.price {
-                push_level(rt, &mut table, name, &level);
-                level = no_level();
-            }
-            assert!(rt; shown < 1_000_000);
-            assert!(rt; level.orders < 100_000);
-            level = Level {
-                side: first,
-                price: second,
-                shown: level.shown.saturating_add(shown),
-                orders: level.orders + 1,
-            };
+            self.take_order(rt, first, rest);
         }
     }
-    push_level(rt, &mut table, name, &level);
-    table
+}
+
+/// The table that the lines of a book give, in which the orders of each side and price stand together.
+fn walked(rt: &(impl Abort + AllocGlobal), book: &[u8]) -> String {
+    let book = str::from_utf8(book).expect(rt, "a text");
+    let mut walk = Walk {
+        table: owned(rt, ""),
+        name: owned(rt, ""),
+        level: owned(rt, ""),
+        shown: 0,
+        orders: 0,
+    };
+    for line in book.lines() {
+        walk.take_line(rt, line);
+    }
+    walk.begin_level(rt, "");
+    walk.table
 }
 
 /// A feed from one of its places on rebuilds this table, and its last block has this number.
@@ -137,6 +147,7 @@ fn expect_levels_of_book(rt: &(impl Abort + AllocGlobal), text: &str, count: u64
     let mut is_front = true;
     for at in 0..feed.len() {
         if is_front && feed[at] == b'S' {
+            assert!(rt; snapshots < 100);
             snapshots += 1;
             expect_rebuilt_from(rt, text, &feed[at..], count, table.as_str());
         }
