@@ -1,5 +1,5 @@
 -- How answering goes on, turn by turn, and how it ends.
-use Rattle.std.proofs.Common.{◌≡◌, ◌⊎◌, ⊎_elim, ℕ, ◌+◌, ◌-◌, ◌*◌, ◌<◌, ◌≤◌, List, [], ◌∷◌, ◌++◌, length, take, drop, Option, Result, Ok, Err, refl, sym, ap, subst, ◌∙◌, append_assoc, length-append, arith}
+use Rattle.std.proofs.Common.{◌≡◌, ℕ, ◌+◌, ◌<◌, ◌≤◌, List, [], ◌++◌, length, Option, Ok, Err, refl, sym, ap, subst, ◌∙◌, length-append, arith}
 use Rattle.std.specs.List.{All}
 use Rattle.gx_base.specs.KnownBytes.{IsKnownPrefix, known_then}
 use Rattle.gx_station.specs.Counts.{Rose}
@@ -21,7 +21,7 @@ use Rattle.journal_print.specs.Reading.{ReadsAndSends}
 use Rattle.journal_print.specs.declared.kept.KeptJournal.{KeptJournal}
 use Rattle.globex_run.specs.Outside.{SourceAt, Streams, station_at}
 use Rattle.globex_run.specs.Answering.{lines_again, answers_to, AnswersFirst, AnswersPart, AnswersBy}
-use Rattle.globex_run.specs.RunResult.{BeginsWithFrame, EndsAs, first_messages}
+use Rattle.globex_run.specs.RunResult.{BeginsWithFrame, EndsAs}
 use Rattle.globex_run.specs.Inner.AnswerSteps.{ShowsHistory, FaultsBy, Turns, AnswersAll}
 use Rattle.globex_run.specs.Inner.Serving.{TakesMore, GivesFrames, IsEmptyFramer, CausedBy}
 use Rattle.globex_run.specs.declared.resender.Resender.{Resender}

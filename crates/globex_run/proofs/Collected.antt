@@ -1,6 +1,6 @@
 -- What `opening` comes to, from the entry on: a state is recovered first, then the messages of the input are collected, and then the openings
 -- are sent.
-use Rattle.std.proofs.Common.{◌≡◌, ℕ, ◌+◌, ◌-◌, ◌<◌, ◌≤◌, List, [], ◌∷◌, length, map, take, Some, Option, Result, Ok, Err, refl, sym, ap, subst, ◌∙◌, arith}
+use Rattle.std.proofs.Common.{◌≡◌, ℕ, ◌+◌, ◌-◌, List, [], ◌∷◌, Some, Result, Ok, Err, refl, sym, ap, subst, ◌∙◌, arith}
 use Rattle.std.specs.Prelude.{IsErrOf}
 use Rattle.std.proofs.lemmas.List.{take_all, length-take-le}
 use Rattle.gx_base.specs.KnownBytes.{IsKnownPrefix}
@@ -16,15 +16,13 @@ use Rattle.plain_book.specs.Numbers.{numbered}
 use Rattle.plain_book.specs.declared.entry.Entry.{Entry}
 use Rattle.plain_book.proofs.Levels.{AllDiffer-front}
 use Rattle.order_kinds.specs.State.{State, state_numbered}
-use Rattle.order_kinds.specs.Cores.{AreNumbered}
 use Rattle.order_kinds.specs.Histories.{History, length_kept, state_kept}
-use Rattle.order_kinds.specs.declared.core_state.TheConstants.{MOST_MESSAGES}
 use Rattle.order_kinds.specs.Collecting.{collected}
 use Rattle.open_auction.specs.OpeningText.{opening_text}
 use Rattle.open_auction.specs.OpeningLaws.{opening_text-numbered}
 use Rattle.book_recovery.specs.Kept.{IsTrueImage}
 use Rattle.book_recovery.specs.Recovering.{IsStateAfter}
-use Rattle.journal_print.specs.KeptStates.{IsKeptState, RecoversKept, count_recovered}
+use Rattle.journal_print.specs.KeptStates.{IsKeptState, RecoversKept}
 use Rattle.journal_print.specs.Reading.{ReadsAndSends}
 use Rattle.journal_print.specs.ReadingLaws.{reading_only, reading_then, sending_only}
 use Rattle.journal_print.specs.declared.unprinted.Unprinted.{Unprinted}
@@ -32,7 +30,7 @@ use Rattle.journal_print.specs.declared.unprinted.Unprinted.TheVariants as unpri
 use Rattle.globex_run.specs.Outside.{SourceAt, Streams, station_at}
 use Rattle.globex_run.specs.Outcomes.{outcome_of}
 use Rattle.globex_run.specs.Prints.{ending_sent}
-use Rattle.globex_run.specs.OpeningPrices.{collected_on, EndsCollecting, IsCounted, CountsRecovered, FitsOpening, SendsOpenings, ShowsOpenings}
+use Rattle.globex_run.specs.OpeningPrices.{collected_on, EndsCollecting, IsCounted, CountsRecovered, FitsOpening, SendsOpenings}
 use Rattle.globex_run.specs.RunResult.{IsUnread, EndsAs, first_messages}
 use Rattle.globex_run.specs.Inner.Collecting.{ending_unread, CollectsInput, IsOfInput, ShowsWithCause, input_alone}
 use Rattle.globex_run.specs.Inner.Serving.{CausedBy}

@@ -5,9 +5,6 @@ use Rattle.std.proofs.Common.{[], ◌≡◌, ◌≢◌, ◌⊎◌, inl, inr, ⊎
 use Rattle.std.specs.Prelude.{IfSome}
 use Rattle.std.proofs.lemmas.Bool.Decides.{eqb_tells}
 use Rattle.std.proofs.lemmas.Option.{same_Some}
-use Rattle.gx_base.specs.Line.{line_of}
-use Rattle.book_print.specs.FillText.{fill_line}
-use Rattle.book_print.specs.LedgerText.{ledger_line}
 use Rattle.gx_base.specs.declared.event.Event.{Event}
 use Rattle.gx_station.specs.Stations.{StationMeanings}
 use Rattle.gx_station.specs.Honest.{IsHonestNow}
@@ -492,6 +489,7 @@ module _ {P I S : Type 0} (m : StationMeanings S) (p q : SourceAt P) (i j : Sour
       form-of Book printed = printed.form
       form-of Fills printed = printed.form
       form-of Ledger printed = printed.form
+      form-of Levels printed = printed.form
       form-of Steps printed = printed.form
 
       printed-as : (told : List ℕ) (lists : ProductLists) → p.left ≡ Some told → product_of told ≡ Ok lists → PrintsAs m lists told entry.streams.station exit.streams.station outcome c

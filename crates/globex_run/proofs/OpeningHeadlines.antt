@@ -1,5 +1,5 @@
 -- What a call of `opening` comes to: why it ended, what it refuses, and that it ends well where it can.
-use Rattle.std.proofs.Common.{◌≡◌, ◌≢◌, inl, inr, ⊎_elim, ℕ, ◌+◌, ◌<◌, ◌≤◌, List, [], ◌++◌, length, Option, Some, None, Ok, refl, sym, ap, subst, ◌∙◌, arith}
+use Rattle.std.proofs.Common.{◌≡◌, ◌≢◌, inl, inr, ⊎_elim, ℕ, ◌+◌, ◌≤◌, List, [], ◌++◌, length, Option, Some, None, Ok, refl, sym, ap, subst, ◌∙◌, arith}
 use Rattle.std.specs.Prelude.{IfSome}
 use Rattle.std.proofs.lemmas.List.{append-nil}
 use Rattle.gx_station.specs.Stations.{StationMeanings}
@@ -9,7 +9,6 @@ use Rattle.product_file.specs.ProductTexts.{product_of}
 use Rattle.match_journal.specs.Journal.{Record}
 use Rattle.match_journal.specs.Texts.{last_text}
 use Rattle.order_kinds.specs.Histories.{History, of_product, length_kept}
-use Rattle.order_kinds.specs.declared.core_state.TheConstants.{MOST_MESSAGES}
 use Rattle.book_recovery.specs.Histories.{history_behind}
 use Rattle.book_recovery.specs.Kept.{IsStartable, IsTrueImage}
 use Rattle.book_recovery.proofs.Histories.{one-product}

@@ -1,8 +1,7 @@
 -- What a call of `rebuild` comes to: its statuses, the causes of its faults, and that it ends by the input alone.
-use Rattle.std.proofs.Common.{◌≡◌, ◌≢◌, ◌==◌, ◌||◌, inl, inr, ⊎_elim, ℕ, ◌+◌, ◌<◌, ◌≤◌, Bool, true, false, List, [], ◌++◌, Option, Some, None, Result, Ok, Err, refl, sym, ap, subst, ◌∙◌, arith}
+use Rattle.std.proofs.Common.{◌≡◌, ◌≢◌, ◌==◌, ◌||◌, ⊎_elim, ℕ, ◌≤◌, Bool, true, false, List, Some, Result, Ok, Err, refl, sym, ap, subst, ◌∙◌, arith}
 use Rattle.std.proofs.lemmas.Bool.Decides.{nat_tests}
 use Rattle.gx_station.specs.Counts.{Rose, HasCause}
-use Rattle.gx_station.specs.Sources.{and_left}
 use Rattle.gx_station.specs.Stations.{StationMeanings}
 use Rattle.product_file.specs.Products.{ProductLists, IsRightProduct}
 use Rattle.exec_report.specs.declared.texts.SendFault.{SendFault as SendFailed}
@@ -10,8 +9,7 @@ use Rattle.level_feed.specs.Lines.{listing_of}
 use Rattle.level_feed.specs.Tables.{Table}
 use Rattle.level_feed.specs.declared.fault.FeedFault.{FeedFault}
 use Rattle.level_feed.specs.declared.fault.FeedFault.TheVariants.{Form, Gap, Full}
-use Rattle.feed_reader.specs.Feeds.{EndsFeed, HasReadCause}
-use Rattle.feed_reader.specs.WholeFeeds.{feed_end}
+use Rattle.feed_reader.specs.Feeds.{HasReadCause}
 use Rattle.feed_reader.specs.declared.unread.Unread.{Unread}
 use Rattle.feed_reader.specs.declared.unread.Unread.TheVariants as unread
 use Rattle.feed_reader.proofs.WholeFeeds.{read-whole}

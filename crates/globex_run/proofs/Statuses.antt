@@ -1,5 +1,5 @@
 -- The statuses of commands: want of memory, and with which ones a command does not end.
-use Rattle.std.proofs.Common.{◌≡◌, ◌≢◌, ◌⊎◌, inl, inr, ⊎_elim, ℕ, ◌<◌, ◌≤◌, Result, Ok, Err, sym, ap, ◌∙◌, arith}
+use Rattle.std.proofs.Common.{◌≡◌, ◌≢◌, ◌⊎◌, inl, inr, ⊎_elim, ℕ, ◌<◌, ◌≤◌, Result, Ok, Err, ap, arith}
 use Rattle.std.proofs.lemmas.Bool.Decides.{eqb_tells}
 use Rattle.exec_report.specs.declared.texts.SendFault.{SendFault as SendFailed}
 use Rattle.journal_print.specs.declared.unprinted.Unprinted.{Unprinted}

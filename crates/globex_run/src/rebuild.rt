@@ -3,8 +3,9 @@ ghost use Rattle.std.specs.Prelude.{◌≡◌, ◌≤◌, [], length, IfOk, OnEr
 ghost use Rattle.gx_station.specs.declared.source.TheConstants.{LEAST_READ};
 ghost use Rattle.level_feed.specs.Tables.{empty_table};
 ghost use Rattle.globex_run.specs.Outside.{streams_at};
-ghost use Rattle.globex_run.specs.Rebuilding.{outcome_unread, outcome_rebuilt};
+ghost use Rattle.globex_run.specs.Rebuilding.{fault_status, outcome_unread, outcome_rebuilt};
 ghost use Rattle.globex_run.specs.Inner.Rebuilt.{RebuildsWithCause};
+ghost use Rattle.globex_run.specs.Inner.Statuses.{status_number};
 
 use crate::outcome::{Outcome, Status};
 use crate::taken::Taken;
@@ -19,7 +20,9 @@ use std::alloc::{AllocError, Global};
 const CHUNK: usize = 65_536;
 
 /// The status of a line that is not taken.
-fn status_of(fault: FeedFault) -> Status {
+fn status_of(fault: FeedFault) -> Status
+    ensures { status_number result ≡ fault_status fault }
+{
     match fault {
         FeedFault::Form => Status::FeedForm,
         FeedFault::Gap(_, _) => Status::FeedGap,

@@ -1,6 +1,6 @@
 -- What rebuilding the levels of a feed comes to, with the causes of its faults.
 use Rattle.std.specs.Prelude.{◌≡◌, Result, Ok, Err}
-use Rattle.gx_station.specs.Counts.{Rose, HasCause}
+use Rattle.gx_station.specs.Counts.{HasCause}
 use Rattle.gx_station.specs.Stations.{StationMeanings}
 use Rattle.product_file.specs.Products.{ProductLists}
 use Rattle.level_feed.specs.Tables.{Table}

@@ -1,6 +1,5 @@
-use Rattle.std.proofs.Common.{◌≡◌, ◌<◌, ◌≤◌, List, ℕ, length, take, ap, subst, ◌∙◌, arith}
+use Rattle.std.proofs.Common.{◌≡◌, ◌<◌, ◌≤◌, List, ℕ, length, take, subst, arith}
 use Rattle.std.proofs.lemmas.List.{take_all, length-take-le}
-use Rattle.fix_request.specs.Requests.{request_of}
 use Rattle.globex_run.specs.Inner.Collecting.{CollectsFrames}
 use Rattle.globex_run.proofs.CollectTurns.{collects-none, collects-more}
 use Rattle.globex_run.proofs.opening_prices.collect_given.Goals as goal
