@@ -3,7 +3,7 @@ ghost use Rattle.feed_laws.specs.Laws.{FoldsAtBlocks, FoldsBetweenBlocks, FoldsW
 
 /// For fewer than 2^24 messages, whatever they are, under products that were read from texts and amend one another: the fold of
 /// the feed's text from any snapshot to the end of any block is the levels of the state after the message of that block, and of
-/// each later state before the message of the next increment, or of each later one where none follows. The fold of the whole text is
+/// each later state before the message of the next increment, or of each later one if none follows. The fold of the whole text is
 /// the levels of the book after all messages.
 pub fn feeds_of_histories_fold_to_levels()
     ensures at_blocks { FoldsAtBlocks }

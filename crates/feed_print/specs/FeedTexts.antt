@@ -32,7 +32,7 @@ message_text product number levels place = beginning place ++ text_of_blocks pro
 abbrev pub next_place : ℕ → List Row → FeedPlace → FeedPlace
 next_place number levels place = record { begun = true; last = last_number place.last (blocks_of number place.last place.rows levels); rows = levels }
 
--- what is sent of some messages, where each has the number that the engine counts it by
+-- what is sent of some messages, each by the number that the engine counts it by
 abbrev pub messages_text : FeedPlace → ProductLists → State → List (List ℕ) → List ℕ
 messages_text place product state [] = []
 messages_text place product state (frame ∷ frames) =

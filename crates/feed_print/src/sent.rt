@@ -129,7 +129,7 @@ impl SentFeed {
         Ok(())
     }
 
-    /// Puts out the snapshot after a message, where one is due.
+    /// Puts out the snapshot after a message, if one is due.
     fn push_due<S: Station>(
         &mut self,
         product: &Product,
@@ -148,7 +148,7 @@ impl SentFeed {
     }
 
     /// Tells of a message, by the core after it and the levels that it may have changed: the beginning of the feed, what the message has
-    /// changed, and a snapshot where one is due.
+    /// changed, and a snapshot if one is due.
     fn tell<B: Book, S: Station>(
         &mut self,
         noted: &NotedLevels,

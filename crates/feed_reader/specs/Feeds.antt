@@ -36,7 +36,7 @@ pub record IsTooLong (listing : Listing) (taken : List ℕ) : Type 0 where
   pub many : MOST_FEED < length taken
   pub unbroken : IsUnbroken listing (feed_part taken)
 
--- what is answered of the bytes taken, where these are left: the table at their end, or why there is none
+-- what is answered of the bytes taken, when these are left: the table at their end, or why there is none
 abbrev pub EndsFeed : Listing → List ℕ → Option (List ℕ) → Result Table Unread → Type 0
 EndsFeed listing taken left (Ok table) = FoldsWhole listing taken left (Ok table) × ((number : ℕ) × (table.number ≡ Some number))
 EndsFeed listing taken left (Err (unread.ReadFault at)) = StopsAt listing taken at
@@ -45,7 +45,7 @@ EndsFeed listing taken left (Err (unread.Cut at)) = FoldsWhole listing taken lef
 EndsFeed listing taken left (Err unread.NoSnapshot) = FoldsWhole listing taken left (Err NoSnapshot)
 EndsFeed listing taken left (Err unread.TooLong) = IsTooLong listing taken
 
--- a read failed exactly where that is answered
+-- a read failed exactly if that is answered
 abbrev pub HasReadCause : ℕ → ℕ → Result Table Unread → Type 0
 HasReadCause before now (Err (unread.ReadFault at)) = (before ≤ now) × Rose before now
 HasReadCause before now (Ok table) = now ≡ before

@@ -6,7 +6,7 @@ use Rattle.level_feed.specs.Tables.{Table, longest_line}
 use Rattle.level_feed.specs.Folds.{FoldFault, Broken, pieces_of, fold_from}
 use Rattle.feed_reader.specs.declared.reading.BrokenLine.{BrokenLine}
 
--- where the reading of a feed stands
+-- how far a feed is read
 pub record Place : Type 0 where
   -- the offset of the last block
   pub block : ℕ
@@ -27,7 +27,7 @@ pub record IsFront (kept : List ℕ) : Type 0 where
   pub no_end : HasNoEnd kept
   pub short : length kept ≤ longest_line
 
--- the fold from here on, where these bytes come next
+-- the fold from here on, if these bytes come next
 abbrev pub fold_on : Listing → Table → Place → List ℕ → Result Table FoldFault
 fold_on listing t p bytes = fold_from listing t p.at p.block (pieces_of (p.kept ++ bytes))
 

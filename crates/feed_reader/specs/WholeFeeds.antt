@@ -37,7 +37,7 @@ IsReadAs listing all (Err (unread.Cut at)) = feed_end listing all ≡ Err (unrea
 IsReadAs listing all (Err unread.NoSnapshot) = feed_end listing all ≡ Err unread.NoSnapshot
 IsReadAs listing all (Err unread.TooLong) = feed_end listing all ≡ Err unread.TooLong
 
--- a fault of a line is told whatever stands behind it
+-- a fault of a line is told whatever comes after it
 abbrev pub BrokenStays : Type 0
 BrokenStays =
     (listing : Listing) (xs ys : List ℕ) (at : ℕ) (fault : FeedFault)

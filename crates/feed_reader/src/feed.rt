@@ -15,13 +15,13 @@ use product_file::Product;
 /// How many bytes a feed has at most.
 pub const MOST_FEED: u64 = 268_435_456;
 
-/// Reads a feed to its end into a new table, and is Ok where it has a snapshot, ends behind a whole block, and has no line with a fault.
+/// Reads a feed to its end into a new table. It is Ok if the feed has a snapshot, ends after a whole block, and has no line with a fault.
 /// A line ends with a line feed, and has at most 128 bytes with it. The reads may cut the bytes anywhere: the answer is that of the bytes
 /// of the input, or of those before a read that failed.
 ///
-/// A fault in a line that was read is answered before a read that fails behind it, and before the end of the input. It ends since each
+/// A fault in a line that was read is answered before a read that fails after it, and before the end of the input. It ends since each
 /// turn takes a byte, of at most `MOST_FEED`. `chunk` is what a read places its bytes in, and has at least `LEAST_READ`. No memory is
-/// taken. After an `Err` nothing is told of the table.
+/// taken. After an `Err` nothing is said of the table.
 pub fn read_feed<I: Source>(
     table: &mut FeedTable,
     product: &Product,

@@ -4,7 +4,7 @@ ghost use Rattle.feed_reader.specs.Inner.{HasNoEnd};
 
 use gx_base::split_at_byte;
 
-/// The first line of some bytes, without its line feed, and what stands behind it. `None` where there is no line feed.
+/// The first line of some bytes, without its line feed, and what comes after it. `None` if there is no line feed.
 #[inline(always)]
 pub(crate) fn split_line(bytes: &[u8]) -> Option<(&[u8], &[u8])>
     ensures whole { IfSome result (λ parts. bytes.now ≡ parts.0.now ++ 10 ∷ parts.1.now) }

@@ -25,7 +25,7 @@ pub(crate) struct BrokenLine {
     pub(crate) fault: FeedFault,
 }
 
-/// Where the reading of a feed stands. Places are offsets in the feed, in bytes.
+/// How far a feed is read. Places are offsets in the feed, in bytes.
 #[derive(Drop)]
 pub(crate) struct Reading {
     /// Where the last block begins.
@@ -64,7 +64,7 @@ impl Reading {
         self.at + self.kept.len() as u64
     }
 
-    /// Takes all lines that end in these bytes, and keeps what stands behind them. An `Err` is the first line with a fault.
+    /// Takes all lines that end in these bytes, and keeps what comes after them. An `Err` is the first line with a fault.
     pub(crate) fn take(
         &mut self,
         table: &mut FeedTable,

@@ -5,7 +5,7 @@ use thiserror::Error;
 /// Why a feed was not read to a good end. Places are offsets in the input, in bytes.
 #[derive(Clone, Copy, Debug, Error, PartialEq, Eq)]
 pub enum Unread {
-    /// A read failed, behind so many bytes. They have no line with a fault.
+    /// A read failed, after so many bytes. They have no line with a fault.
     #[error("a read failed behind {0} bytes of the level feed")]
     ReadFault(u64),
     /// The line that begins here is the first with a fault, and has this one. A line with no line feed among its first 128

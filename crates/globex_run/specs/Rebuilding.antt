@@ -26,7 +26,7 @@ fault_status Form = 14
 fault_status (Gap last number) = 15
 fault_status Full = 16
 
--- the outcome where the feed was not read to a good end
+-- the outcome if the feed was not read to a good end
 abbrev pub outcome_unread : Unread → Outcome
 outcome_unread (unread.ReadFault at) = record { status = 4; at = at; messages = 0 }
 outcome_unread (unread.Broken at fault) = record { status = fault_status fault; at = at; messages = 0 }

@@ -30,7 +30,7 @@ fn status_of(fault: FeedFault) -> Status
     }
 }
 
-/// The outcome where the feed was not read to a good end.
+/// The outcome if the feed was not read to a good end.
 fn outcome_unread(why: Unread) -> Outcome
     ensures { result ≡ outcome_unread why }
 {

@@ -35,7 +35,7 @@ abbrev pub ◌>>=◌ : {A B : Type 0} → Option A → (A → Option B) → Opti
 (Some x) >>= f = f x
 None >>= f = None
 
--- what stands before the last space, and the word behind it
+-- what comes before the last space, and the word after it
 pub record Split : Type 0 where
   pub front : List ℕ
   pub word : List ℕ
@@ -102,7 +102,7 @@ row_line_of listing text = do
   count ← number_of orders.word
   Some (kind.Row (record { instrument = instrument; side = is_side; price = at; shown = total; orders = count }))
 
--- the letter of a line and a space, and what stands behind them
+-- the letter of a line and a space, and what comes after them
 abbrev pub line_of : Listing → List ℕ → Option Line
 line_of listing text =
     if bytes_eq (take 2 text) (codes "S ") then snapshot_line (drop 2 text)

@@ -33,7 +33,7 @@ is_noted k noted = noted.any || is_among k noted.levels
 abbrev pub row_noting : Level → Row
 row_noting k = record { instrument = k.instrument; side = k.side; price = record { 0 = k.price }; shown = 1; orders = 1 }
 
--- a level that is not there yet: where there is no room for it, any level may have changed
+-- a level that is not there yet: if there is no room for it, any level may have changed
 abbrev pub noted_new : Level → Noted → Noted
 noted_new k noted = if nat_le MOST_NOTED (length noted.levels) then record noted { any = true } else record noted { levels = with_row (row_noting k) noted.levels }
 

@@ -24,7 +24,7 @@ pub const MOST_NOTED: usize = 1_024;
 pub struct NotedLevels {
     any: bool,
     levels: Vec<Row>,
-    /// Where the level noted last stands, which the next is most often.
+    /// The place of the level noted last. The next one is most often the same.
     last: usize,
 }
 

@@ -18,7 +18,7 @@ pub const GREATEST_NUMBER: u64 = 1 << 62;
 /// How many digits a number has at most.
 const MOST_DIGITS: usize = 19;
 
-/// The place of the last space. `None` where there is none.
+/// The place of the last space. `None` if there is none.
 fn last_space(text: &[u8]) -> Option<usize>
     ensures place { option_map (split_of text.now) result ≡ split_last text.now }
     ensures within { IfSome result (λ at. at < length text.now) }
@@ -33,7 +33,7 @@ fn last_space(text: &[u8]) -> Option<usize>
     None
 }
 
-/// What stands before the last space, and the word behind it. `None` where there is no space.
+/// What comes before the last space, and the word after it. `None` if there is no space.
 fn split_last(text: &[u8]) -> Option<(&[u8], &[u8])>
     ensures { option_map view_of result ≡ split_last text.now }
 {
@@ -63,7 +63,7 @@ fn value_of(digits: &[u8]) -> u64
     number
 }
 
-/// The number that is written so. `None` where a zero leads, another byte than a digit is there, or it is above
+/// The number that is written so. `None` if a zero leads, if another byte than a digit is there, or if it is above
 /// `GREATEST_NUMBER`.
 fn read_number(text: &[u8]) -> Option<u64>
     ensures { result ≡ number_of text.now }
@@ -102,7 +102,7 @@ fn on_tick(tick: u64, read: Result<Price, PriceFault>) -> Option<Price>
     }
 }
 
-/// A price of an instrument, as messages write it. `None` where it has another form, is out of range or off the tick.
+/// A price of an instrument, as messages write it. `None` if it has another form, is out of range or off the tick.
 fn read_price_at(product: &Product, instrument: u8, text: &[u8]) -> Option<Price>
     requires { instrument < length product.now.names.instruments }
     ensures { result ≡ price_at (listing_of product.now) instrument text.now }
@@ -159,7 +159,7 @@ fn read_row(text: &[u8], product: &Product) -> Option<Line>
     }))
 }
 
-/// What a line says. `None` where it has no form of a line.
+/// What a line says. `None` if it has no form of a line.
 pub(crate) fn read_line(text: &[u8], product: &Product) -> Option<Line>
     ensures { result ≡ line_of (listing_of product.now) text.now }
 {

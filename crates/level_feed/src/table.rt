@@ -102,7 +102,7 @@ impl FeedTable {
         self.number
     }
 
-    /// Sends the rows, a line each: `NAME SIDE PRICE SHOWN COUNT`. `Ok` leaves the buffer empty. `SendFault` comes only where the
+    /// Sends the rows, a line each: `NAME SIDE PRICE SHOWN COUNT`. `Ok` leaves the buffer empty. `SendFault` comes only if the
     /// count of send faults rose; a part is sent then.
     pub fn print_levels<S: Station>(
         &self,
@@ -188,7 +188,7 @@ fn has_form(is_snapshot: bool, row: &Row) -> bool
     is_open(row) || !is_snapshot && is_gone(row)
 }
 
-/// Whether a row may stand behind the one before it in its block: gone rows first, and each part strictly in book order.
+/// Whether a row may follow the one before it in its block: gone rows first, and each part strictly in book order.
 fn may_follow(before: Option<Row>, row: &Row) -> bool
     ensures { result ≡ may_follow before row.now }
 {

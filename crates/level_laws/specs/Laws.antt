@@ -8,7 +8,7 @@ use Rattle.order_kinds.specs.Cores.{AreNumbered}
 use Rattle.order_kinds.specs.Step.{with_message, request_step}
 use Rattle.level_laws.specs.Told.{is_told, asks_at, IsSameLevel}
 
--- A message leaves a level as it was, where none of its events tells of it and no replace asks for an order of it.
+-- A message leaves a level as it was, if none of its events tells of it and no replace asks for an order of it.
 abbrev pub LevelsStay : Type 0
 LevelsStay =
     (product : ProductLists) → (request : Request) → (state : State) → (k : Level) → AreNumbered state

@@ -1,5 +1,5 @@
-//! The law of displayed levels: a message changes what a level shows, and how many orders stand there, only where its events tell, or
-//! where it replaces an order of the level.
+//! The law of displayed levels: a message changes what a level shows, and how many orders stand there, only if its events tell, or
+//! if it replaces an order of the level.
 #![tactic(auto)]
 
 mod laws;

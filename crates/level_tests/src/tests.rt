@@ -1,6 +1,6 @@
 //! The commands `levels` and `rebuild` over journals that the other commands made, or that were spoiled, and over feeds written by hand.
 
-/// The body of a limit order of `ESZ4`: its firm, id, side, lots and price, and the fields behind the price.
+/// The body of a limit order of `ESZ4`: its firm, id, side, lots and price, and the fields after the price.
 macro_rules! limit_order {
     ($firm:literal, $id:literal, $side:literal, $lots:literal, $price:literal, $rest:literal) => {
         concat!(
@@ -252,12 +252,12 @@ fn expect_table(rt: &(impl Abort + AllocGlobal), feed: &str, number: u64, table:
     expect_rebuilt(rt, PAIR, feed, ended(0, 0, number), table);
 }
 
-/// A text and another one behind it.
+/// A text and another one after it.
 fn joined(rt: &(impl Abort + AllocGlobal), front: &str, rest: &str) -> String {
     format!(in rt.alloc(); "{front}{rest}").expect(rt, "memory")
 }
 
-/// The line that stands behind this front of a feed is answered with this status, at its place. What stands behind the line has no
+/// The line that comes after this front of a feed is answered with this status, at its place. What comes after the line has no
 /// effect, and of the levels none is sent.
 fn expect_fault(rt: &(impl Abort + AllocGlobal), front: &str, line: &str, status: u8) {
     let feed = format!(in rt.alloc(); "{front}{line}\n").expect(rt, "memory");

@@ -22,7 +22,7 @@ pub fn expect_call(rt: &impl Abort, call: usize, got: Outcome, want: Outcome) {
     assert_eq!(rt; got, want, "call {call}");
 }
 
-/// Looks for this outcome of a text that is cut behind so many bytes.
+/// Looks for this outcome of a text that is cut after so many bytes.
 pub fn expect_cut(rt: &impl Abort, text: &str, cut: usize, got: Outcome, want: Outcome) {
     assert_eq!(rt; got, want, "{text} cut at {cut}");
 }

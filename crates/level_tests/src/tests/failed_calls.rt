@@ -62,7 +62,7 @@ fn expect_failed(
     expect_count(rt, "a fault", station.calls(), call);
 }
 
-/// The blocks of each record are sent in one call, before the next record is read; behind the last one the end is read.
+/// The blocks of each record are sent in one call, before the next record is read; after the last one the end is read.
 #[test]
 fn each_call_failing(rt: HostRuntime) {
     let first = kept(&rt, &SELL);

@@ -24,7 +24,7 @@ R ESZ4 S 100.00 3 1
 R ESZ4 S 100.25 4 1
 ";
 
-/// A feed that goes on behind the four levels.
+/// A feed that goes on after the four levels.
 fn behind_four(rt: &(impl Abort + AllocGlobal), more: &str) -> String {
     joined(rt, FOUR, more)
 }

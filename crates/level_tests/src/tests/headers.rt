@@ -2,7 +2,7 @@
 use super::{expect_form, expect_no_snapshot, expect_table, expect_unfinished};
 use std::process::Abort;
 
-/// A line that is due nowhere, at the front of a feed and behind a block.
+/// A line that is due nowhere, at the front of a feed and after a block.
 fn expect_no_header(rt: &(impl Abort + AllocGlobal), line: &str) {
     expect_form(rt, "", line);
     expect_form(rt, "S 3 0\n", line);
@@ -25,7 +25,7 @@ fn other_letters(rt: HostRuntime) {
     expect_no_header(&rt, "# 4 0");
 }
 
-/// A snapshot has two numbers behind its letter, each behind one space.
+/// A snapshot has two numbers after its letter, each after one space.
 #[test]
 fn words_of_a_snapshot(rt: HostRuntime) {
     expect_no_header(&rt, "S");

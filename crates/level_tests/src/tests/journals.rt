@@ -1,4 +1,4 @@
-//! Journals that are damaged, or none: `levels` tells where, behind the feed of the messages before; `rebuild` opens none.
+//! Journals that are damaged, or none: `levels` tells where, after the feed of the messages before; `rebuild` opens none.
 use super::{FIFO, expect_ended, expect_levels, image_then, kept, source_of};
 use globex_run::Outcome;
 use run_fixtures::ended;
@@ -39,7 +39,7 @@ fn with_end(rt: &(impl Abort + AllocGlobal), journal: &[u8], end: &[u8]) -> Vec<
     bytes
 }
 
-/// The levels of this image end so, behind this feed.
+/// The levels of this image end so, after this feed.
 fn expect_bad(rt: &(impl Abort + AllocGlobal), image: &[u8], outcome: Outcome, feed: &str) {
     let mut input = source_of(rt, b"");
     expect_ended(
@@ -66,7 +66,7 @@ fn several_records(rt: HostRuntime) {
     expect_levels(&rt, FIFO, all.as_slice(), 3, ALL_FEED);
 }
 
-/// A record that is no frame is met behind the feed of the records before; a bad head before all.
+/// A record that is no frame is met after the feed of the records before; a bad head before all.
 #[test]
 fn bad_records(rt: HostRuntime) {
     let good = kept(&rt, &SELLS);

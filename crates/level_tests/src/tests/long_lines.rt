@@ -15,7 +15,7 @@ fn front_and(rt: &(impl Abort + AllocGlobal), front: &str, count: usize) -> Vec<
     bytes
 }
 
-/// A feed that ends behind this front and so many bytes ends so, however it is cut in two.
+/// A feed that ends after this front and so many bytes ends so, however it is cut in two.
 fn expect_end(rt: &(impl Abort + AllocGlobal), front: &str, count: usize, status: u8, at: usize) {
     let bytes = front_and(rt, front, count);
     let text = str::from_utf8(bytes.as_slice()).expect(rt, "a text");
@@ -55,7 +55,7 @@ fn long_lines_that_end(rt: HostRuntime) {
 const LONGEST: &str =
     "R ESZ4 S 00000000000000000000000009999.75 4611686018427387904 4611686018427387904";
 
-/// It is read, and the one behind it has its place.
+/// It is read, and the one after it has its place.
 #[test]
 fn longest_row(rt: HostRuntime) {
     let feed = format!(in rt.alloc(); "S 3 1\n{LONGEST}\n").expect(&rt, "memory");

@@ -47,7 +47,7 @@ struct Walk {
     orders: u64,
 }
 
-/// What stands before the first space, and what behind it.
+/// What comes before the first space, and what after it.
 fn split<'a>(rt: &impl Abort, text: &'a str) -> (&'a str, &'a str) {
     text.split_once(' ').expect(rt, "a space")
 }
@@ -136,7 +136,7 @@ fn expect_rebuilt_from(
     expect_bytes(rt, "a made feed", station.output(), table.as_bytes());
 }
 
-/// The feed has a snapshot at its front and behind each thousand messages, and from each on it rebuilds the levels of the book.
+/// The feed has a snapshot at its front and after each thousand messages, and from each on it rebuilds the levels of the book.
 fn expect_levels_of_book(rt: &(impl Abort + AllocGlobal), text: &str, count: u64) {
     let mut station = drilled(rt, text, count);
     let book = sent_by(rt, text, "book", &mut station, count);

@@ -87,7 +87,7 @@ fn hidden_lots_stops_an_amendment_and_a_close(rt: HostRuntime) {
     expect_rebuilt(&rt, FIFO, FRONT, ended(0, 0, 6), TABLE);
 }
 
-/// From the middle the feed has no snapshot. Behind one of the sixth or the seventh message it is taken up, where it names the block of
+/// From the middle the feed has no snapshot. After one of the sixth or the seventh message it is taken up, where it names the block of
 /// the sixth.
 #[test]
 fn from_the_middle(rt: HostRuntime) {

@@ -7,7 +7,7 @@ use run_fixtures::ended;
 use std::process::Abort;
 use std::str;
 
-/// Adds a block to a feed. Each front that ends inside the block is not whole, and is told with the place of the block; behind the block
+/// Adds a block to a feed. Each front that ends inside the block is not whole, and is told with the place of the block; after the block
 /// the feed ends so, and has these levels, however it is cut in two.
 fn push_block(
     rt: &(impl Abort + AllocGlobal),
@@ -65,7 +65,7 @@ fn fronts_of_a_feed(rt: HostRuntime) {
     push_block(&rt, &mut feed, "S 20 0\n", ended(0, 0, 20), "");
 }
 
-/// Blocks behind which no snapshot was read, up to one of some rows.
+/// Blocks after which no snapshot was read, up to one of some rows.
 #[test]
 fn fronts_before_a_snapshot(rt: HostRuntime) {
     let mut feed = Vec::new(rt.alloc());

@@ -2,7 +2,7 @@
 use super::{expect_fault, expect_form, expect_table};
 use std::process::Abort;
 
-/// Behind a row of a snapshot another one may not stand.
+/// Another row may not come after one of a snapshot.
 fn expect_apart(rt: &(impl Abort + AllocGlobal), first: &str, second: &str) {
     let front = format!(in rt.alloc(); "S 3 2\nR {first}\n").expect(rt, "memory");
     let line = format!(in rt.alloc(); "R {second}").expect(rt, "memory");
@@ -47,7 +47,7 @@ ESZ4 S -99.75 3 1
 Six E B 7 4 2
 ";
 
-/// A sell may stand below a buy: the book decides on prices, and the feed on their order alone.
+/// A sell may be below a buy: the book decides on prices, and the feed on their order alone.
 #[test]
 fn rows_in_order(rt: HostRuntime) {
     expect_table(&rt, IN_ORDER, 3, ORDERED_TABLE);
@@ -74,7 +74,7 @@ fn gone_rows_out_of_place(rt: HostRuntime) {
     expect_apart_gone(&rt, "Six E B 5 0 0", "ESZ4 S 100.00 0 0");
 }
 
-/// Behind a row of an increment another one may not stand, also before the first snapshot.
+/// Another row may not come after one of an increment, also before the first snapshot.
 fn expect_apart_gone(rt: &(impl Abort + AllocGlobal), first: &str, second: &str) {
     let line = format!(in rt.alloc(); "R {second}").expect(rt, "memory");
     let front = format!(in rt.alloc(); "S 3 0\nI 4 3 2\nR {first}\n").expect(rt, "memory");

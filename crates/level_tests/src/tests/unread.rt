@@ -52,7 +52,7 @@ fn failing_reads(rt: HostRuntime) {
     }
 }
 
-/// Behind this front stands a line with a fault. Where the line was read the fault is told; before it the failed read.
+/// A line with a fault comes after this front. If the line was read, the fault is told; before it the failed read.
 fn expect_fault_first(rt: &(impl Abort + AllocGlobal), front: &str, line: &str, status: u8) {
     let feed = format!(in rt.alloc(); "{front}{line}\nS 9 0\n").expect(rt, "memory");
     let feed = feed.as_str();

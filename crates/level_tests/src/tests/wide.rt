@@ -90,7 +90,7 @@ struct Stream {
     feed: Vec<u8>,
 }
 
-/// So many buys, each a tick above the one before, and then so many sells, each a tick above it too; no two share a price. Behind the
+/// So many buys, each a tick above the one before, and then so many sells, each a tick above it too; no two share a price. After the
 /// thousandth stands a snapshot.
 fn stream_of(rt: &(impl Abort + AllocGlobal), buys: u32, sells: u32) -> Stream {
     assert!(rt; buys <= 1_000);

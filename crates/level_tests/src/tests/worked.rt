@@ -45,7 +45,7 @@ fn increment_left_out(rt: HostRuntime) {
     expect_rebuilt(&rt, PRODUCT, feed, ended(15, 6, 0), "");
 }
 
-/// Without its row the last block is not whole: the block begins behind 6, 8 and 21 bytes.
+/// Without its row the last block is not whole: the block begins after 6, 8 and 21 bytes.
 #[test]
 fn last_row_left_out(rt: HostRuntime) {
     let feed = "S 0 0\nI 1 0 1\nR ESZ4 S 100.00 10 1\nI 2 1 1\n";
@@ -68,7 +68,7 @@ fn no_message(rt: HostRuntime) {
     expect_rebuilt(&rt, FIFO, "S 0 0\n", ended(0, 0, 0), "");
 }
 
-/// Words behind the commands, and a product that is refused.
+/// Words after the commands, and a product that is refused.
 #[test]
 fn refused_words_and_product(rt: HostRuntime) {
     let image = b"";
