@@ -18,6 +18,8 @@ mod Written
 -- and of the calls.
 mod Compared
 mod Collected
+mod Merging
+mod KeptApart
 mod PrintedRows
 mod BlockTexts
 mod Placed

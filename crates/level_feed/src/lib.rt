@@ -5,6 +5,7 @@ mod compare;
 mod fault;
 mod feed;
 mod laws;
+mod level_rows;
 mod levels;
 mod line;
 mod noted;
@@ -13,6 +14,7 @@ mod printing;
 mod reading;
 mod row;
 mod rows;
+mod settling;
 mod table;
 
 pub use fault::FeedFault;

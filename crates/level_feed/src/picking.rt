@@ -4,20 +4,19 @@ ghost use Rattle.level_feed.specs.Rows.{level_of_row, levels_of, AreOrdered};
 ghost use Rattle.level_feed.specs.Noted.{rows_at};
 ghost use Rattle.level_feed.specs.Inner.{picked};
 
+use crate::level_rows::LevelRows;
 use crate::row::Row;
-use crate::rows::find_place;
 use plain_book::Book;
 
 /// Adds the row that was last sent of a level, if there is one.
-fn push_sent(rows: &[Row], level: &Row, was: &mut Vec<Row>)
-    requires ordered { AreOrdered rows.now }
+fn push_sent(rows: &LevelRows, level: &Row, was: &mut Vec<Row>)
     requires room { length was.old.items < vec_capacity was.old }
-    ensures rows { was.new.items ≡ was.old.items ++ rows_at (level_of_row level.now) rows.now }
+    ensures rows { was.new.items ≡ was.old.items ++ rows_at (level_of_row level.now) rows.now.rows }
     ensures few { length was.new.items ≤ length was.old.items + 1 }
     ensures capacity { vec_capacity was.new ≡ vec_capacity was.old }
 {
-    if let Ok(place) = find_place(rows, level) {
-        was.push_reserved(rows[place]);
+    if let Some(row) = rows.find(level) {
+        was.push_reserved(row);
     }
 }
 
@@ -46,10 +45,9 @@ fn push_level<B: Book>(book: &B, instruments: usize, level: &Row, rows: &mut Vec
 }
 
 /// Makes `was` the rows last sent of some levels, level by level.
-pub(crate) fn take_sent(rows: &[Row], levels: &[Row], was: &mut Vec<Row>)
-    requires ordered { AreOrdered rows.now }
+pub(crate) fn take_sent(rows: &LevelRows, levels: &[Row], was: &mut Vec<Row>)
     requires room { length levels.now ≤ vec_capacity was.old }
-    ensures rows { was.new.items ≡ picked levels.now rows.now }
+    ensures rows { was.new.items ≡ picked levels.now rows.now.rows }
     ensures capacity { vec_capacity was.new ≡ vec_capacity was.old }
 {
     was.clear();

@@ -3,8 +3,12 @@ ghost use Rattle.std.specs.Prelude.{◌≡◌, ◌+◌, ◌*◌, ◌≤◌, ◌+
 ghost use Rattle.exec_report.specs.Pushes.{Pushes};
 ghost use Rattle.line_parts.specs.Words.{line_feed};
 ghost use Rattle.level_feed.specs.FeedText.{row_words, row_line, text_of_lines};
+ghost use Rattle.level_feed.specs.Rows.{with_rows, AreOrdered};
+ghost use Rattle.level_feed.specs.Inner.{line_as};
 
+use crate::compare::{comes_first, is_at_level};
 use crate::row::Row;
+use crate::rows::is_gone;
 use exec_report::{ReportBuffer, SendFault, push_text};
 use gx_base::{LONGEST_LINE, LONGEST_VALUE, MOST_DECIMALS, Names, listed};
 use gx_station::Station;
@@ -141,17 +145,51 @@ pub(crate) fn print_rows<S: Station>(
     Ok(())
 }
 
-/// Puts out the rows of a table.
-pub(crate) fn print_table_rows<S: Station>(
+/// Puts out the line of a row, in a block or in a table.
+fn print_row_as<S: Station>(
     names: &Names,
-    rows: &[Row],
+    in_block: bool,
+    row: &Row,
     buffer: &mut ReportBuffer,
     station: &mut S,
 ) -> Result<(), SendFault>
-    ensures { Pushes S.meanings station.old station.new buffer.old buffer.new (text_of_lines (map (row_words names.now.instruments) rows.now)) result }
+    ensures { Pushes S.meanings station.old station.new buffer.old buffer.new (line_as in_block names.now.instruments row.now ++ line_feed) result }
 {
-    for row in rows {
-        print_table_row(names, row, buffer, station)?;
+    if in_block {
+        return print_row(names, row, buffer, station);
+    }
+    print_table_row(names, row, buffer, station)
+}
+
+/// Puts out the rows after all changes, as those of a block or as those of a table.
+pub(crate) fn print_merged<S: Station>(
+    names: &Names,
+    in_block: bool,
+    settled: &[Row],
+    changes: &[Row],
+    buffer: &mut ReportBuffer,
+    station: &mut S,
+) -> Result<(), SendFault>
+    requires settled { AreOrdered settled.now }
+    requires changes { AreOrdered changes.now }
+    ensures { Pushes S.meanings station.old station.new buffer.old buffer.new (text_of_lines (map (line_as in_block names.now.instruments) (with_rows changes.now settled.now))) result }
+{
+    let mut at = 0;
+    let mut next = 0;
+    while at < settled.len() || next < changes.len() {
+        if comes_first(settled, at, changes, next) {
+            print_row_as(names, in_block, &settled[at], buffer, station)?;
+            at += 1;
+        } else {
+            let change = &changes[next];
+            if at < settled.len() && is_at_level(&settled[at], change) {
+                at += 1;
+            }
+            if !is_gone(change) {
+                print_row_as(names, in_block, change, buffer, station)?;
+            }
+            next += 1;
+        }
     }
     Ok(())
 }

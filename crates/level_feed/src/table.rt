@@ -9,11 +9,11 @@ ghost use Rattle.level_feed.specs.declared.line.Line.TheVariants as kind;
 
 use crate::compare::is_before;
 use crate::fault::FeedFault;
+use crate::level_rows::LevelRows;
 use crate::line::Line;
-use crate::printing::print_table_rows;
 use crate::reading::read_line;
 use crate::row::Row;
-use crate::rows::{is_gone, is_open, put_row};
+use crate::rows::{is_gone, is_open};
 use exec_report::{ReportBuffer, SendFault, send_waiting};
 use gx_base::Names;
 use gx_station::Station;
@@ -28,9 +28,8 @@ pub const LONGEST_FEED_LINE: usize = 127;
 /// and what the lines so far left.
 #[derive(Drop)]
 pub struct FeedTable {
-    capacity: u32,
-    /// The levels, in book order.
-    rows: Vec<Row>,
+    /// The levels.
+    rows: LevelRows,
     /// The number of the last block, from the first snapshot on.
     number: Option<u64>,
     /// How many rows of the block are due.
@@ -45,12 +44,7 @@ impl Model for FeedTable {
 
     ghost Value = { HeldTable };
 
-    ghost use Rattle.std.specs.Prelude.{◌≤◌, length, vec_capacity};
-    ghost use Rattle.level_feed.specs.Rows.{AreOrdered};
-
-    ghost view = { λ t. record { capacity = t.capacity; table = record { rows = t.rows.items; number = t.number; due = t.due; is_snapshot = t.is_snapshot; before = t.before } } };
-
-    ghost invariant = { λ t. (length t.rows.items ≤ t.capacity) × AreOrdered t.rows.items × (t.capacity ≤ vec_capacity t.rows) };
+    ghost view = { λ t. record { capacity = t.rows.capacity; table = record { rows = t.rows.rows; number = t.number; due = t.due; is_snapshot = t.is_snapshot; before = t.before } } };
 }
 
 impl FeedTable {
@@ -59,8 +53,7 @@ impl FeedTable {
         ensures { IfOk result (λ table. table ≡ record { capacity = capacity; table = empty_table }) }
     {
         Ok(FeedTable {
-            capacity,
-            rows: Vec::with_capacity(alloc, capacity as usize)?,
+            rows: LevelRows::new(alloc, capacity)?,
             number: None,
             due: 0,
             is_snapshot: false,
@@ -114,7 +107,8 @@ impl FeedTable {
         ensures sends { Sends S.meanings station.old station.new (table_text product.now.names.instruments self.now.table.rows) result }
         ensures empty { OnOk result (buffer.new ≡ []) }
     {
-        send_table(product.names(), &self.rows, buffer, station)
+        self.rows.print(product.names(), false, buffer, station)?;
+        send_waiting(buffer, station)
     }
 
     /// The first line of a snapshot.
@@ -172,7 +166,7 @@ impl FeedTable {
         if self.due == 0 || !has_form(self.is_snapshot, &row) || !may_follow(self.before, &row) {
             return Err(FeedFault::Form);
         }
-        if self.number.is_some() && !put_row(&mut self.rows, row, self.capacity as usize) {
+        if self.number.is_some() && !self.rows.put(row) {
             return Err(FeedFault::Full);
         }
         self.due -= 1;
@@ -197,19 +191,4 @@ fn may_follow(before: Option<Row>, row: &Row) -> bool
         Some(before) if is_gone(&before) => !is_gone(row) || is_before(&before, row),
         Some(before) => !is_gone(row) && is_before(&before, row),
     }
-}
-
-/// Sends the rows of a table.
-fn send_table<S: Station>(
-    names: &Names,
-    rows: &[Row],
-    buffer: &mut ReportBuffer,
-    station: &mut S,
-) -> Result<(), SendFault>
-    requires empty { buffer.old ≡ [] }
-    ensures sends { Sends S.meanings station.old station.new (table_text names.now.instruments rows.now) result }
-    ensures empty { OnOk result (buffer.new ≡ []) }
-{
-    print_table_rows(names, rows, buffer, station)?;
-    send_waiting(buffer, station)
 }
