@@ -6,9 +6,9 @@ use Rattle.std.proofs.lemmas.Bool.{true≢false}
 use Rattle.line_parts.specs.Words.{line_feed}
 use Rattle.level_feed.specs.FeedText.{text_of_lines}
 use Rattle.level_feed.specs.declared.row.Row.{Row}
-use Rattle.level_feed.specs.Rows.{is_at_level, is_gone, with_row, with_rows, AreOrdered}
+use Rattle.level_feed.specs.Rows.{is_at_level, is_gone, with_rows, AreOrdered}
 use Rattle.level_feed.specs.Inner.{comes_first}
-use Rattle.level_feed.proofs.Order.{Alike, Behind, AllBehind, First, Last, Level_of, order-of, own, alike-at, at-alike, all-behind-then, with-row-first, with-row-here, with-rows-past}
+use Rattle.level_feed.proofs.Order.{AllBehind, First, Last, Level_of, order-of, own, alike-at, at-alike, all-behind-then, with-row-first, with-row-here, with-rows-past}
 use Rattle.level_feed.proofs.Compared.{no_row, first-behind}
 
 -- what is left of the rows after the changes
@@ -64,26 +64,26 @@ ordered-drop (suc i) [] o = tt
 ordered-drop (suc i) (r ∷ rows) o = ordered-drop i rows o.1
 
 module _ (settled changes : List Row) (at next : ℕ) (o : AreOrdered settled) (p : AreOrdered changes) where
-  pub next-row : at < length settled → comes_first (drop at settled) (drop next changes) ≡ true → merged_from settled changes at next ≡ get_or settled at no_row ∷ merged_from settled changes (at + 1) next
+  pub next-row : at < length settled → true ≡ comes_first (drop at settled) (drop next changes) → merged_from settled changes at next ≡ get_or settled at no_row ∷ merged_from settled changes (at + 1) next
   next-row lt h =
       let here = drop_more settled at no_row lt in
       ap (with_rows (drop next changes)) here
-      ∙ first-row (get_or settled at no_row) (drop (at + 1) settled) (drop next changes) (ordered-drop next changes p) (sym (ap (λ (q : List Row). comes_first q (drop next changes)) here) ∙ h)
+      ∙ first-row (get_or settled at no_row) (drop (at + 1) settled) (drop next changes) (ordered-drop next changes p) (sym (h ∙ ap (λ (q : List Row). comes_first q (drop next changes)) here))
 
-  pub next-change-here : at < length settled → next < length changes → is_at_level (get_or settled at no_row) (get_or changes next no_row) ≡ true → merged_from settled changes at next ≡ own (get_or changes next no_row) ++ merged_from settled changes (at + 1) (next + 1)
+  pub next-change-here : at < length settled → next < length changes → true ≡ is_at_level (get_or settled at no_row) (get_or changes next no_row) → merged_from settled changes at next ≡ own (get_or changes next no_row) ++ merged_from settled changes (at + 1) (next + 1)
   next-change-here lo ln h =
       let here = drop_more settled at no_row lo in
       let there = drop_more changes next no_row ln in
       ap₂ with_rows there here
       ∙ first-change-here (get_or changes next no_row) (get_or settled at no_row) (drop (next + 1) changes) (drop (at + 1) settled)
-      (subst AreOrdered there (ordered-drop next changes p)) (subst AreOrdered here (ordered-drop at settled o)) h
+      (subst AreOrdered there (ordered-drop next changes p)) (subst AreOrdered here (ordered-drop at settled o)) (sym h)
 
-  pub next-change : at < length settled → next < length changes → comes_first (drop at settled) (drop next changes) ≡ false → is_at_level (get_or settled at no_row) (get_or changes next no_row) ≡ false → merged_from settled changes at next ≡ own (get_or changes next no_row) ++ merged_from settled changes at (next + 1)
+  pub next-change : at < length settled → next < length changes → false ≡ comes_first (drop at settled) (drop next changes) → false ≡ is_at_level (get_or settled at no_row) (get_or changes next no_row) → merged_from settled changes at next ≡ own (get_or changes next no_row) ++ merged_from settled changes at (next + 1)
   next-change lo ln h g =
       let c = get_or changes next no_row in
       let here = drop_more settled at no_row lo in
       let there = drop_more changes next no_row ln in
-      let first = change-before c (get_or settled at no_row) (drop (next + 1) changes) (drop (at + 1) settled) (subst AreOrdered here (ordered-drop at settled o)) (sym (ap₂ comes_first here there) ∙ h) g in
+      let first = change-before c (get_or settled at no_row) (drop (next + 1) changes) (drop (at + 1) settled) (subst AreOrdered here (ordered-drop at settled o)) (sym (h ∙ ap₂ comes_first here there)) (sym g) in
       ap (λ (q : List Row). with_rows q (drop at settled)) there
       ∙ first-change c (drop (next + 1) changes) (drop at settled) (subst AreOrdered there (ordered-drop next changes p)) (subst (AllBehind c) (sym here) first)
 
@@ -103,11 +103,11 @@ module _ (settled changes : List Row) (at next after : ℕ) (o : AreOrdered sett
   pub step-row : at < length settled → AreWalked settled changes (at + 1) next
   step-row lt = record { within = omega arith; inside = w.inside }
 
-  pub step-here : at < length settled → next < length changes → is_at_level (get_or settled at no_row) (get_or changes next no_row) ≡ true → after ≡ at + 1 → Step settled changes at next after
+  pub step-here : at < length settled → next < length changes → true ≡ is_at_level (get_or settled at no_row) (get_or changes next no_row) → after ≡ at + 1 → Step settled changes at next after
   step-here lo ln h e =
       subst (Step settled changes at next) (sym e) (record { within = omega arith; inside = omega arith }, next-change-here settled changes at next o p lo ln h)
 
-  pub step-first : at < length settled → next < length changes → comes_first (drop at settled) (drop next changes) ≡ false → is_at_level (get_or settled at no_row) (get_or changes next no_row) ≡ false → after ≡ at → Step settled changes at next after
+  pub step-first : at < length settled → next < length changes → false ≡ comes_first (drop at settled) (drop next changes) → false ≡ is_at_level (get_or settled at no_row) (get_or changes next no_row) → after ≡ at → Step settled changes at next after
   step-first lo ln h g e =
       subst (Step settled changes at next) (sym e) (record { within = w.within; inside = omega arith }, next-change settled changes at next o p lo ln h g)
 
@@ -121,11 +121,11 @@ merged-end settled changes at next lo ln = ap₂ with_rows (drop_all next change
 
 -- ---- what comes of it
 
-pub own-none : (c : Row) (rows : List Row) → is_gone c ≡ true → own c ++ rows ≡ rows
-own-none c rows h = ap (λ (b : Bool). cond b [] (c ∷ []) ++ rows) h
+pub own-none : (c : Row) (rows : List Row) → true ≡ is_gone c → own c ++ rows ≡ rows
+own-none c rows h = ap (λ (b : Bool). cond b [] (c ∷ []) ++ rows) (sym h)
 
-pub own-one : (c : Row) (rows : List Row) → is_gone c ≡ false → own c ++ rows ≡ c ∷ rows
-own-one c rows h = ap (λ (b : Bool). cond b [] (c ∷ []) ++ rows) h
+pub own-one : (c : Row) (rows : List Row) → false ≡ is_gone c → own c ++ rows ≡ c ∷ rows
+own-one c rows h = ap (λ (b : Bool). cond b [] (c ∷ []) ++ rows) (sym h)
 
 -- one more has room
 pub room-left : (into rest whole : List Row) (r : Row) (n : ℕ) → into ++ r ∷ rest ≡ whole → length whole ≤ n → length into < n
