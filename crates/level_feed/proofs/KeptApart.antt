@@ -1,5 +1,5 @@
 -- Changes that are kept apart: one more of them.
-use Rattle.std.proofs.Common.{◌≡◌, ℕ, ◌+◌, ◌<◌, ◌≤◌, Bool, true, false, cond, List, [], ◌∷◌, ◌++◌, length, take, drop, get_or, set, refl, sym, ap, ap₂, subst, ◌∙◌, arith}
+use Rattle.std.proofs.Common.{◌≡◌, ℕ, ◌+◌, ◌<◌, Bool, true, false, cond, List, [], ◌∷◌, ◌++◌, length, take, drop, get_or, set, refl, sym, ap, ap₂, subst, ◌∙◌, arith}
 use Prim.Native.Nat.{zero, suc}
 use Rattle.std.specs.List.{AllByRecursion, insert}
 use Rattle.std.proofs.lemmas.List.{set_split}
@@ -138,15 +138,6 @@ ordered-with-change r (c ∷ changes) ordered =
           let all : AllBehind r (c ∷ changes) = (h, all-behind-then r c changes h ordered.0) in
           subst AreOrdered (sym (with-change-first r (c ∷ changes) all)) (all, ordered)
       | Level_of e ↦ subst AreOrdered (sym (with-change-here r c changes (sym e) ordered.0)) (all-alike-behind r c changes (sym e) ordered.0, ordered.1)
-    ]
-
-pub few-with-change : (r : Row) (changes : List Row) → AreOrdered changes → length (with_change r changes) ≤ length changes + 1
-few-with-change r [] ordered = omega (arith, ap length (with-change-first r [] tt))
-few-with-change r (c ∷ changes) ordered =
-    elim (order-of c r) [
-      | First h ↦ omega (arith, ap length (with-change-past r c changes h), few-with-change r changes ordered.1)
-      | Last h ↦ omega (arith, ap length (with-change-first r (c ∷ changes) (h, all-behind-then r c changes h ordered.0)))
-      | Level_of e ↦ omega (arith, ap length (with-change-here r c changes (sym e) ordered.0))
     ]
 
 -- ---- a change at its place

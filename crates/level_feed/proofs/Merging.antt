@@ -1,10 +1,8 @@
 -- Rows and changes of them that are walked at once.
-use Rattle.std.proofs.Common.{◌≡◌, ℕ, ◌+◌, ◌<◌, ◌≤◌, Bool, true, false, cond, List, [], ◌∷◌, ◌++◌, length, map, drop, get_or, refl, sym, ap, ap₂, subst, ◌∙◌, arith, append_assoc}
+use Rattle.std.proofs.Common.{◌≡◌, ℕ, ◌+◌, ◌<◌, ◌≤◌, Bool, true, false, cond, List, [], ◌∷◌, ◌++◌, length, drop, get_or, refl, sym, ap, ap₂, subst, ◌∙◌, arith, append_assoc}
 use Prim.Native.Nat.{zero, suc}
 use Rattle.std.proofs.lemmas.List.{append-nil, drop_all, drop_more, length-append}
 use Rattle.std.proofs.lemmas.Bool.{true≢false}
-use Rattle.line_parts.specs.Words.{line_feed}
-use Rattle.level_feed.specs.FeedText.{text_of_lines}
 use Rattle.level_feed.specs.declared.row.Row.{Row}
 use Rattle.level_feed.specs.Rows.{is_at_level, is_gone, with_rows, AreOrdered}
 use Rattle.level_feed.specs.Inner.{comes_first}
@@ -147,14 +145,3 @@ module _ (settled changes : List Row) (at next : ℕ) (into : List Row) (before 
 
   pub merged-all : length settled ≤ at → length changes ≤ next → into ≡ with_rows changes settled
   merged-all lo ln = sym (ap (λ (q : List Row). into ++ q) (merged-end settled changes at next lo ln) ∙ append-nil into) ∙ w.parts
-
--- ---- as text
-
-abbrev pub lines_of : (Row → List ℕ) → List Row → List ℕ
-lines_of line rows = text_of_lines (map line rows)
-
-pub lines-one : (line : Row → List ℕ) (rows rest : List Row) (r : Row) → rows ≡ r ∷ rest → lines_of line rows ≡ (line r ++ line_feed) ++ lines_of line rest
-lines-one line rows rest r e = ap (lines_of line) e
-
-pub lines-same : (line : Row → List ℕ) (rows rest : List Row) → rows ≡ rest → lines_of line rows ≡ lines_of line rest
-lines-same line rows rest e = ap (lines_of line) e

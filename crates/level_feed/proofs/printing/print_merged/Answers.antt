@@ -5,7 +5,8 @@ use Rattle.level_feed.specs.Inner.{line_as}
 use Rattle.exec_report.proofs.Pushed.{put-of}
 use Rattle.exec_report.proofs.Parts.{IsPart, part-none, part-more, part-fails}
 use Rattle.level_feed.proofs.Compared.{no_row}
-use Rattle.level_feed.proofs.Merging.{Step, merged_from, next-row, step-row, step-here, step-first, step-alone, own-none, own-one, lines_of, lines-one, lines-same}
+use Rattle.level_feed.proofs.Merging.{Step, merged_from, next-row, step-row, step-here, step-first, step-alone, own-none, own-one}
+use Rattle.level_feed.proofs.PrintedRows.{lines_of, lines-one, lines-same}
 use Rattle.level_feed.proofs.printing.print_merged.Goals.{then-at-settled-2+then-is_at_level, else-at-settled-2, else-at-settled-2-via-then-at-settled-2+else-is_at_level, else-at-settled-2-via-else-at-settled-2, then-not-is_gone+in_ok-print_row_as-2, else-not-is_gone}
 use Rattle.level_feed.proofs.printing.print_merged.Goals as goal
 
@@ -45,10 +46,11 @@ loop-at-preserved-then-comes_first g c =
     let p = c.requires.changes in
     let row = get_or settled at no_row in
     let e = next-row settled changes at next o p (c.if-comes_first.ensures.inside refl) c.if-comes_first.ensures.first in
-    let text = lines-one line (merged_from settled changes at next) (merged_from settled changes (at + 1) next) row e in
-    ( step-row settled changes at next at o p c.loop-at.invariant.0 (c.if-comes_first.ensures.inside refl)
-    , part-more m c.loop-at.invariant.1 (line row ++ line_feed) (lines_of line (merged_from settled changes (at + 1) next)) _ _ text
-    (put-of m _ _ _ _ _ c.in_ok-print_row_as.field-0 c.in_ok-print_row_as.ensures) )
+    let text = lines-one line (merged_from settled changes at next) (merged_from settled changes (at + 1) next) row e in (
+      step-row settled changes at next at o p c.loop-at.invariant.0 (c.if-comes_first.ensures.inside refl),
+      part-more m c.loop-at.invariant.1 (line row ++ line_feed) (lines_of line (merged_from settled changes (at + 1) next)) _ _ text
+          (put-of m _ _ _ _ _ c.in_ok-print_row_as.field-0 c.in_ok-print_row_as.ensures),
+    )
 
 pub returns-in_err-print_row_as-2 : goal.returns-in_err-print_row_as-2
 returns-in_err-print_row_as-2 g c =

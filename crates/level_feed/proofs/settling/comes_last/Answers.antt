@@ -1,5 +1,4 @@
-use Rattle.std.proofs.Common.{◌≡◌, ◌-◌, ◌∙◌, length, get_or, sym, ap, arith, rules}
-use Prim.Native.Nat.{suc}
+use Rattle.std.proofs.Common.{◌≡◌, ◌-◌, ◌∙◌, length, sym, ap, arith, rules}
 use Rattle.std.proofs.lemmas.Bool.{OnTrue_from}
 use Rattle.std.proofs.lemmas.List.{nil_from_length}
 use Rattle.std.proofs.lemmas.Option.{slice_get_within, get_or_from_slice_get}
@@ -18,7 +17,8 @@ returns-in-Some c =
     let within = slice_get_within rows last c.in-Some.last.now is in
     let here = get_or_from_slice_get rows last c.in-Some.last.now no_row is in
     let none : length c.args.changes.now ≡ 0 = search rules in
-    OnTrue_from c.is_before.result _ (λ h.
-    ( nil_from_length c.args.changes.now none
-    , with-row-last row rows c.requires.shown
-    (all-before-last row rows last c.requires.ordered (omega arith) (ap (λ (x : Row). row_before x row) here ∙ sym c.is_before.ensures ∙ h)) ))
+    OnTrue_from c.is_before.result _ (λ h. (
+      nil_from_length c.args.changes.now none,
+      with-row-last row rows c.requires.shown
+          (all-before-last row rows last c.requires.ordered (omega arith) (ap (λ (x : Row). row_before x row) here ∙ sym c.is_before.ensures ∙ h)),
+    ))
