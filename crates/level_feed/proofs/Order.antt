@@ -89,7 +89,7 @@ module _ {X : Type 0} (p : X → Bool) where
   filter-none [] h = refl
   filter-none (x ∷ xs) h = filter-no x xs h.0 ∙ filter-none xs h.1
 
-none-before : (r : Row) (rows : List Row) → AllBehind r rows → AllByRecursion (λ x. row_before x r ≡ false) rows
+pub none-before : (r : Row) (rows : List Row) → AllBehind r rows → AllByRecursion (λ x. row_before x r ≡ false) rows
 none-before r [] h = tt
 none-before r (x ∷ rows) h = (behind-apart r x h.0, none-before r rows h.1)
 
