@@ -20,6 +20,7 @@ mod Compared
 mod Collected
 mod Merging
 mod KeptApart
+mod FoundRows
 mod PrintedRows
 mod BlockTexts
 mod Placed
