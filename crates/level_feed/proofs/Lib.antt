@@ -21,6 +21,7 @@ mod Collected
 mod Merging
 mod KeptApart
 mod FoundRows
+mod KeptRows
 mod PrintedRows
 mod BlockTexts
 mod Placed
