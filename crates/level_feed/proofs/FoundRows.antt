@@ -1,9 +1,8 @@
 -- The row of a level among rows that take effect one after the other.
-use Rattle.std.proofs.Common.{◌≡◌, ℕ, ◌+◌, ◌<◌, Bool, true, false, cond, List, [], ◌∷◌, ◌++◌, length, filter, get_or, Ok, Err, refl, sym, ap, ap₂, subst, ◌∙◌, arith, inl, inr}
+use Rattle.std.proofs.Common.{◌≡◌, ℕ, ◌+◌, ◌<◌, Bool, true, false, cond, List, [], ◌∷◌, ◌++◌, length, get_or, Ok, Err, refl, sym, ap, ◌∙◌, arith, inl, inr}
 use Prim.Native.Nat.{zero, suc}
 use Rattle.std.specs.List.{AllByRecursion}
-use Rattle.std.proofs.lemmas.Bool.{cases_Bool, true≢false}
-use Rattle.std.proofs.lemmas.List.{append-nil}
+use Rattle.std.proofs.lemmas.Bool.{cases_Bool}
 use Rattle.book_order.specs.Levels.{Level, is_level}
 use Rattle.level_feed.specs.declared.row.Row.{Row}
 use Rattle.level_feed.specs.Rows.{level_of_row, is_at_level, is_gone, with_row, with_rows, AreOrdered}
@@ -12,7 +11,7 @@ use Rattle.level_feed.specs.Inner.{IsFound}
 use Rattle.level_feed.proofs.Compared.{no_row}
 use Rattle.level_feed.proofs.Lengths.{ordered-with-row}
 use Rattle.level_feed.proofs.AtLevel.{none-at-behind, rows-there, rows-not-there, none-new}
-use Rattle.level_feed.proofs.Order.{Alike, AllBehind, First, Last, Level_of, order-of, own, alike-at, at-alike, all-behind-then, all-alike-behind, behind-not-at, behind-not-from, behind-alike, with-row-past, with-row-first, with-row-here, filter-yes, filter-no, filter-none}
+use Rattle.level_feed.proofs.Order.{Alike, AllBehind, First, Last, Level_of, order-of, own, alike-at, at-alike, all-behind-then, all-alike-behind, behind-not-from, behind-alike, with-row-past, with-row-first, with-row-here, filter-yes, filter-no, filter-none}
 
 -- the rows at the level of a row
 abbrev pub beside : Row → List Row → List Row
