@@ -96,12 +96,12 @@ beside-other-row w r (x ∷ rows) o e =
       | First h ↦
           ap (beside w) (with-row-past r x rows h)
           ∙ elim (cases_Bool (is_at_level x w)) [
-              | inl t ↦
-                  filter-yes (λ y. is_at_level y w) x (with_row r rows) t
-                  ∙ ap (λ (q : List Row). x ∷ q) (beside-other-row w r rows o.1 e)
-                  ∙ sym (filter-yes (λ y. is_at_level y w) x rows t)
-              | inr f ↦ beside-no w x (with_row r rows) f ∙ beside-other-row w r rows o.1 e ∙ sym (beside-no w x rows f)
-            ]
+            | inl t ↦
+                filter-yes (λ y. is_at_level y w) x (with_row r rows) t
+                ∙ ap (λ (q : List Row). x ∷ q) (beside-other-row w r rows o.1 e)
+                ∙ sym (filter-yes (λ y. is_at_level y w) x rows t)
+            | inr f ↦ beside-no w x (with_row r rows) f ∙ beside-other-row w r rows o.1 e ∙ sym (beside-no w x rows f)
+          ]
       | Last h ↦ ap (beside w) (with-row-first r (x ∷ rows) (h, all-behind-then r x rows h o.0)) ∙ own-not-beside w r (x ∷ rows) e
       | Level_of s ↦
           ap (beside w) (with-row-here r x rows (sym s) o.0)

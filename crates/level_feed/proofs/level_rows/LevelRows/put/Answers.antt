@@ -56,8 +56,7 @@ invariant_of-self c =
     let long = length-append s.settled.items (c.args.row ∷ []) in
     let fit = room.settled_fit in
     let less = room.less in
-    let pushed = c.push_reserved.ensures.items in
-    (
+    let pushed = c.push_reserved.ensures.items in (
       subst AreOrdered (sym (pushed ∙ sym last)) (ordered-with-row c.args.row s.settled.items room.ordered),
       room.apart,
       count ∙ ap length (is ∙ sym pushed ∙ sym (ap (λ (xs : List Row). with_rows xs c.push_reserved.new.self.items) none)),
@@ -66,7 +65,7 @@ invariant_of-self c =
       omega arith,
       omega (arith, c.push_reserved.ensures.capacity),
       room.changes_fit,
-      room.fit
+      room.fit,
     )
 
 pub invariant_of-self-else-is-eq1 : goal.invariant_of-self-else-is-eq1
@@ -86,8 +85,7 @@ invariant_of-self-else-is-eq1 c =
     let most = room.most in
     let effect = row-changed c.args.row c.args.self.now s c.put_change.new.changes.items room c.put_change.ensures.put in
     let less = room.less in
-    let fit = room.changes_fit in
-    (
+    let fit = room.changes_fit in (
       room.ordered,
       c.put_change.ensures.ordered,
       count ∙ ap length (sym effect),
@@ -96,7 +94,7 @@ invariant_of-self-else-is-eq1 c =
       omega (arith, c.put_change.ensures.few),
       room.settled_fit,
       omega (arith, c.put_change.ensures.capacity),
-      room.fit
+      room.fit,
     )
 
 pub returns-then-comes_last-clause-within : goal.returns-then-comes_last-clause-within
