@@ -20,6 +20,8 @@ mod Compared
 mod Collected
 mod Merging
 mod KeptApart
+mod FoundRows
+mod KeptRows
 mod PrintedRows
 mod BlockTexts
 mod Placed

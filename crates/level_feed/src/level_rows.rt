@@ -70,7 +70,9 @@ impl LevelRows {
     pub(crate) fn rules(&self)
         ensures ordered { AreOrdered self.now.rows }
         ensures few { length self.now.rows ≤ self.now.capacity }
-    {}
+    {
+        let _ = &self.capacity;
+    }
 
     /// How many rows there are.
     pub(crate) fn len(&self) -> usize
