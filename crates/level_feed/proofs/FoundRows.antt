@@ -21,10 +21,6 @@ beside w rows = rows_at (level_of_row w) rows
 abbrev pub NoneBeside : Row → List Row → Type 0
 NoneBeside w rows = AllByRecursion (λ r. is_at_level r w ≡ false) rows
 
-pub ordered-with-rows : (more rows : List Row) → AreOrdered rows → AreOrdered (with_rows more rows)
-ordered-with-rows [] rows o = o
-ordered-with-rows (r ∷ more) rows o = ordered-with-rows more (with_row r rows) (ordered-with-row r rows o)
-
 -- ---- a row that was found
 
 same-row : (rows : List Row) (k : ℕ) (d : Row) → k < length rows → get_or rows k no_row ≡ get_or rows k d

@@ -85,10 +85,6 @@ row-then-rows r [] rows h o = refl
 row-then-rows r (c ∷ more) rows h o =
     ap (with_rows more) (two-rows r c rows h.0 o) ∙ row-then-rows r more (with_row c rows) h.1 (ordered-with-row c rows o)
 
-pub ordered-with-rows : (more rows : List Row) → AreOrdered rows → AreOrdered (with_rows more rows)
-ordered-with-rows [] rows o = o
-ordered-with-rows (r ∷ more) rows o = ordered-with-rows more (with_row r rows) (ordered-with-row r rows o)
-
 -- ---- one more change
 
 pub with-change-past : (r x : Row) (rows : List Row) → Behind x r → with_change r (x ∷ rows) ≡ x ∷ with_change r rows

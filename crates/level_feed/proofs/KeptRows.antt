@@ -12,7 +12,8 @@ use Rattle.level_feed.specs.Noted.{rows_at}
 use Rattle.level_feed.specs.Inner.{row_found, with_change}
 use Rattle.level_feed.proofs.Order.{own}
 use Rattle.level_feed.proofs.KeptApart.{change-takes-effect}
-use Rattle.level_feed.proofs.FoundRows.{beside, ordered-with-rows, length-with-row}
+use Rattle.level_feed.proofs.Lengths.{ordered-with-rows}
+use Rattle.level_feed.proofs.FoundRows.{beside, length-with-row}
 use mir.Val.{bool_byte}
 
 -- ---- the rows, and the room for them

@@ -1,7 +1,7 @@
 -- Rows and changes of them that are walked at once.
 use Rattle.std.proofs.Common.{◌≡◌, ℕ, ◌+◌, ◌<◌, ◌≤◌, Bool, true, false, cond, List, [], ◌∷◌, ◌++◌, length, drop, get_or, refl, sym, ap, ap₂, subst, ◌∙◌, arith, append_assoc}
 use Prim.Native.Nat.{zero, suc}
-use Rattle.std.proofs.lemmas.List.{append-nil, drop_all, drop_more, length-append}
+use Rattle.std.proofs.lemmas.List.{drop_all, drop_more, length-append}
 use Rattle.std.proofs.lemmas.Bool.{true≢false}
 use Rattle.level_feed.specs.declared.row.Row.{Row}
 use Rattle.level_feed.specs.Rows.{is_at_level, is_gone, with_rows, AreOrdered}
@@ -113,10 +113,6 @@ module _ (settled changes : List Row) (at next after : ℕ) (o : AreOrdered sett
   step-alone le ln e =
       subst (Step settled changes at next) (sym e) (record { within = w.within; inside = omega arith }, next-change-alone settled changes at next o p le ln)
 
--- both lists have come to their ends
-pub merged-end : (settled changes : List Row) (at next : ℕ) → length settled ≤ at → length changes ≤ next → merged_from settled changes at next ≡ []
-merged-end settled changes at next lo ln = ap₂ with_rows (drop_all next changes ln) (drop_all at settled lo)
-
 -- ---- what comes of it
 
 pub own-none : (c : Row) (rows : List Row) → true ≡ is_gone c → own c ++ rows ≡ rows
@@ -142,6 +138,3 @@ module _ (settled changes : List Row) (at next : ℕ) (into : List Row) (before 
 
   pub merged-none : (at' next' : ℕ) → AreWalked settled changes at' next' → merged_from settled changes at next ≡ merged_from settled changes at' next' → Merged settled changes at' next' into before capacity
   merged-none at' next' walked e = record { walked = walked; parts = sym (ap (λ (q : List Row). into ++ q) e) ∙ w.parts; room = w.room }
-
-  pub merged-all : length settled ≤ at → length changes ≤ next → into ≡ with_rows changes settled
-  merged-all lo ln = sym (ap (λ (q : List Row). into ++ q) (merged-end settled changes at next lo ln) ∙ append-nil into) ∙ w.parts

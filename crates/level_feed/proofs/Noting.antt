@@ -2,16 +2,15 @@
 use Rattle.std.proofs.Common.{◌≡◌, ◌<◌, Bool, true, false, cond, ◌||◌, List, [], ◌∷◌, ◌++◌, filter, Option, Some, None, refl, sym, ap, ◌∙◌, inl, inr, ◌⊎◌}
 use Rattle.std.specs.Prelude.{nat_le, length}
 use Rattle.std.specs.List.{list_any}
-use Rattle.std.proofs.lemmas.Bool.{cases_Bool, cond-true, cond-false, true≢false, false_from_ne_true, or_cases, or_left, or_right, lt-leb}
+use Rattle.std.proofs.lemmas.Bool.{cases_Bool, cond-true, cond-false, true≢false, or_cases, or_left, or_right, lt-leb}
 use Rattle.std.proofs.lemmas.List.Folds.{list_any-append}
 use Rattle.gx_base.specs.declared.event.Event.{Event}
-use Rattle.gx_base.specs.Emits.{Emits}
 use Rattle.book_order.specs.Levels.{Level, is_level}
 use Rattle.book_order.proofs.Levels.{is_level-same, is_level-refl}
 use Rattle.level_feed.specs.declared.noted.TheConstants.{MOST_NOTED}
 use Rattle.level_feed.specs.declared.row.Row.{Row}
 use Rattle.level_feed.specs.Rows.{level_of_row, row_before, is_gone, with_row}
-use Rattle.level_feed.specs.Noted.{Noted, is_among, is_noted, row_noting, noted_new, noted_with, level_of_event, noted_if, noted_event, noted_events, noted_meanings, is_level_if, is_event_at, has_event_at}
+use Rattle.level_feed.specs.Noted.{Noted, is_among, is_noted, row_noting, noted_new, noted_with, level_of_event, noted_if, noted_event, noted_events, is_level_if, is_event_at, has_event_at}
 use Rattle.level_feed.proofs.Order.{First, Last, Level_of, order-of, own, ahead, rest}
 
 -- ---- one row more
@@ -136,16 +135,3 @@ events-note k (e ∷ events) n h =
       | inl here ↦ events-kept k events (noted_event e n) (event-itself k e n here)
       | inr later ↦ events-note k events (noted_event e n) later
     ]
-
--- so a level that is not noted then was not noted before, and no event tells of it
-pub events-elsewhere : (k : Level) (events : List Event) (n : Noted) → is_noted k (noted_events events n) ≡ false → (is_noted k n ≡ false) × (has_event_at k events ≡ false)
-events-elsewhere k events n h = (
-  false_from_ne_true (is_noted k n) (λ t. true≢false (sym (events-kept k events n t) ∙ h)),
-  false_from_ne_true (has_event_at k events) (λ t. true≢false (sym (events-note k events n t) ∙ h)),
-)
-
--- ---- what the emitter has seen
-
--- it has noted the events that were put
-pub noted-by-emits : (old new : Noted) (events : List Event) → Emits noted_meanings old new events → new ≡ noted_events events old
-noted-by-emits old new events e = e.all refl

@@ -1,7 +1,7 @@
 use Rattle.std.proofs.Common.{◌∙◌, Vec, Global, ap, ap₂, sym, subst}
 use Rattle.level_feed.specs.declared.row.Row.{Row}
 use Rattle.level_feed.specs.Rows.{with_rows, AreOrdered}
-use Rattle.level_feed.proofs.KeptApart.{ordered-with-rows}
+use Rattle.level_feed.proofs.Lengths.{ordered-with-rows}
 use Rattle.level_feed.proofs.settling.settle.Goals as goal
 
 pub returns-clause-ordered : goal.returns-clause-ordered

@@ -1,7 +1,6 @@
 use Rattle.std.proofs.Common.{◌∙◌, [], ◌∷◌, List, Ok, Err, cond, ap, sym, subst}
 use Rattle.level_feed.specs.declared.row.Row.{Row}
 use Rattle.level_feed.specs.Held.{FeedRows}
-use Rattle.level_feed.specs.Rows.{is_gone}
 use Rattle.level_feed.specs.Inner.{IsFound}
 use Rattle.level_feed.proofs.FoundRows.{beside, beside-one-row, beside-other-rows, found-there, found-none, found-not-there}
 use Rattle.level_feed.proofs.level_rows.LevelRows.find.Goals as goal

@@ -1,4 +1,4 @@
-use Rattle.std.proofs.Common.{◌≡◌, ◌∙◌, ◌+◌, ◌++◌, ◌∷◌, [], List, ℕ, length, length-append, refl, sym, ap, ap₂, subst, arith}
+use Rattle.std.proofs.Common.{◌≡◌, ◌∙◌, ◌++◌, ◌∷◌, [], List, ℕ, length, length-append, refl, sym, ap, ap₂, subst, arith}
 use Rattle.level_feed.specs.declared.row.Row.{Row}
 use Rattle.level_feed.specs.Held.{FeedRows}
 use Rattle.level_feed.specs.Rows.{with_row, with_rows, AreOrdered}

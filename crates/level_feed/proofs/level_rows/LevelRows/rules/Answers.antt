@@ -1,7 +1,7 @@
 use Rattle.std.proofs.Common.{ap, subst}
 use Rattle.level_feed.specs.Held.{FeedRows}
 use Rattle.level_feed.specs.Rows.{AreOrdered}
-use Rattle.level_feed.proofs.FoundRows.{ordered-with-rows}
+use Rattle.level_feed.proofs.Lengths.{ordered-with-rows}
 use Rattle.level_feed.proofs.level_rows.LevelRows.rules.Goals as goal
 
 pub returns-clause-ordered : goal.returns-clause-ordered
