@@ -2,10 +2,10 @@
 use Rattle.std.proofs.Common.{◌≡◌, ℕ, ◌+◌, ◌-◌, ◌<◌, ◌≤◌, List, length, map, sym, ap, subst, ◌∙◌, arith, slice_set, get_or, Some, None}
 use Rattle.gx_base.specs.declared.order.Order.{Order}
 use Rattle.order_pool.specs.Inner.Block.{Cell, with_order}
-use Rattle.order_pool.specs.Inner.Rings.{queue_at, next_at, IsPool, cells_moved, moved, queues_of, rings_of}
+use Rattle.order_pool.specs.Inner.Rings.{queue_at, next_at, IsPool, cells_moved, moved, queues_of, rings_of, free_of, IsLast}
 use Rattle.order_pool.specs.Queues.{Queues, IsIn, IsLive, entries_at, first_slot, next_slot, order_of, appended, removed, with_entry, live_of}
 use Rattle.order_pool.proofs.Pools.{Seen, seen, with-rings, pool-back, view-back, view-out}
-use Rattle.order_pool.proofs.PoolCalls.{Free, below, first_free, not_live, live_some, live_is, first_is_in, first_is_some, first_is_none, next_is_in, next_is_some, next_is_none, IsPool-pushed, view-pushed, IsPool-unlinked}
+use Rattle.order_pool.proofs.PoolCalls.{below, some_free, newest_is_free, not_live, live_some, live_is, first_is_in, first_is_some, first_is_none, next_is_in, next_is_some, next_is_none, IsPool-pushed, view-pushed, IsPool-unlinked}
 use Rattle.order_pool.proofs.PoolFacts.{IsIn-appended}
 use Rattle.order_pool.proofs.Shown.{IsPool-ordered, view-ordered}
 
@@ -45,9 +45,8 @@ module _ {cs : List Cell} {slots queues live : ℕ} {counts : List ℕ} (pool : 
 
   -- ---- an order comes
 
-  -- the first free slot
-  pub free_slot : (i : ℕ) → i ≡ next_at cs (slots + queues) → live_of b < b.capacity → Free cs slots queues live counts L pool i
-  free_slot i e room = subst (Free cs slots queues live counts L pool) (sym e) (first_free cs slots queues live counts L pool b shown room)
+  pub one_free : live_of b < b.capacity → 0 < length (free_of cs slots queues)
+  one_free = some_free cs slots queues live counts L pool b shown
 
   pub record Pushed (i q : ℕ) (o : Order) (new : List Cell) (counts' : List ℕ) : Type 0 where
     pub kept : IsPool new slots queues (live + 1) counts'
@@ -56,10 +55,10 @@ module _ {cs : List Cell} {slots queues live : ℕ} {counts : List ℕ} (pool : 
     pub more : live_of (queues_of new slots queues) ≡ live_of b + 1
     pub placed : IsIn (queues_of new slots queues) i q
 
-  pub pushed : (i q : ℕ) (o : Order) (new : List Cell) (counts' : List ℕ) → i ≡ next_at cs (slots + queues) → live_of b < b.capacity → q < length b.queues
+  pub pushed : (i q : ℕ) (o : Order) (new : List Cell) (counts' : List ℕ) → IsLast i (free_of cs slots queues) → q < length b.queues
       → new ≡ cells_moved (with_order cs i o) slots i q → counts' ≡ slice_set counts q (get_or counts q 0 + 1) → Pushed i q o new counts'
-  pushed i q o new counts' ei room h e ec =
-      let free = free_slot i ei room in
+  pushed i q o new counts' last h e ec =
+      let free = newest_is_free cs slots queues live counts L pool i last in
       let lq = is_queue q h in
       let after = IsPool-pushed cs slots queues live counts L pool i q o free lq new counts' e ec in
       let is = view-pushed cs slots queues live counts L pool i q o free lq new e b shown in

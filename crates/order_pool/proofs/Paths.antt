@@ -2,7 +2,7 @@
 use Rattle.std.proofs.Common.{◌≡◌, ◌≢◌, ℕ, ◌+◌, ◌<◌, ◌≤◌, Bool, not, cond, List, [], ◌∷◌, ◌++◌, length, refl, sym, ap, subst, ◌∙◌, arith, inl, inr}
 use Rattle.std.proofs.lemmas.Bool.Decides.{eqb_tells}
 use Prim.Native.Nat.{zero, suc}
-use Rattle.order_pool.specs.Inner.Rings.{Each, AllDiffer, Path, cells_along, without, In}
+use Rattle.order_pool.specs.Inner.Rings.{Each, AllDiffer, Path, cells_along, without, In, IsLast}
 
 pub each-from : (S T : ℕ → Type 0) → ((k : ℕ) → S k → T k) → (ks : List ℕ) → Each S ks → Each T ks
 each-from S T f [] h = tt
@@ -198,7 +198,14 @@ module _ (N P N' P' : ℕ → ℕ) where
     attached-path a (k ∷ ks) h ai ni nz =
         (n₂ a (λ q. nz.0 (sym h.0 ∙ ap N q ∙ back)) ai ∙ h.0, p₂ k ni.0 nz.0 ∙ h.1, attached-path k ks h.2 ni.0 ni.1 nz.1)
 
--- the first of a path
-pub path-head : (N P : ℕ → ℕ) (a : ℕ) (ks : List ℕ) (z : ℕ) → Path N P a ks z → 0 < length ks → In (N a) ks
-path-head N P a [] z h pos = let p : 0 < 0 = pos in absurd (omega arith)
-path-head N P a (k ∷ ks) z h pos = inl h.0
+-- the last of a path
+last-from : (N P : ℕ → ℕ) (k : ℕ) (ks : List ℕ) (z : ℕ) → Path N P k ks z → IsLast (P z) (k ∷ ks)
+last-from N P k [] z h = ([], ap (λ (j : ℕ). j ∷ []) (sym h.1))
+last-from N P k (m ∷ ms) z h = let l = last-from N P m ms z h.2 in (k ∷ l.0, ap (λ (js : List ℕ). k ∷ js) l.1)
+
+pub path-end : (N P : ℕ → ℕ) (a : ℕ) (ks : List ℕ) (z : ℕ) → Path N P a ks z → 0 < length ks → IsLast (P z) ks
+path-end N P a [] z h pos = let p : 0 < 0 = pos in absurd (omega arith)
+path-end N P a (k ∷ ks) z h pos = last-from N P k ks z h.2
+
+pub in-last : (i : ℕ) (ks : List ℕ) → IsLast i ks → In i ks
+in-last i ks h = subst (In i) (sym h.1) (in-push i h.0)

@@ -6,9 +6,9 @@ use Rattle.std.proofs.lemmas.Bool.Decides.{eqb_tells}
 use Rattle.std.specs.Prelude.{sum_by}
 use Rattle.gx_base.specs.declared.order.Order.{Order}
 use Rattle.order_pool.specs.Inner.Block.{Cell, with_order}
-use Rattle.order_pool.specs.Inner.Rings.{queue_at, prev_at, next_at, Each, In, Path, AreWholeRings, IsPoolWith, IsPool, ring_at, moved, cells_moved, entry, queues_with, queues_of}
+use Rattle.order_pool.specs.Inner.Rings.{queue_at, prev_at, next_at, Each, In, IsLast, Path, AreWholeRings, IsPoolWith, IsPool, ring_at, moved, cells_moved, entry, queues_with, queues_of}
 use Rattle.order_pool.specs.Queues.{Entry, Queues, entries_at, appended, first_slot, next_slot, live_of, HasSlot, IsIn, IsLive}
-use Rattle.order_pool.proofs.Paths.{each-in, path-head}
+use Rattle.order_pool.proofs.Paths.{each-in, in-last}
 use Rattle.order_pool.proofs.WholeRings.{AreWholeRings-moved, length-ring-le, length-left}
 use Rattle.order_pool.proofs.Views.{has_slot-entries, entries_at-qs, length-qs, moved_in, removed_free}
 use Rattle.order_pool.proofs.Pools.{Seen, seen, with-rings, length-came, pool-in, pool-out, view}
@@ -41,19 +41,22 @@ module _ (cs : List Cell) (slots queues live : ℕ) (counts : List ℕ) (L : Lis
         let e : length (ring_at L (queue_at cs i)) ≡ length (ring_at L q) = ap (λ (k : ℕ). length (ring_at L k)) s.tag in
         omega (arith, l, e, pool.counted q s.queue)
 
-  -- the first free slot
+  -- a free slot
   pub record Free (i : ℕ) : Type 0 where
     pub ring : In i (ring_at L queues)
     pub slot : i < slots
     pub tag : queue_at cs i ≡ queues
     pub cell : i < length cs
 
-  pub first_free : (b : Queues) → queues_with cs slots queues L ≡ b → live_of b < b.capacity → Free (next_at cs (slots + queues))
-  first_free b shown room =
+  pub some_free : (b : Queues) → queues_with cs slots queues L ≡ b → live_of b < b.capacity → 0 < length (ring_at L queues)
+  some_free b shown room =
       let room' : live_of (queues_with cs slots queues L) < slots = subst (λ (c : Queues). live_of c < c.capacity) (sym shown) room in
+      omega (arith, live_is, pool.free)
+
+  pub newest_is_free : (i : ℕ) → IsLast i (ring_at L queues) → Free i
+  newest_is_free i last =
       let ring = whole.are.each queues (omega arith) in
-      let m = path-head (next_at cs) (prev_at cs) (slots + queues) (ring_at L queues) (slots + queues) ring.path (omega (arith, live_is, pool.free)) in
-      let i = next_at cs (slots + queues) in
+      let m = in-last i (ring_at L queues) last in
       let low : i < slots = each-in (λ k. k < slots) i (ring_at L queues) m ring.slot in
       record { ring = m; slot = low; tag = each-in (λ k. queue_at cs k ≡ queues) i (ring_at L queues) m ring.tag; cell = omega (arith, whole.are.cells) }
 

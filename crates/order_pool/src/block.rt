@@ -51,6 +51,15 @@ impl Block {
     {
         follow(&self.nodes, self.nodes[i as usize].next).slot
     }
+
+    /// The number of the node that `prev` of a node leads to.
+    pub(crate) fn prev(&self, i: u32) -> u32
+        requires { i < length self.now }
+        ensures value { result ≡ (cell_at self.now i).prev }
+        ensures within { result < length self.now }
+    {
+        follow(&self.nodes, self.nodes[i as usize].prev).slot
+    }
 }
 
 impl Block {

@@ -2,7 +2,7 @@
 ghost use Rattle.std.specs.Prelude.{◌≡◌, ℕ, ◌+◌, ◌-◌, ◌^◌, ◌<◌, length, option_map, vec_len, vec_capacity, replicate, slice_index, slice_set, IfOk, IfSome, IsTrue, ◌↔◌, map};
 ghost use Rattle.order_pool.specs.Queues.{slot_number, empty_queues, order_of, first_slot, next_slot, IsIn, IsLive, entries_at, removed, appended, live_of, with_entry, SlotsDiffer};
 ghost use Rattle.order_pool.specs.Inner.Block.{IsFresh};
-ghost use Rattle.order_pool.specs.Inner.Rings.{IsChained};
+ghost use Rattle.order_pool.specs.Inner.Rings.{AreRings, rings_of, free_of, IsLast, IsChained};
 
 use crate::block::Block;
 use gx_base::{Order, Slot};
@@ -155,7 +155,7 @@ impl Pool {
         ensures live { live_of self.new ≡ live_of self.old + 1 }
         ensures placed { IsIn self.new (slot_number result) queue }
     {
-        let slot = self.block.next(self.capacity + self.queues);
+        let slot = newest_free(&self.block, self.capacity, self.queues);
         self.block.set_order(slot, order);
         self.block.relocate(slot, self.capacity + queue, queue);
         raise(&mut self.counts, queue);
@@ -229,6 +229,16 @@ fn raise(counts: &mut Vec<u32>, q: u32)
     ensures room { vec_capacity counts.new ≡ vec_capacity counts.old }
 {
     counts[q as usize] += 1;
+}
+
+/// The free slot that became free last. There has to be one.
+fn newest_free(block: &Block, slots: u32, queues: u32) -> u32
+    requires rings { AreRings block.now slots queues (rings_of block.now slots queues) }
+    requires fits { slots + queues + 1 < 2 ^ 32 }
+    requires some { 0 < length (free_of block.now slots queues) }
+    ensures { IsLast result (free_of block.now slots queues) }
+{
+    block.prev(slots + queues)
 }
 
 /// Puts the first `slots` nodes of a new block into the ring of free slots.

@@ -68,6 +68,13 @@ pub record AreRings (cs : List Cell) (slots queues : ℕ) (rings : List (List �
   pub each : (q : ℕ) → q < queues + 1 → IsRing cs slots q (ring_at rings q)
   pub heads : (q : ℕ) → q < queues + 1 → queue_at cs (slots + q) ≡ q
 
+-- the free slots: each comes to the end once it is free
+abbrev pub free_of : List Cell → ℕ → ℕ → List ℕ
+free_of cs slots queues = ring_at (rings_of cs slots queues) queues
+
+abbrev pub IsLast : ℕ → List ℕ → Type 0
+IsLast i ks = (js : List ℕ) × (ks ≡ js ++ i ∷ [])
+
 -- ks without i
 abbrev pub without : ℕ → List ℕ → List ℕ
 without i ks = filter (λ k. not (k == i)) ks
