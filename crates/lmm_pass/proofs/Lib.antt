@@ -1,3 +1,6 @@
+mod Absent
+mod Due
+mod FirmSets
 mod Others
 mod Slots
 mod Spends

@@ -96,6 +96,21 @@ module _ {E : Type 0} (m : EmitMeanings E) (price : Price) (shares : List LmmSha
         enough = omega (arith, w.enough, sum_by-cons (part_in q) s left, leaves, spent-leaves (q * s.percent / 100) (orders_of s.firm es) (start_at now));
       }
 
+  -- the next firm has no order at the level
+  pub way-past : (s : LmmShare) (left : List LmmShare) (now : MatchAt E) → orders_of s.firm level_before ≡ [] → IsUnderWay (s ∷ left) now → IsUnderWay left now
+  way-past s left now none w =
+      let q = before.taker.order.leaves in
+      record {
+        run = w.run;
+        matches = w.matches;
+        all = sym (ap (λ (xs : List Entry). w.run ++ (spent (q * s.percent / 100) xs ++ lmm_shares left q level_before)) none) ∙ w.all;
+        faces = w.faces;
+        unmoved = w.unmoved.1;
+        firms = distinct-more s left w.firms;
+        percents = w.percents.1;
+        enough = omega (arith, w.enough, sum_by-cons (part_in q) s left);
+      }
+
   -- the lots of the next firm are still wanted
   pub way-wanted : (s : LmmShare) (left : List LmmShare) (now : MatchAt E) → IsUnderWay (s ∷ left) now → before.taker.order.leaves * s.percent / 100 ≤ now.taker.order.leaves
   way-wanted s left now w = omega (arith, w.enough, sum_by-cons (part_in before.taker.order.leaves) s left)

@@ -1,1 +1,2 @@
+pub mod FirmSets
 pub mod Firms

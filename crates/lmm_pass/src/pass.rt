@@ -5,6 +5,7 @@ ghost use Rattle.gx_base.specs.declared.order.LmmShare.{LmmShare};
 ghost use Rattle.plain_book.specs.Matches.{match_at, Matches, CanTrade};
 ghost use Rattle.plain_book.specs.Steps.{lmm};
 
+use crate::present::{absent_firms, firms_due};
 use gx_base::{Desk, Emit, LmmShare, Order, Price, StepName, Taker};
 use plain_book::{Book, ShareRule, StepLevel, percent_of, trade_level};
 
@@ -57,11 +58,16 @@ pub fn lmm_pass<B: Book, E: Emit>(
         Matches E.meanings (lmm shares.now price) before after }
 {
     let wanted = taker.order.leaves;
+    let due = firms_due(wanted, shares);
+    let absent = absent_firms(book, taker, price, due);
     let level = StepLevel {
         step: StepName::Lmm,
         price,
     };
     for share in shares {
+        if absent.has(share.firm) {
+            continue;
+        }
         book.rules();
         let mut spent = SpentOnFirm {
             firm: share.firm,
