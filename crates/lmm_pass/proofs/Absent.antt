@@ -1,7 +1,6 @@
 -- A walk along a level takes the firms out of a set that it meets.
 use Rattle.std.proofs.Common.{◌≡◌, ℕ, ◌<◌, ◌==◌, ◌&&◌, ◌||◌, Bool, true, false, not, cond, List, [], ◌∷◌, ◌++◌, length, Option, Some, None, refl, sym, ap, subst, ◌∙◌, append_assoc, arith}
 use Prim.Native.Nat.{suc}
-use Rattle.std.proofs.lemmas.List.{append-nil}
 use Rattle.std.proofs.lemmas.List.Folds.{list_any-append}
 use Rattle.plain_book.specs.declared.entry.Entry.{Entry}
 use Rattle.plain_book.specs.Orders.{Level, level_of, is_at, orders_at, HasSlot, order_of, slot_of, slot_after}
@@ -34,10 +33,6 @@ cut_of : (es : List Entry) (slot : ℕ) → Some slot ≡ slot_of es → Cut es 
 cut_of [] slot h = absurd (let k : Some slot ≡ None = h in cc)
 cut_of (e ∷ es) slot h = (e, (es, (refl, (let k : Some slot ≡ Some e.slot = h in let r : slot ≡ e.slot = cc in sym r))))
 
-none_first : (es : List Entry) → None ≡ slot_of es → es ≡ []
-none_first [] h = refl
-none_first (e ∷ es) h = absurd (let k : None ≡ Some e.slot = h in cc)
-
 -- ---- the firms that were not met
 
 -- each firm of a set is still in it exactly where none of the orders is its own that the walk met
@@ -68,13 +63,6 @@ not-both false o e = absurd (let k : false ≡ true = e in cc)
 -- no firm is looked for
 pub none-due : (firms : FirmSet) (orders : List Entry) → firms.bits ≡ 0 → (f : ℕ) → has_firm firms f ≡ (has_firm firms f && not (has_order f orders))
 none-due firms orders none f = none-has firms none f ∙ sym (ap (λ (h : Bool). h && not (has_order f orders)) (none-has firms none f))
-
-pub meeting-start : (orders : List Entry) (firms : FirmSet) (at : Option ℕ) → at ≡ slot_of orders → IsMeeting orders firms firms at
-meeting-start orders firms at first = record { done = []; rest = orders; whole = refl; next = first; unmet = λ f. sym (and-true (has_firm firms f)) }
-  where
-    and-true : (a : Bool) → (a && true) ≡ a
-    and-true true = refl
-    and-true false = refl
 
 module _ (k : Level) (b : Book) {firms absent : FirmSet} {at : Option ℕ} (w : IsMeeting (orders_at k b.resting) firms absent at) where
   pub meeting-turn : (slot : ℕ) → IsRight b → at ≡ Some slot → Turn k b w.done w.rest slot
@@ -115,12 +103,6 @@ module _ (k : Level) (b : Book) {firms absent : FirmSet} {at : Option ℕ} (w : 
       met ∙ sym (ap (λ (xs : List Entry). has_firm firms f && not (has_order f xs)) w.whole
       ∙ ap (λ (o : Bool). has_firm firms f && not o) (list_any-append (is_of_firm f) w.done w.rest)
       ∙ none-more (has_firm firms f) (has_order f w.done) (has_order f w.rest) (sym (w.unmet f) ∙ met))
-
-  -- no order is left to meet
-  pub meeting-end : at ≡ None → (f : ℕ) → has_firm absent f ≡ (has_firm firms f && not (has_order f (orders_at k b.resting)))
-  meeting-end none f =
-      let all : w.done ≡ orders_at k b.resting = sym (w.whole ∙ ap (λ (xs : List Entry). w.done ++ xs) (none_first w.rest (sym none ∙ w.next)) ∙ append-nil w.done) in
-      w.unmet f ∙ ap (λ (xs : List Entry). has_firm firms f && not (has_order f xs)) all
 
   -- fewer orders are to come
   pub meeting-fewer : (slot : ℕ) (t : Turn k b w.done w.rest slot) (then : Option ℕ) → IsRight b → then ≡ slot_of t.behind → left_from then (orders_at k b.resting) < left_from at (orders_at k b.resting)
