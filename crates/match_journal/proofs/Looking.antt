@@ -42,6 +42,12 @@ front_read bytes into post count most is long read =
     sym_all : length bytes < most → bytes ≡ take most bytes
     sym_all less = sym (take_all most bytes (omega (arith, less)))
 
+-- the front of the room, where just the bytes that were read stand
+pub front_all : (bytes into post : List ℕ) (count : ℕ) → length into ≡ count → into ≡ take (length into) bytes → take count (into ++ post) ≡ take (length (take count (into ++ post))) bytes
+front_all bytes into post count long read =
+    let same : take count (into ++ post) ≡ into = take-append-le count into post (omega (arith, long)) ∙ take_all count into (omega (arith, long)) in
+    same ∙ read ∙ ap (λ k. take k bytes) (sym (ap length same))
+
 module _ {S : Type 0} (m : StationMeanings S) where
   pub looks_none : (s : S) (most : ℕ) → LooksOnly m s s most
   looks_none s most = record {

@@ -8,7 +8,7 @@ use Rattle.std.proofs.lemmas.Grind.{flat_map-append}
 use Rattle.match_journal.specs.Journal.{Header, IsJournal, IsRecord, Record, has_kind, kind_byte, version_of, journal_front, header, open_record, most_payload}
 use Rattle.match_journal.specs.HeaderLaws.{header_version, journal_version}
 use Rattle.match_journal.specs.Opening.{StandsIn}
-use Rattle.match_journal.specs.Walking.{IsHead, IsBadHead, IsNext, Walks, InOrder}
+use Rattle.match_journal.specs.Walking.{IsHead, IsBadHead, IsNext, Walks, InOrder, stands_then}
 use Rattle.match_journal.specs.declared.entry.Entry.{Entry}
 use Rattle.match_journal.specs.declared.version.Version.{Version}
 use Rattle.match_journal.specs.declared.standing.Standing.{Standing}
@@ -152,17 +152,13 @@ module _ (image : List ℕ) (inner seen : Standing) (same : inner ≡ seen) (sta
   walked r walks = subst (λ (s : Standing). Walks image s.limit s.gate r) same
       (walks (stands.known ∙ ap (λ (s : Standing). s.known) (sym same)) (standing_version seen image stands ∙ ap (λ (s : Standing). s.version) (sym same)))
 
-module _ (head : Header) (image : List ℕ) (before after : List Record) (inner seen : Standing) (same : inner ≡ seen) (stands : StandsIn seen image) (journal : IsJournal head seen.limit (before ++ after) image) (place : seen.gate ≡ length (journal_front head before)) where
-  answer : (r : Result (Option Entry) WalkFault) → Answered image inner seen same stands r → Walks image seen.limit seen.gate r
-  answer r walks = walked image inner seen same stands r walks
+-- the answer at the gate behind some records, and where the journal then stands
+module _ (head : Header) (image : List ℕ) (before after : List Record) (seen : Standing) (journal : IsJournal head seen.limit (before ++ after) image) (place : seen.gate ≡ length (journal_front head before)) where
+  in-order : (r : Result (Option Entry) WalkFault) → Walks image seen.limit seen.gate r → InOrder head image before after (stands_then seen r).gate r
+  in-order (Ok None) walks = none_left head image seen.limit before after journal seen.gate place walks
+  in-order (Ok (Some found)) walks = record_left head image seen.limit before after journal seen.gate _ found place walks refl
+  in-order (Err fault.Store) walks = tt
+  in-order (Err (fault.Bad at)) walks = none_bad head image seen.limit before after journal seen.gate at place walks
 
-  pub some_in_order : (found : Option Entry) (entry : Entry) → found ≡ Some entry → Answered image inner seen same stands (Ok found) → IsNext head image before after (inner.gate + (6 + entry.length)) entry
-  some_in_order found entry is walks =
-      record_left head image seen.limit before after journal seen.gate _ entry place (subst (λ (o : Option Entry). Walks image seen.limit seen.gate (Ok o)) is (answer (Ok found) walks)) (omega (arith, ap (λ (s : Standing). s.gate) same))
-
-  pub none_in_order : (found : Option Entry) → found ≡ None → Answered image inner seen same stands (Ok found) → after ≡ []
-  none_in_order found is walks = none_left head image seen.limit before after journal seen.gate place (subst (λ (o : Option Entry). Walks image seen.limit seen.gate (Ok o)) is (answer (Ok found) walks))
-
-  pub fault_in_order : (gate : ℕ) (e : WalkFault) → Answered image inner seen same stands (Err e) → InOrder head image before after gate (Err e)
-  fault_in_order gate fault.Store walks = tt
-  fault_in_order gate (fault.Bad at) walks = none_bad head image seen.limit before after journal seen.gate at place (answer (Err (fault.Bad at)) walks)
+  pub went_on : (found r : Result (Option Entry) WalkFault) (new : Standing) → r ≡ found → new ≡ stands_then seen found → Walks image seen.limit seen.gate found → InOrder head image before after new.gate r
+  went_on found r new same moves walks = rw (same, moves) (in-order found walks)

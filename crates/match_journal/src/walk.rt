@@ -1,5 +1,5 @@
 //! Going over the records.
-ghost use Rattle.std.specs.Prelude.{◌≡◌, ℕ, ◌+◌, ◌<◌, ◌≤◌, ◌↔◌, List, ◌++◌, length, take, drop, min, true, Some, None, OnOk, IfOk, IfSome, IsErrOf, IsTrue};
+ghost use Rattle.std.specs.Prelude.{◌≡◌, ℕ, ◌+◌, ◌-◌, ◌<◌, ◌≤◌, ◌↔◌, List, ◌++◌, length, take, drop, min, true, Some, None, OnOk, IfOk, IfSome, IsErrOf, IsTrue};
 ghost use Rattle.gx_station.specs.Counts.{Rose};
 ghost use Rattle.gx_station.specs.StoreCalls.{OnStore};
 ghost use Rattle.match_journal.specs.Causes.{LooksOnly};
@@ -64,6 +64,27 @@ fn entry_of(version: Version, head: &[u8], at: u64, most: u64) -> Option<Entry>
     Some(Entry { at, kind, length })
 }
 
+/// The entry whose head these bytes are, which stand at the last gate met; `None` exactly at a closed gate, and `Bad` exactly at an open
+/// one without a good head.
+fn head_in(standing: &Standing, head: &[u8]) -> Result<Option<Entry>, WalkFault>
+    requires stands { IsStanding standing.now }
+    requires size { length head.now ≡ min 6 (standing.now.known - standing.now.gate) }
+    ensures no_store { IsErrOf result WalkFault.Store → ⊥ }
+    ensures entry { IfOk result (λ found. IfSome found (λ entry. (entry.at ≡ standing.now.gate) × Fits standing.now.known standing.now.limit entry)) }
+    ensures walks { (image : List ℕ) → length image ≡ standing.now.known → version_of image ≡ standing.now.version
+        → head.now ≡ take (length head.now) (drop standing.now.gate image) → Walks image standing.now.limit standing.now.gate result }
+{
+    if head[0] != 1 {
+        return Ok(None);
+    }
+    let gate = standing.gate;
+    let most = standing.known.min(standing.limit);
+    match entry_of(standing.version, head, gate, most) {
+        Some(entry) => Ok(Some(entry)),
+        None => Err(WalkFault::Bad(gate)),
+    }
+}
+
 /// Reads the head at the last gate met, at most six bytes.
 pub(crate) fn read_head<S: Station>(
     station: &mut S,
@@ -85,17 +106,28 @@ pub(crate) fn read_head<S: Station>(
     if station.read(gate, &mut head[..count]).is_err() {
         return Err(WalkFault::Store);
     }
-    if head[0] != 1 {
-        return Ok(None);
-    }
-    let most = standing.known.min(standing.limit);
-    match entry_of(standing.version, &head[..count], gate, most) {
-        Some(entry) => Ok(Some(entry)),
-        None => Err(WalkFault::Bad(gate)),
-    }
+    head_in(standing, &head[..count])
 }
 
 impl Journal {
+    /// Goes on to the next gate, by what was found at the last one met, and hands that back.
+    fn go_on(&mut self, found: Result<Option<Entry>, WalkFault>) -> Result<Option<Entry>, WalkFault>
+        requires entry { IfOk found (λ next. IfSome next (λ entry. (entry.at ≡ self.old.gate) × Fits self.old.known self.old.limit entry)) }
+        ensures same { result ≡ found }
+        ensures stands { IsStanding self.new }
+        ensures moves { self.new ≡ stands_then self.old found }
+    {
+        match found {
+            Ok(Some(entry)) => {
+                self.standing.gate += HEAD as u64 + entry.length as u64;
+                self.standing.is_at_end = false;
+            }
+            Ok(None) => self.standing.is_at_end = !self.standing.is_lost,
+            Err(_) => {}
+        }
+        found
+    }
+
     /// The head of the next record, which is passed by; `None` exactly at a closed gate, and `Bad` exactly where the gate is
     /// open and no good head stands there. Where each record is good, these are the records in their order. At most six bytes are
     /// read, and the length of the image is not asked for.
@@ -114,18 +146,34 @@ impl Journal {
             → IsJournal head self.old.limit (before ++ after) image → self.old.gate ≡ length (journal_front head before)
             → InOrder head image before after self.new.gate result }
     {
-        match read_head(station, &self.standing) {
-            Ok(Some(entry)) => {
-                self.standing.gate += HEAD as u64 + entry.length as u64;
-                self.standing.is_at_end = false;
-                Ok(Some(entry))
-            }
-            Ok(None) => {
-                self.standing.is_at_end = !self.standing.is_lost;
-                Ok(None)
-            }
-            Err(fault) => Err(fault),
-        }
+        let found = read_head(station, &self.standing);
+        self.go_on(found)
+    }
+
+    /// How many bytes of a head stand at the last gate met: six, or as many as the image has there.
+    pub fn head_len(&self) -> usize
+        ensures value { result ≡ min 6 (self.now.known - self.now.gate) }
+        ensures stands { IsStanding self.now }
+    {
+        (self.standing.known - self.standing.gate).min(HEAD as u64) as usize
+    }
+
+    /// Passes the next record by as `next_entry` does, for one who has read the bytes at the last gate met: as many as `head_len`
+    /// says. It reads nothing, so `Store` never comes.
+    pub fn pass_head(&mut self, head: &[u8]) -> Result<Option<Entry>, WalkFault>
+        requires size { length head.now ≡ min 6 (self.old.known - self.old.gate) }
+        ensures no_store { IsErrOf result WalkFault.Store → ⊥ }
+        ensures stands { IsStanding self.new }
+        ensures moves { self.new ≡ stands_then self.old result }
+        ensures entry { IfOk result (λ found. IfSome found (λ entry. (entry.at ≡ self.old.gate) × Fits self.old.known self.old.limit entry)) }
+        ensures walks { (image : List ℕ) → StandsIn self.old image → head.now ≡ take (length head.now) (drop self.old.gate image)
+            → Walks image self.old.limit self.old.gate result }
+        ensures in_order { (header : Header) (image : List ℕ) (before after : List Record) → StandsIn self.old image
+            → head.now ≡ take (length head.now) (drop self.old.gate image) → IsJournal header self.old.limit (before ++ after) image
+            → self.old.gate ≡ length (journal_front header before) → InOrder header image before after self.new.gate result }
+    {
+        let found = head_in(&self.standing, head);
+        self.go_on(found)
     }
 
     /// Fills `into` with the payload of an entry. Nothing else changes.
