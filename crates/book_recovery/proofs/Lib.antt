@@ -17,6 +17,7 @@ mod Applied
 mod GivenFrames
 mod RecordContents
 mod Replaying
+mod Ahead
 mod Starting
 mod Passes
 mod FewBytes

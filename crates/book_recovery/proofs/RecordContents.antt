@@ -1,17 +1,21 @@
 -- What a record holds, by its kind.
-use Rattle.std.proofs.Common.{◌≡◌, ℕ, ◌+◌, ◌<◌, true, List, [], length, Result, Ok, Err, sym, ◌∙◌, ap, arith}
+use Rattle.std.proofs.Common.{◌≡◌, ℕ, ◌+◌, ◌<◌, ◌≤◌, true, List, [], length, Result, Ok, Err, refl, sym, subst, ◌∙◌, ap, arith}
 use Rattle.std.specs.Prelude.{IfOk}
 use Rattle.fix_frame.specs.Stream.{messages_of, rest_of}
 use Rattle.product_file.specs.Products.{ProductLists}
 use Rattle.order_kinds.specs.State.{State}
 use Rattle.order_kinds.specs.declared.core_state.TheConstants.{MOST_MESSAGES}
+use Rattle.book_image.specs.Image.{image_len}
+use Rattle.match_journal.specs.Journal.{most_payload}
+use Rattle.match_journal.specs.declared.limits.TheConstants.{MOST_PAYLOAD, MOST_TEXT}
 use Rattle.match_journal.specs.declared.entry.EntryKind.{EntryKind}
 use Rattle.match_journal.specs.declared.entry.EntryKind.TheVariants.{Frames, OldImage, Image, Amendment}
-use Rattle.book_recovery.specs.Records.{is_image_kind, AreGoodFrames, GivesAs}
+use Rattle.book_recovery.specs.Records.{is_image_kind, AreGoodFrames, GivesAs, IsGoodAs}
 use Rattle.book_recovery.specs.Inner.Replays.{IsImageRead, ReadsImage}
 use Rattle.book_recovery.specs.Inner.Contents.{CountsBehind, ReadsFrames, IsContent, ReadsContent}
 use Rattle.book_recovery.specs.declared.recovery.RecoverFault.{RecoverFault}
 use Rattle.book_recovery.specs.declared.recovery.RecoverFault.TheVariants as fault
+use Rattle.book_recovery.proofs.RightImages.{payload-right-length}
 use Rattle.book_recovery.proofs.ImageKinds.{image-messages, image-good, good-image, image-count}
 
 -- ---- frames that were held
@@ -68,3 +72,19 @@ frames_counted count Frames given core behind is counts = counts
 frames_counted count OldImage given core behind is counts = absurd (cc is)
 frames_counted count Image given core behind is counts = absurd (cc is)
 frames_counted count Amendment given core behind is counts = absurd (cc is)
+
+-- ---- a payload in the memory
+
+-- what is answered by the bytes there is answered by the payload that they are
+pub content_of : (product : ProductLists) (count : ℕ) (kind : EntryKind) (gate : ℕ) (given : List (List ℕ)) (core : State) (bytes payload : List ℕ) → bytes ≡ payload → (r : Result ℕ RecoverFault)
+    → (GivesAs product kind bytes → ReadsContent product count kind bytes gate given core r) → GivesAs product kind payload → ReadsContent product count kind payload gate given core r
+content_of product count kind gate given core bytes payload same r told gives =
+    subst (λ (p : List ℕ). GivesAs product kind p → ReadsContent product count kind p gate given core r) same told gives
+
+-- one that is longer than the room is not good
+pub longer_bad : (product : ProductLists) (count : ℕ) (kind : EntryKind) (payload : List ℕ) (room : ℕ) → length payload ≤ most_payload kind → MOST_PAYLOAD ≤ room
+    → 4 + MOST_TEXT + image_len (length product.names.instruments) product.max_orders ≤ room → room < length payload → IsGoodAs product count kind payload → ⊥
+longer_bad product count Frames payload room few frames images long good = omega (arith, few, frames, long)
+longer_bad product count OldImage payload room few frames images long good = omega (arith, payload-right-length OldImage product payload refl (good-image product count OldImage payload refl good), images, long)
+longer_bad product count Image payload room few frames images long good = omega (arith, payload-right-length Image product payload refl (good-image product count Image payload refl good), images, long)
+longer_bad product count Amendment payload room few frames images long good = omega (arith, payload-right-length Amendment product payload refl (good-image product count Amendment payload refl good), images, long)

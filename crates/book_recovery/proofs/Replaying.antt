@@ -51,11 +51,15 @@ module _ (head : Header) (records : List Record) (gate : ℕ) (at : IsPassing he
   abbrev pub before : List Record
   before = before_last_image records ++ at.done
 
-  all-are : records ≡ before ++ at.left
+  pub all-are : records ≡ before ++ at.left
   all-are =
       sym (last_split records)
       ∙ ap (λ (l : List Record). before_last_image records ++ l) at.are
       ∙ sym (append_assoc (before_last_image records) at.done at.left)
+
+  -- the last gate is that after all of them
+  pub last_left : (last : ℕ) → last ≡ length (journal_front head records) → last ≡ length (journal_front head (before ++ at.left))
+  last_left last is = is ∙ ap (λ (l : List Record). length (journal_front head l)) all-are
 
   pub journal_left : (image : List ℕ) (limit : ℕ) → IsJournal head limit records image → IsJournal head limit (before ++ at.left) image
   journal_left image limit journal = subst (λ (l : List Record). IsJournal head limit l image) all-are journal

@@ -1,5 +1,5 @@
 -- Where the second pass begins.
-use Rattle.std.proofs.Common.{◌≡◌, ℕ, ◌+◌, List, [], ◌++◌, length, Bool, Option, Some, None, Ok, refl, sym, subst, ◌∙◌, ap, arith, append-nil}
+use Rattle.std.proofs.Common.{◌≡◌, ℕ, ◌+◌, ◌<◌, ◌≤◌, List, [], ◌++◌, length, Bool, Option, Some, None, Ok, refl, sym, subst, ◌∙◌, ap, arith, append-nil}
 use Rattle.std.specs.Option.{option_or}
 use Rattle.product_file.specs.Products.{ProductLists}
 use Rattle.product_file.specs.ProductTexts.{product_of}
@@ -15,7 +15,7 @@ use Rattle.match_journal.specs.declared.standing.Standing.{Standing}
 use Rattle.match_journal.proofs.Walked.{record_left, none_left}
 use Rattle.book_recovery.specs.Records.{before_last_image, from_last_image}
 use Rattle.book_recovery.specs.Recovering.{first_read}
-use Rattle.book_recovery.specs.Inner.Starting.{CanBegin, begins_from, IsAtImage, BeginsAt}
+use Rattle.book_recovery.specs.Inner.Starting.{IsMet, CanBegin, begins_from, IsAtImage, BeginsAt}
 use Rattle.book_recovery.specs.Inner.Counting.{with_head_of, with_head}
 use Rattle.book_recovery.specs.Inner.Replays.{AreReplayed}
 use Rattle.book_recovery.specs.declared.recovery.Heads.{Heads}
@@ -25,25 +25,32 @@ use Rattle.book_recovery.proofs.Replaying.{replaying_first, replaying_done}
 
 -- ---- one head more was passed
 
+-- an entry that was met, once the journal has gone on
+met_then : (s : Standing) (entry : Entry) (gate : ℕ) (ends : Bool) → s.gate ≤ gate → gate < s.limit → IsMet s entry → IsMet (moved s gate ends) entry
+met_then s entry gate ends on few met = record { fits = met.fits; ends = omega (arith, met.ends, on); in_limit = few }
+
 frames_then : (s : Standing) (image_at : Option ℕ) (start : Option Entry) (entry : Entry) (gate : ℕ) (ends : Bool) → CanBegin s start → IsAtImage s image_at start
-    → (entry.at ≡ s.gate) × Fits s.known s.limit entry
+    → entry.at ≡ s.gate → s.gate ≤ gate → IsMet (moved s gate ends) entry
     → CanBegin (moved s gate ends) (option_or start (Some entry)) × IsAtImage (moved s gate ends) image_at (option_or start (Some entry))
-frames_then s image_at None entry gate ends can at met = (met.1, met.0 ∙ can ∙ ap (λ (o : Option ℕ). first_read o s.first) (sym at))
-frames_then s image_at (Some e) entry gate ends can at met = (can, at)
+frames_then s image_at None entry gate ends can at place on met = (met, place ∙ can ∙ ap (λ (o : Option ℕ). first_read o s.first) (sym at))
+frames_then s image_at (Some e) entry gate ends can at place on met = (met_then s e gate ends on met.in_limit can, at)
 
-kind_then : (s : Standing) (heads : Heads) (kind : EntryKind) (entry : Entry) (gate : ℕ) (ends : Bool) → BeginsAt s heads → (entry.at ≡ s.gate) × Fits s.known s.limit entry
+kind_then : (s : Standing) (heads : Heads) (kind : EntryKind) (entry : Entry) (gate : ℕ) (ends : Bool) → BeginsAt s heads → entry.at ≡ s.gate → s.gate ≤ gate → IsMet (moved s gate ends) entry
     → BeginsAt (moved s gate ends) (with_head_of heads kind entry)
-kind_then s heads Frames entry gate ends begins met =
-    let both = frames_then s heads.image_at heads.start entry gate ends begins.can begins.at_image met in
+kind_then s heads Frames entry gate ends begins place on met =
+    let both = frames_then s heads.image_at heads.start entry gate ends begins.can begins.at_image place on met in
     record { can = both.0; at_image = both.1 }
-kind_then s heads OldImage entry gate ends begins met = record { can = met.1; at_image = refl }
-kind_then s heads Image entry gate ends begins met = record { can = met.1; at_image = refl }
-kind_then s heads Amendment entry gate ends begins met = record { can = met.1; at_image = refl }
+kind_then s heads OldImage entry gate ends begins place on met = record { can = met; at_image = refl }
+kind_then s heads Image entry gate ends begins place on met = record { can = met; at_image = refl }
+kind_then s heads Amendment entry gate ends begins place on met = record { can = met; at_image = refl }
 
-pub begins_then : (s t : Standing) (heads then : Heads) (entry : Entry) (gate : ℕ) (ends : Bool) → t ≡ moved s gate ends → BeginsAt s heads → (entry.at ≡ s.gate) × Fits s.known s.limit entry
+pub begins_then : (s t : Standing) (heads then : Heads) (entry : Entry) (ends : Bool) → t ≡ moved s (s.gate + 6 + entry.length) ends → BeginsAt s heads → (entry.at ≡ s.gate) × Fits s.known s.limit entry
     → then ≡ with_head heads entry → BeginsAt t then
-begins_then s t heads then entry gate ends moves begins met is =
-    subst (BeginsAt t) (sym is) (subst (λ (x : Standing). BeginsAt x (with_head heads entry)) (sym moves) (kind_then s heads entry.kind entry gate ends begins met))
+begins_then s t heads then entry ends moves begins met is =
+    let gate = s.gate + 6 + entry.length in
+    subst (BeginsAt t) (sym is)
+    (subst (λ (x : Standing). BeginsAt x (with_head heads entry)) (sym moves)
+    (kind_then s heads entry.kind entry gate ends begins met.0 (omega arith) (record { fits = met.1; ends = omega (arith, met.0); in_limit = omega (arith, met.0, met.1.in_limit) })))
 
 -- ---- the start
 
@@ -51,7 +58,7 @@ pub none_begun : (start : Option Entry) → ((entry : Entry) → start ≡ Some 
 none_begun None none = refl
 none_begun (Some entry) none = absurd (none entry refl)
 
-pub can_begin : (s : Standing) (start : Option Entry) (entry : Entry) → start ≡ Some entry → CanBegin s start → Fits s.known s.limit entry
+pub can_begin : (s : Standing) (start : Option Entry) (entry : Entry) → start ≡ Some entry → CanBegin s start → IsMet s entry
 can_begin s start entry is begins = subst (CanBegin s) is begins
 
 pub begins_at : (s : Standing) (start : Option Entry) (entry : Entry) → start ≡ Some entry → begins_from s start ≡ entry.at

@@ -6,3 +6,4 @@ pub mod Replays
 pub mod Contents
 pub mod Following
 pub mod Keeping
+pub mod Ahead

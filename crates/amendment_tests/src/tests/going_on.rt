@@ -173,7 +173,7 @@ fn bad_text_of_an_amendment(rt: HostRuntime) {
 }
 
 /// The call that writes the gate of the buy's record; the next one syncs it.
-const GATE: usize = 16;
+const GATE: usize = 15;
 
 /// The image that a crash at a call leaves is one of the amended journal, with the buy or without it. Without it a run goes on.
 fn expect_kept_after_a_crash(

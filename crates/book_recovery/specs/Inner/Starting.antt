@@ -1,15 +1,21 @@
 -- Where the second pass begins.
-use Rattle.std.specs.Prelude.{◌≡◌, ℕ, Option, Some, None}
+use Rattle.std.specs.Prelude.{◌≡◌, ℕ, ◌+◌, ◌<◌, ◌≤◌, Option, Some, None}
 use Rattle.match_journal.specs.Standing.{Fits}
 use Rattle.match_journal.specs.declared.entry.Entry.{Entry}
 use Rattle.match_journal.specs.declared.standing.Standing.{Standing}
 use Rattle.book_recovery.specs.Recovering.{first_read}
 use Rattle.book_recovery.specs.declared.recovery.Heads.{Heads}
 
--- It begins at an entry whose record ends in the journal. Without one no gate but the first was met.
+-- the record of the entry ends in the journal, at the last gate or before it, and that gate is within the limit
+pub record IsMet (s : Standing) (entry : Entry) : Type 0 where
+  pub fits : Fits s.known s.limit entry
+  pub ends : entry.at + 6 + entry.length ≤ s.gate
+  pub in_limit : s.gate < s.limit
+
+-- It begins at an entry that was met. Without one no gate but the first was.
 abbrev pub CanBegin : Standing → Option Entry → Type 0
 CanBegin s None = s.gate ≡ s.first
-CanBegin s (Some entry) = Fits s.known s.limit entry
+CanBegin s (Some entry) = IsMet s entry
 
 -- the gate at which it begins
 abbrev pub begins_from : Standing → Option Entry → ℕ

@@ -1,37 +1,18 @@
-use Rattle.std.proofs.Common.{[]}
+use Rattle.std.proofs.Common.{refl, sym, ◌∙◌, arith}
+use Rattle.gx_station.specs.AnswerLaws.{on_ok}
 use Rattle.book_recovery.specs.Inner.Replays.{payload_at}
-use Rattle.book_recovery.proofs.RecordContents.{counts_frames, reads_frames, reads_image, reads_no_image}
-use Rattle.book_recovery.proofs.ImageKinds.{either-image, counts-image}
+use Rattle.book_recovery.proofs.Payloads.{payload-length}
+use Rattle.book_recovery.proofs.RecordContents.{longer_bad, content_of}
 use Rattle.book_recovery.proofs.contents.read_record.Goals as goal
 
-pub returns-in-Frames-clause-counts : goal.returns-in-Frames-clause-counts
-returns-in-Frames-clause-counts g c =
+pub returns-then-length-payload-clause-reads : goal.returns-then-length-payload-clause-reads
+returns-then-length-payload-clause-reads g c = λ image read known gives.
     let entry = c.args.met.entry in
-    counts_frames c.args.product.now c.args.met.count [] entry.at c.read_frame_record.new.scratch.framer.given c.args.core.now entry.kind c.in-Frames.is c.read_frame_record.result c.read_frame_record.ensures.counts
+    let size = payload-length image c.args.journal.now.known c.args.journal.now.limit entry c.requires.entry known.known in
+    (λ good. longer_bad c.args.product.now c.args.met.count entry.kind (payload_at image entry) c.len.result (omega (arith, size, c.requires.entry.few)) (omega (arith, c.len.ensures)) (omega (arith, c.requires.room, c.len.ensures)) (omega (arith, size, c.if-length-payload.true, c.len.ensures)) good, refl)
 
-pub returns-in-Frames-clause-reads : goal.returns-in-Frames-clause-reads
-returns-in-Frames-clause-reads g c = λ image read known gives.
+pub returns-clause-reads : goal.returns-clause-reads
+returns-clause-reads g c = λ image read known gives.
     let entry = c.args.met.entry in
-    reads_frames c.args.product.now c.args.met.count (payload_at image entry) entry.at c.read_frame_record.new.scratch.framer.given c.args.core.now entry.kind c.in-Frames.is c.read_frame_record.result c.read_frame_record.ensures.counts (c.read_frame_record.ensures.reads image read)
-
-pub read_image_record-requires-clause-image : goal.read_image_record-requires-clause-image
-read_image_record-requires-clause-image g c = either-image c.args.met.entry.kind c.in-OldImage.is
-
-pub read_image_record-requires-clause-new : goal.read_image_record-requires-clause-new
-read_image_record-requires-clause-new g c = c.requires.new (either-image c.args.met.entry.kind c.in-OldImage.is)
-
-pub returns-in-Ok-clause-counts : goal.returns-in-Ok-clause-counts
-returns-in-Ok-clause-counts g c =
-    let entry = c.args.met.entry in
-    counts-image c.args.met.count entry.kind c.clear.new.self.given c.read_image_record.new.core c.messages.result (either-image entry.kind c.in-OldImage.is) c.clear.ensures.0 c.messages.ensures.count
-
-pub returns-in-Ok-clause-reads : goal.returns-in-Ok-clause-reads
-returns-in-Ok-clause-reads g c = λ image read known gives.
-    let entry = c.args.met.entry in
-    reads_image c.args.product.now c.args.met.count (payload_at image entry) entry.at c.clear.new.self.given c.read_image_record.new.core entry.kind (either-image entry.kind c.in-OldImage.is) c.messages.result c.clear.ensures.0 c.messages.ensures.count
-    (c.in-Ok.ensures.reads image read known) gives
-
-pub returns-in-Err-clause-reads : goal.returns-in-Err-clause-reads
-returns-in-Err-clause-reads g c = λ image read known gives.
-    let entry = c.args.met.entry in
-    reads_no_image c.args.product.now c.args.met.count (payload_at image entry) entry.at c.clear.new.self.given c.read_image_record.new.core entry.kind (either-image entry.kind c.in-OldImage.is) c.in-Err.why (c.in-Err.ensures.reads image read known)
+    let bytes = on_ok c.read_entry.result (sym c.is_err.ensures.value ∙ c.if-is_err.false) c.read_entry.ensures.bytes image read in
+    content_of c.args.product.now c.args.met.count entry.kind entry.at c.read_content.new.framer.given c.read_content.new.core _ (payload_at image entry) bytes c.read_content.result c.read_content.ensures.reads gives
