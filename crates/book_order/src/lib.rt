@@ -4,6 +4,7 @@
 ghost use Rattle.std.specs.Prelude.{◌≡◌};
 ghost use Rattle.std.specs.Ordering.{int_eq};
 ghost use Rattle.book_order.specs.Levels.{is_side, side_before, is_better};
+ghost use Rattle.book_order.specs.Reached.{is_reached, is_in_reach};
 
 use gx_base::{Price, Side};
 
@@ -41,5 +42,25 @@ pub fn is_better_price(side: Side, a: Price, b: Price) -> bool
     match side {
         Side::Buy => b.0 < a.0,
         Side::Sell => a.0 < b.0,
+    }
+}
+
+/// Whether a trade price reaches a stop price: it is not below that of a buy, not above that of a sell.
+pub fn is_reached(side: Side, stop: Price, price: Price) -> bool
+    ensures { result ≡ is_reached side stop price }
+{
+    match side {
+        Side::Buy => stop.0 <= price.0,
+        Side::Sell => price.0 <= stop.0,
+    }
+}
+
+/// Whether a trade at a price from `least` to `greatest` reaches a stop price.
+pub fn is_in_reach(least: Price, greatest: Price, side: Side, stop: Price) -> bool
+    ensures { result ≡ is_in_reach (least, greatest) side stop }
+{
+    match side {
+        Side::Buy => is_reached(Side::Buy, stop, greatest),
+        Side::Sell => is_reached(Side::Sell, stop, least),
     }
 }

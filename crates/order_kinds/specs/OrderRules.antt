@@ -7,6 +7,7 @@ use Rattle.gx_base.specs.declared.order.Kind.{Kind}
 use Rattle.gx_base.specs.declared.order.Kind.TheVariants.{Limit, Market, StopLimit}
 use Rattle.fix_request.specs.declared.request.Px.{Px}
 use Rattle.plain_book.specs.Orders.{is_better}
+pub use Rattle.book_order.specs.Reached.{is_reached}
 use Rattle.order_kinds.specs.Instruments.{ListedInstrument, tick_of, is_off_tick, price_at}
 
 -- ---- one rule after the other
@@ -46,10 +47,6 @@ abbrev pub has_bad_stop : Kind → Side → Px → Px → Bool
 has_bad_stop StopLimit side price stop = is_beyond_stop side (price_at price) (price_at stop)
 has_bad_stop Limit side price stop = false
 has_bad_stop Market side price stop = false
-
--- a trade price reaches a stop price: it is not below that of a buy, not above that of a sell
-abbrev pub is_reached : Side → Price → Price → Bool
-is_reached side stop price = not (is_better side stop.0 price.0)
 
 -- the last trade price, if there was a trade, reaches the stop price, if there is one
 abbrev pub is_reached_already : Side → Option Price → Option Price → Bool

@@ -1,9 +1,7 @@
 -- Stop limit orders: they wait until a trade reaches their stop price, and are then entered as limit orders. Our own rule.
-use Rattle.std.specs.Prelude.{ℕ, ◌+◌, Bool, List, [], ◌∷◌, filter, length, Option, Some, None, pos}
+use Rattle.std.specs.Prelude.{ℕ, ◌+◌, List, [], ◌∷◌, length, Option, Some, None, pos}
 use Prim.Native.Nat.{zero, suc}
 use Rattle.gx_base.specs.declared.price.Price.{Price}
-use Rattle.gx_base.specs.declared.order.Side.{Side}
-use Rattle.gx_base.specs.declared.order.Side.TheVariants.{Buy, Sell}
 use Rattle.gx_base.specs.declared.order.Kind.{Kind}
 use Rattle.gx_base.specs.declared.order.Kind.TheVariants.{Limit, Market, StopLimit}
 use Rattle.gx_base.specs.declared.order.Order.{Order}
@@ -11,10 +9,9 @@ use Rattle.gx_base.specs.declared.event.Event.{Event}
 use Rattle.gx_base.specs.declared.event.Event.TheVariants.{Fill, Triggered}
 use Rattle.step_config.specs.declared.step.Step.{Step}
 use Rattle.plain_book.specs.declared.entry.Entry.{Entry}
-use Rattle.plain_book.specs.Orders.{stops_of}
+pub use Rattle.plain_book.specs.Waiting.{stop_end, is_reached_by, reached_stops}
 use Rattle.plain_book.specs.Book.{book_without, book_waited}
 use Rattle.plain_book.specs.Match.{MatchState, report, lengthened}
-use Rattle.order_kinds.specs.OrderRules.{is_reached}
 use Rattle.order_kinds.specs.Entering.{entered}
 
 -- ---- the range of a message
@@ -30,15 +27,6 @@ fill_range events = fill_range_from None events
 
 -- ---- stops that are reached
 
--- the end of a range that reaches the most stops of a side: the greatest price for buys, the least for sells
-abbrev pub stop_end : Side → Price × Price → Price
-stop_end Buy range = range.1
-stop_end Sell range = range.0
-
--- a stop is reached if some price of the range reaches its stop price
-abbrev pub is_reached_by : Price × Price → Entry → Bool
-is_reached_by range e = is_reached e.order.side e.order.trigger (stop_end e.order.side range)
-
 abbrev pub first_entry : List Entry → Option Entry
 first_entry [] = None
 first_entry (e ∷ es) = Some e
@@ -46,7 +34,7 @@ first_entry (e ∷ es) = Some e
 -- the first waiting stop of an instrument that a range reaches, if there is one
 abbrev pub first_reached : ℕ → Option (Price × Price) → List Entry → Option Entry
 first_reached instrument None waiting = None
-first_reached instrument (Some range) waiting = first_entry (filter (is_reached_by range) (stops_of instrument waiting))
+first_reached instrument (Some range) waiting = first_entry (reached_stops instrument range waiting)
 
 -- the next stop that is triggered: the first that the fills of the message so far reach
 abbrev pub next_stop : MatchState → Option Entry

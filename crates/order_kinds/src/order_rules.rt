@@ -5,6 +5,7 @@ ghost use Rattle.order_kinds.specs.Inner.Terms.{listed_instrument, IsRule};
 
 use crate::instruments::{Instrument, is_off_tick, price_at, tick_of};
 use crate::state::LastPrices;
+use book_order::is_reached;
 use fix_request::Px;
 use gx_base::{Kind, MOST_LOTS, Price, Side};
 
@@ -51,16 +52,6 @@ pub(crate) fn has_bad_stop(kind: Kind, side: Side, price: Px, stop: Px) -> bool
     match kind {
         Kind::StopLimit => is_beyond_stop(side, price_at(price), price_at(stop)),
         Kind::Limit | Kind::Market => false,
-    }
-}
-
-/// Whether a trade price reaches a stop price: it is not below that of a buy, not above that of a sell.
-pub(crate) fn is_reached(side: Side, stop: Price, price: Price) -> bool
-    ensures { result ≡ is_reached side stop price }
-{
-    match side {
-        Side::Buy => stop.0 <= price.0,
-        Side::Sell => price.0 <= stop.0,
     }
 }
 

@@ -1,58 +1,28 @@
 //! An order comes in: a stop limit order waits, any other is entered, and then each stop that a trade reaches.
 ghost use Rattle.std.specs.Prelude.{◌≡◌, ◌≤◌, ◌<◌, ◌+◌, ◌*◌, true, length, option_map, None};
 ghost use Rattle.gx_base.specs.declared.order.Kind.TheVariants.{StopLimit};
-ghost use Rattle.plain_book.specs.Orders.{HasSlot, slot_of, stops_of};
+ghost use Rattle.plain_book.specs.Orders.{HasSlot};
 ghost use Rattle.plain_book.specs.Book.{slot_number};
 ghost use Rattle.plain_book.specs.Matches.{match_at, CanTrade};
 ghost use Rattle.order_kinds.specs.NewOrders.{may_rest};
-ghost use Rattle.order_kinds.specs.Stops.{as_triggered, entered_with_stops, come_in};
+ghost use Rattle.order_kinds.specs.Stops.{as_triggered, first_reached, entered_with_stops, come_in};
 ghost use Rattle.order_kinds.specs.Inner.Taking.{TakesPart, CountsRose, CanRest};
 ghost use Rattle.order_kinds.specs.Inner.Apart.{EnterApart, ComeApart};
-ghost use Rattle.order_kinds.specs.Inner.Triggering.{ComesIn, IsPassed, FindsReached, CanWait, HasRoomToComeIn, HasRoomToTrigger, slot_entered};
+ghost use Rattle.order_kinds.specs.Inner.Triggering.{ComesIn, CanWait, HasRoomToComeIn, HasRoomToTrigger, slot_entered};
 
 use crate::entering::enter;
-use crate::trades::{PriceRange, Trades, is_reached_by};
+use crate::trades::{PriceRange, Trades};
 use gx_base::{Desk, Emit, Event, Kind, Order, Price, Slot, Taker};
 use plain_book::{Book, count_report};
 use step_config::Steps;
 
-/// A look through the waiting stops of an instrument, from the front on.
-#[derive(Clone, Copy)]
-struct StopSearch {
-    instrument: u8,
-    /// The stop that is looked at next. `None` behind the last.
-    at: Option<Slot>,
-}
-
-impl StopSearch {
-    /// At the first stop that waits.
-    fn start<B: Book>(book: &B, instrument: u8) -> StopSearch
-        requires { instrument < (B.book book.now).instruments }
-        ensures instrument { result.instrument ≡ instrument }
-        ensures at { option_map slot_number result.at ≡ slot_of (stops_of instrument (B.book book.now).waiting) }
-    {
-        StopSearch {
-            instrument,
-            at: book.first_waiting(instrument),
-        }
-    }
-
-    /// The next waiting stop that a range reaches, and the search goes on behind it. `None` where there is none.
-    fn next_reached<B: Book>(&mut self, book: &B, range: Option<PriceRange>) -> Option<Slot>
-        requires passed { IsPassed self.old.instrument range (B.book book.now).waiting (option_map slot_number self.old.at) }
-        ensures instrument { self.new.instrument ≡ self.old.instrument }
-        ensures found { FindsReached self.old.instrument range (B.book book.now).waiting (option_map slot_number result) (option_map slot_number self.new.at) }
-    {
-        book.rules();
-        let range = range?;
-        while let Some(slot) = self.at {
-            self.at = book.next_waiting(slot);
-            if is_reached_by(range, book.order(slot)) {
-                return Some(slot);
-            }
-        }
-        None
-    }
+/// The waiting stop of an instrument that is triggered next: the first that a range of trade prices reaches. `None` if there is none.
+fn next_stop<B: Book>(book: &B, instrument: u8, range: Option<PriceRange>) -> Option<Slot>
+    requires { instrument < (B.book book.now).instruments }
+    ensures { option_map slot_number result ≡ option_map (λ e. e.slot) (first_reached instrument range (B.book book.now).waiting) }
+{
+    let (least, greatest) = range?;
+    book.first_reached(instrument, least, greatest)
 }
 
 /// The stop as the limit order that it becomes.
@@ -92,9 +62,8 @@ fn trigger<B: Book, E: Emit>(
     enter(book, desk, taker, steps, out);
 }
 
-/// An order is entered, and then, one after the other, each stop that a trade of the message reaches. The waiting stops are
-/// looked through from the front again only where the range of prices has grown. The answer is the price of the last trade,
-/// if there was one.
+/// An order is entered, and then, one after the other, each stop that a trade of the message reaches. The answer is the price of the
+/// last trade, if there was one.
 fn enter_with_stops<B: Book, E: Emit>(
     book: &mut B,
     desk: &mut Desk,
@@ -116,18 +85,12 @@ fn enter_with_stops<B: Book, E: Emit>(
     book.rules();
     enter(book, desk, taker, steps, out);
     book.rules();
-    let mut trades = Trades::of(taker);
-    if trades.range.is_none() {
-        return None;
-    }
     let instrument = taker.order.instrument;
-    let mut stops = StopSearch::start(book, instrument);
-    while let Some(slot) = stops.next_reached(book, trades.range) {
+    let mut trades = Trades::of(taker);
+    while let Some(slot) = next_stop(book, instrument, trades.range) {
         trigger(book, desk, taker, slot, steps, out);
         book.rules();
-        if trades.add(taker) {
-            stops = StopSearch::start(book, instrument);
-        }
+        trades.add(taker);
     }
     trades.last
 }

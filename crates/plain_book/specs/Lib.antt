@@ -1,5 +1,6 @@
 pub mod Orders
 pub mod Book
+pub mod Waiting
 pub mod Match
 pub mod Matches
 pub mod Shares

@@ -1,6 +1,7 @@
 //! What a book of orders does.
 ghost use Rattle.std.specs.Prelude.{◌≡◌, ◌<◌, ◌≤◌, min, length, false, option_map};
 ghost use Rattle.plain_book.specs.Orders.{level, level_of, best_of, worse_of, worst_of, better_of, orders_at, stops_of, slot_of, slot_after, slot_named, is_live, order_of, HasSlot, shown_at, open_at, open_within, top_of, filled_by};
+ghost use Rattle.plain_book.specs.Waiting.{reached_stops};
 ghost use Rattle.plain_book.specs.Book.{Book, IsRight, IsFitToRest, IsFitToWait, CanBeTop, live_orders, slot_number, book_placed, book_waited, book_traded, book_with_order, book_without, book_changed, book_with_top, book_cleared};
 
 use gx_base::{Order, Price, ShortId, Side, Slot};
@@ -163,6 +164,12 @@ pub trait Book {
     fn next_waiting(&self, slot: Slot) -> Option<Slot>
         requires { HasSlot slot.0 (book self.now).waiting }
         ensures { let es = (book self.now).waiting in option_map slot_number result ≡ slot_after slot.0 (stops_of (order_of slot.0 es).instrument es) };
+
+    /// The first waiting stop of an instrument that a trade at one of these prices reaches: that came first of the buys whose stop price is
+    /// not above `greatest`, and the sells whose stop price is not below `least`. `None` exactly where no stop is reached.
+    fn first_reached(&self, instrument: u8, least: Price, greatest: Price) -> Option<Slot>
+        requires { instrument < (book self.now).instruments }
+        ensures { option_map slot_number result ≡ slot_of (reached_stops instrument (least, greatest) (book self.now).waiting) };
 
     /// Takes all orders out, so that there is no TOP. Capacity and instruments stay.
     fn clear(&mut self)

@@ -10,7 +10,7 @@ use crate::edits::{
 };
 use crate::entry::Entry;
 use crate::scan::{
-    best_price, better_price, count_at, find_in, first_at, first_stop, next_at, next_stop,
+    best_price, better_price, count_at, find_in, first_at, first_stop, first_stop_reached, next_at, next_stop,
     open_at_price, open_lots, order_at, order_in, shown_at_price, top_slot, worse_price,
     worst_price,
 };
@@ -189,6 +189,10 @@ impl Book for PlainBook {
     fn next_waiting(&self, slot: Slot) -> Option<Slot> {
         let order = order_at(&self.waiting, slot.0);
         next_stop(&self.waiting, slot.0, order.instrument)
+    }
+
+    fn first_reached(&self, instrument: u8, least: Price, greatest: Price) -> Option<Slot> {
+        first_stop_reached(&self.waiting, instrument, least, greatest)
     }
 
     fn clear(&mut self) {

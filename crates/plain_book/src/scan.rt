@@ -2,9 +2,10 @@
 ghost use Rattle.std.specs.Prelude.{◌≡◌, ◌<◌, ◌≤◌, ◌^◌, ◌++◌, ℕ, true, false, length, option_map};
 ghost use Rattle.plain_book.specs.Orders.{is_on, is_at, is_of, is_named, is_before, level, level_of, best_of, worse_of, worst_of, better_of, orders_at, stops_of, slot_of, slot_after, slot_named, order_of, HasSlot, shown_at, open_at, open_within, top_of, is_at_earlier_level, is_of_earlier_instrument, entry_at};
 ghost use Rattle.plain_book.specs.Book.{slot_number};
+ghost use Rattle.plain_book.specs.Waiting.{is_reached_by, reached_stops};
 
 use crate::entry::Entry;
-use book_order::{is_better_price, is_same_price, is_same_side, is_side_before};
+use book_order::{is_better_price, is_in_reach, is_same_price, is_same_side, is_side_before};
 use gx_base::{Order, Price, ShortId, Side, Slot};
 
 /// Whether an order stands on a side of an instrument.
@@ -192,6 +193,30 @@ pub(crate) fn first_stop(entries: &[Entry], instrument: u8) -> Option<Slot>
 {
     for entry in entries {
         if is_stop_of(entry, instrument) {
+            return Some(Slot(entry.slot));
+        }
+    }
+    None
+}
+
+/// Whether a trade at a price from `least` to `greatest` reaches a stop.
+fn is_reached_by(entry: &Entry, least: Price, greatest: Price) -> bool
+    ensures { result ≡ is_reached_by (least, greatest) entry.now }
+{
+    is_in_reach(least, greatest, entry.order.side, entry.order.trigger)
+}
+
+/// The first stop of an instrument that a trade at a price from `least` to `greatest` reaches.
+pub(crate) fn first_stop_reached(
+    entries: &[Entry],
+    instrument: u8,
+    least: Price,
+    greatest: Price,
+) -> Option<Slot>
+    ensures { option_map slot_number result ≡ slot_of (reached_stops instrument (least, greatest) entries.now) }
+{
+    for entry in entries {
+        if is_stop_of(entry, instrument) && is_reached_by(entry, least, greatest) {
             return Some(Slot(entry.slot));
         }
     }
