@@ -36,3 +36,44 @@ pub(crate) struct StopQueue {
     waiting: u32,
     capacity: u32,
 }
+
+impl StopQueue {
+    /// A stop comes, at the end.
+    pub(crate) fn put(&mut self, wait: Wait, spots: &mut Vec<u32>) {
+        if self.places.len() == self.places.capacity() {
+            self.close_up(spots);
+        }
+        spots[wait.slot.0 as usize] = self.places.len() as u32;
+        self.note(wait);
+        self.places.push_reserved(Some(wait));
+        self.waiting += 1;
+    }
+
+    /// The bounds have one stop more, whose place is the next one.
+    fn note(&mut self, wait: Wait) {
+        if self.places.len() % BLOCK == 0 {
+            self.blocks.push_reserved(Bound::none());
+        }
+        let last = self.blocks.len() - 1;
+        self.blocks[last].add(wait);
+        self.whole.add(wait);
+    }
+
+    /// The stop of a slot leaves, if it is there. `spot` is a guess of its place.
+    pub(crate) fn take_out(&mut self, slot: Slot, spot: u32) {
+        let Some(place) = self.place_of(slot, spot as usize) else {
+            return;
+        };
+        // .. the place is empty, the bounds of its block and of all are made anew if they were those of this stop, and if none is left, all
+        // places are given back.
+    }
+
+    /// The first stop that a trade at a price from `least` to `greatest` reaches. `None` exactly where it reaches none.
+    pub(crate) fn first_reached(&self, least: Price, greatest: Price) -> Option<Slot> {
+        if !self.whole.may_be_reached(least, greatest) {
+            return None;
+        }
+        // .. over the blocks; in a block that may be reached, over its places
+        None
+    }
+}

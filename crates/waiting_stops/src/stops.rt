@@ -20,3 +20,58 @@ pub struct WaitingStops {
     spots: Vec<u32>,
     capacity: u32,
 }
+
+impl Model for WaitingStops {
+    ghost use Rattle.std.specs.Prelude.{◌≡◌, ◌×◌};
+    ghost use Rattle.waiting_stops.specs.Waits.{StopLists};
+    ghost use Rattle.waiting_stops.specs.Inner.Kept.{lists_of, AreKept};
+
+    ghost Value = { StopLists };
+
+    ghost view = { λ s. record { capacity = s.capacity; lists = lists_of s.queues.items } };
+
+    ghost invariant = { λ s. AreKept s.capacity s.queues.items };
+}
+
+impl WaitingStops {
+    /// No stops, of so many instruments, with room for so many of each. An `Err` is want of memory. It takes all the memory: for each
+    /// instrument one and a half places for each stop that it has room for, and four bytes for each slot.
+    pub fn new(alloc: Global, capacity: u32, instruments: u8) -> Result<WaitingStops, AllocError>
+        ensures { IfOk result (λ s. s ≡ no_stops capacity instruments) }
+    {
+        Ok(WaitingStops {
+            queues: empty_queues(alloc, capacity, instruments)?,
+            spots: zeros(alloc, capacity as usize)?,
+            capacity,
+        })
+    }
+
+    /// A stop comes, behind the stops of its instrument.
+    pub fn put(&mut self, instrument: u8, wait: Wait)
+        requires listed { instrument < length self.old.lists }
+        requires slot { wait.slot.0 < self.old.capacity }
+        requires room { length (list_at self.old.lists instrument) < self.old.capacity }
+        ensures { self.new ≡ record self.old { lists = set self.old.lists instrument (with_wait wait (list_at self.old.lists instrument)) } }
+    {
+        self.queues[instrument as usize].put(wait, &mut self.spots);
+    }
+
+    /// The stop of a slot leaves its instrument, if it is there.
+    pub fn take_out(&mut self, instrument: u8, slot: Slot)
+        requires listed { instrument < length self.old.lists }
+        requires slot { slot.0 < self.old.capacity }
+        requires differ { SlotsDiffer (list_at self.old.lists instrument) }
+        ensures { self.new ≡ record self.old { lists = set self.old.lists instrument (without_slot slot.0 (list_at self.old.lists instrument)) } }
+    {
+        let spot = self.spots[slot.0 as usize];
+        self.queues[instrument as usize].take_out(slot, spot);
+    }
+
+    /// The first stop of an instrument that a trade at a price from `least` to `greatest` reaches. `None` exactly where it reaches none.
+    pub fn first_reached(&self, instrument: u8, least: Price, greatest: Price) -> Option<Slot>
+        requires { instrument < length self.now.lists }
+        ensures { option_map slot_number result ≡ first_slot (filter (is_reached_wait (least, greatest)) (list_at self.now.lists instrument)) }
+    {
+        self.queues[instrument as usize].first_reached(least, greatest)
+    }
+}
