@@ -1,5 +1,5 @@
 -- The price of the last order of a list, found by a walk.
-use Rattle.std.proofs.Common.{List, [], ◌∷◌, Option, Some, None}
+use Rattle.std.proofs.Common.{List, [], ◌∷◌, Option, Some}
 use Rattle.gx_base.specs.declared.price.Price.{Price}
 use Rattle.plain_book.specs.declared.entry.Entry.{Entry}
 use Rattle.plain_book.specs.Orders.{last_price_or}

@@ -10,8 +10,8 @@ use crate::edits::{
 };
 use crate::entry::Entry;
 use crate::scan::{
-    best_price, better_price, count_at, find_in, first_at, first_stop, first_stop_reached, next_at, next_stop,
-    open_at_price, open_lots, order_at, order_in, shown_at_price, top_slot, worse_price,
+    best_price, better_price, count_at, find_in, first_at, first_stop, first_stop_reached, next_at,
+    next_stop, open_at_price, open_lots, order_at, order_in, shown_at_price, top_slot, worse_price,
     worst_price,
 };
 use gx_base::{MOST_LOTS, Order, Price, ShortId, Side, Slot};

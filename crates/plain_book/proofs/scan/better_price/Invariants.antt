@@ -1,4 +1,4 @@
-use Rattle.std.proofs.Common.{◌≡◌, Bool, drop, filter}
+use Rattle.std.proofs.Common.{◌≡◌, drop, filter}
 use Rattle.plain_book.specs.declared.entry.Entry.{Entry}
 use Rattle.plain_book.specs.Orders.{side_of, is_better, better_of}
 use Rattle.plain_book.proofs.Lasts.{last_after}
