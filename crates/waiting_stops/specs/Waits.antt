@@ -1,5 +1,5 @@
 -- The stops that wait, of each instrument in the order in which they came, and those that trades reach. Our own rule.
-use Rattle.std.specs.Prelude.{◌≡◌, ◌≢◌, ℕ, ◌==◌, Bool, not, List, [], ◌∷◌, ◌++◌, filter, replicate, slice_index_or, Option, Some, None}
+use Rattle.std.specs.Prelude.{◌≢◌, ℕ, ◌==◌, Bool, not, List, [], ◌∷◌, ◌++◌, filter, replicate, slice_index_or, Option, Some, None}
 use Rattle.std.specs.List.{AllByRecursion}
 use Rattle.gx_base.specs.declared.price.Price.{Price}
 use Rattle.gx_base.specs.declared.order.Slot.{Slot}

@@ -3,6 +3,7 @@ ghost use Rattle.std.specs.Prelude.{◌≡◌, false};
 ghost use Rattle.waiting_stops.specs.declared.queue.Wait.{Wait};
 ghost use Rattle.waiting_stops.specs.Waits.{is_reached_wait};
 ghost use Rattle.waiting_stops.specs.Inner.Bounds.{IsCovered};
+ghost use Rattle.waiting_stops.specs.Inner.Kept.{IsBoundOf, IsJoined};
 
 use crate::queue::Wait;
 use gx_base::{Price, Side};
@@ -69,4 +70,28 @@ impl Bound {
             Side::Sell => self.highest_sell.0 <= wait.trigger.0,
         }
     }
+}
+
+/// A bound on the stops of some places.
+pub(crate) fn bound_of(places: &[Option<Wait>]) -> Bound
+    ensures { IsBoundOf result places.now }
+{
+    let mut bound = Bound::none();
+    for place in places {
+        if let Some(wait) = *place {
+            bound.add(wait);
+        }
+    }
+    bound
+}
+
+/// A bound on the stops of several bounds.
+pub(crate) fn joined(bounds: &[Bound]) -> Bound
+    ensures { IsJoined result bounds.now }
+{
+    let mut all = Bound::none();
+    for bound in bounds {
+        all.join(*bound);
+    }
+    all
 }

@@ -2,6 +2,7 @@
 #![tactic(auto)]
 
 mod bound;
+mod place;
 mod queue;
 mod stops;
 
