@@ -1,5 +1,5 @@
 //! The places in which the stops of an instrument stand.
-ghost use Rattle.std.specs.Prelude.{◌≡◌, ℕ, ◌<◌, ◌+◌, ◌*◌, ◌-◌, ◌^◌, false, None, filter, length, option_map, min, take, drop, IfSome, vec_len};
+ghost use Rattle.std.specs.Prelude.{◌≡◌, ℕ, ◌<◌, ◌+◌, ◌*◌, ◌-◌, ◌^◌, false, None, filter, length, option_map, min, take, drop, IfSome, vec_len, vec_capacity};
 ghost use Rattle.waiting_stops.specs.Waits.{slot_number, is_reached_wait, first_slot};
 ghost use Rattle.waiting_stops.specs.Inner.Kept.{waits_in, place_at, is_place_of, IsPlaceOf, block};
 
@@ -56,7 +56,8 @@ pub(crate) fn first_in(places: &[Option<Wait>], least: Price, greatest: Price) -
 /// For the slot of each stop its place is noted.
 pub(crate) fn note_spots(places: &[Option<Wait>], spots: &mut Vec<u32>)
     requires { length places.now < 2 ^ 32 }
-    ensures { vec_len spots.new ≡ vec_len spots.old }
+    ensures long { vec_len spots.new ≡ vec_len spots.old }
+    ensures room { vec_capacity spots.new ≡ vec_capacity spots.old }
 {
     for (k, place) in places.iter().enumerate() {
         if let Some(wait) = *place {

@@ -88,6 +88,7 @@ impl StopQueue {
         ensures waits { waits_of self.new ≡ with_wait wait (waits_of self.old) }
         ensures room { vec_capacity self.new.places ≡ vec_capacity self.old.places }
         ensures spots { vec_len spots.new ≡ vec_len spots.old }
+        ensures spots_room { vec_capacity spots.new ≡ vec_capacity spots.old }
     {
         if self.places.len() == self.places.capacity() {
             self.close_up(spots);
@@ -118,6 +119,7 @@ impl StopQueue {
         ensures closed { vec_len self.new.places ≡ length (waits_of self.old) }
         ensures room { vec_capacity self.new.places ≡ vec_capacity self.old.places }
         ensures spots { vec_len spots.new ≡ vec_len spots.old }
+        ensures spots_room { vec_capacity spots.new ≡ vec_capacity spots.old }
     {
         self.places.retain(|place| place.is_some());
         note_spots(&self.places, spots);

@@ -1,7 +1,7 @@
 //! The stops of all instruments.
-ghost use Rattle.std.specs.Prelude.{◌≡◌, ◌<◌, ◌≤◌, [], filter, length, option_map, replicate, set, IfOk, vec_len};
+ghost use Rattle.std.specs.Prelude.{◌≡◌, ◌<◌, [], filter, length, option_map, replicate, set, IfOk, vec_len, vec_capacity};
 ghost use Rattle.waiting_stops.specs.Waits.{no_stops, list_at, slot_number, is_reached_wait, first_slot, SlotsDiffer, with_wait, without_slot};
-ghost use Rattle.waiting_stops.specs.Inner.Kept.{lists_of, AreKept};
+ghost use Rattle.waiting_stops.specs.Inner.Kept.{room, lists_of, AreKept};
 
 use crate::queue::{StopQueue, Wait};
 use gx_base::{Price, Slot};
@@ -23,7 +23,7 @@ pub struct WaitingStops {
 }
 
 impl Model for WaitingStops {
-    ghost use Rattle.std.specs.Prelude.{◌≡◌, vec_len};
+    ghost use Rattle.std.specs.Prelude.{◌≡◌, length, vec_len, vec_capacity};
     ghost use Rattle.waiting_stops.specs.Waits.{StopLists};
     ghost use Rattle.waiting_stops.specs.Inner.Kept.{lists_of, AreKept};
 
@@ -31,12 +31,12 @@ impl Model for WaitingStops {
 
     ghost view = { λ s. record { capacity = s.capacity; lists = lists_of s.queues.items } };
 
-    ghost invariant = { λ s. AreKept s.capacity s.queues.items × (vec_len s.spots ≡ s.capacity) };
+    ghost invariant = { λ s. AreKept s.capacity s.queues.items × (vec_capacity s.queues ≡ length s.queues.items) × (vec_len s.spots ≡ s.capacity) × (vec_capacity s.spots ≡ s.capacity) };
 }
 
-/// How many places are enough for so many stops, with a third of them to spare.
+/// How many places there are for so many stops.
 fn room_for(capacity: u32) -> u32
-    ensures { capacity ≤ result }
+    ensures { result ≡ room capacity }
 {
     capacity.saturating_add(capacity / 2).saturating_add(1)
 }
@@ -45,6 +45,7 @@ fn room_for(capacity: u32) -> u32
 fn empty_queues(alloc: Global, capacity: u32, count: u8) -> Result<Vec<StopQueue>, AllocError>
     ensures kept { IfOk result (λ queues. AreKept capacity queues.items) }
     ensures none { IfOk result (λ queues. lists_of queues.items ≡ replicate count []) }
+    ensures room { IfOk result (λ queues. vec_capacity queues ≡ length queues.items) }
 {
     let mut queues = Vec::with_capacity(alloc, count as usize)?;
     for _queue in 0..count {
@@ -53,9 +54,10 @@ fn empty_queues(alloc: Global, capacity: u32, count: u8) -> Result<Vec<StopQueue
     Ok(queues)
 }
 
-/// So many zeros.
+/// So many zeros, with room for no more.
 fn zeros(alloc: Global, count: usize) -> Result<Vec<u32>, AllocError>
-    ensures { IfOk result (λ v. vec_len v ≡ count) }
+    ensures long { IfOk result (λ v. vec_len v ≡ count) }
+    ensures room { IfOk result (λ v. vec_capacity v ≡ count) }
 {
     let mut zeros = Vec::with_capacity(alloc, count)?;
     for _ in 0..count {

@@ -1,5 +1,5 @@
 -- The stops of an instrument in their places, and the bounds on them.
-use Rattle.std.specs.Prelude.{◌≡◌, ℕ, ◌+◌, ◌*◌, ◌/◌, ◌<◌, ◌≤◌, ◌^◌, ◌==◌, true, false, Bool, List, [], ◌∷◌, map, length, slice_index_or, Option, Some, None, vec_capacity}
+use Rattle.std.specs.Prelude.{◌≡◌, ℕ, ◌+◌, ◌*◌, ◌/◌, ◌<◌, ◌≤◌, ◌^◌, ◌==◌, true, false, Bool, List, [], ◌∷◌, map, length, min, slice_index_or, Option, Some, None, vec_capacity}
 use Rattle.std.specs.List.{AllByRecursion}
 use Rattle.waiting_stops.specs.declared.bound.Bound.{Bound}
 use Rattle.waiting_stops.specs.declared.queue.StopQueue.{StopQueue}
@@ -72,10 +72,14 @@ pub record IsQueue (q : StopQueue) : Type 0 where
 abbrev pub lists_of : List StopQueue → List (List Wait)
 lists_of queues = map waits_of queues
 
--- what is true of each queue at every moment: it has room for so many stops
+-- how many places there are for so many stops: at least a third of them is empty, so that the empty ones seldom go
+abbrev pub room : ℕ → ℕ
+room capacity = min (capacity + capacity / 2 + 1) 4294967295
+
+-- what is true of each queue at every moment
 pub record HasRoom (capacity : ℕ) (q : StopQueue) : Type 0 where
   pub queue : IsQueue q
-  pub room : capacity ≤ vec_capacity q.places
+  pub roomy : vec_capacity q.places ≡ room capacity
 
 abbrev pub AreKept : ℕ → List StopQueue → Type 0
 AreKept capacity queues = AllByRecursion (HasRoom capacity) queues
