@@ -1,9 +1,8 @@
 -- What holds of each live order, and of each that comes in, holds of all when it has come in with the stops that it triggers; the
 -- size of the book and the last number that was given stay.
-use Rattle.std.proofs.Common.{◌≡◌, ℕ, ◌+◌, Bool, true, false, cond, List, [], ◌∷◌, length, Option, Some, None, refl, sym, ap, subst, ◌∙◌}
+use Rattle.std.proofs.Common.{◌≡◌, ℕ, ◌+◌, Bool, true, false, cond, List, length, Option, Some, None, refl, sym, ap, subst, ◌∙◌}
 use Prim.Native.Nat.{zero, suc}
 use Rattle.std.specs.Prelude.{◌==◌, nat_lt}
-use Rattle.std.specs.List.{AllByRecursion}
 use Rattle.gx_base.specs.declared.price.Price.{Price}
 use Rattle.gx_base.specs.declared.order.Kind.{Kind}
 use Rattle.gx_base.specs.declared.order.Kind.TheVariants.{Limit, Market, StopLimit}
@@ -12,18 +11,18 @@ use Rattle.gx_base.specs.declared.event.Cause.{Cause}
 use Rattle.gx_base.specs.declared.event.Cause.TheVariants as cause
 use Rattle.step_config.specs.declared.step.Step.{Step}
 use Rattle.plain_book.specs.declared.entry.Entry.{Entry}
-use Rattle.plain_book.specs.Orders.{is_of, stops_of}
 use Rattle.plain_book.specs.Book.{Book, live_orders}
 use Rattle.plain_book.specs.Match.{MatchState}
-use Rattle.plain_book.proofs.Pairs.{all-filter, all-back}
+use Rattle.plain_book.proofs.Pairs.{all-back}
 use Rattle.plain_book.proofs.Live.{AllOrders}
 use Rattle.level_sweep.specs.Sweep.{sweep}
 use Rattle.level_sweep.proofs.EachTrade.{Relation, IsKept, each-sweep}
 use Rattle.level_sweep.proofs.Swept.{sweep-order}
 use Rattle.order_kinds.specs.NewOrders.{may_rest}
 use Rattle.order_kinds.specs.Entering.{as_limit, top_min_of, taker_cancelled, taker_rested, open_for, entered}
-use Rattle.order_kinds.specs.Stops.{fill_range, is_reached_by, first_entry, first_reached, next_stop, as_triggered, stop_triggered, Naming, stop_entered, stop_rounds, entered_with_stops, taker_waiting, come_in_as, come_in}
+use Rattle.order_kinds.specs.Stops.{fill_range, next_stop, as_triggered, stop_triggered, Naming, stop_entered, stop_rounds, entered_with_stops, taker_waiting, come_in_as, come_in}
 use Rattle.level_sweep.proofs.Resting.{rest-sweep}
+use Rattle.order_kinds.proofs.FirstReached.{reached-holds}
 use Rattle.order_kinds.proofs.Kept.{IgnoresTrades, all-swept, all-book_placed, all-book_waited, all-left}
 
 -- a fact on an order that stays true when it trades, comes to rest, or is triggered
@@ -31,17 +30,6 @@ pub record StaysTrue (P : Order → Type 0) : Type 0 where
   pub trades : IgnoresTrades P
   pub rests : (o : Order) → P o → P (as_limit o)
   pub triggers : (o : Order) → P o → P (as_triggered o)
-
--- the first of some stops that a range reaches is one of them
-first-holds : (Each : Entry → Type 0) (es : List Entry) (e : Entry) → AllByRecursion Each es → first_entry es ≡ Some e → Each e
-first-holds Each [] e a is = absurd (let k : None ≡ Some e = is in cc)
-first-holds Each (x ∷ es) e a is = let k : Some x ≡ Some e = is in let here : x ≡ e = cc in subst Each here a.0
-
-marked-holds : (Each : Entry → Type 0) (instrument : ℕ) (range : Option (Price × Price)) (waiting : List Entry) (e : Entry) → AllByRecursion Each waiting → first_reached instrument range waiting ≡ Some e → Each e
-marked-holds Each instrument None waiting e a is = absurd (let k : None ≡ Some e = is in cc)
-marked-holds Each instrument (Some range) waiting e a is =
-    let stops = stops_of instrument waiting in
-    first-holds Each _ e (all-filter Each (is_reached_by range) stops (all-filter Each (is_of instrument) waiting a)) is
 
 -- a sweep gives no order a number
 abbrev NumberStays : Relation
@@ -127,7 +115,7 @@ module _ (P : Order → Type 0) (stays : StaysTrue P) (size : Book) (number : �
   held-stop None name steps m is h = h
   held-stop (Some e) name steps m is h =
       let waits = all-back (λ (x : Entry). P x.order) m.book.resting m.book.waiting h.all in
-      let p : P e.order = marked-holds (λ (x : Entry). P x.order) m.taker.order.instrument (fill_range m.events) m.book.waiting e waits is in
+      let p : P e.order = reached-holds (λ (x : Entry). P x.order) m.taker.order.instrument (fill_range m.events) m.book.waiting e waits is in
       held-entered (name e.order.number) steps (stop_triggered e m) (held-triggered e m p h)
 
   held-rounds : (n : ℕ) (naming : Naming) (steps : List Step) (m : MatchState) → Holds m → Holds (stop_rounds n naming steps m)

@@ -1,6 +1,6 @@
 -- The stop that is triggered next is the same where each order is named by its number, and so is all that an order does that
 -- comes in.
-use Rattle.std.proofs.Common.{◌≡◌, ℕ, ◌+◌, ◌≤◌, List, [], ◌∷◌, filter, length, cond, Bool, Option, Some, None, option_map, refl, sym, ap, subst, ◌∙◌, inl}
+use Rattle.std.proofs.Common.{◌≡◌, ℕ, ◌+◌, ◌≤◌, List, [], ◌∷◌, filter, length, Option, Some, None, option_map, refl, sym, ap, subst, ◌∙◌}
 use Prim.Native.Nat.{zero, suc}
 use Rattle.gx_base.specs.declared.price.Price.{Price}
 use Rattle.gx_base.specs.declared.order.Kind.{Kind}
@@ -10,13 +10,13 @@ use Rattle.gx_base.specs.declared.event.Event.{Event}
 use Rattle.gx_base.specs.declared.event.Event.TheVariants.{Triggered}
 use Rattle.step_config.specs.declared.step.Step.{Step}
 use Rattle.plain_book.specs.declared.entry.Entry.{Entry}
-use Rattle.plain_book.specs.Orders.{HasSlot, order_of, is_of, stops_of}
+use Rattle.plain_book.specs.Orders.{HasSlot, is_of, stops_of}
 use Rattle.plain_book.specs.Book.{Book, AllDiffer, live_orders, book_without}
 use Rattle.plain_book.specs.Match.{MatchState, report}
 use Rattle.plain_book.specs.Numbers.{numbered, book_numbered, match_numbered}
 use Rattle.plain_book.specs.Numbers.{entry_numbered}
 use Rattle.plain_book.proofs.Live.{AllOrders}
-use Rattle.plain_book.proofs.Levels.{same, order_of-filter, HasSlot-filter, HasSlot-right, order_of-right, slots-apart, AllDiffer-back, AllDiffer-filter}
+use Rattle.plain_book.proofs.Levels.{HasSlot-right, order_of-right, slots-apart, AllDiffer-back}
 use Rattle.level_sweep.proofs.Numbered.{filter-order}
 use Rattle.order_kinds.specs.State.{State, state_numbered}
 use Rattle.order_kinds.specs.Entering.{entered}
@@ -25,6 +25,7 @@ use Rattle.order_kinds.specs.Accepting.{after_match}
 use Rattle.order_kinds.specs.Cores.{AreNumbered}
 use Rattle.order_kinds.specs.Inner.Apart.{EnterApart, ComeApartAs, ComeApart}
 use Rattle.order_kinds.proofs.Slots.{left-differ}
+use Rattle.order_kinds.proofs.FirstReached.{StandsIn, reached-stands}
 use Rattle.order_kinds.proofs.ComingIn.{StaysTrue, held-come_in}
 use Rattle.order_kinds.proofs.Numbering.{length-numbered}
 use Rattle.order_kinds.proofs.NumberingChanges.{left-same, left-numbers, left-lacks}
@@ -47,32 +48,11 @@ first_reached-numbered instrument (Some range) waiting =
 next_stop-numbered : (m : MatchState) → next_stop (match_numbered m) ≡ option_map entry_numbered (next_stop m)
 next_stop-numbered m = first_reached-numbered m.taker.order.instrument (fill_range m.events) m.book.waiting
 
--- its slot is that of its order
-abbrev pub StandsIn : Entry → List Entry → Type 0
-StandsIn e es = HasSlot e.slot es × (order_of e.slot es ≡ e.order)
-
-first-stands : (es : List Entry) (e : Entry) → first_entry es ≡ Some e → StandsIn e es
-first-stands [] e is = absurd (let k : None ≡ Some e = is in cc)
-first-stands (x ∷ es) e is =
-    let k : Some x ≡ Some e = is in
-    let here : x ≡ e = cc in
-    subst (λ (y : Entry). StandsIn y (x ∷ es)) here (inl refl, ap (λ (b : Bool). cond b x.order (order_of x.slot es)) (same x.slot))
-
-stands-filter : (p : Entry → Bool) (e : Entry) (es : List Entry) → AllDiffer es → StandsIn e (filter p es) → StandsIn e es
-stands-filter p e es d stands = (HasSlot-filter p e.slot es stands.0, sym (order_of-filter p e.slot es d stands.0) ∙ stands.1)
-
-marked-stands : (instrument : ℕ) (range : Option (Price × Price)) (waiting : List Entry) (e : Entry) → AllDiffer waiting → first_reached instrument range waiting ≡ Some e → StandsIn e waiting
-marked-stands instrument None waiting e d is = absurd (let k : None ≡ Some e = is in cc)
-marked-stands instrument (Some range) waiting e d is =
-    let stops = stops_of instrument waiting in
-    stands-filter (is_of instrument) e waiting d
-    (stands-filter (is_reached_by range) e stops (AllDiffer-filter (is_of instrument) waiting d) (first-stands (filter (is_reached_by range) stops) e is))
-
 next-stands : (m : MatchState) (e : Entry) → AllDiffer (live_orders m.book) → next_stop m ≡ Some e → StandsIn e (live_orders m.book)
 next-stands m e d is =
     let rests = m.book.resting in
     let waits = m.book.waiting in
-    let stands = marked-stands m.taker.order.instrument (fill_range m.events) waits e (AllDiffer-back rests waits d) is in
+    let stands = reached-stands m.taker.order.instrument (fill_range m.events) waits e (AllDiffer-back rests waits d) is in
     (HasSlot-right e.slot rests waits stands.0, order_of-right e.slot rests waits (λ h. slots-apart e.slot rests waits d h stands.0) ∙ stands.1)
 
 -- ---- it is triggered, and entered

@@ -1,5 +1,5 @@
 -- An order was entered, and some of the stops that its trades reach: what holds after each turn, and at the end.
-use Rattle.std.proofs.Common.{◌≡◌, ◌≢◌, ℕ, ◌+◌, ◌*◌, ◌≤◌, Bool, false, cond, List, ◌++◌, length, Option, Some, None, refl, sym, ap, subst, ◌∙◌, arith, inl, inr, ◌⊎◌}
+use Rattle.std.proofs.Common.{◌≡◌, ◌≢◌, ℕ, ◌+◌, ◌*◌, ◌≤◌, Bool, false, cond, List, length, Option, Some, None, refl, sym, ap, subst, ◌∙◌, arith, inl, inr, ◌⊎◌}
 use Prim.Native.Nat.{suc}
 use Rattle.std.specs.Prelude.{◌==◌}
 use Rattle.std.proofs.lemmas.Bool.{ne_eqb}
@@ -11,7 +11,7 @@ use Rattle.gx_base.specs.Emits.{EmitMeanings, Emits}
 use Rattle.step_config.specs.declared.step.Step.{Step}
 use Rattle.step_config.specs.RightSteps.{AreRightSteps}
 use Rattle.plain_book.specs.declared.entry.Entry.{Entry}
-use Rattle.plain_book.specs.Orders.{HasSlot, order_of, stops_of, without}
+use Rattle.plain_book.specs.Orders.{HasSlot, order_of, without}
 use Rattle.plain_book.specs.Book.{Book, IsRight, AllDiffer, live_orders, book_without}
 use Rattle.plain_book.specs.Match.{MatchState}
 use Rattle.plain_book.specs.Matches.{MatchAt, start_at, IsNow, CanTrade}
@@ -21,12 +21,12 @@ use Rattle.order_kinds.specs.Entering.{entered, last_fill}
 use Rattle.order_kinds.specs.Stops.{Naming, fill_range, first_reached, next_stop, stop_triggered, stop_entered, entered_with_stops}
 use Rattle.order_kinds.specs.Inner.Apart.{EnterApart}
 use Rattle.order_kinds.specs.Inner.Taking.{TakesPart, CountsRose, last_in_range}
-use Rattle.order_kinds.specs.Inner.Triggering.{joined, later_price, ComesIn, IsPassed, IsFirstReached, HasRoomToComeIn, HasRoomToTrigger, slot_entered}
+use Rattle.order_kinds.specs.Inner.Triggering.{joined, later_price, ComesIn, HasRoomToComeIn, HasRoomToTrigger, slot_entered}
 use Rattle.order_kinds.proofs.Counts.{rose-both, rose-within}
 use Rattle.order_kinds.proofs.FillRanges.{range-entered}
 use Rattle.order_kinds.proofs.LastPrices.{last-entered}
 use Rattle.order_kinds.proofs.Triggered.{Stands, stands-then, slot-live}
-use Rattle.order_kinds.proofs.Waiting.{stop-waits, stop-order, stop-instrument, stops-without}
+use Rattle.order_kinds.proofs.FirstReached.{IsFirstReached, found-waits, found-order, found-instrument}
 use Rattle.order_kinds.proofs.Cascade.{rest-entered, entered-instrument, entry_in, slot-ignores, slot-range, slot-last, rounds, rounds-same, rounds-done}
 
 -- the same names, but for the order before which so many came in: it has this one
@@ -105,15 +105,9 @@ module _ {E : Type 0} (m : EmitMeanings E) (steps : List Step) (before : MatchAt
 
     -- ---- one stop more
 
-    module _ (right : IsRight now.book) (slot : ℕ) (behind : Option ℕ) (found : IsFirstReached instrument range now.book.waiting slot behind) where
-      pub found-waits : HasSlot slot now.book.waiting
-      found-waits = subst (λ (n : ℕ). HasSlot n now.book.waiting) found.has (stop-waits instrument now.book right found.front found.back found.stop found.whole)
-
-      found-order : order_of slot now.book.waiting ≡ found.stop.order
-      found-order = ap (λ (n : ℕ). order_of n now.book.waiting) (sym found.has) ∙ stop-order instrument now.book right found.front found.back found.stop found.whole
-
-      stops-left : stops_of instrument (without slot now.book.waiting) ≡ found.front ++ found.back
-      stops-left = ap (λ (n : ℕ). stops_of instrument (without n now.book.waiting)) (sym found.has) ∙ stops-without instrument now.book right found.front found.back found.stop found.whole
+    module _ (right : IsRight now.book) (slot : ℕ) (found : IsFirstReached instrument range now.book.waiting slot) where
+      has-slot : HasSlot slot now.book.waiting
+      has-slot = found-waits instrument range now.book right slot found
 
       module _ (after : MatchAt E) (done : TakesPart m (λ name. slot_entered slot name steps) now after) where
         abbrev naming : Naming
@@ -139,7 +133,7 @@ module _ {E : Type 0} (m : EmitMeanings E) (steps : List Step) (before : MatchAt
             ∙ ap (λ (next : Option Entry). stop_entered next name steps x) (next-is (Some stop) found.first)
             ∙ ap (λ (n : ℕ). entered n steps (stop_triggered stop x)) (named-here (has.turns + 1) done.name has.naming stop.order.number)
             ∙ ap (λ (n : ℕ). enter n stop.order) found.has
-            ∙ ap (enter slot) (sym found-order ∙ ap (λ (b : Book). order_of slot b.waiting) has.stands.now.book)
+            ∙ ap (enter slot) (sym (found-order instrument range now.book right slot found) ∙ ap (λ (b : Book). order_of slot b.waiting) has.stands.now.book)
 
         stands-more : Stands m before.out ended after
         stands-more = stands-then m before.out state now after (λ name. slot_entered slot name steps) (λ name. slot-ignores slot name steps) has.stands done
@@ -150,17 +144,7 @@ module _ {E : Type 0} (m : EmitMeanings E) (steps : List Step) (before : MatchAt
             ap (λ (b : Book). b.waiting) (stands-more.now.book ∙ rest-entered done.name steps left_first) ∙ ap (λ (b : Book). without slot b.waiting) (sym has.stands.now.book)
 
         pub fewer-wait : suc (length after.book.waiting) ≡ length now.book.waiting
-        fewer-wait = ap (λ (es : List Entry). suc (length es)) waiting-after ∙ length-without slot now.book.waiting (AllDiffer-back now.book.resting now.book.waiting right.differ) found-waits
-
-        -- where the range has not grown, the search goes on behind the stop
-        pub passed-on : (more : Option (Price × Price)) → more ≡ range → IsPassed instrument more after.book.waiting behind
-        passed-on more same-range = subst (λ (r : Option (Price × Price)). IsPassed instrument r after.book.waiting behind) (sym same-range) (record {
-          front = found.front;
-          back = found.back;
-          whole = ap (stops_of instrument) waiting-after ∙ stops-left;
-          next = found.next;
-          unreached = found.unreached;
-        })
+        fewer-wait = ap (λ (es : List Entry). suc (length es)) waiting-after ∙ length-without slot now.book.waiting (AllDiffer-back now.book.resting now.book.waiting right.differ) has-slot
 
         pub triggered-more : IsRight after.book → AreRightSteps steps → CountsRose 2000000 now.desk after.desk → (more : Option (Price × Price)) (later : Option Price)
             → more ≡ joined range after.taker.range → later ≡ later_price last (last_in_range after.taker.order.side after.taker.range) → HasTriggered more later after
@@ -171,7 +155,7 @@ module _ {E : Type 0} (m : EmitMeanings E) (steps : List Step) (before : MatchAt
             let y = ended in
             let step = one-more in
             let stands = stands-more in
-            let gone : IsRight (book_without slot x.book) = subst (λ (b : Book). IsRight (book_without slot b)) has.stands.now.book (right-without now.book slot right (slot-live now.book right slot found-waits)) in
+            let gone : IsRight (book_without slot x.book) = subst (λ (b : Book). IsRight (book_without slot b)) has.stands.now.book (right-without now.book slot right (slot-live now.book right slot has-slot)) in
             let most = 2 * before.taker.order.leaves + 1 in
             record {
               turns = suc turns;
@@ -198,8 +182,8 @@ module _ {E : Type 0} (m : EmitMeanings E) (steps : List Step) (before : MatchAt
               same_instrument = ap (λ (t : Taker). t.order.instrument) stands.now.taker
                   ∙ entered-instrument done.name steps left_first
                   ∙ ap (λ (b : Book). (order_of slot b.waiting).instrument) (sym has.stands.now.book)
-                  ∙ ap (λ (o : Order). o.instrument) found-order
-                  ∙ stop-instrument instrument now.book right found.front found.back found.stop found.whole;
+                  ∙ ap (λ (o : Order). o.instrument) (found-order instrument range now.book right slot found)
+                  ∙ found-instrument instrument range now.book right slot found;
               rose = rose-within (most + 2000000 * turns + 2000000) (most + 2000000 * suc turns) before.desk after.desk (omega arith)
                   (rose-both (most + 2000000 * turns) 2000000 before.desk now.desk after.desk has.rose rose);
             }

@@ -1,20 +1,18 @@
--- What the functions do that trigger stops: how far the waiting ones are looked through, and what the trades so far come to.
-use Rattle.std.specs.Prelude.{◌≡◌, ℕ, ◌+◌, ◌*◌, ◌^◌, ◌≤◌, ◌<◌, false, int_lt, if◌then◌else◌, List, ◌∷◌, ◌++◌, length, Option, Some, None}
-use Rattle.std.specs.List.{AllByRecursion}
+-- What the functions do that trigger stops: what the trades so far come to, and the stop that is triggered next.
+use Rattle.std.specs.Prelude.{◌≡◌, ℕ, ◌+◌, ◌*◌, ◌^◌, ◌≤◌, ◌<◌, false, int_lt, if◌then◌else◌, List, length, Option, Some, None}
 use Rattle.gx_base.specs.declared.price.Price.{Price}
 use Rattle.gx_base.specs.declared.order.Order.{Order}
 use Rattle.gx_base.specs.declared.order.Desk.{Desk}
 use Rattle.gx_base.specs.Emits.{EmitMeanings, Emits}
 use Rattle.step_config.specs.declared.step.Step.{Step}
-use Rattle.plain_book.specs.declared.entry.Entry.{Entry}
-use Rattle.plain_book.specs.Orders.{order_of, slot_of, stops_of, is_live}
+use Rattle.plain_book.specs.Orders.{order_of, is_live}
 use Rattle.plain_book.specs.Book.{Book, IsFitToWait, live_orders}
 use Rattle.plain_book.specs.Match.{MatchState}
 use Rattle.plain_book.specs.Matches.{MatchAt, start_at, IsNow}
 use Rattle.order_kinds.specs.declared.core_state.TheConstants.{MOST_MESSAGES}
 use Rattle.order_kinds.specs.Cores.{AreCountsWithin}
 use Rattle.order_kinds.specs.Entering.{entered, last_fill}
-use Rattle.order_kinds.specs.Stops.{Naming, is_reached_by, first_reached, stop_triggered}
+use Rattle.order_kinds.specs.Stops.{Naming, stop_triggered}
 
 -- ---- trades
 
@@ -40,35 +38,6 @@ pub record ComesIn {E : Type 0} (m : EmitMeanings E) (Apart : Naming → MatchSt
   pub last : price ≡ last_fill (part naming (start_at before)).events
 
 -- ---- the waiting stops
-
--- the range does not reach a stop
-abbrev pub IsUnreached : Option (Price × Price) → Entry → Type 0
-IsUnreached None e = Unit {0}
-IsUnreached (Some range) e = is_reached_by range e ≡ false
-
--- The waiting stops of an instrument were looked through up to one of them, or all: the range reaches none of those before it.
-pub record IsPassed (instrument : ℕ) (range : Option (Price × Price)) (waiting : List Entry) (from : Option ℕ) : Type 0 where
-  pub front : List Entry
-  pub back : List Entry
-  pub whole : stops_of instrument waiting ≡ front ++ back
-  pub next : from ≡ slot_of back
-  pub unreached : AllByRecursion (IsUnreached range) front
-
--- a waiting stop of this slot is the first that the range reaches, and behind it this one stands
-pub record IsFirstReached (instrument : ℕ) (range : Option (Price × Price)) (waiting : List Entry) (slot : ℕ) (behind : Option ℕ) : Type 0 where
-  pub front : List Entry
-  pub stop : Entry
-  pub back : List Entry
-  pub whole : stops_of instrument waiting ≡ front ++ stop ∷ back
-  pub has : stop.slot ≡ slot
-  pub next : behind ≡ slot_of back
-  pub unreached : AllByRecursion (IsUnreached range) front
-  pub first : first_reached instrument range waiting ≡ Some stop
-
--- the first stop that the range reaches was found, and the one behind it, or there is none
-abbrev pub FindsReached : ℕ → Option (Price × Price) → List Entry → Option ℕ → Option ℕ → Type 0
-FindsReached instrument range waiting None next = first_reached instrument range waiting ≡ None
-FindsReached instrument range waiting (Some slot) next = IsFirstReached instrument range waiting slot next
 
 -- the waiting stop of a slot is triggered, and entered
 abbrev pub slot_entered : ℕ → ℕ → List Step → MatchState → MatchState

@@ -1,7 +1,6 @@
-use Rattle.std.proofs.Common.{◌≡◌, length, option_map}
-use Rattle.plain_book.specs.Book.{IsRight, slot_number}
+use Rattle.std.proofs.Common.{◌≡◌, length}
+use Rattle.plain_book.specs.Book.{IsRight}
 use Rattle.plain_book.specs.Matches.{match_at}
-use Rattle.order_kinds.specs.Inner.Triggering.{IsPassed}
 use Rattle.order_kinds.proofs.Triggering.{HasTriggered}
 use Rattle.order_kinds.proofs.stops.enter_with_stops.Given as goal
 
@@ -12,8 +11,7 @@ invariant-loop-slot g l =
     record {
       has : HasTriggered g.E.Emit.meanings l.fn.steps before l.trades.range l.trades.last now;
       right : IsRight now.book;
-      searched : l.stops.instrument ≡ before.taker.order.instrument;
-      passed : IsPassed l.stops.instrument l.trades.range now.book.waiting (option_map slot_number l.stops.at);
+      same : l.instrument ≡ before.taker.order.instrument;
     }
 
 abbrev pub decreases-loop-slot : goal.decreases-loop-slot
