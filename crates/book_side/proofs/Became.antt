@@ -192,6 +192,9 @@ module _ {c n : ℕ} {p : pool.Queues} {ids : Ids} {lv : Rows} {tops : List Side
     ready : IsReady c (pool.entries_at p.queues) q lv.rows lv1.rows
     ready = level-ready c (pool.entries_at p.queues) q (level_of o) lv lv1 k.level_room k.summed k.some k.unused rules en
 
+    pub queue-below : q < c
+    queue-below = ready.below
+
     pub queue-there : q < length p.queues
     queue-there = omega (arith, ready.below, k.many)
 

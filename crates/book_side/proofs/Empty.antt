@@ -22,7 +22,7 @@ use Rattle.book_side.specs.Inner.Flat.{flat}
 use Rattle.book_side.specs.Inner.Content.{Held, unmarked, no_tops, top_of_side, top_at, book_of, resting_of}
 use Rattle.book_side.specs.Inner.Linked.{IsTopOf, IsLinked}
 
-empty-at : (m q : ℕ) → entries_at (replicate m []) q ≡ []
+pub empty-at : (m q : ℕ) → entries_at (replicate m []) q ≡ []
 empty-at zero q = refl
 empty-at (suc m) zero = refl
 empty-at (suc m) (suc q) = empty-at m q

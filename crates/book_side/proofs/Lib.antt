@@ -18,6 +18,7 @@ mod Places
 mod Placing
 mod Open
 mod Pools
+mod Reached
 mod Renaming
 mod Reordering
 mod Resting

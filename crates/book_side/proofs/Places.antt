@@ -66,6 +66,14 @@ below-is a b h = grind (arith, nat_tests)
 above-is : (a b : ℕ) → b ≤ a → nat_lt a b ≡ false
 above-is a b h = grind (arith, nat_tests)
 
+-- the order of a slot is of the instrument of its queue
+pub instrument-held : (s i : ℕ) (hs : List Held) → HasSlot s hs → AllByRecursion (λ (h : Held). h.1.instrument ≡ i) hs → (pool.order_of s hs).instrument ≡ i
+instrument-held s i [] h a = absurd h
+instrument-held s i (x ∷ hs) h a = elim (eqb_tells x.0 s) [
+  | inl t ↦ ap (λ (b : Bool). (cond b x.1 (pool.order_of s hs)).instrument) t.0 ∙ a.0
+  | inr t ↦ ap (λ (b : Bool). (cond b x.1 (pool.order_of s hs)).instrument) t.0 ∙ instrument-held s i hs (elim h [ inl e ↦ absurd (t.1 (sym e)) | inr e ↦ e ]) a.1
+]
+
 -- an order that waits has no mark
 abbrev no_top : ℕ → Side → Option ℕ
 no_top i d = None
@@ -90,8 +98,11 @@ module _ (c n : ℕ) (p : pool.Queues) (ids : Ids) (lv : Rows) (tops : List Side
       subst (AreOf W c) is
       (all-marked no_top (λ (h : Held). h.1.instrument ≡ q - c) (λ (e : Entry). c + e.order.instrument ≡ c + (q - c)) (λ h e. ap (λ (i : ℕ). c + i) e) (P (c + (q - c))) (k.stops (q - c) (omega arith)))
 
+  pub stops-in : (i : ℕ) → i < n → stops_of i book.waiting ≡ W (c + i)
+  stops-in i lt = stops-at W c i c n stops-of (omega arith) (omega arith)
+
   pub first-stop : (i : ℕ) → i < n → first_slot (P (c + i)) ≡ slot_of (stops_of i book.waiting)
-  first-stop i lt = first-looked no_top (P (c + i)) ∙ ap slot_of (sym (stops-at W c i c n stops-of (omega arith) (omega arith)))
+  first-stop i lt = first-looked no_top (P (c + i)) ∙ ap slot_of (sym (stops-in i lt))
 
   module _ (s : ℕ) where
     -- the queue of an order that rests
@@ -172,18 +183,11 @@ module _ (c n : ℕ) (p : pool.Queues) (ids : Ids) (lv : Rows) (tops : List Side
     next-waits h o found =
         let w = in-line h in
         let i = w.instrument in
-        let mine : (pool.order_of s (P (c + i))).instrument ≡ i = held-of i (P (c + i)) w.at.1 (k.stops i w.listed) in
+        let mine : (pool.order_of s (P (c + i))).instrument ≡ i = instrument-held s i (P (c + i)) w.at.1 (k.stops i w.listed) in
         let line : stops_of (orders.order_of s book.waiting).instrument book.waiting ≡ W (c + i) =
         ap (λ (x : Order). stops_of x.instrument book.waiting) w.order ∙ ap (λ (j : ℕ). stops_of j book.waiting) mine
-        ∙ (let lt : i < n = w.listed in stops-at W c i c n stops-of (omega arith) (omega arith)) in
+        ∙ stops-in i w.listed in
         found (c + i) w.at ∙ after-looked no_top s (P (c + i)) ∙ ap (slot_after s) (sym line)
-      where
-        held-of : (i : ℕ) (hs : List Held) → HasSlot s hs → AllByRecursion (λ (h : Held). h.1.instrument ≡ i) hs → (pool.order_of s hs).instrument ≡ i
-        held-of i [] h a = absurd h
-        held-of i (x ∷ hs) h a = elim (eqb_tells x.0 s) [
-          | inl t ↦ ap (λ (b : Bool). (cond b x.1 (pool.order_of s hs)).instrument) t.0 ∙ a.0
-          | inr t ↦ ap (λ (b : Bool). (cond b x.1 (pool.order_of s hs)).instrument) t.0 ∙ held-of i hs (elim h [ inl e ↦ absurd (t.1 (sym e)) | inr e ↦ e ]) a.1
-        ]
 
     -- an order rests exactly where its queue is one of those of the levels
     pub rests-below : SlotsDiffer p → AreRows lv → orders.HasSlot s (live_orders book) → (q : ℕ) → IsIn p s q → MatchBool (nat_lt q c) (orders.HasSlot s book.resting) (orders.HasSlot s book.waiting)

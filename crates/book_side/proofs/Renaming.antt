@@ -89,6 +89,7 @@ pub record CanStand (s : ℕ) (b : Book) (id : List ℕ) (quantity least : ℕ) 
   pub level : level_of x ≡ level_of (order_of s (live_orders y))
   pub same_firm : x.firm ≡ (order_of s (live_orders y)).firm
   pub same_id : x.id ≡ (order_of s (live_orders y)).id
+  pub same_trigger : x.trigger ≡ (order_of s (live_orders y)).trigger
   pub rests : HasSlot s y.resting → IsResting y.instruments x
   pub waits : HasSlot s y.waiting → IsWaiting y.instruments x
   pub view : book_reordered s x y ≡ book_changed s id quantity least b
@@ -150,6 +151,7 @@ module _ (b : Book) (r : IsRight b) (s : ℕ) (h : HasSlot s (live_orders b)) (i
       level = ap level_of (sym is-now);
       same_firm = ap (λ (x : Order). x.firm) (sym is-now);
       same_id = ap (λ (x : Order). x.id) (sym is-now);
+      same_trigger = ap (λ (x : Order). x.trigger) (sym is-now);
       rests = λ has. let before = HasSlot-before s s o b.resting has in rest-changed b.instruments id quantity least old (order-rests before) a q w (z before);
       waits = λ has. wait-changed b.instruments id quantity least old (order-waits (HasSlot-before s s o b.waiting has)) a q w;
       view = reordered-twice (changed_to id quantity least old);

@@ -15,16 +15,19 @@ use plain_book::{Book, changed, first_shown, makes_top};
 use price_level::Levels;
 use std::alloc::{AllocError, Global};
 use std::marker::Model;
+use waiting_stops::{Wait, WaitingStops};
 
 /// Keeps the orders of each level in a queue, and the stops of each instrument in another; the levels in their order, the
-/// ids in a table, and TOP of each side beside them. No call but `clear` walks over orders. Contracts see it as the content
-/// of a book.
+/// ids in a table, and TOP of each side beside them. The stops stand once more, with bounds on their stop prices, so that
+/// `first_reached` looks at few of them. But for that, for a stop that leaves and for `clear`, no call walks over orders.
+/// Contracts see it as the content of a book.
 #[derive(Drop)]
 pub struct LinkedBook {
     pool: Pool,
     ids: IdTable,
     levels: Levels,
     tops: Vec<SideTops>,
+    stops: WaitingStops,
     capacity: u32,
     instruments: u8,
 }
@@ -33,19 +36,19 @@ impl Model for LinkedBook {
     ghost use Rattle.std.specs.Prelude.{◌≡◌, vec_capacity};
     ghost use Rattle.plain_book.specs.Book.{Book};
     ghost use Rattle.book_side.specs.Inner.Content.{book_of};
-    ghost use Rattle.book_side.specs.Inner.Linked.{IsLinked};
+    ghost use Rattle.book_side.specs.Inner.Linked.{IsLinked, HasStops};
 
     ghost Value = { Book };
 
     ghost view = { λ p. book_of p.capacity p.instruments p.tops.items p.pool.queues p.levels.rows };
 
-    ghost invariant = { λ p. IsLinked p.capacity p.instruments p.pool p.ids p.levels p.tops.items × (vec_capacity p.tops ≡ p.instruments) };
+    ghost invariant = { λ p. IsLinked p.capacity p.instruments p.pool p.ids p.levels p.tops.items × (vec_capacity p.tops ≡ p.instruments) × HasStops p.capacity p.instruments p.pool p.stops };
 }
 
 impl LinkedBook {
     /// An empty book for so many live orders, and so many instruments. An `Err` is want of memory, also where twice the
-    /// capacity, the instruments and one more are together 2 to the power of 32 or more. It takes all the memory: no
-    /// call changes how much a part has room for.
+    /// capacity, the instruments and one more are together 2 to the power of 32 or more. It takes all the memory, for the
+    /// stops of each instrument as if all orders were stops of it: no call changes how much a part has room for.
     pub fn new(alloc: Global, capacity: u32, instruments: u8) -> Result<LinkedBook, AllocError>
         ensures { IfOk result (λ b. b ≡ empty_book capacity instruments) }
     {
@@ -57,6 +60,7 @@ impl LinkedBook {
             ids: IdTable::new(alloc, capacity)?,
             levels: Levels::new(alloc, capacity, instruments)?,
             tops: no_tops(alloc, instruments)?,
+            stops: WaitingStops::new(alloc, capacity, instruments)?,
             capacity,
             instruments,
         })
@@ -174,6 +178,13 @@ impl Book for LinkedBook {
         let queue = self.capacity + u32::from(order.instrument);
         let slot = self.pool.push_back(queue, &order);
         self.ids.insert(order.firm, order.id, slot);
+        self.pool.rules();
+        let wait = Wait {
+            slot,
+            side: order.side,
+            trigger: order.trigger,
+        };
+        self.stops.put(order.instrument, wait);
         slot
     }
 
@@ -231,6 +242,10 @@ impl Book for LinkedBook {
         self.pool.next(slot)
     }
 
+    fn first_reached(&self, instrument: u8, least: Price, greatest: Price) -> Option<Slot> {
+        self.stops.first_reached(instrument, least, greatest)
+    }
+
     fn clear(&mut self) {
         for instrument in 0..self.instruments {
             clear_instrument(self, instrument);
@@ -250,6 +265,7 @@ impl LinkedBook {
         self.levels.rules();
         let order = self.pool.order(slot);
         self.ids.remove(order.firm, &order.id);
+        self.stops.take_out(order.instrument, slot);
         self.pool.unlink(slot);
     }
 
@@ -326,30 +342,34 @@ impl LinkedBook {
         requires unnamed { is_live (order_of slot.0 (live_orders self.old)).firm id (live_orders self.old) ≡ false }
         ensures { self.new ≡ book_reordered slot.0 (record (order_of slot.0 (live_orders self.old)) { id = id }) self.old }
     {
+        self.pool.rules();
         let mut order = *self.pool.order(slot);
         self.ids.rename(order.firm, &order.id, id);
         order.id = id;
         self.pool.set(slot, &order);
     }
 
-    /// A stop changes, and keeps its place.
+    /// A stop changes, and keeps its place and its stop price.
     fn set_stop(&mut self, slot: Slot, order: &Order)
         requires waits { HasSlot slot.0 self.old.waiting }
         requires level { level_of order.now ≡ level_of (order_of slot.0 (live_orders self.old)) }
         requires firm { order.now.firm ≡ (order_of slot.0 (live_orders self.old)).firm }
         requires id { order.now.id ≡ (order_of slot.0 (live_orders self.old)).id }
+        requires trigger { order.now.trigger ≡ (order_of slot.0 (live_orders self.old)).trigger }
         requires fit { IsWaiting self.old.instruments order.now }
         ensures { self.new ≡ book_reordered slot.0 order.now self.old }
     {
+        self.pool.rules();
         self.pool.set(slot, order);
     }
 
-    /// A live order changes, and keeps its place.
+    /// A live order changes, and keeps its place and its stop price.
     fn set_live(&mut self, slot: Slot, order: &Order)
         requires live { HasSlot slot.0 (live_orders self.old) }
         requires level { level_of order.now ≡ level_of (order_of slot.0 (live_orders self.old)) }
         requires firm { order.now.firm ≡ (order_of slot.0 (live_orders self.old)).firm }
         requires id { order.now.id ≡ (order_of slot.0 (live_orders self.old)).id }
+        requires trigger { order.now.trigger ≡ (order_of slot.0 (live_orders self.old)).trigger }
         requires rests { HasSlot slot.0 self.old.resting → IsResting self.old.instruments order.now }
         requires waits { HasSlot slot.0 self.old.waiting → IsWaiting self.old.instruments order.now }
         ensures { self.new ≡ book_reordered slot.0 order.now self.old }

@@ -10,6 +10,7 @@ use Rattle.plain_book.specs.Orders.{is_slot_in}
 use Rattle.plain_book.specs.Book as content
 use Rattle.order_pool.specs.Queues as pool
 use Rattle.price_level.specs.declared.row.LevelRow.{LevelRow}
+use Rattle.waiting_stops.specs.declared.queue.Wait.{Wait}
 use Rattle.book_side.specs.declared.tops.SideTops.{SideTops}
 use Rattle.book_side.specs.Inner.Flat.{flat, queues_of}
 
@@ -38,6 +39,10 @@ marked T h = record { slot = h.0; order = h.1; is_top = is_slot_in (T h.1.instru
 -- a stop as the book sees it
 abbrev pub unmarked : Held → Entry
 unmarked h = record { slot = h.0; order = h.1; is_top = false }
+
+-- what tells whether trades reach a stop
+abbrev pub wait_of : Held → Wait
+wait_of h = record { slot = record { 0 = h.0 }; side = h.1.side; trigger = h.1.trigger }
 
 -- the orders of the levels, where P names those of each queue
 abbrev pub resting_of : (ℕ → Side → Option ℕ) → (ℕ → List Held) → List LevelRow → List Entry

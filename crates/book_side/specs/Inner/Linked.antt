@@ -1,5 +1,5 @@
 -- What is true of the parts of a linked book at every moment.
-use Rattle.std.specs.Prelude.{◌≡◌, ℕ, ◌+◌, ◌^◌, ◌<◌, ◌≤◌, List, [], length, sum_by, Option, None, Some, option_map}
+use Rattle.std.specs.Prelude.{◌≡◌, ℕ, ◌+◌, ◌^◌, ◌<◌, ◌≤◌, List, [], length, sum_by, Option, None, Some, option_map, map as each}
 use Rattle.std.specs.List.{AllByRecursion}
 use Rattle.gx_base.specs.declared.order.Side.{Side}
 use Rattle.plain_book.specs.declared.entry.Entry.{Entry}
@@ -10,8 +10,9 @@ use Rattle.std.specs.FinMap as map
 use Rattle.id_table.specs.Ids.{Ids, key}
 use Rattle.price_level.specs.declared.row.LevelRow.{LevelRow}
 use Rattle.price_level.specs.Rows.{Rows, level_of_row, HasQueue}
+use Rattle.waiting_stops.specs.Waits.{StopLists, list_at}
 use Rattle.book_side.specs.declared.tops.SideTops.{SideTops}
-use Rattle.book_side.specs.Inner.Content.{top_at, Held, resting_of, book_of}
+use Rattle.book_side.specs.Inner.Content.{top_at, Held, wait_of, resting_of, book_of}
 
 -- TOP, where there is one, is an order of the side
 abbrev pub IsTopOf : Option ℕ → List Entry → Type 0
@@ -49,3 +50,9 @@ pub record IsLinked (capacity instruments : ℕ) (p : pool.Queues) (ids : Ids) (
   pub live : pool.live_of p ≡ length (content.live_orders (book_of capacity instruments tops p.queues levels.rows))
   pub count : map.len ids.slots ≡ length (content.live_orders (book_of capacity instruments tops p.queues levels.rows))
   pub named : (f : ℕ) → (i : List ℕ) → option_map content.slot_number (map.get ids.slots (key f i)) ≡ slot_named f i (content.live_orders (book_of capacity instruments tops p.queues levels.rows))
+
+-- the stops of each instrument stand once more, in the order of its queue
+pub record HasStops (capacity instruments : ℕ) (p : pool.Queues) (stops : StopLists) : Type 0 where
+  pub room : stops.capacity ≡ capacity
+  pub sides : length stops.lists ≡ instruments
+  pub same : (i : ℕ) → i < instruments → list_at stops.lists i ≡ each wait_of (pool.entries_at p.queues (capacity + i))

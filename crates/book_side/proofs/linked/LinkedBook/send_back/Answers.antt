@@ -3,6 +3,7 @@ use Rattle.plain_book.specs.Orders.{placed, without}
 use Rattle.book_side.specs.Inner.Steps.{resting_as}
 use Rattle.book_side.proofs.Seen.{IsAtRow, rests-live, at-row, back-in}
 use Rattle.book_side.proofs.Became.{AreParts, went-back}
+use Rattle.book_side.proofs.Reached.{rests-below, stand-back}
 use Rattle.book_side.proofs.linked.LinkedBook.send_back.Goals as goal
 use Rattle.book_side.proofs.linked.LinkedBook.send_back.Goals.{After-queue_of-queue, After-set_sums}
 
@@ -49,7 +50,14 @@ became c =
     c.row-row.result c.exchanged-shown.result c.exchanged-leaves.result c.to_back.ensures.queues c.to_back.ensures.live c.set.ensures.queues c.set.ensures.live (record { row = c.row-row.ensures; shown_is = c.exchanged-shown.ensures; leaves_is = c.exchanged-leaves.ensures; rows = c.set_sums.ensures }) c.drop_top.ensures.length c.drop_top.ensures.tops
 
 pub invariant_of-self : goal.invariant_of-self
-invariant_of-self c = ((became (goal.at.invariant_of-self c).After-set_sums).linked, c.drop_top.ensures.room ∙ c.self.invariant.1)
+invariant_of-self c =
+    let q = c.queue_of-queue.result in
+    let at = c.queue_of-queue.ensures in
+    let low = rests-below c.self.invariant.0 c.self.view_is c.self.invariant.2 c.args.slot.0 q c.requires.rests c.rules.ensures at c.rules-2.ensures in (
+      (became (goal.at.invariant_of-self c).After-set_sums).linked,
+      c.drop_top.ensures.room ∙ c.self.invariant.1,
+      stand-back c.self.invariant.2 c.args.slot.0 q c.rules.ensures at c.args.order.now low (c.to_back.ensures.queues q at) c.set.ensures.queues,
+    )
 
 pub returns : goal.returns
 returns c = (became (goal.at.returns c).After-set_sums).view

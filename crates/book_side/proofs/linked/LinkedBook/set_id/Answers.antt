@@ -4,6 +4,7 @@ use Rattle.gx_base.specs.declared.order.Order.{Order}
 use Rattle.id_table.specs.Ids.{key}
 use Rattle.book_side.proofs.Seen.{live, order-is, id-there, id-absent}
 use Rattle.book_side.proofs.Became.{named}
+use Rattle.book_side.proofs.Reached.{stand-named}
 use Rattle.book_side.proofs.linked.LinkedBook.set_id.Goals as goal
 
 pub order-requires : goal.order-requires
@@ -22,7 +23,7 @@ rename-requires-clause-absent c =
 
 pub invariant_of-self : goal.invariant_of-self
 invariant_of-self c =
-    ((named c.self.invariant.0 c.self.view_is c.args.slot c.args.id c.order.result.now c.requires.live c.requires.unnamed c.order.ensures c.set.ensures.queues c.set.ensures.live c.rename.ensures).linked, c.self.invariant.1)
+    ((named c.self.invariant.0 c.self.view_is c.args.slot c.args.id c.order.result.now c.requires.live c.requires.unnamed c.order.ensures c.set.ensures.queues c.set.ensures.live c.rename.ensures).linked, c.self.invariant.1, stand-named c.self.invariant.0 c.self.view_is c.self.invariant.2 c.args.slot.0 c.args.id c.order.result.now c.rules.ensures (live c.self.invariant.0 c.self.view_is c.args.slot.0 c.requires.live) c.order.ensures c.set.ensures.queues)
 
 pub returns : goal.returns
 returns c =

@@ -1,6 +1,8 @@
+use Rattle.std.proofs.Common.{arith}
 use Rattle.plain_book.specs.Book.{book_with_order}
 use Rattle.book_side.proofs.Seen.{IsAtRow, rests-live, at-row}
 use Rattle.book_side.proofs.Became.{AreParts, changed}
+use Rattle.book_side.proofs.Reached.{rests-below, stand-set}
 use Rattle.book_side.proofs.linked.LinkedBook.set_order.Goals as goal
 use Rattle.book_side.proofs.linked.LinkedBook.set_order.Goals.{After-queue_of-queue, After-set_sums}
 
@@ -37,7 +39,12 @@ became c =
     c.row-row.result c.exchanged-shown.result c.exchanged-leaves.result c.set.ensures.queues (record { row = c.row-row.ensures; shown_is = c.exchanged-shown.ensures; leaves_is = c.exchanged-leaves.ensures; rows = c.set_sums.ensures })
 
 pub invariant_of-self : goal.invariant_of-self
-invariant_of-self c = ((became (goal.at.invariant_of-self c).After-set_sums).linked, c.self.invariant.1)
+invariant_of-self c =
+    let low = rests-below c.self.invariant.0 c.self.view_is c.self.invariant.2 c.args.slot.0 c.queue_of-queue.result c.requires.rests c.rules.ensures c.queue_of-queue.ensures c.rules-2.ensures in (
+      (became (goal.at.invariant_of-self c).After-set_sums).linked,
+      c.self.invariant.1,
+      stand-set c.self.invariant.2 c.args.slot.0 c.queue_of-queue.result c.rules.ensures c.queue_of-queue.ensures c.args.order.now c.self.invariant.0.many (λ le. absurd (let z : ⊥ = omega (arith, le, low) in z)) c.set.ensures.queues,
+    )
 
 pub returns : goal.returns
 returns c = (became (goal.at.returns c).After-set_sums).view

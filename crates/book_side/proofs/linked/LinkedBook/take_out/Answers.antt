@@ -2,6 +2,7 @@ use Rattle.std.proofs.Common.{◌∙◌, refl}
 use Rattle.plain_book.proofs.Levels.{HasSlot-left}
 use Rattle.book_side.proofs.Seen.{IsAtRow, rests-live, id-there, at-row}
 use Rattle.book_side.proofs.Became.{left}
+use Rattle.book_side.proofs.Reached.{rests-below, stand-left}
 use Rattle.book_side.proofs.linked.LinkedBook.take_out.Goals as goal
 use Rattle.book_side.proofs.linked.LinkedBook.take_out.Goals.{After-order-order}
 
@@ -33,8 +34,9 @@ remove-requires c = id-there c.self.invariant.0 c.self.view_is c.args.slot.0 c.o
 pub invariant_of-self : goal.invariant_of-self
 invariant_of-self c =
     let out = c.unlink.ensures in
+    let low = rests-below c.self.invariant.0 c.self.view_is c.self.invariant.2 c.args.slot.0 c.queue_of-queue.result c.requires c.rules.ensures c.queue_of-queue.ensures c.rules-2.ensures in
     let top = c.drop_top.ensures in
-    ((left c.self.invariant.0 c.self.view_is c.args.slot.0 c.queue_of-queue.result c.order-order.result.now c.requires c.rules.ensures c.rules-2.ensures c.queue_of-queue.ensures c.order-order.ensures out.queues out.live c.leave_level.ensures c.remove.ensures top.length top.tops).linked, c.drop_top.ensures.room ∙ c.self.invariant.1)
+    ((left c.self.invariant.0 c.self.view_is c.args.slot.0 c.queue_of-queue.result c.order-order.result.now c.requires c.rules.ensures c.rules-2.ensures c.queue_of-queue.ensures c.order-order.ensures out.queues out.live c.leave_level.ensures c.remove.ensures top.length top.tops).linked, c.drop_top.ensures.room ∙ c.self.invariant.1, stand-left c.self.invariant.2 c.args.slot.0 c.queue_of-queue.result c.rules.ensures c.queue_of-queue.ensures low out.queues)
 
 pub returns : goal.returns
 returns c =

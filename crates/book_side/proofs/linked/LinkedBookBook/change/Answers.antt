@@ -14,7 +14,7 @@ can c =
 pub set_live-requires : goal.set_live-requires
 set_live-requires c =
     let at = can (goal.at.set_live-requires c).After-set_id in
-    record { live = at.live; level = at.level; firm = at.same_firm; id = at.same_id; rests = at.rests; waits = at.waits }
+    record { live = at.live; level = at.level; firm = at.same_firm; id = at.same_id; trigger = at.same_trigger; rests = at.rests; waits = at.waits }
 
 pub returns : goal.returns
 returns c = c.set_live.ensures ∙ (can (goal.at.returns c).After-set_id).view

@@ -3,7 +3,8 @@ use Rattle.plain_book.specs.Orders.{HasSlot}
 use Rattle.plain_book.specs.Book.{live_orders, book_placed}
 use Rattle.book_side.proofs.Seen.{id-absent}
 use Rattle.book_side.proofs.Bounds.{first-small}
-use Rattle.book_side.proofs.Became.{AreParts, rows-room, queue-there, sums-fit, came}
+use Rattle.book_side.proofs.Became.{AreParts, rows-room, queue-below, queue-there, sums-fit, came}
+use Rattle.book_side.proofs.Reached.{stand-placed}
 use Rattle.book_side.proofs.linked.LinkedBookBook.place.Goals as goal
 use Rattle.book_side.proofs.linked.LinkedBookBook.place.Goals.{After-row-row, After-place_top}
 
@@ -53,7 +54,9 @@ placed c =
     (new.fresh, new.now)
 
 pub invariant_of-self : goal.invariant_of-self
-invariant_of-self c = ((placed (goal.at.invariant_of-self c).After-place_top).1.linked, c.place_top.ensures.room ∙ c.self.invariant.1)
+invariant_of-self c =
+    let low = queue-below c.self.invariant.0 c.self.view_is c.enter_level-queue.result c.args.order c.enter_level-queue.new.levels c.enter_level-queue.ensures c.rules.ensures c.requires.room c.requires.fit in
+    ((placed (goal.at.invariant_of-self c).After-place_top).1.linked, c.place_top.ensures.room ∙ c.self.invariant.1, stand-placed c.self.invariant.2 c.enter_level-queue.result _ low c.push_back-slot.ensures.queues)
 
 pub returns : goal.returns
 returns c =
