@@ -1,71 +1,72 @@
--- The best level of a side is the last one of its last chunk.
+-- A level that is known by its place, and the best level of a side, the last one of its last chunk.
 use Rattle.std.proofs.Common.{◌≡◌, ◌≢◌, ℕ, ◌+◌, ◌-◌, ◌<◌, true, false, List, [], ◌∷◌, ◌++◌, length, set, take, drop, filter, not, None, Some, sym, ap, subst, ◌∙◌, arith, append_assoc, length-append, inl, inr, refl}
 use Prim.Native.Nat.{suc}
 use Rattle.std.specs.Prelude.{ℤ}
-use Rattle.std.proofs.lemmas.Bool.{cases_eq, false_from_ne_true}
-use Rattle.std.specs.List.{AllByRecursion}
+use Rattle.std.proofs.lemmas.Bool.{cases_eq}
+use Rattle.std.specs.List.{AllByRecursion, remove}
 use Rattle.book_order.proofs.Each.{all-with, all-front, all-back}
 use Rattle.std.proofs.lemmas.Bool.Decides.{Decides-int_eq}
 use Rattle.std.proofs.lemmas.List.{append-nil, get_or_append_left, get_or-append-add, take_all}
-use Rattle.book_order.proofs.Levels.{is_better-irrefl}
 use Rattle.book_order.specs.Levels.{is_better}
 use Rattle.gx_base.specs.declared.price.Price.{Price}
 use Rattle.gx_base.specs.declared.order.Side.{Side}
 use Rattle.price_chunks.specs.declared.place.Step.{Step}
-use Rattle.price_chunks.proofs.Flat.{two, flat-at, order-front, all-from, after_none, before_more, at_chunk, put_chunk, filter-all, filter-none, worse_not_at, one_open}
-use Rattle.price_chunks.proofs.Steps.{front, one}
+use Rattle.price_chunks.proofs.Flat.{two, flat-at, order-front, order-back, order-chunk, all-from, after_none, before_more, at_chunk, put_chunk, filter-all, filter-none, worse_not_at, one_open, none_open}
+use Rattle.price_chunks.proofs.Steps.{place_at, others, at_here, at_none}
 use Rattle.price_chunks.proofs.Asked.{linked_last}
 use Rattle.price_chunks.specs.Steps.{no_step, step_at, AreWorstFirst, is_worse_step, is_step_at, queue_of_last, with_step, without_step, with_open}
-use Rattle.price_chunks.specs.Inner.Chunks.{flat, chunk_at, AreChunks, IsBest, IsChunkOf}
+use Rattle.price_chunks.specs.Inner.Chunks.{flat, chunk_at, AreChunks, IsAt, IsPlace, IsLevelAt, IsChunkOf}
 
--- a price that the best level has belongs into the last chunk
-pub best_chunk : (side : Side) (price : Price) (chunks : List (List Step)) → AreWorstFirst side (flat chunks) → (j : ℕ) → j + 1 ≡ length chunks → IsBest price (chunk_at chunks j) → IsChunkOf side price chunks j
-best_chunk side price chunks o j e best =
+-- a price that a level has belongs into its chunk
+pub level_chunk : (side : Side) (price : Price) (chunks : List (List Step)) → AreWorstFirst side (flat chunks) → (j n : ℕ) → IsLevelAt price chunks j n → IsChunkOf side price chunks j
+level_chunk side price chunks o j n at =
     let p = chunk_at chunks j in
     let a = flat (take j chunks) in
     let rest = flat (drop (suc j) chunks) in
-    let n = length p - 1 in
-    let q = order-front side (a ++ p) rest (subst (AreWorstFirst side) (flat-at chunks j (omega arith) ∙ sym (append_assoc a p rest)) o) in
-    let same : (step_at p n).price.0 ≡ price.0 = (Decides-int_eq (step_at p n).price.0 price.0).0 best.is in
-    let some = best.some in
+    let e = flat-at chunks j at.within in
+    let q = order-front side (a ++ p) rest (subst (AreWorstFirst side) (e ∙ sym (append_assoc a p rest)) o) in
+    let r = order-back side a (p ++ rest) (subst (AreWorstFirst side) e o) in
+    let same : (step_at p n).price.0 ≡ price.0 = (Decides-int_eq (step_at p n).price.0 price.0).0 at.here.is in
+    let lt = at.here.within in
     let l = length-append a p in
+    let m = length-append p rest in
     record {
-      within = omega arith;
-      before = all-from (λ (s : Step). is_worse_step side price s ≡ true) a no_step (λ k lt.
+      within = at.within;
+      before = all-from (λ (s : Step). is_worse_step side price s ≡ true) a no_step (λ k below.
           subst (λ (x : ℤ). is_better side x (step_at a k).price.0 ≡ true) same
-          (two side (step_at (a ++ p) (length a + n)) (step_at (a ++ p) k) (step_at p n) (step_at a k) (get_or-append-add a p n no_step) (get_or_append_left a p no_step k lt) (q k (length a + n) (omega arith) (omega arith))));
-      after = after_none side price chunks o j e;
+          (two side (step_at (a ++ p) (length a + n)) (step_at (a ++ p) k) (step_at p n) (step_at a k) (get_or-append-add a p n no_step) (get_or_append_left a p no_step k below) (q k (length a + n) (omega arith) (omega arith))));
+      after = all-from (λ (s : Step). is_better side s.price.0 price.0 ≡ true) rest no_step (λ k below.
+          subst (λ (x : ℤ). is_better side (step_at rest k).price.0 x ≡ true) same
+          (two side (step_at (p ++ rest) (length p + k)) (step_at (p ++ rest) n) (step_at rest k) (step_at p n) (get_or-append-add p rest k no_step) (get_or_append_left p rest no_step n lt) (r n (length p + k) (omega arith) (omega arith))));
     }
 
--- where the best level has the price, no other has
-module _ (side : Side) (price : Price) (p : List Step) (o : AreWorstFirst side p) (best : IsBest price p) where
-  pub best_alone : (k : ℕ) → k < length p → (k ≡ length p - 1 → ⊥) → is_step_at price (step_at p k) ≡ false
-  best_alone k lt ne =
-      let n = length p - 1 in
-      let some = best.some in
-      let same : (step_at p n).price.0 ≡ price.0 = (Decides-int_eq (step_at p n).price.0 price.0).0 best.is in
-      false_from_ne_true (is_step_at price (step_at p k)) (λ t.
-      let e : (step_at p k).price.0 ≡ price.0 = (Decides-int_eq (step_at p k).price.0 price.0).0 t in
-      let h = subst (λ (x : ℤ). is_better side x (step_at p k).price.0 ≡ true) same (o k n (omega arith) (omega arith)) in
-      let h2 = subst (λ (x : ℤ). is_better side price.0 x ≡ true) e h in
-      let g = is_better-irrefl side price.0 in cc)
+-- where a level has the price, no other has
+module _ (side : Side) (price : Price) (p : List Step) (o : AreWorstFirst side p) (n : ℕ) (at : IsAt price p n) where
+  pub level_open : (leaves : ℕ) → set p n (record (step_at p n) { leaves = leaves }) ≡ with_open price leaves p
+  level_open leaves = one_open price leaves p n at.within at.is (others side price p n o (place_at side price p n o at))
 
-  pub best_open : (leaves : ℕ) → set p (length p - 1) (record (step_at p (length p - 1)) { leaves = leaves }) ≡ with_open price leaves p
-  best_open leaves = one_open price leaves p (length p - 1) (let some = best.some in omega arith) best.is best_alone
+  pub level_found : queue_of_last (filter (is_step_at price) p) ≡ Some (step_at p n).queue
+  level_found = ap queue_of_last (at_here side price p n o (place_at side price p n o at) at.within at.is).0
 
-  pub best_found : queue_of_last (filter (is_step_at price) p) ≡ Some (step_at p (length p - 1)).queue
-  best_found = ap queue_of_last (one (is_step_at price) p (length p - 1) (let some = best.some in omega arith) best.is best_alone).0
+  pub level_out : remove p n ≡ without_step price p
+  level_out = sym (at_here side price p n o (place_at side price p n o at) at.within at.is).1
 
-  pub best_out : without_step price p ≡ take (length p - 1) p
-  best_out =
-      let some = best.some in
-      let n = length p - 1 in
-      (front (λ s. not (is_step_at price s)) p n
-      (λ k lt. let ne : k ≢ n = omega arith in ap not (best_alone k (omega arith) ne))
-      (λ k le lt. let e : k ≡ n = omega arith in ap (λ (m : ℕ). not (is_step_at price (step_at p m))) e ∙ ap not best.is)).0
+-- what a search found is the level with the price, or there is none
+module _ (side : Side) (price : Price) (p : List Step) (o : AreWorstFirst side p) (n : ℕ) (place : IsPlace side price p n) (no : n < length p → is_step_at price (step_at p n) ≡ false) where
+  pub none_out : p ≡ without_step price p
+  none_out = sym (at_none side price p n o place no).1
 
-pub queue_best : (side : Side) (price : Price) (chunks : List (List Step)) → AreWorstFirst side (flat chunks) → (j : ℕ) → j + 1 ≡ length chunks → AreWorstFirst side (chunk_at chunks j) → IsBest price (chunk_at chunks j) → queue_of_last (filter (is_step_at price) (flat chunks)) ≡ Some (step_at (chunk_at chunks j) (length (chunk_at chunks j) - 1)).queue
-queue_best side price chunks o j e q best = ap queue_of_last (at_chunk side price chunks j (best_chunk side price chunks o j e best)) ∙ best_found side price (chunk_at chunks j) q best
+  pub none_set : (leaves : ℕ) → p ≡ with_open price leaves p
+  none_set leaves =
+      none_open price leaves p (λ k lt. elim (cases_eq k n) [
+        | inl e ↦ subst (λ (x : ℕ). is_step_at price (step_at p x) ≡ false) (sym e) (no (omega arith))
+        | inr ne ↦ others side price p n o place k lt ne
+      ])
+
+pub queue_level : (side : Side) (price : Price) (chunks : List (List Step)) → AreWorstFirst side (flat chunks) → (j n : ℕ) → IsLevelAt price chunks j n → queue_of_last (filter (is_step_at price) (flat chunks)) ≡ Some (step_at (chunk_at chunks j) n).queue
+queue_level side price chunks o j n at =
+    ap queue_of_last (at_chunk side price chunks j (level_chunk side price chunks o j n at))
+    ∙ level_found side price (chunk_at chunks j) (order-chunk side chunks j at.within o) n at.here
 
 -- ---- a price that is better than each
 

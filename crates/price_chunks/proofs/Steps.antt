@@ -3,7 +3,6 @@ use Rattle.std.proofs.Common.{◌≡◌, ◌≢◌, ℕ, ◌+◌, ◌-◌, ◌<�
 use Prim.Native.Nat.{zero, suc}
 use Rattle.std.specs.Prelude.{ℤ}
 use Rattle.std.specs.List.{insert, remove, sum_by}
-use Rattle.std.specs.Ordering.{int_eq}
 use Rattle.std.proofs.lemmas.Bool.{cases_lt, cases_eq, false_from_ne_true}
 use Rattle.std.proofs.lemmas.Bool.Decides.{Decides-int_eq}
 use Rattle.std.proofs.lemmas.List.{take_more}
@@ -15,7 +14,7 @@ use Rattle.book_order.proofs.Before.{better-past, better-apart}
 use Rattle.book_order.proofs.Levels.{is_better-irrefl}
 use Rattle.price_chunks.specs.declared.place.Step.{Step}
 use Rattle.price_chunks.specs.Steps.{no_step, step_at, AreWorstFirst, is_worse_step, is_step_at, is_open_step, price_of_last, with_step, without_step}
-use Rattle.price_chunks.specs.Inner.Chunks.{IsPlace}
+use Rattle.price_chunks.specs.Inner.Chunks.{IsPlace, IsAt}
 
 -- ---- a place is found by halves
 
@@ -33,14 +32,15 @@ place_down side price steps i o h k from lt =
       | inr ne ↦ better-apart side (step_at steps k).price.0 price.0 (better-past side (step_at steps k).price.0 (step_at steps i).price.0 price.0 (o i k (omega arith) lt) h)
     ]
 
--- the last level has the price
-pub place_last : (side : Side) (price : Price) (steps : List Step) (n : ℕ) → n + 1 ≡ length steps → AreWorstFirst side steps → is_worse_step side price (step_at steps n) ≡ false → int_eq price.0 (step_at steps n).price.0 ≡ true → IsPlace side price steps n
-place_last side price steps n e o h same =
-    let is : price.0 ≡ (step_at steps n).price.0 = (Decides-int_eq price.0 (step_at steps n).price.0).0 same in
+-- a level has the price
+pub place_at : (side : Side) (price : Price) (steps : List Step) (n : ℕ) → AreWorstFirst side steps → IsAt price steps n → IsPlace side price steps n
+place_at side price steps n o at =
+    let lt = at.within in
+    let is : price.0 ≡ (step_at steps n).price.0 = sym ((Decides-int_eq (step_at steps n).price.0 price.0).0 at.is) in
     record {
       within = omega arith;
-      worse = λ k below. subst (λ (x : ℤ). is_better side x (step_at steps k).price.0 ≡ true) (sym is) (o k n below (omega arith));
-      rest = place_down side price steps n o h;
+      worse = λ k below. subst (λ (x : ℤ). is_better side x (step_at steps k).price.0 ≡ true) (sym is) (o k n below lt);
+      rest = place_down side price steps n o (subst (λ (x : ℤ). is_better side price.0 x ≡ false) is (is_better-irrefl side price.0));
     }
 
 -- ---- filters by places

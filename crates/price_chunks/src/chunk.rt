@@ -1,7 +1,7 @@
 //! A chunk: some levels of one side that stand one after the other, the worst price first.
-ghost use Rattle.std.specs.Prelude.{◌≡◌, ◌+◌, ◌-◌, ◌<◌, ◌≤◌, ◌^◌, ℕ, [], true, ◌∷◌, ◌++◌, take, drop, set, length, IfOk, vec_len, vec_capacity};
-ghost use Rattle.price_chunks.specs.Steps.{AreWorstFirst, step_at, is_worse_step, with_step, without_step, open_at, with_open};
-ghost use Rattle.price_chunks.specs.Inner.Chunks.{room, half, IsBest};
+ghost use Rattle.std.specs.Prelude.{◌≡◌, ◌+◌, ◌-◌, ◌<◌, ◌≤◌, ◌^◌, ℕ, [], true, false, ◌∷◌, ◌++◌, take, drop, set, remove, length, IfOk, vec_len, vec_capacity};
+ghost use Rattle.price_chunks.specs.Steps.{AreWorstFirst, step_at, is_worse_step, is_step_at, with_step, without_step, open_at, with_open};
+ghost use Rattle.price_chunks.specs.Inner.Chunks.{room, half, IsAt};
 ghost use Rattle.price_chunks.specs.Inner.Sums.{IsMod};
 
 use crate::place::{Step, place_of};
@@ -92,8 +92,8 @@ impl Chunk {
         is_better_price(side, price, self.steps[self.steps.len() - 1].price)
     }
 
-    /// A level comes to its place.
-    pub(crate) fn put(&mut self, side: Side, step: Step)
+    /// A level comes to its place, which is returned.
+    pub(crate) fn put(&mut self, side: Side, step: Step) -> usize
         requires ordered { AreWorstFirst side self.old }
         requires room { length self.old < room }
         ensures put { self.new ≡ with_step side step self.old }
@@ -104,25 +104,26 @@ impl Chunk {
             unreachable!()
         }
         self.lots = self.lots.wrapping_add(step.leaves);
+        place
     }
 
-    /// A level comes to the end.
-    pub(crate) fn push(&mut self, step: Step)
+    /// A level comes to the end. Returns its place.
+    pub(crate) fn push(&mut self, step: Step) -> usize
         requires { length self.old < room }
         ensures { self.new ≡ self.old ++ step ∷ [] }
     {
+        let place = self.steps.len();
         self.steps.push_reserved(step);
         self.lots = self.lots.wrapping_add(step.leaves);
+        place
     }
 
-    /// Its best level goes.
-    pub(crate) fn pop(&mut self)
-        requires { 0 < length self.old }
-        ensures { self.new ≡ take (length self.old - 1) self.old }
+    /// The level at this place goes. The best one goes from the end, and nothing is moved.
+    pub(crate) fn take_at(&mut self, place: usize)
+        requires { place < length self.old }
+        ensures { self.new ≡ remove self.old place }
     {
-        let Some(gone) = self.steps.pop() else {
-            unreachable!()
-        };
+        let gone = self.steps.remove(place);
         self.lots = self.lots.wrapping_sub(gone.leaves);
     }
 
@@ -134,15 +135,22 @@ impl Chunk {
         ensures below { length self.new ≤ length self.old }
     {
         let place = place_of(&self.steps, side, price);
-        if place < self.steps.len() && is_same_price(self.steps[place].price, price) {
-            let gone = self.steps.remove(place);
-            self.lots = self.lots.wrapping_sub(gone.leaves);
+        if self.is_at(place, price) {
+            self.take_at(place);
         }
+    }
+
+    /// Whether the level at this place has this price.
+    pub(crate) fn is_at(&self, place: usize, price: Price) -> bool
+        ensures is { result ≡ true → IsAt price self.now place }
+        ensures other { result ≡ false → place < length self.now → is_step_at price (step_at self.now place) ≡ false }
+    {
+        place < self.steps.len() && is_same_price(self.steps[place].price, price)
     }
 
     /// Whether its best level has this price.
     pub(crate) fn is_best(&self, price: Price) -> bool
-        ensures { result ≡ true → IsBest price self.now }
+        ensures { result ≡ true → IsAt price self.now (length self.now - 1) }
     {
         let count = self.steps.len();
         count > 0 && is_same_price(self.steps[count - 1].price, price)
@@ -174,16 +182,17 @@ impl Chunk {
         self.lots = self.lots.wrapping_sub(old).wrapping_add(leaves);
     }
 
-    /// So many lots are open at a price now, if there is a level.
-    pub(crate) fn set_lots(&mut self, side: Side, price: Price, leaves: u64)
+    /// So many lots are open at a price now, if there is a level. Returns its place, or where it would come.
+    pub(crate) fn set_lots(&mut self, side: Side, price: Price, leaves: u64) -> usize
         requires { AreWorstFirst side self.old }
         ensures set { self.new ≡ with_open price leaves self.old }
         ensures long { length self.new ≡ length self.old }
     {
         let place = place_of(&self.steps, side, price);
-        if place < self.steps.len() && is_same_price(self.steps[place].price, price) {
+        if self.is_at(place, price) {
             self.set_at(place, leaves);
         }
+        place
     }
 
     /// How many lots are open at its levels.

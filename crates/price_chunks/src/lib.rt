@@ -7,5 +7,5 @@ mod place;
 mod side;
 mod sides;
 
-pub use place::Step;
+pub use place::{Spot, Step};
 pub use sides::Sides;

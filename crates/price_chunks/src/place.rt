@@ -16,7 +16,29 @@ pub struct Step {
     pub queue: u32,
 }
 
-/// How many levels have a worse price. At the best price and at better ones, where most happens, nothing is searched.
+/// Where a level stood when it was last seen: the number of its chunk among those of its side, and its place there. It is looked at
+/// before a search, and nothing is wrong where another level stands there now, or none.
+#[derive(Clone, Copy)]
+pub struct Spot {
+    pub chunk: u32,
+    pub place: u32,
+}
+
+/// The place where a price stands if all levels are equally far apart, as they are where no tick between them is without a level.
+fn guess_of(steps: &[Step], price: Price) -> usize
+    requires { 0 < length steps.now }
+    ensures { result < length steps.now }
+{
+    let last = steps.len() - 1;
+    let first = steps[0].price.0;
+    let all = first.abs_diff(steps[last].price.0);
+    let part = first.abs_diff(price.0);
+    let guess = part.wrapping_mul(last as u64) / all.max(1);
+    (guess as usize).min(last)
+}
+
+/// How many levels have a worse price. At the best price and at better ones, where most happens, and where a guess is right, nothing
+/// is searched.
 pub(crate) fn place_of(steps: &[Step], side: Side, price: Price) -> usize
     requires { AreWorstFirst side steps.now }
     ensures { IsPlace side price steps.now result }
@@ -29,8 +51,12 @@ pub(crate) fn place_of(steps: &[Step], side: Side, price: Price) -> usize
     if is_better_price(side, price, best) {
         return count;
     }
-    if is_same_price(price, best) {
+    if is_same_price(best, price) {
         return count - 1;
+    }
+    let guess = guess_of(steps, price);
+    if is_same_price(steps[guess].price, price) {
+        return guess;
     }
     place_by_halves(steps, side, price)
 }

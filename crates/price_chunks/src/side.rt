@@ -7,11 +7,11 @@ ghost use Prim.Native.Nat.{suc};
 ghost use Rattle.std.specs.List.{AllByRecursion};
 ghost use Rattle.price_chunks.specs.declared.place.Step.{Step};
 ghost use Rattle.price_chunks.specs.Steps.{AreWorstFirst, is_worse_step, is_better_step, is_step_at, is_open_step, price_of_last, price_of_first, queue_of_last, with_step, without_step, open_at, with_open};
-ghost use Rattle.price_chunks.specs.Inner.Chunks.{room, half, flat, chunk_at, AreChunks, IsChunkOf, AreNone, IsPair, IsSmall, IsLessAt};
+ghost use Rattle.price_chunks.specs.Inner.Chunks.{room, half, flat, chunk_at, AreChunks, IsChunkOf, AreNone, IsPair, IsSmall, IsLessAt, IsLevelAt};
 
 use crate::chunk::{Chunk, HALF, ROOM};
 use crate::place::{
-    Step, best_price as best_of, better_price as better_of, open_lots as open_of,
+    Spot, Step, best_price as best_of, better_price as better_of, open_lots as open_of,
     queue_at as queue_of, worse_price as worse_of, worst_price as worst_of,
 };
 use gx_base::{Price, Side};
@@ -27,6 +27,22 @@ pub(crate) fn chunk_of(chunks: &[Chunk], side: Side, price: Price) -> usize
         return last;
     }
     chunk_by_halves(chunks, side, price)
+}
+
+/// The spot of a place in a chunk. Of each number the last 32 bits are enough, since a spot is looked at before it is used.
+fn spot_at(chunk: usize, place: usize) -> Spot {
+    Spot {
+        chunk: (chunk & 0xFFFF_FFFF) as u32,
+        place: (place & 0xFFFF_FFFF) as u32,
+    }
+}
+
+/// Whether the level at a spot has this price.
+fn is_at(chunks: &[Chunk], spot: Spot, price: Price) -> bool
+    ensures { result ≡ true → IsLevelAt price chunks.now spot.chunk spot.place }
+{
+    let at = spot.chunk as usize;
+    at < chunks.len() && chunks[at].is_at(spot.place as usize, price)
 }
 
 /// The chunk in which a price has its place, by halving the chunks.
@@ -103,8 +119,8 @@ fn is_small(chunks: &[Chunk], at: usize) -> bool
     front == 0 || back == 0 || front + back < HALF
 }
 
-/// A level that is better than each other comes to the end.
-fn put_best(chunks: &mut Vec<Chunk>, spare: &mut Vec<Chunk>, side: Side, step: Step)
+/// A level that is better than each other comes to the end. Returns its spot, but where its chunk was split.
+fn put_best(chunks: &mut Vec<Chunk>, spare: &mut Vec<Chunk>, side: Side, step: Step) -> Spot
     requires chunks { AreChunks chunks.old.items }
     requires ordered { AreWorstFirst side (flat chunks.old.items) }
     requires worse { AllByRecursion (λ (s : Step). is_worse_step side step.price s ≡ true) (flat chunks.old.items) }
@@ -119,14 +135,15 @@ fn put_best(chunks: &mut Vec<Chunk>, spare: &mut Vec<Chunk>, side: Side, step: S
     ensures spare_capacity { vec_capacity spare.new ≡ vec_capacity spare.old }
 {
     let last = chunks.len() - 1;
-    chunks[last].push(step);
+    let spot = spot_at(last, chunks[last].push(step));
     if chunks[last].len() == ROOM {
         split(chunks, spare, last);
     }
+    spot
 }
 
-/// A level comes to its place, by a search.
-fn put_by_search(chunks: &mut Vec<Chunk>, spare: &mut Vec<Chunk>, side: Side, step: Step)
+/// A level comes to its place, by a search. Returns its spot, but where its chunk was split.
+fn put_by_search(chunks: &mut Vec<Chunk>, spare: &mut Vec<Chunk>, side: Side, step: Step) -> Spot
     requires chunks { AreChunks chunks.old.items }
     requires ordered { AreWorstFirst side (flat chunks.old.items) }
     requires room { vec_len chunks.old < vec_capacity chunks.old }
@@ -140,14 +157,21 @@ fn put_by_search(chunks: &mut Vec<Chunk>, spare: &mut Vec<Chunk>, side: Side, st
     ensures spare_capacity { vec_capacity spare.new ≡ vec_capacity spare.old }
 {
     let at = chunk_of(chunks, side, step.price);
-    chunks[at].put(side, step);
+    let spot = spot_at(at, chunks[at].put(side, step));
     if chunks[at].len() == ROOM {
         split(chunks, spare, at);
     }
+    spot
 }
 
-/// A level comes to its place. A new best level comes to the end, and nothing is searched.
-pub(crate) fn put_in(chunks: &mut Vec<Chunk>, spare: &mut Vec<Chunk>, side: Side, step: Step)
+/// A level comes to its place. A new best level comes to the end, and nothing is searched. Returns its spot, but where its chunk was
+/// split.
+pub(crate) fn put_in(
+    chunks: &mut Vec<Chunk>,
+    spare: &mut Vec<Chunk>,
+    side: Side,
+    step: Step,
+) -> Spot
     requires chunks { AreChunks chunks.old.items }
     requires ordered { AreWorstFirst side (flat chunks.old.items) }
     requires room { vec_len chunks.old < vec_capacity chunks.old }
@@ -161,10 +185,9 @@ pub(crate) fn put_in(chunks: &mut Vec<Chunk>, spare: &mut Vec<Chunk>, side: Side
     ensures spare_capacity { vec_capacity spare.new ≡ vec_capacity spare.old }
 {
     if chunks[chunks.len() - 1].is_all_worse(side, step.price) {
-        put_best(chunks, spare, side, step);
-        return;
+        return put_best(chunks, spare, side, step);
     }
-    put_by_search(chunks, spare, side, step);
+    put_by_search(chunks, spare, side, step)
 }
 
 /// A chunk that has lost a level is joined with the one after it or before it, where the two have few levels.
@@ -206,8 +229,14 @@ fn take_by_search(chunks: &mut Vec<Chunk>, spare: &mut Vec<Chunk>, side: Side, p
     tidy(chunks, spare, at);
 }
 
-/// The level at a price goes, if there is one. The best level goes from the end, and nothing is searched.
-pub(crate) fn take_out(chunks: &mut Vec<Chunk>, spare: &mut Vec<Chunk>, side: Side, price: Price)
+/// The level at a price goes, if there is one. Where it stands at the spot, nothing is searched.
+pub(crate) fn take_out(
+    chunks: &mut Vec<Chunk>,
+    spare: &mut Vec<Chunk>,
+    side: Side,
+    price: Price,
+    spot: Spot,
+)
     requires chunks { AreChunks chunks.old.items }
     requires ordered { AreWorstFirst side (flat chunks.old.items) }
     requires none { AreNone spare.old.items }
@@ -219,10 +248,10 @@ pub(crate) fn take_out(chunks: &mut Vec<Chunk>, spare: &mut Vec<Chunk>, side: Si
     ensures capacity { vec_capacity chunks.new ≡ vec_capacity chunks.old }
     ensures spare_capacity { vec_capacity spare.new ≡ vec_capacity spare.old }
 {
-    let last = chunks.len() - 1;
-    if chunks[last].is_best(price) {
-        chunks[last].pop();
-        tidy(chunks, spare, last);
+    if is_at(chunks, spot, price) {
+        let at = spot.chunk as usize;
+        chunks[at].take_at(spot.place as usize);
+        tidy(chunks, spare, at);
         return;
     }
     take_by_search(chunks, spare, side, price);
@@ -316,8 +345,15 @@ pub(crate) fn open_lots(chunks: &[Chunk], side: Side, limit: Price) -> u64
     total
 }
 
-/// So many lots are open at a price now, if there is a level. The best level is changed at once.
-pub(crate) fn set_lots(chunks: &mut Vec<Chunk>, side: Side, price: Price, leaves: u64)
+/// So many lots are open at a price now, if there is a level. Where it stands at the spot, nothing is searched. Returns the spot at
+/// which it stands, or would come.
+pub(crate) fn set_lots(
+    chunks: &mut Vec<Chunk>,
+    side: Side,
+    price: Price,
+    leaves: u64,
+    spot: Spot,
+) -> Spot
     requires chunks { AreChunks chunks.old.items }
     requires ordered { AreWorstFirst side (flat chunks.old.items) }
     ensures flat { flat chunks.new.items ≡ with_open price leaves (flat chunks.old.items) }
@@ -325,17 +361,15 @@ pub(crate) fn set_lots(chunks: &mut Vec<Chunk>, side: Side, price: Price, leaves
     ensures count { vec_len chunks.new ≡ vec_len chunks.old }
     ensures capacity { vec_capacity chunks.new ≡ vec_capacity chunks.old }
 {
-    let last = chunks.len() - 1;
-    if chunks[last].is_best(price) {
-        let place = chunks[last].len() - 1;
-        chunks[last].set_at(place, leaves);
-        return;
+    if is_at(chunks, spot, price) {
+        chunks[spot.chunk as usize].set_at(spot.place as usize, leaves);
+        return spot;
     }
-    set_by_search(chunks, side, price, leaves);
+    set_by_search(chunks, side, price, leaves)
 }
 
 /// The same, by a search.
-fn set_by_search(chunks: &mut Vec<Chunk>, side: Side, price: Price, leaves: u64)
+fn set_by_search(chunks: &mut Vec<Chunk>, side: Side, price: Price, leaves: u64) -> Spot
     requires chunks { AreChunks chunks.old.items }
     requires ordered { AreWorstFirst side (flat chunks.old.items) }
     ensures flat { flat chunks.new.items ≡ with_open price leaves (flat chunks.old.items) }
@@ -344,5 +378,5 @@ fn set_by_search(chunks: &mut Vec<Chunk>, side: Side, price: Price, leaves: u64)
     ensures capacity { vec_capacity chunks.new ≡ vec_capacity chunks.old }
 {
     let at = chunk_of(chunks, side, price);
-    chunks[at].set_lots(side, price, leaves);
+    spot_at(at, chunks[at].set_lots(side, price, leaves))
 }

@@ -4,7 +4,7 @@ ghost use Rattle.price_chunks.specs.Steps.{AreWorstFirst, is_worse_step, is_bett
 ghost use Rattle.price_chunks.specs.Inner.Pool.{AreSpare, AreEmptySides, chunks_of, rooms_of};
 
 use crate::chunk::Chunk;
-use crate::place::Step;
+use crate::place::{Spot, Step};
 use crate::side::{
     best_price, better_price, open_lots, put_in, queue_at, set_lots, take_out, worse_price,
     worst_price,
@@ -90,32 +90,33 @@ impl Sides {
         })
     }
 
-    /// A level comes to its place on its side.
-    pub fn put(&mut self, at: usize, side: Side, step: Step)
+    /// A level comes to its place on its side. Returns a spot to look at when the level changes or goes.
+    pub fn put(&mut self, at: usize, side: Side, step: Step) -> Spot
         requires listed { at < length self.old.lists }
         requires ordered { AreWorstFirst side (list_at self.old.lists at) }
         requires room { sum_by length self.old.lists < self.old.capacity }
         ensures { self.new ≡ record self.old { lists = set self.old.lists at (with_step side step (list_at self.old.lists at)) } }
     {
-        put_in(&mut self.sides[at], &mut self.spare, side, step);
+        put_in(&mut self.sides[at], &mut self.spare, side, step)
     }
 
-    /// The level at a price goes from its side, if there is one.
-    pub fn take_out(&mut self, at: usize, side: Side, price: Price)
+    /// The level at a price goes from its side, if there is one. It is looked for at the spot first.
+    pub fn take_out(&mut self, at: usize, side: Side, price: Price, spot: Spot)
         requires listed { at < length self.old.lists }
         requires ordered { AreWorstFirst side (list_at self.old.lists at) }
         ensures { self.new ≡ record self.old { lists = set self.old.lists at (without_step price (list_at self.old.lists at)) } }
     {
-        take_out(&mut self.sides[at], &mut self.spare, side, price);
+        take_out(&mut self.sides[at], &mut self.spare, side, price, spot);
     }
 
-    /// So many lots are open at a price of a side now, if it has a level there.
-    pub fn set_lots(&mut self, at: usize, side: Side, price: Price, leaves: u64)
+    /// So many lots are open at a price of a side now, if it has a level there. It is looked for at the spot first. Returns the spot to
+    /// look at when it changes or goes.
+    pub fn set_lots(&mut self, at: usize, side: Side, price: Price, leaves: u64, spot: Spot) -> Spot
         requires listed { at < length self.old.lists }
         requires ordered { AreWorstFirst side (list_at self.old.lists at) }
         ensures { self.new ≡ record self.old { lists = set self.old.lists at (with_open price leaves (list_at self.old.lists at)) } }
     {
-        set_lots(&mut self.sides[at], side, price, leaves);
+        set_lots(&mut self.sides[at], side, price, leaves, spot)
     }
 
     /// The best price of a side. `None` exactly where it has no level.

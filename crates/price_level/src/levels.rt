@@ -5,9 +5,9 @@ ghost use Rattle.price_level.specs.Inner.Sides.{side_number};
 ghost use Rattle.price_level.specs.Rows.{no_rows, AreRows, best_row, worse_row, worst_row, better_row, queue_at, HasQueue, row_of, with_sums, new_row, placed_row, without_row, open_rows};
 
 use crate::queues::{all_queues, give_back};
-use crate::row::{LevelRow, blank_rows};
+use crate::row::{LevelRow, blank_rows, blank_spots};
 use gx_base::{Price, Side};
-use price_chunks::{Sides, Step};
+use price_chunks::{Sides, Spot, Step};
 use std::alloc::{AllocError, Global};
 use std::marker::Model;
 
@@ -15,12 +15,16 @@ use std::marker::Model;
 /// number of levels and the number of instruments.
 ///
 /// The row of a queue is read in one step. Each side has its levels in chunks, the worst price first. A search by price looks at
-/// the best level of a side first, and then halves its chunks and the levels of one of them. A level that comes or goes moves the
-/// better levels of its chunk alone, but where a chunk is split or two are joined. `new` takes all the memory, and no part ever grows.
+/// the best level of a side first, and then halves its chunks, guesses a place in one of them, and halves that too where the guess
+/// is wrong. A level that changes or goes is looked for where it stood when it last changed, and searched by its price where it
+/// stands there no more. A level that comes or goes moves the better levels of its chunk alone, but where a chunk is split or two are
+/// joined. `new` takes all the memory, and no part ever grows.
 #[derive(Drop)]
 pub struct Levels {
     /// The row of each queue. That of a free queue means nothing.
     rows: Vec<LevelRow>,
+    /// Where the level of each queue stood when it last changed. That of a free queue means nothing.
+    spots: Vec<Spot>,
     /// The levels of buy and of sell of the first instrument, then those of the next.
     sides: Sides,
     /// The queues of no level.
@@ -32,14 +36,16 @@ pub struct Levels {
 impl Model for Levels {
     ghost use Rattle.price_level.specs.Rows.{Rows};
     ghost use Rattle.price_level.specs.Inner.Kept.{rows_seen, IsKept};
-    ghost use Rattle.std.specs.Prelude.{◌≡◌, vec_capacity};
+    ghost use Rattle.std.specs.Prelude.{◌≡◌, length, vec_capacity};
 
     ghost Value = { Rows };
 
     ghost view = { λ l. rows_seen l.capacity l.instruments l.rows.items l.sides.lists };
 
     ghost invariant = { λ l. IsKept l.capacity l.instruments l.rows.items l.sides.lists l.sides.capacity l.free.items (vec_capacity l.free)
-        × (vec_capacity l.rows ≡ l.capacity) };
+        × (vec_capacity l.rows ≡ l.capacity)
+        × (length l.spots.items ≡ l.capacity)
+        × (vec_capacity l.spots ≡ l.capacity) };
 }
 
 /// The number of a side among all sides.
@@ -54,7 +60,7 @@ fn side_number(instrument: u8, side: Side) -> usize
 }
 
 impl Levels {
-    /// No levels, with room for so many of so many instruments. An `Err` is want of memory: it takes 44 bytes for each level, and
+    /// No levels, with room for so many of so many instruments. An `Err` is want of memory: it takes 52 bytes for each level, and
     /// for each chunk 3,104 bytes and 64 more for each instrument, and 48 bytes for each instrument. There is one chunk for each 32
     /// levels, two for each instrument, and one more: so many are always enough, whichever side the levels stand on. It takes all
     /// the memory: no call changes how much a part has room for.
@@ -63,6 +69,7 @@ impl Levels {
     {
         Ok(Levels {
             rows: blank_rows(alloc, capacity)?,
+            spots: blank_spots(alloc, capacity)?,
             sides: Sides::new(alloc, 2 * instruments as usize, capacity)?,
             free: all_queues(alloc, capacity)?,
             capacity,
@@ -136,7 +143,8 @@ impl Levels {
         row.shown = shown;
         row.leaves = leaves;
         let at = side_number(row.instrument, row.side);
-        self.sides.set_lots(at, row.side, row.price, leaves);
+        let spot = &mut self.spots[queue as usize];
+        *spot = self.sides.set_lots(at, row.side, row.price, leaves, *spot);
     }
 
     /// Adds a level that is not here, with sums of 0. Returns its queue, which no level had.
@@ -169,7 +177,7 @@ impl Levels {
             leaves: 0,
             queue,
         };
-        self.sides.put(side_number(instrument, side), side, step);
+        self.spots[queue as usize] = self.sides.put(side_number(instrument, side), side, step);
         queue
     }
 
@@ -182,7 +190,8 @@ impl Levels {
     {
         let row = self.rows[queue as usize];
         let at = side_number(row.instrument, row.side);
-        self.sides.take_out(at, row.side, row.price);
+        self.sides
+            .take_out(at, row.side, row.price, self.spots[queue as usize]);
         give_back(&mut self.free, queue);
     }
 

@@ -2,6 +2,7 @@
 ghost use Rattle.std.specs.Prelude.{◌≡◌, length, IfOk, vec_capacity};
 
 use gx_base::{Price, Side};
+use price_chunks::Spot;
 use std::alloc::{AllocError, Global};
 
 /// A price level with the sums of its orders.
@@ -38,4 +39,16 @@ pub(crate) fn blank_rows(alloc: Global, count: u32) -> Result<Vec<LevelRow>, All
         });
     }
     Ok(rows)
+}
+
+/// So many spots of no level, with room for no more.
+pub(crate) fn blank_spots(alloc: Global, count: u32) -> Result<Vec<Spot>, AllocError>
+    ensures many { IfOk result (λ spots. length spots.items ≡ count) }
+    ensures room { IfOk result (λ spots. vec_capacity spots ≡ count) }
+{
+    let mut spots = Vec::with_capacity(alloc, count as usize)?;
+    for _ in 0..count {
+        spots.push_reserved(Spot { chunk: 0, place: 0 });
+    }
+    Ok(spots)
 }

@@ -14,10 +14,10 @@ pub record IsPlace (side : Side) (price : Price) (steps : List Step) (p : ℕ) :
   pub worse : (k : ℕ) → k < p → is_better side price.0 (step_at steps k).price.0 ≡ true
   pub rest : (k : ℕ) → p ≤ k → k < length steps → is_better side price.0 (step_at steps k).price.0 ≡ false
 
--- the last level, the best, has this price
-pub record IsBest (price : Price) (steps : List Step) : Type 0 where
-  pub some : 0 < length steps
-  pub is : is_step_at price (step_at steps (length steps - 1)) ≡ true
+-- the level at this place has this price
+pub record IsAt (price : Price) (steps : List Step) (p : ℕ) : Type 0 where
+  pub within : p < length steps
+  pub is : is_step_at price (step_at steps p) ≡ true
 
 -- ---- chunks
 
@@ -60,6 +60,11 @@ pub record IsChunkOf (side : Side) (price : Price) (chunks : List (List Step)) (
   pub within : j < length chunks
   pub before : AllByRecursion (λ (s : Step). is_worse_step side price s ≡ true) (flat (take j chunks))
   pub after : AllByRecursion (λ (s : Step). is_better side s.price.0 price.0 ≡ true) (flat (drop (suc j) chunks))
+
+-- the level at this place of this chunk has this price
+pub record IsLevelAt (price : Price) (chunks : List (List Step)) (j p : ℕ) : Type 0 where
+  pub within : j < length chunks
+  pub here : IsAt price (chunk_at chunks j) p
 
 -- these chunks have no levels
 abbrev pub AreNone : List (List Step) → Type 0

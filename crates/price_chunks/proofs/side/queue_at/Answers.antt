@@ -1,11 +1,10 @@
 use Rattle.std.proofs.Common.{◌≡◌, ℕ, ◌-◌, ◌<◌, true, List, [], length, Some, subst, sym, ap, ◌∙◌, arith}
 use Rattle.std.proofs.lemmas.List.{get_or_read}
 use Rattle.price_chunks.specs.declared.place.Step.{Step}
-use Rattle.price_chunks.proofs.Best.{queue_best, queue_none}
-use Rattle.price_chunks.proofs.Flat.{order-chunk}
+use Rattle.price_chunks.proofs.Best.{queue_level, queue_none}
 use Rattle.price_chunks.proofs.side.queue_at.Goals as goal
 use Rattle.price_chunks.specs.Steps.{step_at, is_worse_step}
-use Rattle.price_chunks.specs.Inner.Chunks.{IsBest}
+use Rattle.price_chunks.specs.Inner.Chunks.{IsAt, chunk_at}
 
 pub returns-then-is_best : goal.returns-then-is_best
 returns-then-is_best c =
@@ -15,9 +14,9 @@ returns-then-is_best c =
     let lt : j < length chunks = omega arith in
     let e = get_or_read chunks j c.index-chunks-last.result lt c.index-chunks-last.is [] in
     let f = get_or_read chunks j c.index-chunks-last-then-is_best.result lt c.index-chunks-last-then-is_best.is [] in
-    let best = subst (IsBest c.args.price) e (c.is_best.ensures c.if-is_best.true) in
+    let best = subst (λ (l : List Step). IsAt c.args.price l (length l - 1)) e (c.is_best.ensures c.if-is_best.true) in
     ap (λ (n : ℕ). Some n) (c.best_queue.ensures ∙ ap (λ (l : List Step). (step_at l (length l - 1)).queue) f)
-    ∙ sym (queue_best c.args.side c.args.price chunks c.requires.ordered j (omega arith) (order-chunk c.args.side chunks j lt c.requires.ordered) best)
+    ∙ sym (queue_level c.args.side c.args.price chunks c.requires.ordered j (length (chunk_at chunks j) - 1) (record { within = lt; here = best }))
 
 pub returns-then-is_all_worse : goal.returns-then-is_all_worse
 returns-then-is_all_worse c =

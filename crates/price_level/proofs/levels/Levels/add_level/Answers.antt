@@ -1,4 +1,5 @@
 use Rattle.std.proofs.Common.{ℕ, set, vec_capacity, sym, ap, subst, ◌∙◌}
+use Rattle.std.proofs.lemmas.List.{length-set}
 use Rattle.price_chunks.specs.declared.place.Step.{Step}
 use Rattle.price_chunks.specs.Steps.{SideLists, list_at, with_step}
 use Rattle.price_level.specs.Rows.{new_row}
@@ -23,6 +24,8 @@ invariant_of-self c =
       subst (λ (s : SideLists). IsKept l.capacity l.instruments (set l.rows.items c.in-Some.queue row) s.lists s.capacity c.pop.new.self.items (vec_capacity c.pop.new.self)) (sym put)
           (kept_added c.self.invariant.0 c.args.self.now c.self.view_is c.args.instrument c.args.side c.args.price c.in-Some.queue c.pop.new.self.items c.requires.listed c.requires.absent c.in-Some.ensures.items (vec_capacity c.pop.new.self) (c.in-Some.ensures.capacity ∙ c.self.invariant.0.free_room)),
       c.self.invariant.1,
+      length-set c.self.inside.spots.items c.in-Some.queue c.put.result ∙ c.self.invariant.2,
+      c.self.invariant.3,
     )
 
 pub returns : goal.returns

@@ -11,6 +11,11 @@ use Rattle.price_level.proofs.levels.Levels.close_level.Goals as goal
 pub index-row-requires : goal.index-row-requires
 index-row-requires c = omega (arith, queue_in c.self.invariant.0 c.args.self.now c.self.view_is c.args.queue c.requires.has, c.self.inside.rows.ok.0)
 
+pub index-requires : goal.index-requires
+index-requires c =
+    let l = c.self.inside in
+    omega (arith, queue_in c.self.invariant.0 c.args.self.now c.self.view_is c.args.queue c.requires.has, l.rows.ok.0, l.spots.ok.0, c.self.invariant.0.long, c.self.invariant.2)
+
 pub take_out-requires-clause-listed : goal.take_out-requires-clause-listed
 take_out-requires-clause-listed c =
     let is = row_read c.self.invariant.0 c.args.self.now c.self.view_is c.args.queue c.requires.has c.index-row.result.now c.index-row.ensures in
@@ -39,6 +44,8 @@ invariant_of-self c =
       subst (λ (p : SideLists × List ℕ). IsKept l.capacity l.instruments l.rows.items p.0.lists p.0.capacity p.1 (vec_capacity c.give_back.new.free)) (λ i. (sym out i, sym free i))
           (kept_closed c.self.invariant.0 c.args.self.now c.self.view_is c.args.queue c.requires.has (vec_capacity c.give_back.new.free) (c.give_back.ensures.capacity ∙ c.self.invariant.0.free_room)),
       c.self.invariant.1,
+      c.self.invariant.2,
+      c.self.invariant.3,
     )
 
 pub returns : goal.returns

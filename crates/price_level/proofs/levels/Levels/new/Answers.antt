@@ -10,6 +10,8 @@ invariant_of-result c =
       kept_new c.args.capacity c.args.instruments c.in_ok-blank_rows.field-0.items sides.lists sides.capacity free.items (vec_capacity free)
           c.in_ok-blank_rows.ensures.many (ap (λ (s : SideLists). s.lists) c.in_ok-new.ensures) (ap (λ (s : SideLists). s.capacity) c.in_ok-new.ensures) c.in_ok-all_queues.ensures.0 c.in_ok-all_queues.ensures.1,
       c.in_ok-blank_rows.ensures.room,
+      c.in_ok-blank_spots.ensures.many,
+      c.in_ok-blank_spots.ensures.room,
     )
 
 pub returns : goal.returns

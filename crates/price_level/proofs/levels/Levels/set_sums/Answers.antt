@@ -1,4 +1,5 @@
 use Rattle.std.proofs.Common.{◌<◌, ℕ, length, set, vec_capacity, refl, sym, ap, subst, ◌∙◌, arith}
+use Rattle.std.proofs.lemmas.List.{length-set}
 use Rattle.price_level.specs.declared.row.LevelRow.{LevelRow}
 use Rattle.price_chunks.specs.Steps.{SideLists, AreWorstFirst, list_at, with_open}
 use Rattle.price_level.specs.Inner.Sides.{row_in, side_number}
@@ -10,6 +11,11 @@ use Rattle.price_level.proofs.levels.Levels.set_sums.Goals as goal
 
 pub index_mut-row-requires : goal.index_mut-row-requires
 index_mut-row-requires c = omega (arith, queue_in c.self.invariant.0 c.args.self.now c.self.view_is c.args.queue c.requires, c.self.inside.rows.ok.0)
+
+pub index_mut-spot-requires : goal.index_mut-spot-requires
+index_mut-spot-requires c =
+    let l = c.self.inside in
+    omega (arith, queue_in c.self.invariant.0 c.args.self.now c.self.view_is c.args.queue c.requires, l.rows.ok.0, l.spots.ok.0, c.self.invariant.0.long, c.self.invariant.2)
 
 pub set_lots-requires-clause-listed : goal.set_lots-requires-clause-listed
 set_lots-requires-clause-listed c =
@@ -35,6 +41,8 @@ invariant_of-self c =
       subst (λ (p : LevelRow × SideLists). IsKept l.capacity l.instruments (set l.rows.items c.args.queue (record p.0 { count = c.args.count; shown = c.args.shown; leaves = c.args.leaves })) p.1.lists p.1.capacity l.free.items (vec_capacity l.free)) (λ i. (sym is i, sym put i))
           (kept_summed c.self.invariant.0 c.args.self.now c.self.view_is c.args.queue c.args.count c.args.shown c.args.leaves c.requires),
       c.self.invariant.1,
+      length-set c.self.inside.spots.items c.args.queue c.set_lots.result ∙ c.self.invariant.2,
+      c.self.invariant.3,
     )
 
 pub returns : goal.returns
