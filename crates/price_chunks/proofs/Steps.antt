@@ -86,6 +86,10 @@ price_before steps p ne le =
     let e : p ≡ p - 1 + 1 = omega arith in
     ap (λ (n : ℕ). price_of_last (take n steps)) e ∙ ap price_of_last (take_more steps (p - 1) no_step (omega arith)) ∙ price_of_last-push (take (p - 1) steps) (step_at steps (p - 1))
 
+pub remove_last : (steps : List Step) (s : Step) → remove (steps ++ s ∷ []) (length steps) ≡ steps
+remove_last [] s = refl
+remove_last (t ∷ steps) s = ap (λ (xs : List Step). t ∷ xs) (remove_last steps s)
+
 -- ---- what is asked of a side
 
 module _ (side : Side) (price : Price) (steps : List Step) (p : ℕ) (o : AreWorstFirst side steps) (place : IsPlace side price steps p) where

@@ -59,6 +59,22 @@ fn push_all(to: &mut Vec<Step>, steps: &[Step])
     }
 }
 
+/// The level at this place goes. The last one goes from the end, and nothing is moved.
+fn remove_at(steps: &mut Vec<Step>, place: usize) -> Step
+    requires { place < vec_len steps.old }
+    ensures gone { result ≡ step_at steps.old.items place }
+    ensures items { steps.new.items ≡ remove steps.old.items place }
+    ensures capacity { vec_capacity steps.new ≡ vec_capacity steps.old }
+{
+    if place + 1 == steps.len() {
+        let Some(last) = steps.pop() else {
+            unreachable!()
+        };
+        return last;
+    }
+    steps.remove(place)
+}
+
 impl Chunk {
     /// A chunk without levels. An `Err` is want of memory: it takes 3,072 bytes.
     pub(crate) fn new(alloc: Global) -> Result<Chunk, AllocError>
@@ -118,12 +134,12 @@ impl Chunk {
         place
     }
 
-    /// The level at this place goes. The best one goes from the end, and nothing is moved.
+    /// The level at this place goes.
     pub(crate) fn take_at(&mut self, place: usize)
         requires { place < length self.old }
         ensures { self.new ≡ remove self.old place }
     {
-        let gone = self.steps.remove(place);
+        let gone = remove_at(&mut self.steps, place);
         self.lots = self.lots.wrapping_sub(gone.leaves);
     }
 

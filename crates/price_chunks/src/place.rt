@@ -24,16 +24,16 @@ pub struct Spot {
     pub place: u32,
 }
 
-/// The place where a price stands if all levels are equally far apart, as they are where no tick between them is without a level.
+/// The place where a price stands if all levels are as far apart as the first two are. They mostly are: no tick between them is without
+/// a level.
 fn guess_of(steps: &[Step], price: Price) -> usize
     requires { 0 < length steps.now }
     ensures { result < length steps.now }
 {
     let last = steps.len() - 1;
     let first = steps[0].price.0;
-    let all = first.abs_diff(steps[last].price.0);
-    let part = first.abs_diff(price.0);
-    let guess = part.wrapping_mul(last as u64) / all.max(1);
+    let gap = first.abs_diff(steps[last.min(1)].price.0);
+    let guess = first.abs_diff(price.0) / gap.max(1);
     (guess as usize).min(last)
 }
 

@@ -143,6 +143,7 @@ fn put_best(chunks: &mut Vec<Chunk>, spare: &mut Vec<Chunk>, side: Side, step: S
 }
 
 /// A level comes to its place, by a search. Returns its spot, but where its chunk was split.
+#[inline(never)]
 fn put_by_search(chunks: &mut Vec<Chunk>, spare: &mut Vec<Chunk>, side: Side, step: Step) -> Spot
     requires chunks { AreChunks chunks.old.items }
     requires ordered { AreWorstFirst side (flat chunks.old.items) }
@@ -212,6 +213,7 @@ fn tidy(chunks: &mut Vec<Chunk>, spare: &mut Vec<Chunk>, at: usize)
 }
 
 /// The level at a price goes, if there is one, by a search.
+#[inline(never)]
 fn take_by_search(chunks: &mut Vec<Chunk>, spare: &mut Vec<Chunk>, side: Side, price: Price)
     requires chunks { AreChunks chunks.old.items }
     requires ordered { AreWorstFirst side (flat chunks.old.items) }
@@ -322,6 +324,7 @@ pub(crate) fn queue_at(chunks: &[Chunk], side: Side, price: Price) -> Option<u32
 }
 
 /// The same, by a search.
+#[inline(never)]
 fn queue_by_search(chunks: &[Chunk], side: Side, price: Price) -> Option<u32>
     requires chunks { AreChunks chunks.now }
     requires ordered { AreWorstFirst side (flat chunks.now) }
@@ -369,6 +372,7 @@ pub(crate) fn set_lots(
 }
 
 /// The same, by a search.
+#[inline(never)]
 fn set_by_search(chunks: &mut Vec<Chunk>, side: Side, price: Price, leaves: u64) -> Spot
     requires chunks { AreChunks chunks.old.items }
     requires ordered { AreWorstFirst side (flat chunks.old.items) }
