@@ -1,5 +1,5 @@
 -- A level that is known by its place, and the best level of a side, the last one of its last chunk.
-use Rattle.std.proofs.Common.{◌≡◌, ◌≢◌, ℕ, ◌+◌, ◌-◌, ◌<◌, true, false, List, [], ◌∷◌, ◌++◌, length, set, take, drop, filter, not, None, Some, sym, ap, subst, ◌∙◌, arith, append_assoc, length-append, inl, inr, refl}
+use Rattle.std.proofs.Common.{◌≡◌, ℕ, ◌+◌, ◌-◌, ◌<◌, true, false, List, [], ◌∷◌, ◌++◌, length, set, take, drop, filter, None, Some, sym, ap, subst, ◌∙◌, arith, append_assoc, length-append, inl, inr, refl}
 use Prim.Native.Nat.{suc}
 use Rattle.std.specs.Prelude.{ℤ}
 use Rattle.std.proofs.lemmas.Bool.{cases_eq}

@@ -1,13 +1,12 @@
 -- The order of rows, by the number of their side and then by price.
 use Rattle.std.proofs.Common.{◌≡◌, ◌≢◌, ℕ, ◌<◌, Bool, true, false, ◌&&◌, ◌||◌, refl, sym, ap, subst, ◌∙◌, arith, inl, inr}
-use Rattle.std.specs.Prelude.{ℤ, pos, negsuc, int_lt, nat_lt, ◌==◌}
-use Rattle.std.proofs.lemmas.Bool.Decides.{nat_tests, Decides-int_eq}
+use Rattle.std.specs.Prelude.{ℤ, nat_lt, ◌==◌}
 use Rattle.std.specs.Ordering.{int_eq}
 use Rattle.std.proofs.lemmas.Bool.{cases_lt, lt-ltb, eq-eqb, eqb-true, and_from, and_parts, or_left, or_right, false_from_ne_true}
 use Rattle.gx_base.specs.declared.price.Price.{Price}
 use Rattle.gx_base.specs.declared.order.Side.{Side}
 use Rattle.gx_base.specs.declared.order.Side.TheVariants.{Buy, Sell}
-use Rattle.book_order.specs.Levels.{Level, level, is_level, is_before, is_better, is_side, side_before}
+use Rattle.book_order.specs.Levels.{level, is_before, is_better, is_side, side_before}
 use Rattle.book_order.proofs.Before.{before-apart}
 use Rattle.book_order.proofs.Levels.{level_at, same, nat_lt-irrefl, is_side-same, is_side-refl}
 use Rattle.price_level.specs.declared.row.LevelRow.{LevelRow}

@@ -1,4 +1,4 @@
-use Rattle.std.proofs.Common.{List, subst, sym, ◌∙◌}
+use Rattle.std.proofs.Common.{List, subst, ◌∙◌}
 use Rattle.price_chunks.specs.declared.place.Step.{Step}
 use Rattle.price_chunks.proofs.Best.{level_open, none_set}
 use Rattle.price_chunks.proofs.chunk.Chunk.set_lots.Goals as goal

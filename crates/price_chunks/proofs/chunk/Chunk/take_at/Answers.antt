@@ -1,4 +1,4 @@
-use Rattle.std.proofs.Common.{◌<◌, ◌≡◌, ℕ, ◌+◌, ◌-◌, ◌%◌, refl, length, ap, ◌∙◌, arith}
+use Rattle.std.proofs.Common.{◌<◌, ℕ, ◌+◌, ◌-◌, ◌%◌, refl, length, ap, ◌∙◌, arith}
 use Rattle.std.proofs.lemmas.List.Sums.{sum_by-remove}
 use Rattle.price_chunks.specs.declared.place.Step.{Step}
 use Rattle.price_chunks.proofs.Sums.{exact, mod_sub}
