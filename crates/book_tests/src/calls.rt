@@ -8,7 +8,7 @@ mod reads;
 
 use book_side::LinkedBook;
 use draws::{INSTRUMENTS, Market, Random};
-use gx_base::{Kind, Order, ShortId, Side, Slot};
+use gx_base::{Kind, Order, Price, ShortId, Side, Slot};
 use plain_book::{Book, PlainBook};
 use reads::{
     Answer, Call, Line, Log, ROOM, answer_at, early_at, named, order_at, read_numbers, read_orders,
@@ -26,15 +26,18 @@ const WIDE_CAPACITY: u32 = 1_000;
 const STEPS: u32 = 20_000;
 
 /// How often a run over a narrow market makes each call at least.
-const LEAST: [(Call, usize); 31] = [
+const LEAST: [(Call, usize); 34] = [
     (Call::Capacity, 1_000),
     (Call::Live, 1_000),
     (Call::Best, 1_000),
     (Call::Worse, 1_000),
+    (Call::Worst, 1_000),
+    (Call::Better, 1_000),
     (Call::First, 1_000),
     (Call::Next, 1_000),
     (Call::Count, 1_000),
     (Call::ShownTotal, 1_000),
+    (Call::OpenTotal, 1_000),
     (Call::Available, 1_000),
     (Call::Find, 1_000),
     (Call::Top, 1_000),
@@ -112,6 +115,17 @@ fn wait<B: Book>(book: &mut B, random: &mut Random, log: &mut Log)
     }
 }
 
+/// The best price of a side, the worst one, or any.
+fn drawn_price<B: Book>(book: &B, random: &mut Random, instrument: u8, side: Side) -> Option<Price>
+    requires { instrument < (B.book book.now).instruments }
+{
+    match random.below(6) {
+        0 => book.best(instrument, side),
+        1 => book.worst(instrument, side),
+        _ => Some(random.price()),
+    }
+}
+
 /// One of the first orders at a drawn price.
 fn resting_slot<B: Book>(book: &B, random: &mut Random) -> Option<Slot>
     requires { (B.book book.now).instruments ≡ INSTRUMENTS }
@@ -119,7 +133,7 @@ fn resting_slot<B: Book>(book: &B, random: &mut Random) -> Option<Slot>
 {
     let instrument = random.instrument();
     let side = random.side();
-    let price = random.price();
+    let price = drawn_price(book, random, instrument, side)?;
     early_at(book, random, instrument, side, price)
 }
 
@@ -128,6 +142,17 @@ fn live_slot<B: Book>(book: &B, random: &mut Random) -> Option<Slot>
     ensures { IfSome result (λ slot. HasSlot slot.0 (live_orders (B.book book.now))) }
 {
     book.find(random.firm(), &random.id())
+}
+
+/// An order with a drawn name, or one of the first at a drawn price.
+fn leaving_slot<B: Book>(book: &B, random: &mut Random) -> Option<Slot>
+    requires { (B.book book.now).instruments ≡ INSTRUMENTS }
+    ensures { IfSome result (λ slot. HasSlot slot.0 (live_orders (B.book book.now))) }
+{
+    if random.is_named() {
+        return live_slot(book, random);
+    }
+    resting_slot(book, random)
 }
 
 /// How a trade that leaves this of an order is called.
@@ -171,7 +196,7 @@ fn remove<B: Book>(book: &mut B, random: &mut Random, log: &mut Log)
     requires { (B.book book.old).instruments ≡ INSTRUMENTS }
     ensures { (B.book book.new).instruments ≡ INSTRUMENTS }
 {
-    if let Some(slot) = live_slot(book, random) {
+    if let Some(slot) = leaving_slot(book, random) {
         let order = book.remove(slot);
         let call = match order.kind {
             Kind::Limit | Kind::Market => Call::RemoveResting,

@@ -20,37 +20,24 @@ const STARTS: u32 = 24;
 /// How many calls a wide market makes in which orders come, and then as many in which none comes to rest.
 const TIDE: u32 = 5_000;
 
+/// The middle of the prices of a wide market.
+const MIDDLE: u32 = 12_000;
+
+/// Among how many prices from the middle on it draws.
+const PRICES: u32 = 200;
+
 /// What is drawn.
 #[derive(Clone, Copy)]
 pub(crate) enum Market {
     /// Few prices and few names.
     Narrow,
-    /// Many prices, more names, and more sells than buys; orders only come for a while, and then only go. So a side has more levels
-    /// than a chunk of them has room for, and then next to none: chunks are split, joined, emptied and filled again.
+    /// Many prices and more names. Orders only come for a while, and then only go; most are of the first instrument, and first
+    /// sells, then buys. So a side has up to seven chunks of levels, and then none: the first, the last and a middle chunk are split,
+    /// chunks are joined with the next one and with the one before, and a side is emptied and filled again.
     Wide,
 }
 
 impl Market {
-    /// Among how many prices is drawn.
-    fn prices(self) -> u32
-        ensures { 1 ≤ result }
-    {
-        match self {
-            Market::Narrow => 6,
-            Market::Wide => 1_000,
-        }
-    }
-
-    /// One order in so many is a buy.
-    fn buys(self) -> u32
-        ensures { 1 ≤ result }
-    {
-        match self {
-            Market::Narrow => 2,
-            Market::Wide => 4,
-        }
-    }
-
     /// One in so many draws of it clears the book.
     fn clears(self) -> u32
         ensures { 1 ≤ result }
@@ -109,19 +96,36 @@ impl Random {
         self.below(draws) == 0
     }
 
+    /// True in half of the draws, and in a wide market in one of four.
+    fn is_rare(&mut self) -> bool {
+        match self.market {
+            Market::Narrow => self.is_one_in(2),
+            Market::Wide => self.is_one_in(4),
+        }
+    }
+
     pub(crate) fn instrument(&mut self) -> u8
         ensures { result < INSTRUMENTS }
     {
-        self.below(u32::from(INSTRUMENTS)) as u8
+        u8::from(self.is_rare())
     }
 
-    /// The number of a call, below 32. At an ebb of a wide market no order comes to rest, and half of the calls take one out.
+    /// The number of a call, below 32. At a flood of a wide market half of the calls place an order. At an ebb no order comes to rest,
+    /// and half of the calls take one out.
     pub(crate) fn call(&mut self) -> u32 {
         self.calls = self.calls.wrapping_add(1);
         match self.market {
+            Market::Narrow => self.below(32),
             Market::Wide if self.calls / TIDE % 2 == 1 => self.call_at_ebb(),
-            _ => self.below(32),
+            Market::Wide => self.call_at_flood(),
         }
+    }
+
+    fn call_at_flood(&mut self) -> u32 {
+        if self.is_one_in(2) {
+            return 0;
+        }
+        self.below(32)
     }
 
     fn call_at_ebb(&mut self) -> u32 {
@@ -143,19 +147,47 @@ impl Random {
         self.is_one_in(reads)
     }
 
+    /// In a wide market there are more sells until the second flood, and then more buys.
     pub(crate) fn side(&mut self) -> Side {
-        let buys = self.market.buys();
-        if self.is_one_in(buys) {
+        if self.is_rare() == (self.calls < 2 * TIDE) {
             Side::Buy
         } else {
             Side::Sell
         }
     }
 
-    /// A price about 0.
+    /// Whether this is the first half of a tide.
+    fn is_early(&self) -> bool {
+        self.calls % TIDE < TIDE / 2
+    }
+
+    /// A price about 0. In a wide market it is first near one of two places that go apart, so that new levels come at both ends of a
+    /// side, and then between these.
     pub(crate) fn price(&mut self) -> Price {
-        let prices = self.market.prices();
-        Price(i64::from(self.below(prices)) - 3)
+        let place = match self.market {
+            Market::Narrow => self.below(6),
+            Market::Wide if self.is_early() => self.place_apart(),
+            Market::Wide => MIDDLE + self.below(PRICES),
+        };
+        Price(i64::from(place) - 3)
+    }
+
+    /// A place near one of those that go apart. At an ebb they are past all levels.
+    fn place_apart(&mut self) -> u32 {
+        let apart = self.calls % (2 * TIDE) + self.below(3);
+        if self.is_one_in(2) {
+            MIDDLE + apart
+        } else {
+            MIDDLE - apart
+        }
+    }
+
+    /// Whether the order that leaves is drawn by its name.
+    pub(crate) fn is_named(&mut self) -> bool {
+        match self.market {
+            Market::Narrow => self.is_one_in(2),
+            Market::Wide => !self.is_early(),
+        }
     }
 
     pub(crate) fn firm(&mut self) -> u8

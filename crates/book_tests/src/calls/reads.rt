@@ -18,10 +18,13 @@ pub(crate) enum Call {
     Live,
     Best,
     Worse,
+    Worst,
+    Better,
     First,
     Next,
     Count,
     ShownTotal,
+    OpenTotal,
     Available,
     Find,
     Top,
@@ -173,6 +176,8 @@ fn read_side<B: Book>(book: &B, instrument: u8, side: Side, log: &mut Log)
             return;
         };
         read_level(book, instrument, side, level, log);
+        let better = book.better(instrument, side, level);
+        log.note(Call::Better, Answer::from(better));
         price = book.worse(instrument, side, level);
         log.note(Call::Worse, Answer::from(price));
     }
@@ -214,10 +219,16 @@ pub(crate) fn read_numbers<B: Book>(book: &B, random: &mut Random, log: &mut Log
     log.note(Call::Count, Answer::Number(u64::from(count)));
     let shown = book.shown_total(instrument, side, price);
     log.note(Call::ShownTotal, Answer::Number(shown));
+    let open_total = book.open_total(instrument, side, price);
+    log.note(Call::OpenTotal, Answer::Number(open_total));
     let open = book.available(instrument, side, price);
     log.note(Call::Available, Answer::Number(open));
     let worse = book.worse(instrument, side, price);
     log.note(Call::Worse, Answer::from(worse));
+    let better = book.better(instrument, side, price);
+    log.note(Call::Better, Answer::from(better));
+    let worst = book.worst(instrument, side);
+    log.note(Call::Worst, Answer::from(worst));
     log.note(Call::Find, named(book, random.firm(), &random.id()));
     log.note(Call::Live, Answer::Number(u64::from(book.live())));
     log.note(Call::Capacity, Answer::Number(u64::from(book.capacity())));
