@@ -9,12 +9,14 @@ messages: product texts, streams, journals and book images; and messages that ma
 folder in memory, the hostile and the harmless one in turn, and the table has the middle of the rounds. What `replay` sends goes to
 /dev/null. The memory is what a process had resident at most, where that is more than this script has itself.
 
+The part `messages` counts by valgrind what one message takes that makes the levels of a book work (`dearest.py`).
+
     ./run-example.sh                         builds globex
     (cd crates/hostile_runs && rt run)       builds hostile_runs
     bench/hostile.py [--seed N] [--frames N] [--products N] [--journals N] [--runs PROGRAM]
                      [--globex PROGRAM] [--rounds N] [--folder FOLDER] [--scale N] [--only PART]..
 
-PART is one of cases, products, streams, journals, images, books. --scale N makes all but the products N times smaller.
+PART is one of cases, products, streams, journals, images, books, messages. --scale N makes all but the products N times smaller.
 """
 
 import argparse
@@ -27,10 +29,11 @@ import sys
 import tempfile
 import time
 
+import dearest
 import streams
 
 RUNS = os.path.join(streams.TOP, "crates", "hostile_runs", "out", "hostile_runs")
-PARTS = ["cases", "products", "streams", "journals", "images", "books"]
+PARTS = ["cases", "products", "streams", "journals", "images", "books", "messages"]
 
 LONGEST_TEXT = 65_536
 LONGEST_BODY = 4_000
@@ -42,6 +45,7 @@ FRAMES = 20_000
 BOOK_ORDERS = 50_000
 CASCADE = 4_000
 PRORATA = "pro rata over one price"
+MAKERS = "market makers without orders, over one price"
 
 SEED = 0x243F_6A88_85A3_08D3
 MULTIPLIER = 0x9E37_79B9_7F4A_7C15
@@ -362,6 +366,12 @@ def client_order(name, side, lots, price, more=""):
     return streams.frame(body)
 
 
+def replacement(name, price):
+    """A replace of a sell of one lot."""
+    terms = f"55=ESZ4|54=2|38=1|40=2|44={streams.price_text(price)}|"
+    return streams.frame(f"35=G|49=AAA|56=GX|34=1|52=20240102-09:30:00|11=r{name}|41={name}|{terms}")
+
+
 def stop(name, trigger):
     """A stop that buys one lot, up to a price above the one that sets it off."""
     terms = f"54=1|38=1|40=4|44={streams.price_text(trigger + 1)}|99={streams.price_text(trigger)}|"
@@ -408,23 +418,32 @@ def book_streams(scale):
     shown = [client_order(0, 2, 10 * cascade, middle, "210=1|"), client_order(1, 1, 10 * cascade, middle)]
     all_shown = [client_order(0, 2, 10 * cascade, middle), client_order(1, 1, 10 * cascade, middle)]
     met = [client_order(name, 2, 1, middle + k % 100) for k, name in enumerate(ids_that_meet(count))]
+    ends = [client_order(count + k, 1, 1, middle + k) for k in range(count)]
+    of_few = [client_order(count + k, 1, 1, middle + 99) for k in range(count)]
+    to_worst = [replacement(k, middle + count + k) for k in range(count)]
+    to_few = [replacement(k, middle + k % 100) for k in range(count)]
     return {
         "ids that meet in few buckets": (met, level),
         "each order a worse price": (rising, falling),
+        "levels opened at the worst end, closed at the best": (rising + ends, level + of_few),
+        "replaces, each to a worse price": (falling + to_worst, level + to_few),
         "fill or kill over many prices": (falling + unfilled, level + unfilled),
         "trades before stops that wait": (stops + trades, level + trades),
         "stops that set each other off": (asks + waiting + first, asks + waiting_apart + first),
         "lots that are shown one by one": (shown, all_shown),
         PRORATA: (one_price + takers, level + takers),
+        MAKERS: (one_price + takers, level + takers),
     }
 
 
+# What the instrument of a book's product has in place of the letter F.
+LETTERS = {PRORATA: 'algorithm = "C"', MAKERS: dearest.market_makers(10)}
+
+
 def time_books(caller, scale):
-    streams.write_product(caller.folder, f"max_orders = {MOST_ORDERS // scale}\njournal_limit = {JOURNAL_LIMIT}\n")
-    product = pathlib.Path(caller.path("product.toml"))
     for name, (hostile, harmless) in book_streams(scale).items():
-        if name == PRORATA:
-            product.write_text(product.read_text().replace('"F"', '"C"'))
+        text = dearest.product_text(LETTERS.get(name, ""), MOST_ORDERS // scale)
+        pathlib.Path(caller.path("product.toml")).write_text(text)
         pathlib.Path(caller.path("hostile")).write_bytes(b"".join(hostile))
         pathlib.Path(caller.path("harmless")).write_bytes(b"".join(harmless))
         caller.compare(
@@ -470,14 +489,14 @@ def main():
         "images": lambda caller: time_images(caller, words.scale),
         "books": lambda caller: time_books(caller, words.scale),
     }
-    if not any(part in timed for part in parts):
-        return
-    program = program_at(words.globex)
-    print_head()
+    if any(part in timed for part in parts):
+        print_head()
     for part, time_part in timed.items():
         if part in parts:
             with tempfile.TemporaryDirectory(dir=words.folder) as folder:
-                time_part(Caller(program, folder, words.rounds))
+                time_part(Caller(program_at(words.globex), folder, words.rounds))
+    if "messages" in parts:
+        dearest.print_instructions(program_at(words.globex), words.scale)
 
 
 if __name__ == "__main__":

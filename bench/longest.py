@@ -12,16 +12,18 @@ such a cancel alone.
 
 import argparse
 import os
+import pathlib
 import statistics
 import subprocess
 import tempfile
 import threading
 import time
 
+import dearest
 import streams
 
 MIDDLE = 5_000_000
-LIMIT = "journal_limit = 268435456\n"
+SIX_STEPS = 'algorithm = "K"\nsteps = ["TOP", "LMM", "SPLIT", "PRORATA", "LEVELING", "FIFO"]\nsplit = 10'
 PIECE = 1_048_576
 
 
@@ -31,8 +33,8 @@ def entered(name, side, lots, price, more=""):
     return streams.frame(text)
 
 
-def stop(name, side, lots, trigger, price):
-    terms = f"54={side}|38={lots}|40=4|44={streams.price_text(price)}|99={streams.price_text(trigger)}|"
+def stop(name, side, lots, trigger, price, more=""):
+    terms = f"54={side}|38={lots}|40=4|44={streams.price_text(price)}|99={streams.price_text(trigger)}|{more}"
     return streams.frame(f"35=D|49=BBB|56=GX|34=1|52=20240102-09:30:00|11={name}|55=ESZ4|{terms}")
 
 
@@ -61,14 +63,36 @@ def stops_at(count, trigger):
     return [stop(f"w{k}", 1, 1, trigger, trigger) for k in range(count)]
 
 
-def cases(orders):
-    """The orders of a book and one message, by what they are."""
-    most = orders - 10
+def chain(count, step, more=""):
+    """Sells at as many prices, and stops, each of which buys the next sell and so sets off the one after it. The stop that is set off
+    first came first if `step` is 1, and last if it is -1."""
+    sells = [entered(f"s{k}", 2, 1, MIDDLE + k) for k in range(count)]
+    triggers = [MIDDLE + k for k in range(count)][::step]
+    return sells + [stop(f"w{k}", 1, 1, trigger, MIDDLE + count, more) for k, trigger in enumerate(triggers)]
+
+
+def stop_cases(orders):
+    """The same for stops that set each other off."""
     half = orders // 2 - 10
+    first = entered("n", 1, 1, MIDDLE)
+    set_off = f"a trade that sets off {half:,} stops"
+    return {
+        f"{set_off}, each the one after it": (chain(half, 1), first),
+        f"{set_off}, each the one before it": (chain(half, -1), first),
+        f"{set_off}, each the one before it, by six steps": (chain(half, -1), first, SIX_STEPS),
+        f"{set_off}, which are fill or kill and too large, {half:,} prices": (
+            [entered(f"s{k}", 2, 1, MIDDLE + k) for k in range(half)]
+            + [stop(f"w{k}", 1, orders, MIDDLE, MIDDLE + half, "59=4|") for k in range(half)],
+            first,
+        ),
+    }
+
+
+def cases(orders):
+    """The orders of a book and one message, by what they are; if the instrument's letter is not F, the keys that say so."""
+    most = orders - 10
     two = [entered("s", 2, 5, MIDDLE), entered("t", 2, 5, MIDDLE + 1)]
     far = [stop(f"w{k}", 1, 1, MIDDLE + 10, MIDDLE + 10) for k in range(most)]
-    apart = [entered(f"s{k}", 2, 1, MIDDLE + k) for k in range(half)]
-    chain = [stop(f"w{k}", 1, 1, MIDDLE + half - 1 - k, MIDDLE + half) for k in range(half)]
     shown = [entered("s", 2, 999_999, MIDDLE, "210=1|")]
     ten = most // 10
     return {
@@ -94,7 +118,7 @@ def cases(orders):
             [entered("s", 2, 1, MIDDLE), *stops_at(most, MIDDLE)],
             entered("n", 1, 1, MIDDLE),
         ),
-        f"a trade that sets off {half:,} stops, each the one before it": (apart + chain, entered("n", 1, 1, MIDDLE)),
+        **stop_cases(orders),
         f"a close of {most:,} orders at one price": (one_level(most), CLOSE),
         f"a close of {most:,} orders at as many prices": (levels(most), CLOSE),
         f"a close of the worse half of {most:,} orders at as many prices": (days_behind_others(most), CLOSE),
@@ -139,9 +163,9 @@ class Run:
         self.child.wait()
 
 
-def measured(program, parent, orders, book, message):
+def measured(program, parent, orders, book, message, letter=""):
     with tempfile.TemporaryDirectory(dir=parent) as folder:
-        streams.write_product(folder, f"max_orders = {orders}\n{LIMIT}")
+        pathlib.Path(folder, "product.toml").write_text(dearest.product_text(letter, orders))
         run = Run(program, folder)
         run.hand_in(b"".join(book))
         seconds = run.hand_in(message)
@@ -157,8 +181,8 @@ def main():
     words.add_argument("--folder", default=streams.MEMORY_FOLDER)
     words = words.parse_args()
     program = os.path.abspath(words.globex)
-    for what, (book, message) in cases(words.orders).items():
-        seconds = [measured(program, words.folder, words.orders, book, message) for _ in range(words.rounds)]
+    for what, case in cases(words.orders).items():
+        seconds = [measured(program, words.folder, words.orders, *case) for _ in range(words.rounds)]
         print(f"{what:75} {statistics.median(seconds) * 1_000:12.3f} ms", flush=True)
 
 
