@@ -111,7 +111,7 @@ impl StopQueue {
         self.waiting += 1;
     }
 
-    /// The empty places go.
+    /// The empty places go, and the bounds are made anew.
     fn close_up(&mut self, spots: &mut Vec<u32>)
         requires queue { IsQueue self.old }
         ensures queue { IsQueue self.new }
