@@ -5,6 +5,7 @@ use Rattle.match_journal.specs.LookLaws.{looks_more}
 use Rattle.match_journal.specs.Standing.{Fits, moved}
 use Rattle.match_journal.specs.declared.standing.Standing.{Standing}
 use Rattle.match_journal.specs.declared.entry.Entry.{Entry}
+use Rattle.book_recovery.specs.BadPlaces.{HasBadPayloadAt}
 use Rattle.book_recovery.specs.Records.{before_last_image}
 use Rattle.book_recovery.specs.Inner.Ahead.{front, IsAhead}
 use Rattle.book_recovery.specs.Inner.Replays.{AreReplayed}
@@ -89,7 +90,7 @@ records-init g c =
     record {
       looks = looks_more g.S.Station.meanings _ _ (front c.replay_entry.new.scratch.ahead - front c.begin.new.self) _ (omega (arith, c.begin.ensures.at, c.begin.ensures.none, begins)) c.replay_entry.ensures.goes.looks;
       from = omega (arith, gate, begins);
-      ahead = subst (λ k. IsAhead g.S.Station.meanings c.replay_entry.new.station c.replay_entry.new.scratch.ahead k _) (sym gate) c.in_ok-replay_entry.ensures.ahead;
+      ahead = subst (λ k. IsAhead g.S.Station.meanings c.replay_entry.new.station c.replay_entry.new.scratch.ahead k (c.end-gate.result + c.head_len.result)) (sym gate) c.in_ok-replay_entry.ensures.ahead;
       within = omega (arith, gate, can.ends, c.end-gate.ensures.value);
       reach = c.replay_entry.ensures.goes.reach;
       faults = c.in_ok-replay_entry.ensures.none (λ e. cc e);
@@ -115,23 +116,23 @@ next_ahead-requires-clause-reach g c = omega (arith, c.records.invariant.reach, 
 pub next_ahead-requires-clause-end : goal.next_ahead-requires-clause-end
 next_ahead-requires-clause-end g c = omega (arith, c.end-gate.ensures.value, c.head_len.ensures.value, ap (λ (s : Standing). s.known) c.records.invariant.same)
 
-pub replay_entry-requires-2-clause-reach : goal.replay_entry-requires-2-clause-reach
-replay_entry-requires-2-clause-reach g c =
+pub replay_entry-requires-in-Ok-Some-clause-reach : goal.replay_entry-requires-in-Ok-Some-clause-reach
+replay_entry-requires-in-Ok-Some-clause-reach g c =
     omega (arith, c.next_ahead.ensures.goes.reach, c.records.invariant.reach, c.requires.reach, c.requires.stands.gate, c.end-gate.ensures.value, c.head_len.ensures.value)
 
-pub replay_entry-requires-2-clause-inside : goal.replay_entry-requires-2-clause-inside
-replay_entry-requires-2-clause-inside g c =
+pub replay_entry-requires-in-Ok-Some-clause-inside : goal.replay_entry-requires-in-Ok-Some-clause-inside
+replay_entry-requires-in-Ok-Some-clause-inside g c =
     let step = some_moved c.records.journal c.next_ahead.new.journal c.in-Ok-Some.field-0 c.in-Ok-Some.entry c.in-Ok-Some.field-0-is c.in-Ok-Some.ensures.moves in
     let entry = entry_found (λ (e : Entry). (e.at ≡ c.records.journal.gate) × Fits c.records.journal.known c.records.journal.limit e) c.in-Ok-Some.field-0 c.in-Ok-Some.entry c.in-Ok-Some.field-0-is c.in-Ok-Some.ensures.entry in
     omega (arith, ap (λ (s : Standing). s.gate) step, entry.0, c.in-Ok-Some.ensures.within)
 
-pub replay_entry-requires-2-clause-length : goal.replay_entry-requires-2-clause-length
-replay_entry-requires-2-clause-length g c =
+pub replay_entry-requires-in-Ok-Some-clause-length : goal.replay_entry-requires-in-Ok-Some-clause-length
+replay_entry-requires-in-Ok-Some-clause-length g c =
     (entry_found (λ (e : Entry). (e.at ≡ c.records.journal.gate) × Fits c.records.journal.known c.records.journal.limit e) c.in-Ok-Some.field-0 c.in-Ok-Some.entry c.in-Ok-Some.field-0-is c.in-Ok-Some.ensures.entry).1.few
 
-pub replay_entry-requires-2-clause-ahead : goal.replay_entry-requires-2-clause-ahead
-replay_entry-requires-2-clause-ahead g c =
-    entry_found (λ (e : Entry). IsAhead g.S.Station.meanings c.next_ahead.new.station c.next_ahead.new.ahead (e.at + 6) _) c.in-Ok-Some.field-0 c.in-Ok-Some.entry c.in-Ok-Some.field-0-is c.in-Ok-Some.ensures.ahead
+pub replay_entry-requires-in-Ok-Some-clause-ahead : goal.replay_entry-requires-in-Ok-Some-clause-ahead
+replay_entry-requires-in-Ok-Some-clause-ahead g c =
+    entry_found (λ (e : Entry). IsAhead g.S.Station.meanings c.next_ahead.new.station c.next_ahead.new.ahead (e.at + 6) (c.end-gate.result + c.head_len.result)) c.in-Ok-Some.field-0 c.in-Ok-Some.entry c.in-Ok-Some.field-0-is c.in-Ok-Some.ensures.ahead
 
 pub records-preserved : goal.records-preserved
 records-preserved g c =
@@ -145,7 +146,7 @@ records-preserved g c =
     record {
       looks = looks_ahead m _ _ _ _ _ (begins_from c.args.journal.now c.args.start + 6) _ (omega (arith, before.from, before.ahead.ready)) before.looks goes;
       from = omega (arith, gate, before.from);
-      ahead = subst (λ k. IsAhead m c.replay_entry-in-Ok-Some.new.station c.replay_entry-in-Ok-Some.new.scratch.ahead k _) (omega (arith, gate, entry.0)) c.in_ok-replay_entry-in-Ok-Some.ensures.ahead;
+      ahead = subst (λ k. IsAhead m c.replay_entry-in-Ok-Some.new.station c.replay_entry-in-Ok-Some.new.scratch.ahead k (c.end-gate.result + c.head_len.result)) (omega (arith, gate, entry.0)) c.in_ok-replay_entry-in-Ok-Some.ensures.ahead;
       within = c.in-Ok-Some.ensures.within;
       reach = goes.reach ∙ before.reach;
       faults = c.in_ok-replay_entry-in-Ok-Some.ensures.none (λ e. cc e) ∙ c.in-Ok-Some.ensures.none (λ e. cc e) ∙ before.faults;
@@ -174,7 +175,7 @@ returns-in_err-replay_entry-in-Ok-Some-clause-looks g c =
     let before = c.records.invariant in
     let goes = goes_then m _ _ _ _ _ _ _ c.next_ahead.ensures.goes c.replay_entry-in-Ok-Some.ensures.goes in
     let from = begins_from c.args.journal.now c.args.start in
-    looks_to_end m _ _ _ from c.args.journal.now.gate _ goes.ends (omega (arith, c.end-gate.ensures.value, c.head_len.ensures.value))
+    looks_to_end m _ _ c.replay_entry-in-Ok-Some.new.scratch.ahead from c.args.journal.now.gate _ goes.ends (omega (arith, c.end-gate.ensures.value, c.head_len.ensures.value))
     (looks_ahead m _ _ _ _ _ (from + 6) _ (omega (arith, before.from, before.ahead.ready)) before.looks goes)
 
 pub returns-in_err-replay_entry-in-Ok-Some-clause-replays : goal.returns-in_err-replay_entry-in-Ok-Some-clause-replays
@@ -203,7 +204,7 @@ returns-in-Ok-None-clause-looks g c =
     let before = c.records.invariant in
     let goes = c.next_ahead.ensures.goes in
     let from = begins_from c.args.journal.now c.args.start in
-    looks_to_end m _ _ _ from c.args.journal.now.gate _ goes.ends (omega (arith, c.end-gate.ensures.value, c.head_len.ensures.value))
+    looks_to_end m _ _ c.next_ahead.new.ahead from c.args.journal.now.gate _ goes.ends (omega (arith, c.end-gate.ensures.value, c.head_len.ensures.value))
     (looks_ahead m _ _ _ _ _ (from + 6) _ (omega (arith, before.from, before.ahead.ready)) before.looks goes)
 
 pub returns-in-Ok-None-clause-last : goal.returns-in-Ok-None-clause-last
@@ -230,7 +231,7 @@ returns-in-Err-Store-clause-looks g c =
     let before = c.records.invariant in
     let goes = c.next_ahead.ensures.goes in
     let from = begins_from c.args.journal.now c.args.start in
-    looks_to_end m _ _ _ from c.args.journal.now.gate _ goes.ends (omega (arith, c.end-gate.ensures.value, c.head_len.ensures.value))
+    looks_to_end m _ _ c.next_ahead.new.ahead from c.args.journal.now.gate _ goes.ends (omega (arith, c.end-gate.ensures.value, c.head_len.ensures.value))
     (looks_ahead m _ _ _ _ _ (from + 6) _ (omega (arith, before.from, before.ahead.ready)) before.looks goes)
 
 pub returns-in-Err-Bad-clause-looks : goal.returns-in-Err-Bad-clause-looks
@@ -239,7 +240,7 @@ returns-in-Err-Bad-clause-looks g c =
     let before = c.records.invariant in
     let goes = c.next_ahead.ensures.goes in
     let from = begins_from c.args.journal.now c.args.start in
-    looks_to_end m _ _ _ from c.args.journal.now.gate _ goes.ends (omega (arith, c.end-gate.ensures.value, c.head_len.ensures.value))
+    looks_to_end m _ _ c.next_ahead.new.ahead from c.args.journal.now.gate _ goes.ends (omega (arith, c.end-gate.ensures.value, c.head_len.ensures.value))
     (looks_ahead m _ _ _ _ _ (from + 6) _ (omega (arith, before.from, before.ahead.ready)) before.looks goes)
 
 pub returns-in-Err-Bad-clause-replays : goal.returns-in-Err-Bad-clause-replays
@@ -253,4 +254,5 @@ returns-in-Err-Bad-clause-replays g c = λ head image records read known journal
     let left = journal_left head records c.records.journal.gate at.passing image c.records.journal.limit (subst (λ k. IsJournal head k records image) (sym limit) journal) in
     let ends = last_left head records c.records.journal.gate at.passing c.end-gate.result (c.end-gate.ensures.value ∙ last) in
     let told = c.in-Err-Bad.ensures.in_order head image (before_last_image records ++ at.passing.done) at.passing.left held long left at.passing.place ends in
-    none_bad product head image c.args.journal.now.limit (before_last_image records ++ at.passing.done) at.passing.left c.next_ahead.new.journal.gate c.in-Err-Bad.field-0 c.in-Err-Bad.at c.in-Err-Bad.field-0-is told
+    subst (HasBadPayloadAt product head c.args.journal.now.limit image) (sym c.in-Err-Bad.at-is)
+    (none_bad product head image c.args.journal.now.limit (before_last_image records ++ at.passing.done) at.passing.left c.next_ahead.new.journal.gate c.in-Err-Bad.field-0 c.in-Err-Bad.at c.in-Err-Bad.field-0-is told)
