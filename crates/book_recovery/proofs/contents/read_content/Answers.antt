@@ -1,4 +1,6 @@
-use Rattle.std.proofs.Common.{[]}
+use Rattle.std.proofs.Common.{◌≡◌, ◌≤◌, List, ℕ, [], length, refl, sym, subst, arith}
+use Rattle.std.specs.List.{concat}
+use Rattle.fix_frame.specs.Stream.{messages_of}
 use Rattle.book_recovery.proofs.RecordContents.{counts_frames, reads_frames, reads_image, reads_no_image}
 use Rattle.book_recovery.proofs.ImageKinds.{either-image, counts-image}
 use Rattle.book_recovery.proofs.contents.read_content.Goals as goal
@@ -34,3 +36,9 @@ pub returns-in-Err-clause-reads : goal.returns-in-Err-clause-reads
 returns-in-Err-clause-reads g c = λ gives.
     let entry = c.args.met.entry in
     reads_no_image c.args.product.now c.args.met.count c.args.payload.now entry.at c.clear.new.self.given c.read_image_record.new.core entry.kind (either-image entry.kind c.in-OldImage.is) c.in-Err.why c.in-Err.ensures.reads
+
+pub returns-in-Ok-clause-given : goal.returns-in-Ok-clause-given
+returns-in-Ok-clause-given g c = subst (λ (l : List (List ℕ)). l ≡ messages_of (concat l)) (sym c.clear.ensures.0) refl
+
+pub returns-in-Ok-clause-size : goal.returns-in-Ok-clause-size
+returns-in-Ok-clause-size g c = subst (λ (l : List (List ℕ)). length (concat l) ≤ length c.args.payload.now) (sym c.clear.ensures.0) (omega arith)
