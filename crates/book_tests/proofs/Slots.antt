@@ -8,7 +8,8 @@ use Rattle.gx_base.specs.declared.order.Kind.TheVariants.{Limit}
 use Rattle.gx_base.specs.declared.order.Order.{Order}
 use Rattle.gx_base.specs.declared.order.Slot.{Slot}
 use Rattle.plain_book.specs.declared.entry.Entry.{Entry}
-use Rattle.plain_book.specs.Orders.{Level, level, level_of, is_level, is_side, is_at, is_on, is_named, orders_at, side_of, best_of, HasSlot, order_of, slot_of, slot_after, slot_named, is_live, top_of, is_new_best, with_top, placed, lined_up, is_at_earlier_level, is_of_earlier_instrument}
+use Rattle.plain_book.specs.Orders.{Level, level, level_of, is_level, is_side, is_at, is_on, is_named, is_of, orders_at, stops_of, side_of, best_of, HasSlot, order_of, slot_of, slot_after, slot_named, is_live, top_of, is_new_best, with_top, placed, lined_up, is_at_earlier_level, is_of_earlier_instrument}
+use Rattle.plain_book.specs.Waiting.{is_reached_by, reached_stops}
 use Rattle.plain_book.specs.Book.{Book, IsRight, IsResting, IsWaiting, CanBeTop, AllDiffer, live_orders, slot_number, first_shown, makes_top, book_placed, book_waited}
 use Rattle.plain_book.proofs.Pairs.{all-append, all-with}
 use Rattle.plain_book.proofs.Live.{first-has, after-has, orders-at, fit_of, unnamed-none}
@@ -49,6 +50,11 @@ pub stands-top : (i : ℕ) (d : Side) (es : List Entry) (at : Option Slot) → o
 stands-top i d es at h =
     let side = side_of i d es in
     stands-part (is_on i d) es at (stands-part (λ (e : Entry). e.is_top) side at (stands-first (filter (λ (e : Entry). e.is_top) side) at h))
+
+pub stands-reached : (i : ℕ) (range : Price × Price) (es : List Entry) (at : Option Slot) → option_map slot_number at ≡ slot_of (reached_stops i range es) → StandsIn es at
+stands-reached i range es at h =
+    let stops = stops_of i es in
+    stands-part (is_of i) es at (stands-part (is_reached_by range) stops at (stands-first (reached_stops i range es) at h))
 
 -- ---- the orders of a level
 

@@ -1,7 +1,7 @@
 //! Both books over long lists of drawn calls, to which they have to give the same answers.
 ghost use Rattle.std.specs.Prelude.{◌≡◌, ◌<◌, ◌≤◌, length, true, false, IfSome, option_map};
 ghost use Rattle.plain_book.specs.Orders.{HasSlot, is_live};
-ghost use Rattle.plain_book.specs.Book.{CanBeTop, live_orders, slot_number};
+ghost use Rattle.plain_book.specs.Book.{CanBeTop, IsFitToWait, live_orders, slot_number};
 
 mod draws;
 mod reads;
@@ -11,8 +11,8 @@ use draws::{INSTRUMENTS, Market, Random};
 use gx_base::{Kind, Order, Price, ShortId, Side, Slot};
 use plain_book::{Book, PlainBook};
 use reads::{
-    Answer, Call, Line, Log, ROOM, answer_at, early_at, named, order_at, read_numbers, read_orders,
-    top_of,
+    Answer, Call, Line, Log, ROOM, answer_at, early_at, named, named_slot, order_at, reached_slot,
+    read_numbers, read_orders, top_of,
 };
 use std::process::Abort;
 
@@ -22,11 +22,8 @@ const NARROW_CAPACITY: u32 = 64;
 /// So many that a side can have the levels of several chunks.
 const WIDE_CAPACITY: u32 = 1_000;
 
-/// Each step makes one drawn call, and then reads the book.
-const STEPS: u32 = 20_000;
-
 /// How often a run over a narrow market makes each call at least.
-const LEAST: [(Call, usize); 34] = [
+const LEAST: [(Call, usize); 37] = [
     (Call::Capacity, 1_000),
     (Call::Live, 1_000),
     (Call::Best, 1_000),
@@ -43,11 +40,14 @@ const LEAST: [(Call, usize); 34] = [
     (Call::Top, 1_000),
     (Call::FirstWaiting, 1_000),
     (Call::NextWaiting, 1_000),
+    (Call::FirstReached, 1_000),
+    (Call::NoneReached, 1_000),
     (Call::Place, 100),
     (Call::PlaceWithShow, 100),
     (Call::PlaceForTop, 100),
     (Call::PlaceForTopWithShow, 100),
     (Call::Wait, 100),
+    (Call::WaitAnew, 100),
     (Call::Full, 100),
     (Call::TradePart, 100),
     (Call::TradeShown, 100),
@@ -104,14 +104,38 @@ fn place<B: Book>(book: &mut B, random: &mut Random, log: &mut Log)
     }
 }
 
+/// A stop comes to wait, if it can.
+fn enter_stop<B: Book>(book: &mut B, order: Order, call: Call, log: &mut Log)
+    requires listed { (B.book book.old).instruments ≡ INSTRUMENTS }
+    requires fit { IsFitToWait INSTRUMENTS order }
+    ensures { (B.book book.new).instruments ≡ INSTRUMENTS }
+{
+    if can_come(book, order.firm, &order.id, log) {
+        let slot = book.wait(order);
+        log.note(call, answer_at(book, Some(slot)));
+    }
+}
+
 fn wait<B: Book>(book: &mut B, random: &mut Random, log: &mut Log)
     requires { (B.book book.old).instruments ≡ INSTRUMENTS }
     ensures { (B.book book.new).instruments ≡ INSTRUMENTS }
 {
     let order = random.stop(log.lines().len() as u64);
-    if can_come(book, order.firm, &order.id, log) {
-        let slot = book.wait(order);
-        log.note(Call::Wait, answer_at(book, Some(slot)));
+    enter_stop(book, order, Call::Wait, log);
+}
+
+/// A stop comes. The live order that has its name, if there is one, leaves first.
+fn wait_anew<B: Book>(book: &mut B, random: &mut Random, log: &mut Log)
+    requires { (B.book book.old).instruments ≡ INSTRUMENTS }
+    ensures { (B.book book.new).instruments ≡ INSTRUMENTS }
+{
+    let order = random.stop(log.lines().len() as u64);
+    match named_slot(book, order.firm, &order.id) {
+        Some(slot) => {
+            take_out(book, slot, log);
+            enter_stop(book, order, Call::WaitAnew, log);
+        }
+        None => enter_stop(book, order, Call::Wait, log),
     }
 }
 
@@ -141,7 +165,7 @@ fn resting_slot<B: Book>(book: &B, random: &mut Random) -> Option<Slot>
 fn live_slot<B: Book>(book: &B, random: &mut Random) -> Option<Slot>
     ensures { IfSome result (λ slot. HasSlot slot.0 (live_orders (B.book book.now))) }
 {
-    book.find(random.firm(), &random.id())
+    named_slot(book, random.firm(), &random.id())
 }
 
 /// An order with a drawn name, or one of the first at a drawn price.
@@ -192,17 +216,36 @@ fn trade<B: Book>(book: &mut B, random: &mut Random, log: &mut Log)
     }
 }
 
+/// A live order leaves.
+fn take_out<B: Book>(book: &mut B, slot: Slot, log: &mut Log)
+    requires listed { (B.book book.old).instruments ≡ INSTRUMENTS }
+    requires live { HasSlot slot.0 (live_orders (B.book book.old)) }
+    ensures { (B.book book.new).instruments ≡ INSTRUMENTS }
+{
+    let order = book.remove(slot);
+    let call = match order.kind {
+        Kind::Limit | Kind::Market => Call::RemoveResting,
+        Kind::StopLimit => Call::RemoveWaiting,
+    };
+    log.note(call, Answer::Order(order));
+}
+
 fn remove<B: Book>(book: &mut B, random: &mut Random, log: &mut Log)
     requires { (B.book book.old).instruments ≡ INSTRUMENTS }
     ensures { (B.book book.new).instruments ≡ INSTRUMENTS }
 {
     if let Some(slot) = leaving_slot(book, random) {
-        let order = book.remove(slot);
-        let call = match order.kind {
-            Kind::Limit | Kind::Market => Call::RemoveResting,
-            Kind::StopLimit => Call::RemoveWaiting,
-        };
-        log.note(call, Answer::Order(order));
+        take_out(book, slot, log);
+    }
+}
+
+/// The first stop that a drawn range reaches leaves.
+fn remove_reached<B: Book>(book: &mut B, random: &mut Random, log: &mut Log)
+    requires { (B.book book.old).instruments ≡ INSTRUMENTS }
+    ensures { (B.book book.new).instruments ≡ INSTRUMENTS }
+{
+    if let Some(slot) = reached_slot(book, random) {
+        take_out(book, slot, log);
     }
 }
 
@@ -301,6 +344,8 @@ fn make_call<B: Book>(book: &mut B, random: &mut Random, log: &mut Log)
         25 => set_prorated(book, random, log),
         26..=27 => set_shown(book, random, log),
         28..=30 => set_top(book, random, log),
+        32..=34 => wait_anew(book, random, log),
+        35 => remove_reached(book, random, log),
         _ => {
             if random.is_clear() {
                 clear(book, log);
@@ -309,13 +354,13 @@ fn make_call<B: Book>(book: &mut B, random: &mut Random, log: &mut Log)
     }
 }
 
-/// The calls of a run on this book, and what it answers.
+/// The calls of a run on this book, and what it answers. Each step makes one drawn call, and then reads the book.
 fn run<B: Book>(rt: &(impl Abort + AllocGlobal), book: &mut B, market: Market) -> Log
     requires { (B.book book.old).instruments ≡ INSTRUMENTS }
 {
     let mut random = Random::new(market);
     let mut log = Log::new(rt);
-    for _step in 0..STEPS {
+    for _step in 0..market.steps() {
         make_call(book, &mut random, &mut log);
         read_numbers(book, &mut random, &mut log);
         if random.is_read() {

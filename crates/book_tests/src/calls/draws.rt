@@ -26,6 +26,9 @@ const MIDDLE: u32 = 12_000;
 /// Among how many prices from the middle on it draws.
 const PRICES: u32 = 200;
 
+/// After so many calls the stop prices of a wide market are one step nearer to the middle.
+const NEARING: u32 = 100;
+
 /// What is drawn.
 #[derive(Clone, Copy)]
 pub(crate) enum Market {
@@ -33,18 +36,17 @@ pub(crate) enum Market {
     Narrow,
     /// Many prices and more names. Orders only come for a while, and then only go; most are of the first instrument, and first
     /// sells, then buys. So a side has up to seven chunks of levels, and then none: the first, the last and a middle chunk are split,
-    /// chunks are joined with the next one and with the one before, and a side is emptied and filled again.
+    /// chunks are joined with the next one and with the one before, and a side is emptied and filled again. At last stops come, and
+    /// come anew: more than 512 of one instrument wait, and their places are closed up.
     Wide,
 }
 
 impl Market {
-    /// One in so many draws of it clears the book.
-    fn clears(self) -> u32
-        ensures { 1 ≤ result }
-    {
+    /// How many calls a run makes.
+    pub(crate) fn steps(self) -> u32 {
         match self {
-            Market::Narrow => 8,
-            Market::Wide => 200,
+            Market::Narrow => 4 * TIDE,
+            Market::Wide => 5 * TIDE,
         }
     }
 
@@ -110,14 +112,21 @@ impl Random {
         u8::from(self.is_rare())
     }
 
-    /// The number of a call, below 32. At a flood of a wide market half of the calls place an order. At an ebb no order comes to rest,
-    /// and half of the calls take one out.
+    /// The number of a call, below 36. At a flood of a wide market half of the calls place an order. At an ebb no order comes to rest,
+    /// and half of the calls take one out. After two of each, no order comes to rest, and in most of the calls a stop comes anew.
     pub(crate) fn call(&mut self) -> u32 {
         self.calls = self.calls.wrapping_add(1);
         match self.market {
-            Market::Narrow => self.below(32),
-            Market::Wide if self.calls / TIDE % 2 == 1 => self.call_at_ebb(),
-            Market::Wide => self.call_at_flood(),
+            Market::Narrow => self.below(36),
+            Market::Wide => self.call_of_tide(self.calls / TIDE),
+        }
+    }
+
+    fn call_of_tide(&mut self, tide: u32) -> u32 {
+        match tide {
+            0 | 2 => self.call_at_flood(),
+            1 | 3 => self.call_at_ebb(),
+            _ => self.call_of_stops(),
         }
     }
 
@@ -135,10 +144,20 @@ impl Random {
         18 + self.below(14)
     }
 
-    /// Whether the book is cleared.
+    fn call_of_stops(&mut self) -> u32 {
+        if self.is_one_in(4) {
+            return 10 + self.below(26);
+        }
+        32
+    }
+
+    /// Whether the book is cleared. In a narrow market it is not for as many calls as a tide has, so that stops come to all places of
+    /// their instrument; and then it is again.
     pub(crate) fn is_clear(&mut self) -> bool {
-        let clears = self.market.clears();
-        self.is_one_in(clears)
+        match self.market {
+            Market::Narrow => self.calls / TIDE % 2 == 0 && self.is_one_in(8),
+            Market::Wide => self.is_one_in(200),
+        }
     }
 
     /// Whether all orders are read.
@@ -179,6 +198,22 @@ impl Random {
             MIDDLE + apart
         } else {
             MIDDLE - apart
+        }
+    }
+
+    /// A stop price, of which there are few. In a wide market those of buys are above those of sells, and both come nearer, so that a
+    /// trade may reach a late stop and none before it.
+    fn trigger(&mut self, side: Side) -> Price {
+        match self.market {
+            Market::Narrow => self.price(),
+            Market::Wide => {
+                let nearing = TIDE - self.calls % TIDE;
+                let apart = nearing / NEARING + self.below(6);
+                match side {
+                    Side::Buy => Price(i64::from(MIDDLE + apart)),
+                    Side::Sell => Price(i64::from(MIDDLE - apart)),
+                }
+            }
         }
     }
 
@@ -266,15 +301,16 @@ impl Random {
         ensures { IsFitToWait INSTRUMENTS result }
     {
         let quantity = 1 + self.below(12);
+        let side = self.side();
         Order {
             number,
             firm: self.firm(),
             instrument: self.instrument(),
-            side: self.side(),
+            side,
             id: self.id(),
             kind: Kind::StopLimit,
             price: self.price(),
-            trigger: self.price(),
+            trigger: self.trigger(side),
             quantity,
             filled: 0,
             leaves: quantity,

@@ -4,7 +4,7 @@ ghost use Rattle.plain_book.specs.Orders.{HasSlot, order_of, level, orders_at};
 ghost use Rattle.plain_book.specs.Book.{live_orders};
 
 use crate::calls::draws::{INSTRUMENTS, Random};
-use gx_base::{Order, Price, ShortId, Side, Slot};
+use gx_base::{Kind, Order, Price, ShortId, Side, Slot};
 use plain_book::Book;
 use std::process::Abort;
 
@@ -30,6 +30,9 @@ pub(crate) enum Call {
     Top,
     FirstWaiting,
     NextWaiting,
+    FirstReached,
+    /// The first stop that is reached, where none is.
+    NoneReached,
     /// An order that shows all.
     Place,
     PlaceWithShow,
@@ -37,6 +40,8 @@ pub(crate) enum Call {
     PlaceForTop,
     PlaceForTopWithShow,
     Wait,
+    /// A stop under the name of an order that left just before.
+    WaitAnew,
     /// Neither `place` nor `wait`, since the book is full.
     Full,
     TradePart,
@@ -121,9 +126,16 @@ pub(crate) fn answer_at<B: Book>(book: &B, at: Option<Slot>) -> Answer
     }
 }
 
+/// Where the order of a firm with this id stands, if there is one.
+pub(crate) fn named_slot<B: Book>(book: &B, firm: u8, id: &ShortId) -> Option<Slot>
+    ensures { IfSome result (λ slot. HasSlot slot.0 (live_orders (B.book book.now))) }
+{
+    book.find(firm, id)
+}
+
 /// The order of a firm with this id, if there is one.
 pub(crate) fn named<B: Book>(book: &B, firm: u8, id: &ShortId) -> Answer {
-    answer_at(book, book.find(firm, id))
+    answer_at(book, named_slot(book, firm, id))
 }
 
 /// The TOP order of a side, if there is one.
@@ -150,6 +162,50 @@ pub(crate) fn early_at<B: Book>(
         return Some(first);
     }
     book.next(first)
+}
+
+/// The stop price of a stop with a drawn name, the price of another order with it, or a drawn price.
+fn named_price<B: Book>(book: &B, random: &mut Random) -> Price {
+    let Answer::Order(order) = named(book, random.firm(), &random.id()) else {
+        return random.price();
+    };
+    match order.kind {
+        Kind::StopLimit => order.trigger,
+        Kind::Limit | Kind::Market => order.price,
+    }
+}
+
+/// An end of a range of trade prices: in half of the draws the price of an order, so that a stop may stand just at the end.
+fn range_end<B: Book>(book: &B, random: &mut Random) -> Price {
+    match random.below(8) {
+        0 => Price(i64::MIN),
+        1 => Price(i64::MAX),
+        2..=3 => random.price(),
+        _ => named_price(book, random),
+    }
+}
+
+/// The first stop that a drawn range of trade prices reaches. Its ends are drawn one by one, so the first may be the greater one.
+pub(crate) fn reached_slot<B: Book>(book: &B, random: &mut Random) -> Option<Slot>
+    requires { (B.book book.now).instruments ≡ INSTRUMENTS }
+    ensures { IfSome result (λ slot. HasSlot slot.0 (live_orders (B.book book.now))) }
+{
+    let instrument = random.instrument();
+    let least = range_end(book, random);
+    let greatest = range_end(book, random);
+    book.first_reached(instrument, least, greatest)
+}
+
+fn read_reached<B: Book>(book: &B, random: &mut Random, log: &mut Log)
+    requires { (B.book book.now).instruments ≡ INSTRUMENTS }
+{
+    let at = reached_slot(book, random);
+    let call = if at.is_some() {
+        Call::FirstReached
+    } else {
+        Call::NoneReached
+    };
+    log.note(call, answer_at(book, at));
 }
 
 fn read_level<B: Book>(book: &B, instrument: u8, side: Side, price: Price, log: &mut Log)
@@ -208,7 +264,7 @@ pub(crate) fn read_orders<B: Book>(book: &B, log: &mut Log)
     }
 }
 
-/// Writes down what is asked of a book without a walk, at a drawn price and a drawn name.
+/// Writes down what is asked of a book without a walk, at a drawn price, a drawn name and a drawn range.
 pub(crate) fn read_numbers<B: Book>(book: &B, random: &mut Random, log: &mut Log)
     requires { (B.book book.now).instruments ≡ INSTRUMENTS }
 {
@@ -233,4 +289,5 @@ pub(crate) fn read_numbers<B: Book>(book: &B, random: &mut Random, log: &mut Log
     log.note(Call::Live, Answer::Number(u64::from(book.live())));
     log.note(Call::Capacity, Answer::Number(u64::from(book.capacity())));
     log.note(Call::Top, top_of(book, instrument, side));
+    read_reached(book, random, log);
 }
