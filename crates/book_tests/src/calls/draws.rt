@@ -151,8 +151,8 @@ impl Random {
         32
     }
 
-    /// Whether the book is cleared. In a narrow market it is not for as many calls as a tide has, so that stops come to all places of
-    /// their instrument; and then it is again.
+    /// Whether the book is cleared. In a narrow market it never is in each second tide, so that stops come to all places of an
+    /// instrument.
     pub(crate) fn is_clear(&mut self) -> bool {
         match self.market {
             Market::Narrow => self.calls / TIDE % 2 == 0 && self.is_one_in(8),
