@@ -104,6 +104,11 @@ fn place<B: Book>(book: &mut B, random: &mut Random, log: &mut Log)
     }
 }
 
+/// The number of a stop. Some have that of another, as stops of an image may.
+fn stop_number(log: &Log) -> u64 {
+    log.lines().len() as u64 / 512
+}
+
 /// A stop comes to wait, if it can.
 fn enter_stop<B: Book>(book: &mut B, order: Order, call: Call, log: &mut Log)
     requires listed { (B.book book.old).instruments ≡ INSTRUMENTS }
@@ -120,7 +125,7 @@ fn wait<B: Book>(book: &mut B, random: &mut Random, log: &mut Log)
     requires { (B.book book.old).instruments ≡ INSTRUMENTS }
     ensures { (B.book book.new).instruments ≡ INSTRUMENTS }
 {
-    let order = random.stop(log.lines().len() as u64);
+    let order = random.stop(stop_number(log));
     enter_stop(book, order, Call::Wait, log);
 }
 
@@ -129,7 +134,7 @@ fn wait_anew<B: Book>(book: &mut B, random: &mut Random, log: &mut Log)
     requires { (B.book book.old).instruments ≡ INSTRUMENTS }
     ensures { (B.book book.new).instruments ≡ INSTRUMENTS }
 {
-    let order = random.stop(log.lines().len() as u64);
+    let order = random.stop(stop_number(log));
     match named_slot(book, order.firm, &order.id) {
         Some(slot) => {
             take_out(book, slot, log);
