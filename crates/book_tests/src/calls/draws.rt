@@ -20,6 +20,9 @@ const STARTS: u32 = 24;
 /// How many calls a wide market makes in which orders come, and then as many in which none comes to rest.
 const TIDE: u32 = 5_000;
 
+/// After so many calls a wide market is at its end.
+const LAST: u32 = 24_500;
+
 /// The middle of the prices of a wide market.
 const MIDDLE: u32 = 12_000;
 
@@ -151,13 +154,22 @@ impl Random {
         32
     }
 
-    /// Whether the book is cleared. In a narrow market it never is in each second tide, so that stops come to all places of an
+    /// One in so many draws of it clears the book. A wide market is cleared at the end, when most stops wait.
+    fn clears(&self) -> u32
+        ensures { 1 ≤ result }
+    {
+        match self.market {
+            Market::Narrow => 8,
+            Market::Wide if self.calls >= LAST => 1,
+            Market::Wide => 200,
+        }
+    }
+
+    /// Whether the book is cleared. It never is in each second tide: so levels go one by one, and stops come to all places of an
     /// instrument.
     pub(crate) fn is_clear(&mut self) -> bool {
-        match self.market {
-            Market::Narrow => self.calls / TIDE % 2 == 0 && self.is_one_in(8),
-            Market::Wide => self.is_one_in(200),
-        }
+        let clears = self.clears();
+        self.calls / TIDE % 2 == 0 && self.is_one_in(clears)
     }
 
     /// Whether all orders are read.
