@@ -1,6 +1,6 @@
 //! The command `opening` over journals that the other commands made, or that were spoiled.
 
-/// The body of a limit order: its instrument, firm, id, side, lots and price, and the fields behind the price.
+/// The body of a limit order: its instrument, firm, id, side, lots and price, and the fields after the price.
 macro_rules! limit_order {
     ($symbol:literal, $firm:literal, $id:literal, $side:literal, $lots:literal, $price:literal, $rest:literal) => {
         concat!(
@@ -208,7 +208,7 @@ fn with_byte(rt: &(impl Abort + AllocGlobal), bytes: &[u8], at: usize, byte: u8)
     bytes
 }
 
-/// The bytes with these behind them.
+/// The bytes with these after them.
 fn with_more(rt: &(impl Abort + AllocGlobal), bytes: &[u8], more: &[u8]) -> Vec<u8> {
     let mut bytes = bytes.to_vec(rt.alloc()).expect(rt, "memory");
     bytes.extend_from_slice(more).expect(rt, "memory");

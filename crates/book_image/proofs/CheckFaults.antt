@@ -17,7 +17,7 @@ le-true a b h = grind (arith, nat_tests)
 pub le-false : (a b : ℕ) → b < a → nat_le a b ≡ false
 le-false a b h = grind (arith, nat_tests)
 
--- a fault, and faults behind it
+-- a fault, and faults after it
 pub if-here : (b : Bool) (x : ℕ) (rest : Option ℕ) → b ≡ true → option_or (fault_if b x) rest ≡ Some x
 if-here true x rest h = refl
 if-here false x rest h = cc
@@ -71,6 +71,6 @@ module _ (a b c : Option ℕ) where
   pub third-of : a ≡ None → b ≡ None → first_fault (a ∷ b ∷ c ∷ []) ≡ c
   third-of h g = or-past a (option_or b (option_or c None)) h ∙ or-past b (option_or c None) g ∙ or-last c
 
-  -- and what is behind them
+  -- and what is after them
   pub three-then : (rest : Option ℕ) → option_or a (option_or b (option_or c rest)) ≡ option_or (first_fault (a ∷ b ∷ c ∷ [])) rest
   three-then rest = then-rest a b c rest

@@ -28,7 +28,7 @@ back-past a b c h g =
 back-of-not : (a b : Level) → not (is_before a b) ≡ true → is_before a b ≡ false
 back-of-not a b h = grind (arith)
 
--- what is behind the new last order is behind the old one
+-- what is after the new last order is after the old one
 behind-past : (last : Option Order) (x o : Order) → is_behind last x ≡ true → is_behind (Some x) o ≡ true → is_behind last o ≡ true
 behind-past None x o h g = refl
 behind-past (Some l) x o h g =
@@ -73,7 +73,7 @@ second-false true false c d h = refl
 second-false true true c d h = cc
 second-false false b c d h = refl
 
--- a sell crosses nothing that comes behind it
+-- a sell crosses nothing that comes after it
 sell-clear : (o x : Order) → is_side x.side Buy ≡ false → crosses o x ≡ false
 sell-clear o x h = second-false (x.instrument == o.instrument) (is_side x.side Buy) (is_side o.side Sell) (int_le o.price.0 x.price.0) h
 
@@ -88,7 +88,7 @@ or-left true b h = cc
 later : (a b c : ℕ) → nat_lt b a ≡ false → (a == b) ≡ false → nat_lt c b ≡ false → (a == c) ≡ false
 later a b c h g f = grind (arith, nat_tests)
 
--- a buy order of an earlier instrument crosses nothing behind a later one
+-- a buy order of an earlier instrument crosses nothing after a later one
 other-clear : (o x best : Order) → is_before (level_of x) (level_of best) ≡ false → (best.instrument == x.instrument) ≡ false
     → is_before (level_of o) (level_of x) ≡ false → crosses o best ≡ false
 other-clear o x best h g f =
@@ -137,7 +137,7 @@ price-past : (a b c : ℕ) (x best side : Side) (p q r : ℤ) → (b == a) ≡ t
 price-past a b c x best Buy p q r i s l h = absurd (let f : false ≡ true = sym (third-false (a == c) (is_side x Buy) (int_le r p)) ∙ h in let g : ⊥ = cc in g)
 price-past a b c x best Sell p q r i s l h = all-four _ _ _ (same-as a b c i (and-left _ _ (and-left _ _ (and-left _ _ h)))) s (int-le-past r p q (and-right _ _ h) l)
 
--- what a buy order behind the best one of its instrument crosses, that one does
+-- what a buy order after the best one of its instrument crosses, that one does
 best-clear : (o x best : Order) → is_side best.side Buy ≡ true → is_side x.side Buy ≡ true → (best.instrument == x.instrument) ≡ true
     → is_before (level_of x) (level_of best) ≡ false → crosses o x ≡ true → crosses o best ≡ true
 best-clear o x best b s i h f =
@@ -152,7 +152,7 @@ and-implied false false h = refl
 is_not-before : (o : Order) (x : Order) → is_behind (Some x) o ≡ true → is_before (level_of o) (level_of x) ≡ false
 is_not-before o x h = back-of-not (level_of o) (level_of x) h
 
--- the last order is not before the best one, nor is one behind it
+-- the last order is not before the best one, nor is one after it
 best-behind : (last : Option Order) (best x : Order) → IsBestOf last (Some best) → is_behind last x ≡ true
     → is_before (level_of x) (level_of best) ≡ false
 best-behind None best x k h = absurd k
@@ -214,7 +214,7 @@ nat_le-past a b c h g = grind (arith, nat_tests)
 nat_le-under : (a b c : ℕ) → nat_le a b ≡ true → (nat_le a c && nat_le b c) ≡ nat_le b c
 nat_le-under a b c h = and-under (nat_le a c) (nat_le b c) (λ (g : nat_le b c ≡ true). nat_le-past a b c h g)
 
--- the last instrument tells of each order whether it may come behind these
+-- the last instrument tells of each order whether it may come after these
 pub line-next : (last : ℕ) (x : Order) (orders : List Order) → ((o : Order) → is_in_line o orders ≡ nat_le last o.instrument)
     → nat_le last x.instrument ≡ true
     → (o : Order) → is_in_line o (orders ++ x ∷ []) ≡ nat_le x.instrument o.instrument

@@ -24,7 +24,7 @@ module _ (is_right : ℕ → Bool) where
         ap (λ (b : Bool). cond b (wrong_place is_right at size (k + 1) n) (Some (at + size * k))) (h k (omega arith) (omega arith))
         ∙ none-from (k + 1) n (λ j l u. h j (omega arith) (omega arith))
 
-    -- the one behind those that are right is the first
+    -- the one after those that are right is the first
     first-from : (k n m : ℕ) → ((j : ℕ) → k ≤ j → j < m → is_right j ≡ true) → k ≤ m → m < k + n → is_right m ≡ false
         → wrong_place is_right at size k n ≡ Some (at + size * m)
     first-from k zero m h l u w = absurd (let f : ⊥ = omega arith in f)
@@ -41,7 +41,7 @@ module _ (is_right : ℕ → Bool) where
     pub wrong-none : (n : ℕ) → AreRightBelow is_right n → wrong_place is_right at size 0 n ≡ None
     wrong-none n h = none-from 0 n (λ j l u. h j (omega arith))
 
-    -- the same where a walk counts the parts, and ends behind the last of them
+    -- the same where a walk counts the parts, and ends after the last of them
     pub wrong-none-of : (n k count : ℕ) → count ≡ n → k ≡ count → AreRightBelow is_right k → wrong_place is_right at size 0 n ≡ None
     wrong-none-of n k count all end h = wrong-none n (subst (AreRightBelow is_right) (end ∙ all) h)
 

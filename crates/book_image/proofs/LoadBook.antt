@@ -15,7 +15,7 @@ module _ (payload : List ℕ) (n : ℕ) (old : Book) (right : IsRightBook old.ca
   abbrev rests : ℕ → Order
   rests k = order_in payload (resting_rows n) k
 
-  -- the orders of the first waiting rows, behind so many resting ones
+  -- the orders of the first waiting rows, after so many resting ones
   abbrev waits : ℕ → ℕ → Order
   waits rest k = order_in payload (552 + 25 * n + 4 + 82 * rest + 4) k
 

@@ -117,7 +117,7 @@ module _ (trading : Trading) (product : ProductLists) (payload : List ℕ) where
   abbrev is_right_tops : ℕ → Bool
   is_right_tops i = has_right_tops product payload (orders_at payload rest_place rest_count) i
 
-  -- the faults, one behind the other
+  -- the faults, one after the other
   abbrev wait_fault : List (Option ℕ)
   wait_fault = wrong_place is_right_wait wait_place ROW_BYTES 0 wait_count ∷ []
 
@@ -477,7 +477,7 @@ module _ (trading : Trading) (product : ProductLists) (limits : IsRightProduct p
 
 -- ---- the counters
 
--- each of some numbers is within a bound, and a place behind them has 0
+-- each of some numbers is within a bound, and a place after them has 0
 numbers-within : (payload : List ℕ) (bound at n : ℕ) → ((k : ℕ) → k < n → number_at payload (at + 8 * k) ≤ bound) → (place : ℕ) → slice_index (numbers_at payload at n) place ≤ bound
 numbers-within payload bound at zero h place = omega arith
 numbers-within payload bound at (suc n) h zero =

@@ -56,7 +56,7 @@ lex-total a b e p q f h k = grind (arith, nat_tests, f)
 pub before-total : (a b : Level) → is_level a b ≡ false → is_before b a ≡ false → is_before a b ≡ true
 before-total a b h k = lex-total a.instrument b.instrument _ _ _ (inner-total a.side b.side a.price b.price) h k
 
--- what does not stand behind a stands before whatever a stands before
+-- what does not stand after a stands before whatever a stands before
 pub before-front : (x a b : Level) → is_before a b ≡ true → is_before a x ≡ false → is_before x b ≡ true
 before-front x a b h g =
     let go : (c : Bool) → is_before x b ≡ c → c ≡ true = elim [

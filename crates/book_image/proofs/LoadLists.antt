@@ -124,7 +124,7 @@ module _ {X : Type 0} (p : X → Bool) where
   filter-not-none [] h = refl
   filter-not-none (x ∷ xs) h = ap (λ (b : Bool). cond (not b) (x ∷ filter (λ x. not (p x)) xs) (filter (λ x. not (p x)) xs)) h.0 ∙ filter-not-none xs h.1
 
-  -- where what stands before does not pass and what stands behind does, an entry is put in between
+  -- where what stands before does not pass and what stands after does, an entry is put in between
   pub put-between : (n : X) (xs ys : List X) → AllByRecursion (λ x. p x ≡ false) xs → AllByRecursion (λ x. p x ≡ true) ys
       → filter (λ x. not (p x)) (xs ++ ys) ++ n ∷ filter p (xs ++ ys) ≡ xs ++ n ∷ ys
   put-between n [] ys h k = ap (λ (l : List X). l ++ n ∷ filter p ys) (filter-not-none ys k) ∙ ap (λ (l : List X). n ∷ l) (filter-every ys k)
@@ -141,7 +141,7 @@ placed-numbered n es =
     ∙ ap (λ (l : List Entry). numbered (filter (λ e. not (is_at_earlier_level n e)) es) ++ entry_numbered n ∷ l) (sym (filter-numbered (is_at_earlier_level n) (λ e. refl) es))
     ∙ ap (λ (l : List Entry). l ++ entry_numbered n ∷ filter (is_at_earlier_level n) (numbered es)) (sym (filter-numbered (λ e. not (is_at_earlier_level n e)) (λ e. refl) es))
 
--- a stop of no earlier instrument than the others waits behind them
+-- a stop of no earlier instrument than the others waits after them
 pub lined-last : (n : Entry) (es : List Entry) → AllByRecursion (λ (e : Entry). is_of_earlier_instrument n e ≡ false) es → numbered (lined_up n es) ≡ numbered es ++ entry_numbered n ∷ []
 lined-last n es h =
     ap (λ (l : List Entry). numbered (l ++ n ∷ filter (is_of_earlier_instrument n) es)) (filter-not-every (is_of_earlier_instrument n) es h)

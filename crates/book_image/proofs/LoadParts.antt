@@ -8,7 +8,7 @@ use Rattle.order_kinds.specs.State.{State}
 use Rattle.book_image.specs.Rows.{number_at}
 use Rattle.book_image.specs.Reading.{numbers_at, last_at, lasts_at}
 
--- One more place of a list is set, behind those of its front that are.
+-- One more place of a list is set, after those of its front that are.
 pub next-set : {X : Type 0} (front : ℕ → List X) (all : List X) (k : ℕ) (v d : X) → length (front k) ≡ k → k < length all → front (k + 1) ≡ front k ++ v ∷ []
     → set (front k ++ drop k all) k v ≡ front (k + 1) ++ drop (k + 1) all
 next-set front all k v d len lt more =

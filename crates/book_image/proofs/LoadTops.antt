@@ -149,7 +149,7 @@ module _ (i : ℕ) (s : Side) (number : ℕ) where
         and-off true false c h = refl
         and-off false b c h = refl
 
-    -- behind a worse price no order stands at the best one
+    -- after a worse price no order stands at the best one
     behind-worse : (e : Entry) (es : List Entry) → is_before (level i s p) (level_of e.order) ≡ true → AllByRecursion (AreInBookOrder e) es → filter is_found es ≡ []
     behind-worse e [] worse o = refl
     behind-worse e (x ∷ es) worse o =

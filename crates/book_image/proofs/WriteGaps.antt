@@ -31,7 +31,7 @@ module _ (front gap text behind count mid new : List ℕ) (at between end : ℕ)
       omega (arith, length-append front (count ++ text), length-append count text, length-append front gap, front_is, gap_is, count_is, end_is) in
       ap (take end) all ∙ take_at (front ++ (count ++ text)) behind end long
 
--- rows behind a gap, and then their number in it
+-- rows after a gap, and then their number in it
 pub filled-rows : (old mid new : List ℕ) (at end n : ℕ) (es : List Entry)
     → at + COUNT_BYTES + ROW_BYTES * length es ≤ length old → AppendsRows old mid (at + COUNT_BYTES) end es → n ≡ length es
     → new ≡ (take at mid ++ count_bytes n) ++ drop (at + COUNT_BYTES) mid → length new ≡ length mid

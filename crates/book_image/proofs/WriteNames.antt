@@ -8,7 +8,7 @@ use Rattle.plain_book.proofs.Levels.{and-left, and-right}
 use Rattle.book_image.specs.Inner.Writing.{Appends, name_bytes}
 use Rattle.book_image.proofs.WriteWalks.{appends-then, appends-as}
 
--- those of 24 zeros that stand behind the first n
+-- those of 24 zeros that stand after the first n
 abbrev zeros_from : ℕ → List ℕ
 zeros_from n = take (24 - n) (drop n (replicate 24 0))
 

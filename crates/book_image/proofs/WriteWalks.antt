@@ -11,7 +11,7 @@ use Rattle.book_image.specs.Rows.{order_row}
 use Rattle.book_image.specs.Image.{entry_row}
 use Rattle.book_image.specs.Inner.Writing.{Appends, AppendsRows}
 
--- ---- one call behind the other
+-- ---- one call after the other
 
 pub appends-none : (room : List ℕ) (at : ℕ) → Appends room room at at 0 []
 appends-none room at = record { written = sym (append-nil (take at room)); ends = omega arith; size = refl }

@@ -47,7 +47,7 @@ waiting_rows instruments payload = waiting_place instruments payload + COUNT_BYT
 abbrev pub waiting_count : ℕ → List ℕ → ℕ
 waiting_count instruments payload = count_at payload (waiting_place instruments payload)
 
--- the place behind the last row
+-- the place after the last row
 abbrev pub rows_end : ℕ → List ℕ → ℕ
 rows_end instruments payload = waiting_rows instruments payload + ROW_BYTES * waiting_count instruments payload
 
@@ -58,7 +58,7 @@ orders_at payload at (suc n) = order_of_row (bytes_at payload at ROW_BYTES) ∷ 
 
 -- ---- the length
 
--- It ends where its counts say: before that, its length is answered; behind it, the place where it should end.
+-- It ends where its counts say: before that, its length is answered; after it, the place where it should end.
 abbrev pub length_fault : ℕ → List ℕ → Option ℕ
 length_fault instruments payload =
     let n = length payload in

@@ -122,6 +122,6 @@ has_forms row =
 
 -- ---- several rows
 
--- the rows of some orders, one behind the other
+-- the rows of some orders, one after the other
 abbrev pub row_at : List ℕ → ℕ → ℕ → List ℕ
 row_at payload first k = bytes_at payload (first + ROW_BYTES * k) ROW_BYTES

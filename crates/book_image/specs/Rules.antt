@@ -107,14 +107,14 @@ is_uncrossed o before = not (list_any (crosses o) before)
 
 -- ---- rows
 
--- a resting row, behind these
+-- a resting row, after these
 abbrev pub is_right_resting_row : ProductLists → ℕ → List Order → List ℕ → Bool
 is_right_resting_row product given before row =
     let o = order_of_row row in
     has_forms row && is_right_order product given o && is_right_resting o
     && is_new_name o before && is_in_book_order o before && is_uncrossed o before
 
--- a waiting row, behind these resting and these waiting ones
+-- a waiting row, after these resting and these waiting ones
 abbrev pub is_right_waiting_row : ProductLists → ℕ → List Order → List Order → List ℕ → Bool
 is_right_waiting_row product given resting before row =
     let o = order_of_row row in

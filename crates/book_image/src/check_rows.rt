@@ -59,7 +59,7 @@ fn crosses(order: &Order, before: &Order) -> bool
         && before.price.0 >= order.price.0
 }
 
-/// Whether an order stands behind the last one, if there is one.
+/// Whether an order stands after the last one, if there is one.
 fn is_behind(last: &Option<Order>, order: &Order) -> bool
     ensures { result ≡ is_behind last.now order.now }
 {
@@ -79,7 +79,7 @@ fn is_clear_of(best: &Option<Order>, order: &Order) -> bool
     }
 }
 
-/// Whether an order may come behind these.
+/// Whether an order may come after these.
 fn fits_behind(front: &Front, order: &Order) -> bool
     ensures { result ≡ fits_behind front.now order.now }
 {
@@ -106,7 +106,7 @@ fn best_buy_with(best: &Option<Order>, order: &Order) -> Option<Order>
     *best
 }
 
-/// The front with an order behind it.
+/// The front with an order after it.
 fn front_with(front: &Front, order: &Order) -> Front
     ensures { result ≡ front_with front.now order.now }
 {

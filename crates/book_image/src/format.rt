@@ -8,7 +8,7 @@ pub const DESK_BYTES: usize = 552;
 /// The last trade price and the TOP orders of an instrument.
 pub const INSTRUMENT_BYTES: usize = 25;
 
-/// The number of the rows behind it.
+/// The number of the rows after it.
 pub const COUNT_BYTES: usize = 4;
 
 /// An order.

@@ -1,4 +1,4 @@
-//! Writing the state of a core as an image. Each inner call writes behind the first `at` bytes of `into`, and answers where what it
+//! Writing the state of a core as an image. Each inner call writes after the first `at` bytes of `into`, and answers where what it
 //! wrote ends.
 ghost use Rattle.std.specs.Prelude.{◌≡◌, ◌+◌, ◌*◌, ◌^◌, ◌<◌, ◌≤◌, ◌++◌, flat_map, filter, length, take, drop};
 ghost use Rattle.plain_book.specs.Orders.{level, orders_at, side_of, stops_of, is_of};

@@ -1,4 +1,4 @@
-//! Writing an order as a row. Each call writes behind the first `at` bytes of `into`, and answers where what it wrote ends.
+//! Writing an order as a row. Each call writes after the first `at` bytes of `into`, and answers where what it wrote ends.
 ghost use Rattle.std.specs.Prelude.{◌≡◌, ◌+◌, ◌≤◌, length};
 ghost use Rattle.book_image.specs.Rows.{number_bytes, count_bytes, price_bytes, order_row, side_byte, order_kind_byte, life_byte};
 ghost use Rattle.book_image.specs.Inner.Writing.{Appends, name_bytes, mark_bytes};
@@ -71,7 +71,7 @@ pub(crate) fn write_price(price: Price, into: &mut [u8], at: usize) -> usize
     write_number(price.0.cast_unsigned(), into, at)
 }
 
-/// Writes an id behind its length, filled up with zeros.
+/// Writes an id after its length, filled up with zeros.
 fn write_name(id: &ShortId, into: &mut [u8], at: usize) -> usize
     requires { at + (1 + LONGEST_NAME) ≤ length into.old }
     ensures { Appends into.old into.new at result (1 + LONGEST_NAME) (name_bytes id.now) }

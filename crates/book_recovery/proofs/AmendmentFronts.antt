@@ -27,7 +27,7 @@ front-itself payload front is = record {
   same = λ has. ap amended_text is;
 }
 
--- with something behind it
+-- with something after it
 front-long : (front behind : List ℕ) → length front ≡ 4 + MOST_TEXT → IsFront (front ++ behind) front
 front-long front behind long =
     let size : text_size (front ++ behind) ≡ text_size front = ap (from_be_bytes w32) (take-append-le 4 front behind (omega (arith, long))) in

@@ -41,7 +41,7 @@ module _ (text image : List ℕ) where
         ∙ ap (drop (length text)) behind-size
         ∙ drop_at text image (length text) refl
 
--- ---- written behind its text
+-- ---- written after its text
 
 take-behind : (xs ys : List ℕ) (n : ℕ) → take (length xs + n) (xs ++ ys) ≡ xs ++ take n ys
 take-behind xs ys n =
@@ -49,7 +49,7 @@ take-behind xs ys n =
     ∙ ap (λ (l : List ℕ). l ++ drop (length xs) (take (length xs + n) (xs ++ ys))) (take-take (length xs) (length xs + n) (xs ++ ys) (omega arith) ∙ take_at xs ys (length xs) refl)
     ∙ ap (λ (l : List ℕ). xs ++ l) (drop-take (length xs) n (xs ++ ys) ∙ ap (take n) (drop_at xs ys (length xs) refl))
 
--- where all behind a front was written
+-- where all after a front was written
 take-put-behind : (front count : ℕ) (whole back : List ℕ) → front ≤ length whole → take (front + count) (put_mid front (length whole - front) whole back) ≡ take front whole ++ take count back
 take-put-behind front count whole back inside =
     let none : post_of front (length whole - front) whole ≡ [] = Post-is front (length whole) whole inside ∙ drop_all (length whole) whole (omega arith) in
@@ -58,7 +58,7 @@ take-put-behind front count whole back inside =
     ∙ ap (λ n. take n (take front whole ++ back)) (omega (arith, length-take-le front whole inside))
     ∙ take-behind (take front whole) back count
 
--- an image behind the length of a text and the text is an amendment's payload
+-- an image after the length of a text and the text is an amendment's payload
 pub written-amendment : (front count : ℕ) (whole back text image : List ℕ) → front ≤ length whole → take front whole ≡ to_be_bytes w32 (length text) ++ text → take count back ≡ image
     → take (front + count) (put_mid front (length whole - front) whole back) ≡ amendment_of text image
 written-amendment front count whole back text image inside text_is image_is =

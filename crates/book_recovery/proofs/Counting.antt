@@ -34,7 +34,7 @@ pub counting_first : (head : Header) (limit : ℕ) (image : List ℕ) (gate : �
 counting_first head limit image gate begins place = record { before = []; begins = begins; gate_is = place ∙ sym (length-first head); count_is = refl; image_is = refl; start = refl }
 
 module _ (head : Header) (limit : ℕ) (image : List ℕ) (gate : ℕ) (before : List Record) (r : Record) where
-  -- the place of the start, where frames come behind
+  -- the place of the start, where frames come after
   start-frames : is_image r ≡ false → (start : Option Entry) (entry : Entry) → gate ≡ length (journal_front head before) → IsHead image limit gate entry
       → IsStart head image limit before start → IsStart head image limit (before ++ r ∷ []) (option_or start (Some entry))
   start-frames frames None entry place at_head is =

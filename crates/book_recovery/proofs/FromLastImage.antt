@@ -16,7 +16,7 @@ use Rattle.book_recovery.proofs.Histories.{as-last, last-frames, behind-frames}
 
 -- ---- good records
 
--- an image is good, or not, whatever was counted before it, and so are the records behind it
+-- an image is good, or not, whatever was counted before it, and so are the records after it
 good-anew : (product : ProductLists) (count : ℕ) (kind : EntryKind) (payload : List ℕ) (records : List Record)
     → (is_image_kind kind ≡ false → count ≡ 0) → IsGoodAs product count kind payload → AreGoodRecords product (count_as count kind payload) records
     → IsGoodAs product 0 kind payload × AreGoodRecords product (count_as 0 kind payload) records
@@ -77,7 +77,7 @@ front-length : (head : Header) (records : List Record) → length (journal_front
 front-length head records =
     omega (arith, length-append (header head) (flat_map open_record records), length-append (header head) (flat_map open_record (let none : List Record = [] in none)))
 
--- the journal ends so many bytes behind the place from which on all of it is read
+-- the journal ends so many bytes after the place from which on all of it is read
 pub front-from-last : (head : Header) (records : List Record)
     → length (journal_front head records) ≡ first_read (image_gate head records) (length (journal_front head [])) + length (flat_map open_record (from_last_image records))
 front-from-last head records =

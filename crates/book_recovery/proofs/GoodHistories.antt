@@ -10,7 +10,7 @@ use Rattle.book_recovery.specs.Records.{count_as, count_behind_all, IsGoodAs}
 use Rattle.book_recovery.specs.Histories.{IsProductBehind, AreGoodFrom, HaveProducts, history_as, history_behind}
 use Rattle.book_recovery.proofs.Histories.{as-last, one-product}
 
--- ---- the product behind a record
+-- ---- the product after a record
 
 -- there is one
 pub one-behind : (product a b : ProductLists) (kind : EntryKind) (payload : List ℕ) → IsProductBehind product kind payload a → IsProductBehind product kind payload b → a ≡ b
@@ -45,7 +45,7 @@ good-have product count (r ∷ records) good =
 -- ---- one record more
 
 module _ (r : Record) (behind : ProductLists) where
-  -- it is good under the product behind it
+  -- it is good under the product after it
   pub good-more : (product : ProductLists) (count : ℕ) (h : History) (before : List Record) → last_product h ≡ product → AreGoodFrom product count before
       → IsProductBehind (last_product (history_behind h before)) r.kind r.payload behind → IsGoodAs behind (count_behind_all count before) r.kind r.payload → AreGoodFrom product count (before ++ r ∷ [])
   good-more product count h [] last good is own = (behind, subst (λ (p : ProductLists). IsProductBehind p r.kind r.payload behind) last is, own, tt)

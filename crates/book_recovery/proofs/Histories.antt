@@ -189,7 +189,7 @@ one-gives head last gate product [] r more none gives =
 one-gives head last gate product (x ∷ before) r more none gives =
     one-gives head (amendment_as last gate x.kind x.payload) (gate + (6 + length x.payload)) product before r more none gives
 
--- no image comes behind this record: if it is an amendment, it has the last text
+-- no image comes after this record: if it is an amendment, it has the last text
 pub image-gives : (head : Header) (product : ProductLists) (before : List Record) (r : Record) (more : List Record) → has_image more ≡ false
     → product_of (last_text head (before ++ r ∷ more)).bytes ≡ Ok product → GivesAs product r.kind r.payload
 image-gives head product before r more none gives = one-gives head None (13 + length head.text) product before r more none gives

@@ -106,7 +106,7 @@ none-from-none (x ∷ records) is =
       | false ↦ λ none. ap has_image (sym (last-here x records none)) ∙ is
     ] in go (has_image records) refl
 
--- ---- no image comes behind the first of the records from the last image on
+-- ---- no image comes after the first of the records from the last image on
 
 none-behind : (xs : List Record) (r : Record) (more : List Record) → has_image (xs ++ r ∷ more) ≡ false → has_image more ≡ false
 none-behind [] r more none = (or-none (is_image r) (has_image more) none).1

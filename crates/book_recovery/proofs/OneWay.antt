@@ -17,7 +17,7 @@ use Rattle.book_recovery.proofs.Histories.{one-product}
 
 -- ---- the place of a record that is not good
 
--- of good records each is good behind those before it
+-- of good records each is good after those before it
 good_within : (product : ProductLists) (count : ℕ) (before : List Record) (r : Record) (more : List Record) → AreGoodRecords product count (before ++ r ∷ more) → IsGoodRecord product (count_behind_all count before) r
 good_within product count [] r more good = good.0
 good_within product count (x ∷ before) r more good = good_within product (count_behind count x) before r more good.1

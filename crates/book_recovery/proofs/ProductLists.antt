@@ -80,7 +80,7 @@ module _ (last : ProductLists) where
     fits-first p (q ∷ earlier) zero follow fits = fits-follows p q state fits follow.0
     fits-first p (q ∷ earlier) (suc n) follow fits = fits-first q earlier n follow.1 (fits-follows p q state fits follow.0)
 
-    -- what fits one of them fits those behind it
+    -- what fits one of them fits those after it
     pub fits-later : (earlier : List ProductLists) (a b : ℕ) → FollowEachOther (earlier ++ last ∷ []) → a ≤ b → FitsProduct (get_or (earlier ++ last ∷ []) a last) state
         → FitsProduct (get_or (earlier ++ last ∷ []) b last) state
     fits-later [] zero zero follow le fits = fits

@@ -108,7 +108,7 @@ one-behind product a b OldImage payload x y = x ∙ sym y
 one-behind product a b Image payload x y = x ∙ sym y
 one-behind product a b Amendment payload x y = cc (sym x.0 ∙ y.0)
 
--- what a record has, behind those before
+-- what a record has, after those before
 pub record IsGiven (product : ProductLists) (r : Record) : Type 0 where
   pub behind : ProductLists
   pub is : IsProductBehind product r.kind r.payload behind

@@ -74,7 +74,7 @@ number-behind earlier last now behind later number after OldImage payload left a
 number-behind earlier last now behind later number after Image payload left amends stays = stays refl
 number-behind earlier last now behind later number after Amendment payload left amends stays = amends refl (few-before earlier last now behind later number left)
 
--- ---- the record behind some good ones
+-- ---- the record after some good ones
 
 module _ (head : Header) (limit : ℕ) (image : List ℕ) (products : List ProductLists) (records before : List Record) (passed : Passed) (read : IsReadTo head limit image products records before passed) where
   -- they are followed by those that are left
@@ -141,7 +141,7 @@ module _ (head : Header) (limit : ℕ) (image : List ℕ) (products : List Produ
         sym (as-last (last_product kept) behind kept found.kind found.payload refl behind_kept)
         ∙ ap last_product (sym (behind-append (of_product read.all.first []) before (found ∷ [])))
 
-    -- the number that is answered for it is that of the product behind it
+    -- the number that is answered for it is that of the product after it
     pub number_there : (earlier : List ProductLists) (last : ProductLists) → products ≡ earlier ++ last ∷ [] → (number : ℕ) → (is_amendment entry.kind ≡ true → passed.product < length earlier → number ≡ passed.product + 1)
         → (is_amendment entry.kind ≡ false → number ≡ passed.product) → number ≡ product_behind passed.product found.kind
     number_there earlier last are number amends stays =
@@ -154,7 +154,7 @@ module _ (head : Header) (limit : ℕ) (image : List ℕ) (products : List Produ
     product_there number last product number_is product_is =
         product_is ∙ ap (λ (k : ℕ). get_or products k last) number_is ∙ get-drop products (product_behind passed.product found.kind) behind later left_more last
 
-    -- ---- what it holds was read under the product behind it
+    -- ---- what it holds was read under the product after it
 
     module _ (product : ProductLists) (same : product ≡ behind) where
       -- an amendment gives this product

@@ -79,7 +79,7 @@ module _ (head : Header) (records : List Record) (gate : ℕ) (at : IsPassing he
       place = one.gate_is ∙ ap (λ (l : List Record). length (journal_front head l)) one-more-done;
     }
 
-    -- frames alone come behind it
+    -- frames alone come after it
     none-more : has_image one.more ≡ false
     none-more = none-left records at.done one.found one.more (at.are ∙ ap (λ (l : List Record). at.done ++ l) one.is)
 
@@ -152,7 +152,7 @@ module _ (product : ProductLists) (head : Header) (image : List ℕ) (limit : �
       few-told : length_kept then_told < MOST_MESSAGES
       few-told = omega (arith, ap length_kept whole_is, behind-count then_told one.more, behind-count (of_product first []) records, journal-messages head limit records image journal few)
 
-      -- it is under the last product, since no amendment comes behind
+      -- it is under the last product, since no amendment comes after
       under : IsUnder product then_told
       under =
           let are = amended-front first (front ++ one.found ∷ []) one.more

@@ -29,7 +29,7 @@ stands_moved s x gate ends image is stands = subst (λ (t : Standing). StandsIn 
   text_len = stands.text_len;
 })
 
--- the first gate is behind the header of the image
+-- the first gate is after the header of the image
 pub stands_first : (s : Standing) (head : Header) (image : List ℕ) → StandsIn s image → HasHeader head image → s.first ≡ 13 + length head.text
 stands_first s head image stands header = stands.first ∙ ap (λ (h : Header). 13 + length h.text) (one_header image stands.head head stands.opened.header header)
 

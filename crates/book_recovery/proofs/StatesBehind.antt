@@ -1,4 +1,4 @@
--- The states that histories lead to: that they are right, what is read of a true image, and the state behind a true record.
+-- The states that histories lead to: that they are right, what is read of a true image, and the state after a true record.
 use Rattle.std.proofs.Common.{◌≡◌, ℕ, ◌<◌, ◌≤◌, true, false, List, [], ◌∷◌, ◌++◌, None, refl, sym, subst, ◌∙◌, ap, arith}
 use Rattle.std.specs.List.{AllByRecursion}
 use Rattle.gx_base.proofs.Tests.{not-both}
@@ -110,7 +110,7 @@ module _ (product : ProductLists) (h : History) (old new : State) where
         count_is = ap (λ (s : State). s.desk.messages) is ∙ kept-counted product then under;
       }
 
-  -- frames are applied to the state before, and a true image is that of the state behind it
+  -- frames are applied to the state before, and a true image is that of the state after it
   pub state-behind : (kind : EntryKind) (payload : List ℕ) → IsUnder product (history_as h kind payload) → length_kept (history_as h kind payload) < MOST_MESSAGES
       → IsReplayed product old new (record { kind = kind; payload = payload }) → IsTrueAs (history_as h kind payload) kind payload
       → (is_image_kind kind ≡ false → IsStateAfter h old) → IsStateAfter (history_as h kind payload) new

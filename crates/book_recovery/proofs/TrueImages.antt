@@ -1,4 +1,4 @@
--- Records whose images are true: what stands behind them, and that they are good.
+-- Records whose images are true: what stands after them, and that they are good.
 use Rattle.std.proofs.Common.{◌≡◌, ℕ, ◌+◌, ◌<◌, Bool, true, false, ◌||◌, List, [], ◌∷◌, length, Ok, refl, sym, subst, ◌∙◌, ap, arith, length-append}
 use Rattle.gx_base.proofs.Tests.{not-both}
 use Rattle.fix_frame.specs.Stream.{messages_of, rest_of}
@@ -37,7 +37,7 @@ module _ (h : History) (r : Record) (records : List Record) (few : AreFew h (r �
 
 -- ---- one record
 
--- An image says its count itself, as the history behind it has it, and stands for the state of that.
+-- An image says its count itself, as the history after it has it, and stands for the state of that.
 module _ (product : ProductLists) (h : History) (under : IsUnder product h) (few : length_kept h < MOST_MESSAGES) (kind : EntryKind) (payload : List ℕ) (image : is_image_kind kind ≡ true) (is_true : IsTrueAs h kind payload) where
   image-counted : (count : ℕ) → count_as count kind payload ≡ length_kept h
   image-counted count =

@@ -8,7 +8,7 @@ use Rattle.match_journal.specs.BadRecords.{HasBadHeadAt}
 use Rattle.book_recovery.specs.Records.{before_last_image, from_last_image, count_behind_all, IsGoodRecord, AreGoodRecords}
 use Rattle.book_recovery.specs.Histories.{AreGoodFrom, HaveProducts, HaveNoAmendment}
 
--- behind some good records comes one that is not good
+-- after some good records comes one that is not good
 pub record HasBadRecord (product : ProductLists) (records before : List Record) : Type 0 where
   pub bad : Record
   pub behind : List Record

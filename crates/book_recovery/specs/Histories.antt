@@ -25,7 +25,7 @@ IsProductBehind product OldImage payload behind = behind ≡ product
 IsProductBehind product Image payload behind = behind ≡ product
 IsProductBehind product Amendment payload behind = (product_of (amended_text payload) ≡ Ok behind) × (may_follow product behind ≡ Ok tt)
 
--- each is good under the product after it, by the count behind those before it
+-- each is good under the product after it, by the count after those before it
 abbrev pub AreGoodFrom : ProductLists → ℕ → List Record → Type 0
 AreGoodFrom product count [] = Unit {0}
 AreGoodFrom product count (r ∷ records) =

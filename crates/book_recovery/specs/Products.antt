@@ -65,7 +65,7 @@ pub record IsReadTo (head : Header) (limit : ℕ) (image : List ℕ) (products :
   pub left : drop passed.product products ≡ now ∷ products_in now rest have
 
 module _ (head : Header) (limit : ℕ) (image : List ℕ) (products : List ProductLists) (records before : List Record) (number : ℕ) where
-  -- one record more is good; these are its messages, and the next gate is the one behind it
+  -- one record more is good; these are its messages, and the next gate is the one after it
   pub record IsOneMore (gate : ℕ) (messages : List (List ℕ)) (passed : Passed) : Type 0 where
     pub found : Record
     pub read : IsReadTo head limit image products records (before ++ found ∷ []) passed
@@ -73,12 +73,12 @@ module _ (head : Header) (limit : ℕ) (image : List ℕ) (products : List Produ
     pub messages_are : messages ≡ record_messages found
     pub product_is : passed.product ≡ product_behind number found.kind
 
-  -- the record behind these is the first bad one
+  -- the record after these is the first bad one
   pub record IsBadBehind (at : ℕ) : Type 0 where
     pub bad : HasBadRecordAt head limit image at
     pub behind : bad.before ≡ before
 
-  -- what is answered at the gate behind the first records of a journal, where this product holds
+  -- what is answered at the gate after the first records of a journal, where this product holds
   abbrev pub ReadsRecord : ℕ → List (List ℕ) → Result (Option Passed) RecoverFault → Type 0
   ReadsRecord gate messages (Ok (Some passed)) = IsOneMore gate messages passed
   ReadsRecord gate messages (Ok None) = records ≡ before

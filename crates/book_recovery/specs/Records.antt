@@ -89,11 +89,11 @@ messages_as Amendment payload = []
 abbrev pub record_messages : Record → List (List ℕ)
 record_messages r = messages_as r.kind r.payload
 
--- the messages in these records, one behind the other
+-- the messages in these records, one after the other
 abbrev pub messages_in : List Record → List (List ℕ)
 messages_in records = flat_map record_messages records
 
--- the record is frames, one behind the other, and nothing else
+-- the record is frames, one after the other, and nothing else
 pub record IsWhole (r : Record) : Type 0 where
   pub frames : r.kind ≡ Frames
   pub no_rest : rest_of r.payload ≡ []
@@ -103,7 +103,7 @@ AreWhole records = AllByRecursion IsWhole records
 
 -- ---- the count of messages
 
--- The count of messages behind a payload of a kind, by that before it: frames add theirs, and an image says its own.
+-- The count of messages after a payload of a kind, by that before it: frames add theirs, and an image says its own.
 abbrev pub count_as : ℕ → EntryKind → List ℕ → ℕ
 count_as count Frames payload = count + length (messages_of payload)
 count_as count OldImage payload = number_at payload 0
@@ -113,7 +113,7 @@ count_as count Amendment payload = number_at (amended_image payload) 0
 abbrev pub count_behind : ℕ → Record → ℕ
 count_behind count r = count_as count r.kind r.payload
 
--- the count behind several records, by that before them
+-- the count after several records, by that before them
 abbrev pub count_behind_all : ℕ → List Record → ℕ
 count_behind_all count [] = count
 count_behind_all count (r ∷ records) = count_behind_all (count_behind count r) records
@@ -131,7 +131,7 @@ pub record AmendsTo (product : ProductLists) (payload : List ℕ) : Type 0 where
   pub gives : product_of (amended_text payload) ≡ Ok product
   pub image : image_fault Image product (amended_image payload) ≡ None
 
--- A payload of a kind is good behind so many messages, under the product that holds after it. Nothing is wrong with an image, wherever it
+-- A payload of a kind is good after so many messages, under the product that holds after it. Nothing is wrong with an image, wherever it
 -- stands.
 abbrev pub IsGoodAs : ProductLists → ℕ → EntryKind → List ℕ → Type 0
 IsGoodAs product count Frames payload = AreGoodFrames count payload
@@ -142,12 +142,12 @@ IsGoodAs product count Amendment payload = AmendsTo product payload
 abbrev pub IsGoodRecord : ProductLists → ℕ → Record → Type 0
 IsGoodRecord product count r = IsGoodAs product count r.kind r.payload
 
--- Each is good under one product, by the count behind those before it: so are the records from the last image on.
+-- Each is good under one product, by the count after those before it: so are the records from the last image on.
 abbrev pub AreGoodRecords : ProductLists → ℕ → List Record → Type 0
 AreGoodRecords product count [] = Unit {0}
 AreGoodRecords product count (r ∷ records) = IsGoodRecord product count r × AreGoodRecords product (count_behind count r) records
 
--- where the record is frames, nothing stands behind them
+-- where the record is frames, nothing stands after them
 abbrev pub HasWholeFrames : Record → Type 0
 HasWholeFrames r = r.kind ≡ Frames → rest_of r.payload ≡ []
 
@@ -156,7 +156,7 @@ HaveWholeFrames records = AllByRecursion HasWholeFrames records
 
 -- ---- the state
 
--- The state behind a payload of a kind, by that before it: frames are applied to it, and an image is read in its place.
+-- The state after a payload of a kind, by that before it: frames are applied to it, and an image is read in its place.
 abbrev pub state_as : ProductLists → State → EntryKind → List ℕ → State
 state_as product state Frames payload = state_after product state (messages_of payload)
 state_as product state OldImage payload = state_of_image OldImage product payload
@@ -166,7 +166,7 @@ state_as product state Amendment payload = state_of_image Image product (amended
 abbrev pub state_behind : ProductLists → State → Record → State
 state_behind product state r = state_as product state r.kind r.payload
 
--- the state behind several records, by that before them
+-- the state after several records, by that before them
 abbrev pub state_behind_all : ProductLists → State → List Record → State
 state_behind_all product state [] = state
 state_behind_all product state (r ∷ records) = state_behind_all product (state_behind product state r) records

@@ -34,7 +34,7 @@ abbrev pub first_read : Option ℕ → ℕ → ℕ
 first_read None first = first
 first_read (Some image_at) first = image_at
 
--- How many bytes of a journal with these records are read at most to recover from it: six for each gate behind the header, also
+-- How many bytes of a journal with these records are read at most to recover from it: six for each gate after the header, also
 -- the closed one, and once the records from the last book image on.
 abbrev pub most_to_recover : List Record → ℕ
 most_to_recover records = 6 * (length records + 1) + length (flat_map open_record (from_last_image records))

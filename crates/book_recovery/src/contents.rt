@@ -111,7 +111,7 @@ fn are_whole(framer: &mut Framer) -> bool
     framer.rest() == 0
 }
 
-/// Reads a payload of frames behind `count` messages, and answers the count behind it. Its frames are then all given.
+/// Reads a payload of frames after `count` messages, and answers the count after it. Its frames are then all given.
 fn read_frame_record(
     payload: &[u8],
     framer: &mut Framer,

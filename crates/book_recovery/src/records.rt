@@ -69,7 +69,7 @@ fn clear_spare<B: Book>(spare: &mut Core<B>, _product: &Product, kind: EntryKind
 
 /// Reads the next record, its head and its payload, under the product that holds after it, and passes it by. Messages and products before
 /// it are counted: a record of frames adds its messages, a book image sets their count to that of its state, and an amendment goes over to
-/// the next product too. `Ok` has what comes before the record behind, and leaves the messages of this one in the scratch's framer, all
+/// the next product too. `Ok` has what comes before the record after, and leaves the messages of this one in the scratch's framer, all
 /// given: those of a book image are none, and an amendment has none. `Ok(None)` comes exactly at a closed gate. `Bad` comes exactly if the
 /// record is bad, with its gate: it is not whole frames, or brings the count to 2^24 or more; or it has an image that is not right under
 /// its product. `Store` comes only if the count of store faults rose. The spare core is new, and new again then. Nothing is written,

@@ -136,7 +136,7 @@ pub fn check_heads<S: Station>(station: &mut S, journal: &mut Journal) -> Result
 }
 
 /// Brings a new core to the state after all messages that a journal of the product's text keeps, and reports nothing: it reads the last
-/// book image, if there is one, which may be that of an amendment, and applies each message behind it. It goes over all heads, wherever
+/// book image, if there is one, which may be that of an amendment, and applies each message after it. It goes over all heads, wherever
 /// the journal stands, before it reads a payload. `Ok` leaves the journal at its end.
 ///
 /// `Store` comes only where the count of store faults rose. `Bad` comes exactly where a head is bad, or a record from the last

@@ -107,7 +107,7 @@ before-of q k r (x ∷ rs) h a l = elim h [
   | inr e ↦ before-of q k r rs e a.1 l.1
 ]
 
--- n comes to the end of the queue q, which is that of its level: so it is put in behind those at its price and before it
+-- n comes to the end of the queue q, which is that of its level: so it is put in after those at its price and before it
 pub flat-placed : (E E' : ℕ → List Entry) (n : Entry) (q : ℕ) → E' q ≡ E q ++ n ∷ [] → ((p : ℕ) → p ≢ q → E' p ≡ E p)
     → (rs : List LevelRow) → Pairs AreRowsApart rs → HasQueue q rs → AllByRecursion (IsLevelOf q (level_of n.order)) rs → AllByRecursion (AreAt E) rs
     → placed n (flat E (queues_of rs)) ≡ flat E' (queues_of rs)

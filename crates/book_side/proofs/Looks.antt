@@ -37,7 +37,7 @@ passes p false (e ∷ es) h = ap (λ (c : Bool). cond c (e ∷ filter p es) (fil
 all-level : (k : Level) (r : LevelRow) (b : Bool) → row_at k r ≡ b → (es : List Entry) → AllByRecursion (λ (e : Entry). level_of e.order ≡ level_of_row r) es → AllByRecursion (λ (e : Entry). is_at k e ≡ b) es
 all-level k r b h es a = all-with (λ (e : Entry). level_of e.order ≡ level_of_row r) (λ (e : Entry). is_at k e ≡ b) (λ e l. ap (λ (j : Level). is_level j k) l ∙ h) es a
 
--- a level behind another one is another
+-- a level after another one is another
 not-level : (k : Level) (r x : LevelRow) → row_at k r ≡ true → is_before (level_of_row r) (level_of_row x) ≡ true → row_at k x ≡ false
 not-level k r x h b =
     let go : (c : Bool) → row_at k x ≡ c → row_at k x ≡ false = elim [
@@ -134,7 +134,7 @@ last-or-behind : (x : Price) (es : List Entry) (f : Entry) (fs : List Entry) →
 last-or-behind x [] f fs = refl
 last-or-behind x (e ∷ es) f fs = last-or-behind e.order.price es f fs
 
--- orders of one price, and those behind them
+-- orders of one price, and those after them
 last-level : (found : Option Price) (x : Price) (e : Entry) (es fs : List Entry) → AllByRecursion (λ (e : Entry). e.order.price ≡ x) (e ∷ es) → last_after found (e ∷ es ++ fs) ≡ last_after (Some x) fs
 last-level found x e es (f ∷ fs) h = ap Some (last-or-behind e.order.price es f fs)
 last-level found x e es [] h = ap (λ (l : List Entry). Some (last_price_or e.order.price l)) (append-nil es) ∙ ap Some (same e.order.price es h.0 h.1)

@@ -28,7 +28,7 @@ use Rattle.book_side.proofs.Leaving.{own-name}
 use Rattle.book_side.proofs.Setting.{level-held}
 use Rattle.book_side.proofs.Stops.{AreOf, range-had, range-order, stops-at}
 
--- the slot behind one in its queue is the one behind it in the book
+-- the slot after one in its queue is the one after it in the book
 pub after-looked : (T : ℕ → Side → Option ℕ) (s : ℕ) (hs : List Held) → next_slot s hs ≡ slot_after s (each_of (marked T) hs)
 after-looked T s [] = refl
 after-looked T s (h ∷ hs) =
@@ -91,7 +91,7 @@ module _ (c n : ℕ) (p : pool.Queues) (ids : Ids) (lv : Rows) (tops : List Side
   abbrev W : ℕ → List Entry
   W q = each_of unmarked (P q)
 
-  -- each queue behind those of the levels has the stops of one instrument
+  -- each queue after those of the levels has the stops of one instrument
   pub stops-of : (q : ℕ) → c ≤ q → q < c + n → AreOf W c q
   stops-of q low high =
       let is : c + (q - c) ≡ q = omega arith in
@@ -163,7 +163,7 @@ module _ (c n : ℕ) (p : pool.Queues) (ids : Ids) (lv : Rows) (tops : List Side
     pub is-live : orders.HasSlot s (live_orders book) → IsLive p s
     is-live h = let r = place h in (r.queue, r.at)
 
-    -- what the pool finds behind an order at its level
+    -- what the pool finds after an order at its level
     pub next-rests : orders.HasSlot s book.resting → AreRows lv → (o : Option ℕ) → ((q : ℕ) → IsIn p s q → o ≡ next_slot s (P q)) → o ≡ slot_after s (orders_at (level_of (orders.order_of s book.resting)) book.resting)
     next-rests h rules o found =
         let r = at-level h in
@@ -178,7 +178,7 @@ module _ (c n : ℕ) (p : pool.Queues) (ids : Ids) (lv : Rows) (tops : List Side
         ∙ ap (queue_or_none E) (row-found r.queue lv.rows rules.apart r.is_row) in
         found r.queue r.at ∙ after-looked (top_at tops) s (P r.queue) ∙ ap (slot_after s) (sym line)
 
-    -- and behind a stop of its instrument
+    -- and after a stop of its instrument
     pub next-waits : orders.HasSlot s book.waiting → (o : Option ℕ) → ((q : ℕ) → IsIn p s q → o ≡ next_slot s (P q)) → o ≡ slot_after s (stops_of (orders.order_of s book.waiting).instrument book.waiting)
     next-waits h o found =
         let w = in-line h in

@@ -130,7 +130,7 @@ module _ (c : ℕ) (P P' : ℕ → List Held) (q s : ℕ) (o : Order) (here : P'
   level-of : AllByRecursion (IsLevelOf q (level_of o)) rs1
   level-of = all-with (λ (r : LevelRow). r.queue ≡ q → r ≡ row_of q rs1) (IsLevelOf q (level_of o)) (λ r h e. ap level_of_row (h e) ∙ at) rs1 (only-row q rs1 apart)
 
-  -- it is put in behind those at its price and before it
+  -- it is put in after those at its price and before it
   pub resting-pushed : (U : ℕ → Side → Option ℕ) → placed (marked U (s, o)) (resting_of U P rs) ≡ resting_of U P' rs1
   resting-pushed U =
       let E : ℕ → List Entry = λ p. map (marked U) (P p) in

@@ -126,7 +126,7 @@ module _ (E E' : ℕ → List Entry) (c i : ℕ) (x : Entry) (mine : x.order.ins
   same-later a (suc n) lt =
       ap (λ (l : List Entry). l ++ flat E (range_with_len (a + 1) n)) (sym (there a (omega arith))) ∙ ap (λ (l : List Entry). E' a ++ l) (same-later (a + 1) n (omega arith))
 
-  -- at the end of its queue it is behind the stops of its instrument, and of those before it
+  -- at the end of its queue it is after the stops of its instrument, and of those before it
   pub stops-lined : (a n : ℕ) → ((q : ℕ) → a ≤ q → q < a + n → AreOf E c q) → a ≤ c + i → c + i < a + n → lined_up x (flat E (range_with_len a n)) ≡ flat E' (range_with_len a n)
   stops-lined a zero h low high = absurd (omega arith)
   stops-lined a (suc n) h low high =

@@ -314,7 +314,7 @@ impl LinkedBook {
         self.pool.unlink(slot);
     }
 
-    /// A resting order changes, and goes behind the last order of its price. It is TOP no more.
+    /// A resting order changes, and goes after the last order of its price. It is TOP no more.
     fn send_back(&mut self, slot: Slot, order: &Order)
         requires rests { HasSlot slot.0 self.old.resting }
         requires level { level_of order.now ≡ level_of (order_of slot.0 self.old.resting) }

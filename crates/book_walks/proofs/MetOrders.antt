@@ -9,7 +9,7 @@ use Rattle.plain_book.specs.Book.{Book, IsRight, live_orders, slot_number}
 use Rattle.book_walks.proofs.OrderWalks.{Next, next-of, none-of, fewer-behind, left_from, level-differ, level-has, level-live, level-order, level-next, stops-differ, stop-waits, stop-has, stop-live, stop-next, side-differ, side-rests, side-live, side-order, side-next}
 
 -- The walk goes over `orders`, which are among `own` and so among `all`. It stands at a slot, and these are to come.
--- `after` is the slot behind it.
+-- `after` is the slot after it.
 pub record Met (orders own all : List Entry) (at : Option Slot) (after : Option ℕ) (rest : List Entry) (slot : ℕ) : Type 0 where
   pub next : Next rest slot
   pub kept : HasSlot slot own

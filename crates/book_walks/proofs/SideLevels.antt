@@ -32,7 +32,7 @@ better-then Sell a b c h k = int-back b a c h k
 
 -- ---- one side
 
--- b, which stands behind a, is not better
+-- b, which stands after a, is not better
 abbrev pub InPriceOrder : Side → Entry → Entry → Type 0
 InPriceOrder s a b = is_better s b.order.price.0 a.order.price.0 ≡ false
 
@@ -123,7 +123,7 @@ module _ (s : Side) where
   worse-elsewhere : (a p : ℤ) → is_better s p a ≡ true → int_eq a p ≡ false
   worse-elsewhere a p h = int_eq-not a p (λ e. not-both (is_better s p a) h (ap (λ (q : ℤ). is_better s p q) e ∙ is_better-irrefl s p))
 
-  -- behind an order that is worse than p
+  -- after an order that is worse than p
   pub behind-worse : (p : ℤ) (e : Entry) (es : List Entry) → is_worse s p e ≡ true → AllByRecursion (InPriceOrder s e) es → AllByRecursion (λ (x : Entry). is_worse s p x ≡ true) es
   behind-worse p e [] h k = tt
   behind-worse p e (x ∷ es) h k = (better-past s p e.order.price.0 x.order.price.0 h k.0, behind-worse p e es h k.1)

@@ -1,4 +1,4 @@
--- Fields that are written one behind the other are those in a row.
+-- Fields that are written one after the other are those in a row.
 use Rattle.std.proofs.Common.{◌≡◌, ℕ, List, ◌++◌, append_assoc}
 
 pub four_in_a_row : (old a b c d l1 l2 l3 l4 : List ℕ) → l1 ≡ old ++ a → l2 ≡ l1 ++ b → l3 ≡ l2 ++ c → l4 ≡ l3 ++ d → l4 ≡ old ++ (a ++ b ++ c ++ d)

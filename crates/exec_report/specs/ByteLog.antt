@@ -19,7 +19,7 @@ pub record ByteLog : Type 0 where
 abbrev pub with_line : NameLists → List ℕ → Event → List ℕ
 with_line names bytes event = bytes ++ line_of names event
 
--- there is no room behind the lines for the line of some event
+-- there is no room after the lines for the line of some event
 pub record Overflows (log : ByteLog) : Type 0 where
   pub event : Event
   pub above : log.room < length log.bytes + length (line_of log.names event)

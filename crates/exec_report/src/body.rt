@@ -1,4 +1,4 @@
-//! The bodies of report lines, field by field. As in `fields`, each call writes behind the first `at` bytes, and answers
+//! The bodies of report lines, field by field. As in `fields`, each call writes after the first `at` bytes, and answers
 //! where what it wrote ends. A field takes at most `LONGEST_FIELD` bytes.
 ghost use Rattle.std.specs.Prelude.{◌≡◌, ◌+◌, ◌*◌, ◌≤◌, [], ◌∷◌, ◌++◌, ◌==◌, if◌then◌else◌, Some, None, codes, decimal, length, take};
 ghost use Rattle.std.specs.Option.{option_copied};

@@ -6,7 +6,7 @@ use crate::body::write_body;
 use gx_base::{Event, LONGEST_LINE, Names};
 use line_parts::fields::{GAP, put_frame};
 
-/// Writes the line of an event into the front of `into`, and answers how many bytes it has; what stands behind them is
+/// Writes the line of an event into the front of `into`, and answers how many bytes it has; what stands after them is
 /// left open. The line is a message of FIX 4.2, with our own tags 9001 to 9003. A firm or an instrument that is not
 /// listed is written as `UNKNOWN`, and the prices of such an instrument have no decimals.
 pub fn write_line(event: &Event, names: &Names, into: &mut [u8; LONGEST_LINE]) -> usize

@@ -11,13 +11,13 @@ use std::marker::Model;
 /// How many bytes of lines may wait to be sent (our own rule).
 pub const MOST_WAITING: usize = 65_536;
 
-/// How many bytes a buffer has room for: those that may wait, and what a form prints of one event behind them.
+/// How many bytes a buffer has room for: those that may wait, and what a form prints of one event after them.
 pub const BUFFER_ROOM: usize = MOST_WAITING + LONGEST_PRINTED;
 
-/// Report lines that wait to be sent, one behind the other, at most `MOST_WAITING` bytes. Contracts see it as these bytes.
+/// Report lines that wait to be sent, one after the other, at most `MOST_WAITING` bytes. Contracts see it as these bytes.
 #[derive(Drop)]
 pub struct ReportBuffer {
-    /// The lines, and behind them room for one more than may wait.
+    /// The lines, and after them room for one more than may wait.
     bytes: Vec<u8>,
     /// How many of the bytes wait.
     len: usize,
@@ -47,7 +47,7 @@ impl ReportBuffer {
         })
     }
 
-    /// Writes the line of an event behind the bytes that wait, and answers whether there was room for it. Where there
+    /// Writes the line of an event after the bytes that wait, and answers whether there was room for it. Where there
     /// was none, nothing is added.
     pub(crate) fn add_line<F: LineForm>(&mut self, form: &F, event: &Event, names: &Names) -> bool
         ensures fits { IsTrue result ↔ (length self.old + length (F.meanings.text form.now names.now event.now) ≤ MOST_WAITING) }

@@ -1,4 +1,4 @@
--- What is sent of messages, by the levels that they leave: the blocks of these levels, behind the beginning of the feed.
+-- What is sent of messages, by the levels that they leave: the blocks of these levels, after the beginning of the feed.
 use Rattle.std.proofs.Common.{◌≡◌, ℕ, ◌+◌, Bool, true, false, List, [], ◌∷◌, ◌++◌, length, refl, sym, ap, ap₂, ◌∙◌, arith, append_assoc, append-nil}
 use Prim.Native.Nat.{suc}
 use Rattle.gx_base.specs.declared.names.Listed.{Listed}
@@ -13,7 +13,7 @@ use Rattle.level_feed.proofs.GoingOn.{text-append}
 use Rattle.feed_print.specs.FeedPlaces.{FeedPlace}
 use Rattle.feed_print.specs.FeedTexts.{beginning, opening_text, next_place, messages_text, place_after}
 
--- each message from this state on counts, behind so many before it
+-- each message from this state on counts, after so many before it
 abbrev pub AreCounted : ProductLists → State → ℕ → Type 0
 AreCounted product state number = (frames : List (List ℕ)) → (state_after product state frames).desk.messages ≡ number + length frames
 
@@ -126,7 +126,7 @@ module _ (product : ProductLists) (state : State) where
   abbrev names : List Listed
   names = product.names.instruments
 
-  -- further messages send what their levels add, and lead to the place behind them
+  -- further messages send what their levels add, and lead to the place after them
   pub text-more : (levels : List (List Row)) (frames : List (List ℕ)) → AreCounted product state (length levels)
       → sent_levels names levels ++ messages_text (place_of_levels levels) product state frames ≡ sent_levels names (levels ++ levels_from product state frames)
   text-more levels [] counted = append-nil (sent_levels names levels) ∙ ap (sent_levels names) (sym (append-nil levels))

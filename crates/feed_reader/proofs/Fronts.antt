@@ -50,7 +50,7 @@ pub part-of-both : (taken text : List ℕ) (n most : ℕ) → length taken ≤ M
 unfolding feed_part
 part-of-both taken text n most few within is = take-of-both MOST_FEED taken text n most few within is
 
--- behind a text stand more bytes, of which some are read as a feed
+-- after a text stand more bytes, of which some are read as a feed
 pub record PartGrows (xs ys : List ℕ) : Type 0 where
   pub more : List ℕ
   pub is : feed_part (xs ++ ys) ≡ feed_part xs ++ more

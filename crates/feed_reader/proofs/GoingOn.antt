@@ -18,7 +18,7 @@ new_place = record { block = 0; at = 0; kept = [] }
 abbrev pub behind_line : Table → Place → List ℕ → Place
 behind_line t p bytes = record { block = cond (is_inside t) p.block p.at; at = p.at + length (p.kept ++ bytes) + 1; kept = [] }
 
--- a line behind what is gone
+-- a line after what is gone
 pub line-gone : (bytes gone rest line behind : List ℕ) → bytes ≡ gone ++ rest → rest ≡ line ++ 10 ∷ behind → bytes ≡ (gone ++ (line ++ 10 ∷ [])) ++ behind
 line-gone bytes gone rest line behind e f =
     e
@@ -32,7 +32,7 @@ place-is q block at kept e f g =
     (subst (λ (k : List ℕ). q ≡ record { block = q.block; at = q.at; kept = k }) g refl))
 
 module _ (listing : Listing) where
-  -- ---- nothing, and bytes behind bytes
+  -- ---- nothing, and bytes after bytes
 
   pub goes-nowhere : (t : Table) (p : Place) → IsFront p.kept → GoesOn listing t p [] t p
   goes-nowhere t p front = record { folds = λ more. refl; place = omega arith; front = front }

@@ -19,7 +19,7 @@ Fold = Result Table FoldFault
 pub no-end-append : (xs ys : List ℕ) → HasNoEnd xs → HasNoEnd ys → HasNoEnd (xs ++ ys)
 no-end-append xs ys h g = lacks-append 10 xs ys h g
 
--- a byte behind others, in two ways
+-- a byte after others, in two ways
 abbrev same-text : (k : List ℕ) (c : ℕ) (more : List ℕ) → (k ++ c ∷ []) ++ more ≡ k ++ c ∷ more
 same-text k c more = append_assoc k (c ∷ []) more
 

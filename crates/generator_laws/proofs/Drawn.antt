@@ -10,7 +10,7 @@ use Rattle.order_maker.specs.declared.made.Made.TheVariants.{New, Cancel, Replac
 use Rattle.order_maker.specs.Draws.{next_state, drawn}
 use Rattle.order_maker.specs.Messages.{side_at, lowest, target_of, new_of, cancel_of, replace_of, message_of}
 
--- at most 100 lots, at most 10,099 ticks, and a message that goes back to none behind it
+-- at most 100 lots, at most 10,099 ticks, and a message that goes back to none after it
 abbrev pub IsSmall : ℕ → Made → Type 0
 IsSmall j (New lots ticks) = (lots ≤ 100) × (ticks ≤ 10099)
 IsSmall j (Cancel k) = k ≤ j

@@ -21,7 +21,7 @@ from-there p right names x j (suc more) some few =
     let others = from-there p right names next.1 (j + 1) more (omega arith) (omega arith) in
     (rest_of-frame-append frame behind is ∙ others.0, ap length (messages_of-frame-append frame behind is) ∙ ap suc others.1)
 
--- behind the last message of a made stream stands nothing
+-- after the last message of a made stream stands nothing
 pub made-rest : (product : ProductLists) (first count : ℕ) → IsRightProduct product → AreNames product.names → count < 2 ^ 32 → rest_of (made_stream product first count) ≡ []
 made-rest product first count right names few = (from-there product right names first 1 count (omega arith) (omega arith)).0
 

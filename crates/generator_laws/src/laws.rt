@@ -5,7 +5,7 @@ ghost use Rattle.product_file.specs.Products.{ProductLists, IsRightProduct};
 ghost use Rattle.order_maker.specs.Stream.{made_stream};
 ghost use Rattle.generator_laws.specs.Names.{AreNames};
 
-/// A made stream is whole messages, as many as were asked for, with no byte behind them. `names_are_right` gives what this
+/// A made stream is whole messages, as many as were asked for, with no byte after them. `names_are_right` gives what this
 /// asks of the names of a product.
 pub fn made_streams_are_messages()
     ensures whole { (product : ProductLists) → (first count : ℕ) → IsRightProduct product → AreNames product.names → count < 2 ^ 32

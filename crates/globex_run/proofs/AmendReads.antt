@@ -134,7 +134,7 @@ module _ {S : Type 0} (m : StationMeanings S) (product : ProductLists) (text : L
         ends = ends-first answer then.ends;
       }
 
-    -- what is done behind reads
+    -- what is done after reads
     pub reads-first : (answer : Result ℕ Unamended) → m.store_faults b ≡ m.store_faults a → AmendsJournal m product text b c answer → AmendsJournal m product text a c answer
     reads-first answer none then = record {
       silent = silent_then m a b c reads.looks.silent then.silent;

@@ -47,7 +47,7 @@ module _ (text : List ℕ) (product : ProductLists) (gives : product_of text ≡
   product-there : product_of (amended_text payload) ≡ Ok product
   product-there = ap product_of text-there ∙ gives
 
-  -- behind the amendment stands its product, without a message
+  -- after the amendment stands its product, without a message
   pub amended-there : history_as kept Amendment payload ≡ then
   amended-there = ap (λ (r : Result ProductLists ProductFault). amended_by kept r) product-there
 

@@ -119,7 +119,7 @@ module _ (all taken rest : List ℕ) (whole : rest_of all ≡ []) (parts : all �
 not-ended : {A B : Type 0} {C : ℕ → Type 0} → (A → ⊥) → (B → ⊥) → ((place : ℕ) → C place → ⊥) → A ⊎ (B ⊎ ((place : ℕ) × C place)) → ⊥
 not-ended a b c how = ⊎_elim a (λ other. ⊎_elim b (λ here. c here.0 here.1) other) how
 
--- a place with something behind it is inside
+-- a place with something after it is inside
 shorter : (n : ℕ) (bytes frame more : List ℕ) → 22 ≤ length frame → drop n bytes ≡ frame ++ more → n ≤ length bytes
 shorter n bytes frame more least is = omega (arith, least, length-drop n bytes, ap (λ (l : List ℕ). length l) is, length-append frame more)
 
@@ -144,7 +144,7 @@ module _ {P I S : Type 0} (m : StationMeanings S) (p q : SourceAt P) (i j : Sour
   sums messages = summary_of_all given.product given.kept (messages_of stream) messages
 
   module _ (whole : rest_of stream ≡ []) (end : MadeStream) (did : DrillResult m given.product given.text at_first end old new outcome) where
-    -- the station behind the session, and the outcome of the session
+    -- the station after the session, and the outcome of the session
     abbrev mid : S
     mid = did.mid
 
@@ -207,7 +207,7 @@ module _ {P I S : Type 0} (m : StationMeanings S) (p q : SourceAt P) (i j : Sour
     abbrev Ended : Ending → Type 0
     Ended ending = IsDone ending ⊎ ((ending ≡ StoreFault) ⊎ ((place : ℕ) × (ending ≡ Full place)))
 
-    -- the stream is made of whole messages, so that it ends behind one, and what it gives does not fail
+    -- the stream is made of whole messages, so that it ends after one, and what it gives does not fail
     ended : (ending : Ending) → served ≡ outcome_of ending served.messages → CausedBy ending before.streams after.streams → EndsAs before.streams after.streams ending served.messages taken → From ending → Ended ending
     ended Done is cause ends here = inl tt
     ended (ReadFault place) is cause ends here = absurd (omega (arith, cause.0))
@@ -425,7 +425,7 @@ module _ {P I S : Type 0} (m : StationMeanings S) (p q : SourceAt P) (i j : Sour
           ∙ ap (λ (t : Tally). tally_line (length (messages_of stream)) t (length (live_orders did.then.book))) (from.published is-done (λ form p frame. refl) ∙ ap (λ (l : List (List ℕ)). tally_of (events_from given.product state l)) made-in)
           ∙ ap (λ (s : State). tally_line (length (messages_of stream)) (tally_of (events_from given.product state (messages_of stream))) (length (live_orders s.book))) (from.is_state is-done ∙ ap (λ (l : List (List ℕ)). state_after given.product state l) made-in)
 
-      -- no more of it was sent than all, behind what had been sent
+      -- no more of it was sent than all, after what had been sent
       at-most : IsKnownPrefix (m.sent new) (sent_and (m.sent old) (summary given.product given.kept (messages_of stream)))
       at-most =
           subst (λ (o : Option (List ℕ)). IsKnownPrefix (m.sent new) (sent_and o (summary given.product given.kept (messages_of stream)))) at-end.all.silent

@@ -227,7 +227,7 @@ module _ {I S : Type 0} (m : StationMeanings S) (product : ProductLists) (text :
       → (n ≡ 6 → Rose (m.send_faults old) (m.send_faults new)) → (n ≢ 6 → m.send_faults new ≡ m.send_faults old) → Causes
   causes-at = station-causes m product text was now outcome command right refl
 
-  -- of the sending of a text, behind which nothing else happened
+  -- of the sending of a text, after which nothing else happened
   pub sent-causes : (count : ℕ) (result : Result (Unit {0}) SendFailed) → outcome ≡ outcome_sent count result → HasCause (m.send_faults old) (m.send_faults new) result → m.store_faults new ≡ m.store_faults old → Causes
   sent-causes count (Ok t) is cause same =
       causes-at 0 (ap (λ (o : Outcome). o.status) is) refl (ap is_outcome is) (λ e. cc e) (λ no. same) (λ e. cc e) (λ no. cause.ok)

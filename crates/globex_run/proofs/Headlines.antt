@@ -40,14 +40,14 @@ use Rattle.order_kinds.specs.Histories.{History, with_messages, state_kept}
 
 -- ---- the messages of one record at most
 
--- behind the first of so many there are none
+-- after the first of so many there are none
 none-more : (n : ℕ) (messages : List (List ℕ)) → length (concat (drop n (take n messages))) ≤ MOST_PAYLOAD
 none-more n messages =
     let same : n ≡ n + 0 = omega arith in
     let none : drop n (take n messages) ≡ [] = ap (λ (k : ℕ). drop n (take k messages)) same ∙ drop-take n 0 messages in
     subst (λ (l : List (List ℕ)). length (concat l) ≤ MOST_PAYLOAD) (sym none) (omega arith)
 
--- the records added behind others are sized as records are
+-- the records added after others are sized as records are
 sized-behind : (head : Header) (limit : ℕ) (records added : List Record) (image : List ℕ) → Keeps head limit (records ++ added) image → AllByRecursion (IsRecord head.version) added
 sized-behind head limit records added image keeps = ⊎_elim
     (λ journal. all-back (IsRecord head.version) records added journal.sized)

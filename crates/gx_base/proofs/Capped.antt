@@ -34,7 +34,7 @@ short_below ds h short =
     let power : 10 ^ length ds ≤ 10 ^ MOST_DIGITS = pow-le-pow_right (omega arith) short in
     omega arith
 
--- a number grows with the digits behind it
+-- a number grows with the digits after it
 pub grows : (n : ℕ) (ds : List ℕ) → n ≤ digits_value_after 10 n ds
 grows n [] = omega arith
 grows n (c ∷ cs) = omega (arith, grows (n * 10 + digit_value c) cs)
@@ -66,7 +66,7 @@ one_more front text i number low digit so_far = record {
   digits = list_all_more is_ascii_digit text i 0 low ∙ ap (λ b. b && is_ascii_digit (get_or text i 0)) so_far.digits ∙ digit;
 }
 
--- zeros behind a number
+-- zeros after a number
 value_zeros : (n k : ℕ) → digits_value_after 10 n (replicate k 48) ≡ n * 10 ^ k
 value_zeros n zero = omega arith
 value_zeros n (suc k) =
@@ -86,7 +86,7 @@ value_append : (n : ℕ) (ds es : List ℕ) → digits_value_after 10 n (ds ++ e
 value_append n [] es = refl
 value_append n (d ∷ ds) es = value_append (n * 10 + digit_value d) ds es
 
--- digits behind a number that is capped already
+-- digits after a number that is capped already
 capped_again : (top n : ℕ) (ds : List ℕ) → min top (digits_value_after 10 (min top n) ds) ≡ min top (digits_value_after 10 n ds)
 capped_again top n ds =
     ⊎_elim

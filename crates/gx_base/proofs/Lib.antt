@@ -5,3 +5,4 @@ mod PriceTexts
 pub mod PricesAgain
 pub mod Tests
 pub mod Written
+pub mod Marks

@@ -12,7 +12,7 @@ and_false : (b : Bool) → (b && false) ≡ false
 and_false true = refl
 and_false false = refl
 
--- digits as far as a place, and behind it
+-- digits as far as a place, and after it
 digits_in_two : (n : ℕ) (ds : List ℕ) → are_digits ds ≡ (are_digits (take n ds) && are_digits (drop n ds))
 digits_in_two n ds = ap are_digits (sym (take-append-drop n ds)) ∙ list_all-append is_ascii_digit (take n ds) (drop n ds)
 

@@ -19,7 +19,7 @@ use Rattle.gx_base.specs.declared.price.Price.{Price}
 use Rattle.gx_base.specs.declared.price.PriceFault.TheVariants.{Format, Scale, Range}
 use Rattle.gx_base.proofs.NumberTexts.{Lacks, lacks-append, decimal-lacks, decimal-digits, decimal-value}
 
--- ---- the digits behind the point
+-- ---- the digits after the point
 
 pub length-fixed_digits : (width n : ℕ) → length (fixed_digits width n) ≡ width
 length-fixed_digits zero n = refl
@@ -49,7 +49,7 @@ fixed-value (suc width) n whole e =
     ∙ ap₂ (λ (a : ℕ) (b : ℕ). a * 10 + b) before last
     ∙ omega arith
 
--- ---- before and behind the point
+-- ---- before and after the point
 
 no-point : (c : ℕ) → is_ascii_digit c ≡ true → is_point c ≡ false
 no-point c d = grind (arith, nat_tests)
@@ -66,7 +66,7 @@ at-point (c ∷ ds) es h =
     let both = and_parts (is_ascii_digit c) (are_digits ds) h in
     ap (λ (b : Bool). cond (not b) (1 + position_or_len is_point (ds ++ 46 ∷ es)) 0) (no-point c both.0) ∙ omega (arith, at-point ds es both.1)
 
--- digits, and the digits behind the point
+-- digits, and the digits after the point
 whole-is : (decimals n : ℕ) (ds : List ℕ) → are_digits ds ≡ true → before_first is_point (ds ++ fraction_text decimals n) ≡ ds
 whole-is zero n ds h =
     ap (before_first is_point) (append-nil ds) ∙ ap (λ (k : ℕ). take k ds) (at-end ds h) ∙ take_all (length ds) ds (omega arith)

@@ -1,4 +1,4 @@
--- Bytes that are written behind others.
+-- Bytes that are written after others.
 use Rattle.std.proofs.Common.{◌≡◌, ℕ, ◌+◌, ◌-◌, ◌≤◌, List, ◌++◌, length, take, drop, sym, ◌∙◌, ap, arith}
 use Rattle.std.proofs.lemmas.List.{drop-drop, length-take-le, take-take}
 use Rattle.std.proofs.Math.Seq.{take-append-add}
@@ -10,7 +10,7 @@ same_further a b xs ys le same =
     let sum : a + n ≡ b = omega arith in
     ap (λ k. drop k xs) (sym sum) ∙ sym (drop-drop n a xs) ∙ ap (drop n) same ∙ drop-drop n a ys ∙ ap (λ k. drop k ys) sum
 
--- of what was written behind `at`, the first bytes
+-- of what was written after `at`, the first bytes
 pub front_of : (at len end : ℕ) (old new room : List ℕ) → at ≤ length old → at + len ≤ end → take end new ≡ take at old ++ room → take (at + len) new ≡ take at old ++ take len room
 front_of at len end old new room fits within is =
     let before : List ℕ = take at old in

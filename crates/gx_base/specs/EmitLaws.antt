@@ -58,7 +58,7 @@ module _ {E : Type 0} (m : EmitMeanings E) where
       same_rule : m.after b ≡ m.after a
       same_rule = m.after_stays a b first.later
 
-      -- what is seen behind the first events, and then behind these
+      -- what is seen after the first events, and then after these
       behind : m.has_failed b ≡ false → (zs : List Event) → fold (m.after b) (m.seen b) zs ≡ fold (m.after a) (m.seen a) (xs ++ zs)
       behind going zs =
           ap (λ f. fold f (m.seen b) zs) same_rule ∙ ap (λ s. fold (m.after a) s zs) (first.all going) ∙ sym (fold-append (m.after a) (m.seen a) xs zs)

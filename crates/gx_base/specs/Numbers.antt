@@ -25,7 +25,7 @@ abbrev pub fixed_digits : ℕ → ℕ → List ℕ
 fixed_digits zero n = []
 fixed_digits (suc width) n = fixed_digits width (n / 10) ++ (48 + n % 10) ∷ []
 
--- ---- quantities: one to nine digits, and where there is a point, only zeros behind it (our own rule)
+-- ---- quantities: one to nine digits, and where there is a point, only zeros after it (our own rule)
 
 abbrev pub is_quantity_text : List ℕ → Bool
 is_quantity_text text =
@@ -46,7 +46,7 @@ has_minus (c ∷ text) = c == 45
 abbrev pub unsigned_text : List ℕ → List ℕ
 unsigned_text text = if has_minus text then drop 1 text else text
 
--- the digits before the point, and those behind it
+-- the digits before the point, and those after it
 abbrev pub whole_digits : List ℕ → List ℕ
 whole_digits text = before_first is_point (unsigned_text text)
 
@@ -79,12 +79,12 @@ price_of text decimals =
     else if nat_lt price_limit (units_of text decimals) then Err Range
     else Ok (record { 0 = signed_units (has_minus text) (units_of text decimals) })
 
--- the digits behind the point, with the point
+-- the digits after the point, with the point
 abbrev pub fraction_text : ℕ → ℕ → List ℕ
 fraction_text zero n = []
 fraction_text (suc k) n = codes "." ++ fixed_digits (suc k) n
 
--- how a report writes a price: exactly `decimals` digits behind the point, at least one before it
+-- how a report writes a price: exactly `decimals` digits after the point, at least one before it
 abbrev pub price_text : Price → ℕ → List ℕ
 price_text price decimals =
     let n = unsigned_abs price.0 in

@@ -1,10 +1,16 @@
-//! Rows of bytes: split at a byte, and written one behind the other.
-ghost use Rattle.std.specs.Prelude.{◌≡◌, ◌+◌, ◌≤◌, ◌++◌, ◌==◌, length, take, drop, position};
+//! Rows of bytes: split at a byte, marked at each SOH, and written one after the other.
+ghost use Rattle.std.specs.Prelude.{◌≡◌, ◌+◌, ◌<◌, ◌≤◌, ◌++◌, ◌==◌, length, take, drop, map, position};
 ghost use Rattle.std.specs.List.{before_first, after_first};
+ghost use Rattle.std.specs.Simd.Lanes.{mask_l};
+ghost use Rattle.gx_base.specs.Frames.{soh};
 
+use crate::limits::SOH;
 use std::simd::prelude::*;
 
-/// What stands before the first of such a byte and what stands behind it, which is nothing where there is none.
+/// How many bytes are marked at once: as many as a word has bits.
+const BLOCK: usize = 64;
+
+/// The bytes before the first of such a byte and those after it, which are none if it is not there.
 #[inline(always)]
 pub fn split_at_byte(bytes: &[u8], byte: u8) -> (&[u8], &[u8])
     ensures before { result.0.now ≡ before_first (λ c. c == byte) bytes.now }
@@ -53,7 +59,45 @@ fn find_in_sixteen(bytes: &[u8], byte: u8) -> Option<usize>
     }
 }
 
-/// Writes these bytes behind the first `at` of `into`, and answers where they end.
+/// Which of the bytes from `start` on are SOH: bit k tells of the byte k places further, for 64 bytes or for as many as there
+/// are. The fields of a message end there (FIX 4.2).
+#[inline(always)]
+pub fn soh_marks(bytes: &[u8], start: usize) -> u64
+    requires { start < length bytes.now }
+    ensures { result ≡ mask_l (map (λ c. c == soh) (take 64 (drop start bytes.now))) }
+{
+    if bytes.len() - start >= BLOCK {
+        return marks_of(u8x64::from_slice(&bytes[start..]));
+    }
+    if bytes.len() >= BLOCK {
+        // The last 64 bytes, without those before `start`: nothing is read past the end.
+        let last = bytes.len() - BLOCK;
+        return marks_of(u8x64::from_slice(&bytes[last..])) >> (start - last);
+    }
+    short_marks(&bytes[start..])
+}
+
+/// The same of fewer than 64 bytes, with zeros after them.
+#[cold]
+#[inline(never)]
+fn short_marks(bytes: &[u8]) -> u64
+    requires { length bytes.now < 64 }
+    ensures { result ≡ mask_l (map (λ c. c == soh) bytes.now) }
+{
+    let mut block = [0; BLOCK];
+    block[..bytes.len()].copy_from_slice(bytes);
+    marks_of(u8x64::from_array(block))
+}
+
+/// Which of 64 bytes are SOH.
+#[inline(always)]
+fn marks_of(block: u8x64) -> u64
+    ensures { result ≡ mask_l (map (λ c. c == soh) block) }
+{
+    block.simd_eq(u8x64::splat(SOH)).to_bitmask()
+}
+
+/// Writes these bytes after the first `at` of `into`, and answers where they end.
 #[inline]
 pub fn append(into: &mut [u8], at: usize, bytes: &[u8]) -> usize
     requires { at + length bytes.now ≤ length into.old }

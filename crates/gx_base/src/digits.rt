@@ -28,7 +28,7 @@ pub(crate) fn are_zeros(text: &[u8]) -> bool
     text.iter().all(|c| *c == b'0')
 }
 
-/// The number that these digits write behind those of `front`, or `CEILING` where that is less.
+/// The number that these digits write after those of `front`, or `CEILING` where that is less.
 #[inline]
 pub(crate) fn read_on(front: u64, digits: &[u8]) -> u64
     requires low { front ≤ CEILING }

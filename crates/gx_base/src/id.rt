@@ -49,7 +49,7 @@ impl ShortId {
         self.text.bytes()
     }
 
-    /// Writes the bytes of the name behind the first `at` of `into`, and answers where they end; what stands behind them is
+    /// Writes the bytes of the name after the first `at` of `into`, and answers where they end; what stands after them is
     /// left open.
     #[inline]
     pub fn append_to(&self, into: &mut [u8], at: usize) -> usize

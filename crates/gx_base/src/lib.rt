@@ -17,7 +17,7 @@ mod text;
 mod trading;
 mod unlisted;
 
-pub use bytes::{append, append_few, split_at_byte};
+pub use bytes::{append, append_few, soh_marks, split_at_byte};
 pub use digits::{MOST_DIGITS, are_digits, read_digits};
 pub use emit::{Emit, NullEmit};
 pub use event::{Cause, ChangeFault, Event, Head, NewFault, NewRefused, StepName};

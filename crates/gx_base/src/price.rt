@@ -22,7 +22,7 @@ pub enum PriceFault {
     /// Not an optional minus sign, digits, and optionally a point and digits, in at most `LONGEST_PRICE` bytes.
     #[error("the price is not written as a number in at most 32 bytes")]
     Format,
-    /// A digit behind the instrument's decimals is not 0.
+    /// A digit after the instrument's decimals is not 0.
     #[error("the price has more decimals than the instrument")]
     Scale,
     /// Beyond `MOST_PRICE_UNITS` units, either way.
@@ -59,7 +59,7 @@ fn has_minus(text: &[u8]) -> bool
     !text.is_empty() && text[0] == b'-'
 }
 
-/// The text behind its minus sign, if it has one.
+/// The text after its minus sign, if it has one.
 #[inline]
 fn without_minus(text: &[u8]) -> &[u8]
     ensures { result.now ≡ unsigned_text text.now }
@@ -82,7 +82,7 @@ fn read_units(whole: &[u8], fraction: &[u8], decimals: u8) -> Option<u64>
     Some(with_zeros(units, decimals - kept as u8))
 }
 
-/// The number with so many zeros behind its digits, or `CEILING` where that is less.
+/// The number with so many zeros after its digits, or `CEILING` where that is less.
 #[inline]
 fn with_zeros(number: u64, zeros: u8) -> u64
     requires { number ≤ CEILING }
@@ -95,7 +95,7 @@ fn with_zeros(number: u64, zeros: u8) -> u64
     longer
 }
 
-/// Whether each digit behind the first `decimals` is 0.
+/// Whether each digit after the first `decimals` is 0.
 #[inline]
 fn are_zeros_behind(fraction: &[u8], decimals: u8) -> bool
     ensures { result ≡ are_zeros (drop decimals fraction.now) }

@@ -63,7 +63,7 @@ impl Stamp {
         self.text.bytes()
     }
 
-    /// Writes the text behind the first `at` bytes of `into`, and answers where it ends; what stands behind it is left open.
+    /// Writes the text after the first `at` bytes of `into`, and answers where it ends; what stands after it is left open.
     #[inline]
     pub fn append_to(&self, into: &mut [u8], at: usize) -> usize
         requires { at + LONGEST_STAMP ≤ length into.old }

@@ -70,8 +70,8 @@ impl<const N: usize> Text<N> {
         &self.bytes[..self.len]
     }
 
-    /// Writes the bytes behind the first `at` of `into`, and answers where they end. All `N` bytes of its room are copied, a
-    /// number that the compiler knows, so what stands behind the end is left open.
+    /// Writes the bytes after the first `at` of `into`, and answers where they end. All `N` bytes of its room are copied, a
+    /// number that the compiler knows, so what stands after the end is left open.
     #[inline]
     pub(crate) fn append_to(&self, into: &mut [u8], at: usize) -> usize
         requires { at + N ≤ length into.old }

@@ -47,7 +47,7 @@ module _ (first : List ℕ) (done : List Call) (call : Call) where
         (cases_lt left.count (length done));
   }
 
-  -- inside the call, or behind it
+  -- inside the call, or after it
   pub record Inside (image out : List ℕ) : Type 0 where
     pub leaves : Leaves (disk_after first done) image
     pub low : IsPrefix (output_after done) out

@@ -9,7 +9,7 @@ pub record IsWritten (old new : Option (List ℕ)) (bytes : List ℕ) (count : �
   pub within : count ≤ length bytes
   pub appends : Appends old new (take count bytes)
 
--- so many more were written, of those behind them
+-- so many more were written, of those after them
 pub written_more : (old mid new : Option (List ℕ)) (bytes behind : List ℕ) (count more : ℕ) → behind ≡ drop count bytes → IsWritten old mid bytes count → more ≤ length behind → Appends mid new (take more behind) → IsWritten old new bytes (count + more)
 written_more old mid new bytes behind count more is first fits then = record {
   within = omega (arith, first.within, fits, ap length is, length-drop count bytes);

@@ -37,7 +37,7 @@ pub struct MemStation {
     image: Vec<u8>,
     room: usize,
     reach: u64,
-    /// The bytes of all writes, one behind the other.
+    /// The bytes of all writes, one after the other.
     pieces: Vec<u8>,
     output: Vec<u8>,
     sends: usize,

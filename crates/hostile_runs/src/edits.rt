@@ -63,7 +63,7 @@ fn with_changed_byte(alloc: Global, draws: &mut Draws, bytes: &[u8], at: usize) 
     spliced(alloc, bytes, at, at.wrapping_add(1), &[changed])
 }
 
-/// The bytes with two parts swapped that stand one behind the other.
+/// The bytes with two parts swapped that stand one after the other.
 fn with_swapped_parts(alloc: Global, draws: &mut Draws, bytes: &[u8], at: usize) -> Changed {
     let rest = behind(bytes, at);
     let first = front(rest, draws.below(MOST_MOVED));

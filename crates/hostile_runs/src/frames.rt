@@ -12,7 +12,7 @@ pub const COMMANDS: [&str; 2] = ["run", "replay"];
 /// Where the first field of a body ends that a client has written.
 const BEHIND_TYPE: usize = 5;
 
-/// A body with a few changes. One in two is a field behind the type, where it counts.
+/// A body with a few changes. One in two is a field after the type, where it counts.
 fn changed_body(alloc: Global, draws: &mut Draws) -> Result<Vec<u8>, AllocError> {
     let mut body = drawn_body(alloc, draws)?;
     for _ in 0..draws.below(4) {
@@ -109,7 +109,7 @@ fn expect_stream_served(alloc: Global, input: &[u8], table: &mut Table) -> Resul
     expect_replayed(&run, &replay)
 }
 
-/// One case: in a third of them the changes are of bodies alone, so that the rules behind the frames are reached.
+/// One case: in a third of them the changes are of bodies alone, so that the rules after the frames are reached.
 pub fn try_case(alloc: Global, draws: &mut Draws, table: &mut Table) -> Result<(), Stop> {
     let count = draws.below(7).wrapping_add(2);
     let input = if draws.is_one_in(3) {

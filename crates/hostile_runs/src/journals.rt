@@ -71,7 +71,7 @@ fn number_at(image: &[u8], at: usize) -> usize {
     (number & 0xffff_ffff) as usize
 }
 
-/// Where the gate behind the record at a gate is.
+/// Where the gate after the record at a gate is.
 fn next_gate(image: &[u8], gate: usize) -> usize {
     let length = number_at(image, gate.wrapping_add(2));
     gate.wrapping_add(HEAD).wrapping_add(length)
@@ -91,7 +91,7 @@ fn gates(alloc: Global, image: &[u8]) -> Result<Vec<usize>, AllocError> {
     Ok(gates)
 }
 
-/// Whether a record behind an open gate is of an image.
+/// Whether a record after an open gate is of an image.
 fn has_image(alloc: Global, image: &[u8]) -> Result<bool, AllocError> {
     for gate in gates(alloc, image)?.as_slice() {
         let kind = image.get(gate.wrapping_add(1));

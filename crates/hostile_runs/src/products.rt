@@ -123,7 +123,7 @@ fn with_lines_changed(alloc: Global, draws: &mut Draws, text: &[u8], at: usize) 
     spliced(alloc, text, place, place, line)
 }
 
-/// The text with another value for the word behind a digit, or behind an equals sign.
+/// The text with another value for the word after a digit, or after an equals sign.
 fn with_value_changed(alloc: Global, draws: &mut Draws, text: &[u8], at: usize) -> Changed {
     let rest = behind(text, at);
     let (skipped, len) = if draws.is_one_in(2) {

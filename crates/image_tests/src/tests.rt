@@ -144,7 +144,7 @@ fn front_of<'a>(rt: &impl Abort, bytes: &'a [u8], count: usize) -> &'a [u8] {
     &bytes[..count]
 }
 
-/// The parts, one behind the other.
+/// The parts, one after the other.
 fn joined(rt: &(impl Abort + AllocGlobal), parts: &[&[u8]]) -> Vec<u8> {
     let mut bytes = Vec::new(rt.alloc());
     for part in parts {
@@ -153,7 +153,7 @@ fn joined(rt: &(impl Abort + AllocGlobal), parts: &[&[u8]]) -> Vec<u8> {
     bytes
 }
 
-/// The parts, one behind the other, and a closed gate.
+/// The parts, one after the other, and a closed gate.
 fn closed(rt: &(impl Abort + AllocGlobal), parts: &[&[u8]]) -> Vec<u8> {
     let mut bytes = joined(rt, parts);
     bytes.push(0).expect(rt, "memory");

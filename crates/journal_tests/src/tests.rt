@@ -46,7 +46,7 @@ const HEADER: &[u8] = b"\x01GXJOURN2\x00\x00\x00\x88";
 /// The same in a journal of the first version.
 const FIRST_HEADER: &[u8] = b"\x01GXJOURN1\x00\x00\x00\x88";
 
-/// The parts, one behind the other.
+/// The parts, one after the other.
 fn image_of(rt: &(impl Abort + AllocGlobal), parts: &[&[u8]]) -> Vec<u8> {
     let mut bytes = Vec::new(rt.alloc());
     for part in parts {
@@ -67,7 +67,7 @@ fn journal_of(rt: &(impl Abort + AllocGlobal), records: &[&[u8]]) -> Vec<u8> {
     journal_with(rt, HEADER, records)
 }
 
-/// The bytes of these texts, one behind the other.
+/// The bytes of these texts, one after the other.
 fn joined(rt: &(impl Abort + AllocGlobal), texts: &[&str]) -> Vec<u8> {
     join(rt.alloc(), texts).expect(rt, "memory")
 }

@@ -21,9 +21,9 @@ pub none-of-any : {X : Type 0} (p : X → Bool) (xs : List X) → list_any p xs 
 none-of-any {X} p [] h = tt
 none-of-any {X} p (x ∷ xs) h = let parts = or_parts (p x) (list_any p xs) h in (parts.0, none-of-any p xs parts.1)
 
--- ---- rows behind others
+-- ---- rows after others
 
--- no row behind one is at its level
+-- no row after one is at its level
 pub none-at-behind : (row : Row) (rows : List Row) → AllBehind row rows → AllByRecursion (λ r. is_at_level r row ≡ false) rows
 none-at-behind row [] h = tt
 none-at-behind row (x ∷ rows) h = (behind-not-at row x h.0, none-at-behind row rows h.1)

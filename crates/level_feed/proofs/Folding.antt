@@ -64,7 +64,7 @@ module _ (listing : Listing) (right : IsRightListing listing) where
   abbrev next_block : Table → ℕ → ℕ → ℕ
   next_block t at block = cond (is_inside t) block at
 
-  -- a line with more behind it
+  -- a line with more after it
   one-line : (t : Table) (at block : ℕ) (text : List ℕ) (texts : List (List ℕ)) → fold_from listing t at block (text ∷ (texts ++ [] ∷ [])) ≡ where_taken at (text_taken listing t text) (λ u. fold_from listing u (at + length text + 1) (next_block t at block) (texts ++ [] ∷ []))
   one-line t at block text [] = refl
   one-line t at block text (next ∷ texts) = refl

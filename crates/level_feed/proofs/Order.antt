@@ -14,7 +14,7 @@ use Rattle.level_feed.specs.Rows.{level_of_row, is_at_level, row_before, is_gone
 abbrev pub Alike : Row → Row → Type 0
 Alike a b = level_of_row a ≡ level_of_row b
 
--- b's level stands behind a's
+-- b's level stands after a's
 abbrev pub Behind : Row → Row → Type 0
 Behind a b = row_before a b ≡ true
 
@@ -39,7 +39,7 @@ alike-behind a b c e h = ap (λ (l : Level). is_before l (level_of_row c)) e ∙
 pub behind-itself : (a : Row) → row_before a a ≡ false
 behind-itself a = is_before-irrefl (level_of_row a)
 
--- a row behind another is of another level
+-- a row after another is of another level
 pub behind-not-at : (a b : Row) → Behind a b → is_at_level b a ≡ false
 behind-not-at a b h = false_from_ne_true (is_at_level b a) (λ t. true≢false (sym (behind-alike a b a h (alike-at b a t)) ∙ behind-itself a))
 
@@ -109,7 +109,7 @@ pub with-row-past : (r x : Row) (rows : List Row) → Behind x r → with_row r 
 with-row-past r x rows h =
     ap₂ (λ (f : List Row) (b : List Row). (f ++ own r) ++ b) (filter-yes (λ y. row_before y r) x rows h) (filter-no (λ y. row_before r y) x rows (behind-apart x r h))
 
--- it comes in front of rows behind it
+-- it comes in front of rows after it
 pub with-row-first : (r : Row) (rows : List Row) → AllBehind r rows → with_row r rows ≡ own r ++ rows
 with-row-first r rows h =
     ap₂ (λ (f : List Row) (b : List Row). (f ++ own r) ++ b) (filter-none (λ y. row_before y r) rows (none-before r rows h)) (filter-all (λ y. row_before r y) rows h)
@@ -122,7 +122,7 @@ with-row-here r x rows e h =
     ap₂ (λ (f : List Row) (b : List Row). (f ++ own r) ++ b) (filter-no (λ y. row_before y r) x rows not-ahead) (filter-no (λ y. row_before r y) x rows not-behind)
     ∙ with-row-first r rows (all-alike-behind r x rows e h)
 
--- rows behind x leave it in front
+-- rows after x leave it in front
 pub with-rows-past : (x : Row) (more rows : List Row) → AllBehind x more → with_rows more (x ∷ rows) ≡ x ∷ with_rows more rows
 with-rows-past x [] rows h = refl
 with-rows-past x (r ∷ more) rows h =

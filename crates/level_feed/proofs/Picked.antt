@@ -22,12 +22,12 @@ use Rattle.level_feed.proofs.AtLevel.{any-none, none-at-behind}
 abbrev pub among : List Row → Row → Bool
 among levels r = is_among (level_of_row r) levels
 
--- rows behind a level are at others
+-- rows after a level are at others
 not-of-first : (n : Row) (ns rows : List Row) → AllBehind n rows → AllByRecursion (λ r. among ns r ≡ among (n ∷ ns) r) rows
 not-of-first n ns [] h = tt
 not-of-first n ns (r ∷ rows) h = (ap (λ (b : Bool). b || among ns r) (sym (behind-not-from n r h.0)), not-of-first n ns rows h.1)
 
--- no level behind a row is its own
+-- no level after a row is its own
 not-among-behind : (x : Row) (ns : List Row) → AllBehind x ns → among ns x ≡ false
 not-among-behind x ns h = any-none (λ r. is_at_level r x) ns (none-at-behind x ns h)
 
@@ -35,7 +35,7 @@ filter-alike : (p q : Row → Bool) (rows : List Row) → AllByRecursion (λ r. 
 filter-alike p q [] h = refl
 filter-alike p q (r ∷ rows) h = ap₂ (λ (b : Bool) (ys : List Row). cond b (r ∷ ys) ys) h.0 (filter-alike p q rows h.1)
 
--- the rows at a level, and those at the levels behind it
+-- the rows at a level, and those at the levels after it
 level-then : (n : Row) (ns rows : List Row) → AllBehind n ns → AreOrdered rows → rows_at (level_of_row n) rows ++ filter (among ns) rows ≡ filter (among (n ∷ ns)) rows
 level-then n ns [] b o = refl
 level-then n ns (x ∷ rows) b o =

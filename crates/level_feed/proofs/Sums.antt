@@ -53,7 +53,7 @@ sums-alone e es none =
 
 -- ---- the rest of the levels
 
--- no row behind the order's level is at it
+-- no row after the order's level is at it
 off-behind : (e : Entry) (r : Row) → is_before (level_of e.order) (level_of_row r) ≡ true → is_at (level_of_row r) e ≡ false
 off-behind e r h =
     false_from_ne_true (is_at (level_of_row r) e) (λ t.

@@ -116,7 +116,7 @@ some-or-none s (e ∷ es) = elim (eqb_tells e.slot s) [
   ]
 ]
 
--- it goes behind the others of its price
+-- it goes after the others of its price
 times-behind : (t : ℕ) (n : Entry) (es : List Entry) → 1 ≤ times n.slot es → times t (placed n (without n.slot es)) ≤ times t es
 times-behind t n es some = elim (once-or-same n.slot t) [
   | inl is ↦ subst (λ (k : ℕ). times k (placed n (without n.slot es)) ≤ times k es) is

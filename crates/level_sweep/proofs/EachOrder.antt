@@ -17,7 +17,7 @@ none-traded s t n es xs h =
     let z : o.leaves ≡ 0 = ap (λ (x : Order). x.leaves - n) h ∙ omega arith in
     ap (λ (k : ℕ). cond (k == 0) (without t xs) (cond (o.shown == 0) (placed (record { slot = t; order = refreshed o; is_top = false }) (without t xs)) (with_order t o xs))) z
 
--- the entry that has become an order, and stands behind its price
+-- the entry that has become an order, and stands after its price
 abbrev pub behind : ℕ → Order → Entry
 behind s o = record { slot = s; order = refreshed o; is_top = false }
 

@@ -13,7 +13,7 @@ few_digits n few =
     let fits : n < 2 ^ 64 = omega arith in
     length-decimal-le 3 n (omega arith) few fits
 
--- the body behind the gap
+-- the body after the gap
 body_behind : (old : List ℕ) (end : ℕ) → GAP ≤ end → take (end - GAP) (drop GAP old) ≡ drop GAP (take end old)
 body_behind old end gap =
     let sum : GAP + (end - GAP) ≡ end = omega arith in
@@ -28,14 +28,14 @@ head_fills old new head at end gap full front same =
     ∙ ap (λ (l : List ℕ). head ++ take (end - GAP) l) (same ∙ ap (λ k. drop k old) full)
     ∙ ap (λ (l : List ℕ). head ++ l) (body_behind old end gap)
 
--- the front of a body that stands behind the gap
+-- the front of a body that stands after the gap
 pub body_front : (old : List ℕ) (end from : ℕ) → GAP ≤ end → end ≤ from → take (end - GAP) (drop GAP (take from old)) ≡ drop GAP (take end old)
 body_front old end from gap within =
     ap (take (end - GAP)) (sym (body_behind old from (omega arith)))
     ∙ take-take (end - GAP) (from - GAP) (drop GAP old) (omega arith)
     ∙ body_behind old end gap
 
--- a body and the bytes behind it
+-- a body and the bytes after it
 pub body_longer : (old : List ℕ) (from more : ℕ) → GAP ≤ from → from ≤ length old → drop GAP (take from old) ++ take more (drop from old) ≡ drop GAP (take (from + more) old)
 body_longer old from more gap fits =
     sym (ap (drop GAP) (take-add from more old) ∙ drop-append-le GAP (take from old) (take more (drop from old)) (omega (arith, length-take-le from old fits)))
@@ -48,7 +48,7 @@ body_moved old new head moved at end gap short front same is =
     ∙ ap (λ (l : List ℕ). l ++ drop GAP (take end new)) front
     ∙ ap (λ (l : List ℕ). head ++ l) (sym (body_behind new end gap) ∙ ap (take (end - GAP)) (same_further at GAP new old short same) ∙ body_behind old end gap)
 
--- a body that is written behind the gap ends behind it
+-- a body that is written after the gap ends after it
 pub ends_behind_gap : (old new body : List ℕ) (end : ℕ) → GAP ≤ length old → end ≤ length new → take end new ≡ take GAP old ++ body → GAP ≤ end
 ends_behind_gap old new body end room fits is =
     omega (arith, ap length is, length-take-le end new fits, length-take-le GAP old room, length-append (take GAP old) body)

@@ -1,4 +1,4 @@
-//! Numbers in decimal digits, written behind other bytes, two digits at a time.
+//! Numbers in decimal digits, written after other bytes, two digits at a time.
 ghost use Rattle.std.specs.Prelude.{◌≡◌, ◌+◌, ◌/◌, ◌%◌, ◌<◌, ◌≤◌, [], ◌∷◌, ◌++◌, decimal, length, take, drop};
 ghost use Rattle.gx_base.specs.Numbers.{fixed_digits};
 
@@ -12,7 +12,7 @@ pub(crate) const MOST_NUMBER_DIGITS: usize = 20;
 static PAIRS: [u8; 200] =
     *b"00010203040506070809101112131415161718192021222324252627282930313233343536373839404142434445464748495051525354555657585960616263646566676869707172737475767778798081828384858687888990919293949596979899";
 
-/// Writes the digits of a number behind the first `at` bytes of `into`, and answers where they end.
+/// Writes the digits of a number after the first `at` bytes of `into`, and answers where they end.
 pub(crate) fn append_number(into: &mut [u8], at: usize, n: u64) -> usize
     requires { at + MOST_NUMBER_DIGITS ≤ length into.old }
     ensures digits { take result into.new ≡ take at into.old ++ decimal n }
@@ -105,7 +105,7 @@ pub(crate) fn pair(n: u64) -> [u8; 2]
     [PAIRS[place], PAIRS[place + 1]]
 }
 
-/// Fills `into` with the last digits of a number, with zeros in front where it has fewer. Two at a time, from behind.
+/// Fills `into` with the last digits of a number, with zeros in front where it has fewer. Two at a time, from the end.
 pub(crate) fn write_fixed_digits(n: u64, into: &mut [u8])
     ensures { into.new ≡ fixed_digits (length into.old) n }
 {

@@ -1,4 +1,4 @@
-//! Fields in a row, and the frame round them. Each call writes behind the first `at` bytes of the room that it is lent,
+//! Fields in a row, and the frame round them. Each call writes after the first `at` bytes of the room that it is lent,
 //! and answers where what it wrote ends.
 ghost use Rattle.std.specs.Prelude.{◌≡◌, ◌+◌, ◌-◌, ◌<◌, ◌≤◌, [], ◌∷◌, ◌++◌, length, take, drop, decimal};
 ghost use Rattle.gx_base.specs.Frames.{head_of, checksum_of, trailer_of, frame_of};
@@ -68,7 +68,7 @@ pub fn price(into: &mut [u8], at: usize, tag: &[u8], price: Price, decimals: u8)
     append_few(into, end, &[SOH])
 }
 
-/// Writes a field whose value is a name, as `field` does; what stands behind it is left open.
+/// Writes a field whose value is a name, as `field` does; what stands after it is left open.
 #[inline]
 pub fn name(into: &mut [u8], at: usize, tag: &[u8], name: &ShortId) -> usize
     requires room { at + LONGEST_FIELD ≤ length into.old }
@@ -110,7 +110,7 @@ pub fn word(into: &mut [u8], at: usize, tag: &[u8], word: &[u8]) -> usize
     append_few(into, end, &[SOH])
 }
 
-/// Puts the frame round a body that stands behind the gap and ends at `end`: its head, its length and its checksum (FIX
+/// Puts the frame round a body that stands after the gap and ends at `end`: its head, its length and its checksum (FIX
 /// 4.2). Moves it to the front, and answers where it ends.
 pub fn put_frame(into: &mut [u8], end: usize) -> usize
     requires gap { GAP ≤ end }
@@ -123,7 +123,7 @@ pub fn put_frame(into: &mut [u8], end: usize) -> usize
     put_trailer(into, end)
 }
 
-/// Puts the head of a body, which stands behind the gap and ends at `end`, right before it at the front, and answers
+/// Puts the head of a body, which stands after the gap and ends at `end`, right before it at the front, and answers
 /// where the two end. The body is moved where its length has less than three digits.
 fn put_head(into: &mut [u8], end: usize) -> usize
     requires gap { GAP ≤ end }
@@ -140,8 +140,8 @@ fn put_head(into: &mut [u8], end: usize) -> usize
     at + count
 }
 
-/// Moves the body, which stands behind the gap and ends at `end`, behind the first `to` bytes, a block at a time: a copy within a
-/// slice takes twice as long, since it may go either way. What stands behind it is left open.
+/// Moves the body, which stands after the gap and ends at `end`, after the first `to` bytes, a block at a time: a copy within a
+/// slice takes twice as long, since it may go either way. What stands after it is left open.
 fn move_body(into: &mut [u8], end: usize, to: usize)
     requires gap { (GAP ≤ end) × (to < GAP) }
     requires room { end + BLOCK ≤ length into.old }
@@ -169,7 +169,7 @@ fn head_fields(into: &mut [u8], count: usize) -> usize
     number(into, at, b"9=", count as u64)
 }
 
-/// Writes the trailer of the first `end` bytes behind them.
+/// Writes the trailer of the first `end` bytes after them.
 fn put_trailer(into: &mut [u8], end: usize) -> usize
     requires { end + BLOCK ≤ length into.old }
     ensures trailer { take result into.new ≡ take end into.old ++ trailer_of (take end into.old) }
@@ -179,7 +179,7 @@ fn put_trailer(into: &mut [u8], end: usize) -> usize
     append_few(into, end, &trailer)
 }
 
-/// The checksum of the first `end` bytes. The block behind them is filled with zeros, so that whole blocks are summed.
+/// The checksum of the first `end` bytes. The block after them is filled with zeros, so that whole blocks are summed.
 fn checksum_before(into: &mut [u8], end: usize) -> u8
     requires { end + BLOCK ≤ length into.old }
     ensures sum { result ≡ checksum_of (take end into.old) }

@@ -1,4 +1,4 @@
-//! Parts of lines, written behind other bytes: numbers, prices, fields and the frame round them, and pieces of a printed line.
+//! Parts of lines, written after other bytes: numbers, prices, fields and the frame round them, and pieces of a printed line.
 #![tactic(auto)]
 
 mod decimal;

@@ -1,4 +1,4 @@
-//! Pieces of a printed line: a label and a value. Each call writes behind the first `at` bytes of the room that it is lent, and
+//! Pieces of a printed line: a label and a value. Each call writes after the first `at` bytes of the room that it is lent, and
 //! answers where what it wrote ends, at most `LONGEST_PIECE` bytes further.
 ghost use Rattle.std.specs.Prelude.{◌≡◌, ◌+◌, ◌*◌, ◌≤◌, ◌++◌, length, take, decimal};
 ghost use Rattle.gx_base.specs.Numbers.{price_text};

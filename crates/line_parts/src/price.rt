@@ -1,4 +1,4 @@
-//! Prices as reports write them, behind other bytes.
+//! Prices as reports write them, after other bytes.
 ghost use Rattle.std.specs.Prelude.{◌≡◌, ◌+◌, ◌^◌, ◌≤◌, ◌++◌, length, take};
 ghost use Rattle.gx_base.specs.Numbers.{fraction_text, price_text};
 
@@ -18,8 +18,8 @@ static POWERS_OF_TEN: [u64; MOST_DECIMALS as usize + 1] = [
     100_000_000,
 ];
 
-/// Writes a price with exactly `decimals` digits behind the point, at most `MOST_DECIMALS`, into the front of `into`, and
-/// answers how many bytes that takes; what stands behind them is left open. There is at least one digit before the point,
+/// Writes a price with exactly `decimals` digits after the point, at most `MOST_DECIMALS`, into the front of `into`, and
+/// answers how many bytes that takes; what stands after them is left open. There is at least one digit before the point,
 /// and no point where `decimals` is 0. It takes every `i64`, also those that `read_price` refuses.
 pub fn write_price(price: Price, decimals: u8, into: &mut [u8; LONGEST_VALUE]) -> usize
     requires { decimals ≤ MOST_DECIMALS }
@@ -30,7 +30,7 @@ pub fn write_price(price: Price, decimals: u8, into: &mut [u8; LONGEST_VALUE]) -
     append_price(into, 0, price, decimals)
 }
 
-/// Writes a price as `write_price` does, but behind the first `at` bytes of `into`, and answers where it ends.
+/// Writes a price as `write_price` does, but after the first `at` bytes of `into`, and answers where it ends.
 pub(crate) fn append_price(into: &mut [u8], at: usize, price: Price, decimals: u8) -> usize
     requires few { decimals ≤ MOST_DECIMALS }
     requires room { at + LONGEST_VALUE ≤ length into.old }
@@ -54,7 +54,7 @@ fn power_of_ten(decimals: u8) -> u64
     POWERS_OF_TEN[decimals as usize]
 }
 
-/// Writes a point and the last `decimals` digits of a number behind the first `end` bytes of `into`, or nothing where
+/// Writes a point and the last `decimals` digits of a number after the first `end` bytes of `into`, or nothing where
 /// `decimals` is 0. Answers where they end. Two digits, which most instruments have, are written at once.
 #[inline]
 fn append_fraction(into: &mut [u8], end: usize, units: u64, decimals: u8) -> usize

@@ -35,7 +35,7 @@ pub record IsBeside (k : Level) (firm : ℕ) (old now rest : List Entry) : Type 
   pub unmoved : orders_of firm (orders_at k now) ≡ orders_of firm old
 
 module _ (k : Level) (firm : ℕ) (old : List Entry) (e : Entry) (rest : List Entry) where
-  -- an order of another firm trades, and so leaves, goes behind the others, or stays
+  -- an order of another firm trades, and so leaves, goes after the others, or stays
   beside-settled : (es : List Entry) (o : Order) → (e.order.firm == firm) ≡ false → (o.firm == firm) ≡ false → level_of o ≡ level_of e.order → IsBeside k firm old es (e ∷ rest) → IsBeside k firm old (settled e.slot o es) rest
   beside-settled es o other its at b =
       let xs = b.ahead in

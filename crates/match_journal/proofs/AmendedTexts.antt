@@ -34,6 +34,6 @@ module _ (image payload bytes : List ℕ) (gate count size : ℕ) (long : count 
   pub text_long : (size ≤ MOST_TEXT → ⊥) → HasText payload → ⊥
   text_long many whole = many (omega (arith, size_read, whole.few))
 
-  -- it ends behind the payload
+  -- it ends after the payload
   pub text_outside : (size ≤ count - 4 → ⊥) → HasText payload → ⊥
   text_outside outside whole = outside (omega (arith, size_read, whole.inside, long, four))

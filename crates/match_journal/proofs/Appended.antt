@@ -1,4 +1,4 @@
--- An append: the record behind its closed gate, and then the gate.
+-- An append: the record after its closed gate, and then the gate.
 use Rattle.std.proofs.Common.{◌≡◌, ◌⊎◌, inl, ℕ, ◌+◌, ◌≤◌, List, [], ◌∷◌, ◌++◌, length, drop, max, true, Result, Ok, Err, IsErr, sym, ◌∙◌, ap, subst, arith, length-append, length-drop}
 use Rattle.gx_station.specs.Disk.{Torn, written}
 use Rattle.gx_station.specs.Stations.{StationMeanings}
@@ -23,7 +23,7 @@ module _ (head : Header) (image : List ℕ) (r : Record) (limit : ℕ) (records 
   abbrev behind : List ℕ
   behind = drop (length (staged r)) first.journal.behind
 
-  -- the image with the record behind its closed gate
+  -- the image with the record after its closed gate
   abbrev pub staged_image : List ℕ
   staged_image = front ++ gate ∷ (staged r ++ behind)
 

@@ -15,7 +15,7 @@ use Rattle.match_journal.proofs.Records.{written_behind, torn_gate, written_gate
 
 -- ---- headers
 
--- an image with the header behind its first byte, and a byte behind that
+-- an image with the header after its first byte, and a byte after that
 pub has_header : (head : Header) (behind : List ℕ) (gate last : ℕ) → length head.text ≤ MOST_TEXT → HasHeader head (gate ∷ (header head ++ last ∷ behind))
 has_header head behind gate last few = record {
   few = few;
@@ -58,9 +58,9 @@ torn_empty text limit image left short torn = blank_new text limit left (inl (om
 pub written_empty : (image : List ℕ) → length image ≤ 1 → written 0 (0 ∷ []) image ≡ 0 ∷ []
 written_empty image short = ap (λ (l : List ℕ). 0 ∷ l) (drop_all 1 image short)
 
--- ---- the header is put behind it
+-- ---- the header is put after it
 
--- what is written behind the first gate
+-- what is written after the first gate
 abbrev pub heading : Header → List ℕ
 heading head = (magic head.version ++ to_be_bytes w32 (length head.text)) ++ (head.text ++ 0 ∷ [])
 

@@ -80,7 +80,7 @@ journal_size v size image head limit records h most journal =
     front First n rest = refl
     front Second n rest = refl
 
--- ---- the gate behind the text of a sealed image
+-- ---- the gate after the text of a sealed image
 
 pub open_end : (image : List ℕ) (v : Version) (size : ℕ) → IsFront image (class.Sealed v size) → get_or image (13 + size) 0 ≢ 0 → IsForeignAt image 0
 open_end image v size front not_closed =

@@ -75,7 +75,7 @@ headed_opened head image behind last few is =
     let h : HasHeader head image = subst (HasHeader head) (sym is) (has_header head behind 1 last few) in
     (record { opened = ap (λ (l : List ℕ). get_or l 0 0) is; version = head.version; magic = header_magic head image h }, h)
 
--- so is what goes on behind some records
+-- so is what goes on after some records
 pub front_opened : (head : Header) (image : List ℕ) (records : List Record) (gate : ℕ) (behind : List ℕ) → length head.text ≤ MOST_TEXT → image ≡ journal_front head records ++ gate ∷ behind → HasOpenGate image × HasHeader head image
 front_opened head image [] gate behind few is = headed_opened head image behind gate few (is ∙ ap (λ (l : List ℕ). 1 ∷ (l ++ gate ∷ behind)) (append-nil (header head)))
 front_opened head image (p ∷ ps) gate behind few is =
@@ -138,7 +138,7 @@ journal_begins_none head limit records image journal =
       in_limit = omega (arith, journal.in_limit, ap length (front-split head [] records), length-append front all);
     }
 
--- the byte of the gate behind the records
+-- the byte of the gate after the records
 gate_byte : (front : List ℕ) (image : List ℕ) (gate : ℕ) (behind : List ℕ) → image ≡ front ++ gate ∷ behind → get_or image (length front) 0 ≡ gate
 gate_byte front image gate behind is = ap (λ (l : List ℕ). get_or l (length front) 0) is ∙ get_or_at front gate behind 0 (length front) refl
 

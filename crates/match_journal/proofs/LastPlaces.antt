@@ -17,7 +17,7 @@ text_behind : (v : Version) (text : List ℕ) → drop 12 (magic v ++ (to_be_byt
 text_behind First text = refl
 text_behind Second text = refl
 
--- the text of a header stands behind its length
+-- the text of a header stands after its length
 header_stands : (head : Header) (image : List ℕ) → HasHeader head image → take (length head.text) (drop 13 image) ≡ head.text
 header_stands head image h = ap (take (length head.text)) (sym (drop-drop 12 1 image)) ∙ sym (drop-take 12 (length head.text) (drop 1 image)) ∙ ap (drop 12) h.stands ∙ text_behind head.version head.text
 

@@ -10,7 +10,7 @@ use Rattle.match_journal.specs.Journal.{Header, IsJournal, IsRecord, Record, kin
 use Rattle.match_journal.specs.Inner.Stores.{staged}
 use Rattle.match_journal.proofs.Torn.{torn_front, torn_back}
 
--- ---- a gate behind a front
+-- ---- a gate after a front
 
 pub length-gate : (front : List ℕ) (gate : ℕ) (behind : List ℕ) → length (front ++ gate ∷ behind) ≡ length front + 1 + length behind
 length-gate front gate behind = omega (arith, length-append front (gate ∷ behind))
@@ -23,14 +23,14 @@ drop-gate : (front : List ℕ) (gate : ℕ) (behind : List ℕ) → drop (length
 drop-gate front gate behind =
     ap (drop (length front + 1)) (sym (append_assoc front (gate ∷ []) behind)) ∙ drop_at (front ++ gate ∷ []) behind (length front + 1) (omega (arith, length-append front (gate ∷ [])))
 
--- what is torn behind the gate keeps it
+-- what is torn after the gate keeps it
 pub torn_behind : (front : List ℕ) (gate : ℕ) (behind c : List ℕ) (n : ℕ) → Torn (length front + 1) n (front ++ gate ∷ behind) c → c ≡ front ++ gate ∷ drop (length front + 1) c
 torn_behind front gate behind c n torn =
     sym (take-append-drop (length front + 1) c)
     ∙ ap (λ (l : List ℕ). l ++ drop (length front + 1) c) (torn_front (length front + 1) n (length front + 1) (front ++ gate ∷ behind) c torn (omega arith) (omega (arith, length-gate front gate behind)) ∙ take-gate front gate behind)
     ∙ append_assoc front (gate ∷ []) (drop (length front + 1) c)
 
--- what is written behind the gate stands there
+-- what is written after the gate stands there
 pub written_behind : (front : List ℕ) (gate : ℕ) (behind bytes : List ℕ) → written (length front + 1) bytes (front ++ gate ∷ behind) ≡ front ++ gate ∷ (bytes ++ drop (length bytes) behind)
 written_behind front gate behind bytes =
     let image = front ++ gate ∷ behind in
@@ -82,7 +82,7 @@ module _ (head : Header) (limit : ℕ) (records : List Record) (r : Record) wher
       ∙ sym (append_assoc front (open_record r) (0 ∷ rest))
       ∙ ap (λ (l : List ℕ). l ++ 0 ∷ rest) (sym (journal_front-push head records r))
 
-  -- the record stands whole behind a gate
+  -- the record stands whole after a gate
   pub whole_record : AllByRecursion (IsRecord head.version) records → IsRecord head.version r → length front + 7 + length r.payload ≤ limit → (gate : ℕ) (rest : List ℕ)
       → IsJournal head limit records (front ++ gate ∷ (staged r ++ rest)) ⊎ IsJournal head limit (records ++ r ∷ []) (front ++ gate ∷ (staged r ++ rest))
   whole_record sized right fits gate rest = elim (cases_eq gate 1) [

@@ -38,7 +38,7 @@ fd_of_front [] b front = refl
 fd_of_front (x ∷ xs) [] front = absurd (omega (arith, ap length front))
 fd_of_front (x ∷ xs) (y ∷ ys) front = fd_step x y xs ys (sym (cc front)) ∙ ap (λ n. 1 + n) (fd_of_front xs ys (cc front)) ∙ omega arith
 
--- bytes behind as many as the first text has do not count
+-- bytes after as many as the first text has do not count
 pub fd_take : (n : ℕ) (a b : List ℕ) → length a ≤ n → first_difference a (take n b) ≡ first_difference a b
 fd_take n [] b le = refl
 fd_take zero (x ∷ xs) b le = absurd (omega (arith, le))

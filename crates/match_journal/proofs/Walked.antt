@@ -152,7 +152,7 @@ module _ (image : List ℕ) (inner seen : Standing) (same : inner ≡ seen) (sta
   walked r walks = subst (λ (s : Standing). Walks image s.limit s.gate r) same
       (walks (stands.known ∙ ap (λ (s : Standing). s.known) (sym same)) (standing_version seen image stands ∙ ap (λ (s : Standing). s.version) (sym same)))
 
--- the answer at the gate behind some records, and where the journal then stands
+-- the answer at the gate after some records, and where the journal then stands
 module _ (head : Header) (image : List ℕ) (before after : List Record) (seen : Standing) (journal : IsJournal head seen.limit (before ++ after) image) (place : seen.gate ≡ length (journal_front head before)) where
   in-order : (r : Result (Option Entry) WalkFault) → Walks image seen.limit seen.gate r → InOrder head image before after (stands_then seen r).gate r
   in-order (Ok None) walks = none_left head image seen.limit before after journal seen.gate place walks

@@ -59,7 +59,7 @@ pub record IsForeignAt (image : List ℕ) (at : ℕ) : Type 0 where
   pub foreign : IsForeign image
   pub place : ((get_or image 0 0 ≢ 1) × (at ≡ 0)) ⊎ ((get_or image 0 0 ≡ 1) × (at ≡ 1 + magic_difference (drop 1 image)))
 
--- the length of its text is too great, or the image ends before the gate behind the text
+-- the length of its text is too great, or the image ends before the gate after the text
 pub record HasBadHeader (image : List ℕ) (at : ℕ) : Type 0 where
   pub journal : HasOpenGate image
   pub no_header : (head : Header) → HasHeader head image → ⊥

@@ -63,7 +63,7 @@ has_kind version Image = true
 has_kind First Amendment = false
 has_kind Second Amendment = true
 
--- a record behind its open gate
+-- a record after its open gate
 abbrev pub open_record : Record → List ℕ
 open_record r = 1 ∷ kind_byte r.kind ∷ (to_be_bytes w32 (length r.payload) ++ r.payload)
 

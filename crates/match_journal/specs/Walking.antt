@@ -41,7 +41,7 @@ stands_then s (Err e) = s
 
 -- ---- the records in their order
 
--- the first of the records left is that of the entry, and the next gate is the one behind it
+-- the first of the records left is that of the entry, and the next gate is the one after it
 pub record IsNext (head : Header) (image : List ℕ) (before after : List Record) (gate : ℕ) (entry : Entry) : Type 0 where
   pub found : Record
   pub more : List Record
@@ -52,7 +52,7 @@ pub record IsNext (head : Header) (image : List ℕ) (before after : List Record
   pub at_is : entry.at ≡ length (journal_front head before)
   pub gate_is : gate ≡ length (journal_front head (before ++ found ∷ []))
 
--- what is answered at the gate behind some records, where others are left
+-- what is answered at the gate after some records, where others are left
 abbrev pub InOrder : Header → List ℕ → List Record → List Record → ℕ → Result (Option Entry) WalkFault → Type 0
 InOrder head image before after gate (Ok None) = after ≡ []
 InOrder head image before after gate (Ok (Some entry)) = IsNext head image before after gate entry

@@ -31,7 +31,7 @@ fn byte_of(kind: EntryKind) -> u8
     }
 }
 
-/// Puts a record behind its gate into the buffer: its kind, its length, its payload, and the next gate, closed.
+/// Puts a record after its gate into the buffer: its kind, its length, its payload, and the next gate, closed.
 fn stage(buffer: &mut [u8; RECORD], kind: EntryKind, payload: &[u8])
     requires { length payload.now ≤ MOST_PAYLOAD }
     ensures { take (length payload.now + 6) buffer.new ≡ staged (record { kind = kind; payload = payload.now }) }
@@ -51,7 +51,7 @@ fn head_of(kind: EntryKind, length: u32) -> [u8; 5]
     head
 }
 
-/// Stores a record behind its closed gate, with the next gate, closed: frames by one write out of the buffer; an image, which may
+/// Stores a record after its closed gate, with the next gate, closed: frames by one write out of the buffer; an image, which may
 /// be long, from where it lies.
 fn store_record<S: Station>(
     station: &mut S,
@@ -80,7 +80,7 @@ fn store_record<S: Station>(
     }
 }
 
-/// Stores the record behind its closed gate, and then opens the gate.
+/// Stores the record after its closed gate, and then opens the gate.
 fn put_record<S: Station>(
     station: &mut S,
     gate: u64,

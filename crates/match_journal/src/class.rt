@@ -14,7 +14,7 @@ use crate::version::Version;
 pub(crate) enum Class {
     /// No gate yet, or one alone.
     Empty,
-    /// A closed gate, and behind it a header or a part of it, or anything.
+    /// A closed gate, and after it a header or a part of it, or anything.
     Blank,
     /// All but the first gate.
     Sealed(Version, u32),
@@ -95,7 +95,7 @@ fn size_of(head: &[u8], len: u64) -> Option<u32>
     Some(size)
 }
 
-/// What an image of `len` bytes is that begins with these; of a sealed one the gate behind the text is not yet looked at.
+/// What an image of `len` bytes is that begins with these; of a sealed one the gate after the text is not yet looked at.
 pub(crate) fn class_of(head: &[u8], len: u64) -> Result<Class, StartFault>
     requires some { 1 < len }
     requires head { length head.now ≡ min len 13 }

@@ -11,7 +11,7 @@ use crate::text::TextPlace;
 use crate::version::Version;
 use std::marker::Model;
 
-/// How many bytes a record has at most, from its kind to the gate behind it.
+/// How many bytes a record has at most, from its kind to the gate after it.
 pub(crate) const RECORD: usize = MOST_PAYLOAD + HEAD;
 
 /// A place in the journal that a station's image is. It keeps the length of the image too, and asks for neither twice. No
@@ -19,7 +19,7 @@ pub(crate) const RECORD: usize = MOST_PAYLOAD + HEAD;
 #[derive(Drop)]
 pub struct Journal {
     pub(crate) standing: Standing,
-    /// A record on its way out, from its kind to the gate behind it.
+    /// A record on its way out, from its kind to the gate after it.
     pub(crate) record: [u8; RECORD],
 }
 
@@ -86,7 +86,7 @@ impl Journal {
         self.standing.is_at_end = false;
     }
 
-    /// The next entry is the one behind this.
+    /// The next entry is the one after this.
     pub fn go_behind(&mut self, entry: &Entry)
         requires { entry.now.at + 7 + entry.now.length ≤ self.old.known }
         ensures { self.new ≡ moved self.old (entry.now.at + 6 + entry.now.length) false }
@@ -96,7 +96,7 @@ impl Journal {
         self.standing.is_at_end = false;
     }
 
-    /// Whether the journal stands at the closed gate behind all records: from a `next_entry` that answers `None`, or an
+    /// Whether the journal stands at the closed gate after all records: from a `next_entry` that answers `None`, or an
     /// `append` that is Ok, until the next `rewind`, `go_behind`, or `next_entry` that answers an entry. Never again once an
     /// `append` has failed.
     pub fn at_end(&self) -> bool
@@ -114,7 +114,7 @@ impl Journal {
         self.standing.gate
     }
 
-    /// How many bytes the payload of a record behind the last gate met may have, so that the record ends within the limit.
+    /// How many bytes the payload of a record after the last gate met may have, so that the record ends within the limit.
     pub fn room(&self) -> u64
         ensures { result ≡ self.now.limit - (self.now.gate + 7) }
     {

@@ -52,7 +52,7 @@ pub fn a_gate_has_one_answer()
         → (first ≡ Err walk.Store → ⊥) → (second ≡ Err walk.Store → ⊥) → first ≡ second }
 {}
 
-/// Were the first gate written together with what stands behind it, over an image of one closed gate: not each image that a
+/// Were the first gate written together with what stands after it, over an image of one closed gate: not each image that a
 /// crash then leaves is one that a journal opens. So a creation takes a write and a sync for the gate alone.
 pub fn the_first_gate_is_written_alone()
     ensures { (head : Header) (limit n : ℕ) → 2 ≤ n → ((left : List ℕ) → Torn 0 n (0 ∷ []) left → Keeps head limit [] left) → ⊥ }

@@ -29,7 +29,7 @@ pub(crate) struct Found {
     pub text: TextPlace,
 }
 
-/// Reads what an image of `len` bytes is, but for the gate behind the text of a sealed one.
+/// Reads what an image of `len` bytes is, but for the gate after the text of a sealed one.
 fn read_front<S: Station>(station: &mut S, len: u64) -> Result<Class, StartFault>
     requires reach { len ≤ S.meanings.reach station.old }
     ensures looks { LooksOnly S.meanings station.old station.new 13 }
@@ -50,7 +50,7 @@ fn read_front<S: Station>(station: &mut S, len: u64) -> Result<Class, StartFault
     }
 }
 
-/// Reads the gate behind the text of a sealed image, which is closed.
+/// Reads the gate after the text of a sealed image, which is closed.
 fn read_end<S: Station>(station: &mut S, class: Class) -> Result<(), StartFault>
     requires reach { least_length class ≤ S.meanings.reach station.old }
     requires few { least_length class ≤ MOST_UNFINISHED }

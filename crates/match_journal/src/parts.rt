@@ -14,7 +14,7 @@ pub(crate) fn store<S: Station>(station: &mut S, at: u64, bytes: &[u8]) -> Resul
     station.sync()
 }
 
-/// Writes three parts, one behind the other.
+/// Writes three parts, one after the other.
 fn write_parts<S: Station>(
     station: &mut S,
     at: u64,
@@ -32,7 +32,7 @@ fn write_parts<S: Station>(
     station.write(behind + middle.len() as u64, tail)
 }
 
-/// Writes three parts, one behind the other, and syncs.
+/// Writes three parts, one after the other, and syncs.
 pub(crate) fn store_parts<S: Station>(
     station: &mut S,
     at: u64,

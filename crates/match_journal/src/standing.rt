@@ -7,7 +7,7 @@ use crate::version::Version;
 pub struct Standing {
     /// The version that the header tells.
     pub version: Version,
-    /// The gate behind the product text.
+    /// The gate after the product text.
     pub first: u64,
     /// The last gate met, which is that of the next entry.
     pub gate: u64,

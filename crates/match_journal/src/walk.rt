@@ -45,7 +45,7 @@ fn is_length_of(kind: EntryKind, length: u32) -> bool
     }
 }
 
-/// The entry whose head these bytes are, behind an open gate at a place in a journal of a version. `most` is where the image ends or,
+/// The entry whose head these bytes are, after an open gate at a place in a journal of a version. `most` is where the image ends or,
 /// where that is less, the limit.
 fn entry_of(version: Version, head: &[u8], at: u64, most: u64) -> Option<Entry>
     ensures { HeadAnswers version head.now at most result }

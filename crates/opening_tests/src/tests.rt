@@ -7,7 +7,7 @@ use std::process::Abort;
 /// How many bytes the image of a station may have.
 const ROOM: usize = 16_384;
 
-/// The parts, one behind the other.
+/// The parts, one after the other.
 fn image_of(rt: &(impl Abort + AllocGlobal), parts: &[&[u8]]) -> Vec<u8> {
     let mut bytes = Vec::new(rt.alloc());
     for part in parts {

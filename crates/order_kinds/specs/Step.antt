@@ -79,7 +79,7 @@ events_from product state (frame ∷ frames) = (step_of product state frame).1 +
 abbrev pub events_of : ProductLists → List (List ℕ) → List Event
 events_of product frames = events_from product (empty_state product) frames
 
--- the lines of these events, one behind the other
+-- the lines of these events, one after the other
 abbrev pub lines_of : ProductLists → List Event → List ℕ
 lines_of product events = flat_map (line_of product.names) events
 

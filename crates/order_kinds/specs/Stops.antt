@@ -83,7 +83,7 @@ abbrev pub entered_with_stops : Naming → List Step → MatchState → MatchSta
 entered_with_stops naming steps m =
     stops_entered (λ before. naming (before + 1)) steps (entered (naming 0 m.taker.order.number) steps m)
 
--- a stop waits behind the stops of its instrument
+-- a stop waits after the stops of its instrument
 abbrev pub taker_waiting : ℕ → MatchState → MatchState
 taker_waiting name m = record m { book = book_waited name m.taker.order m.book }
 

@@ -30,7 +30,7 @@ lowest Sell = 9990
 abbrev pub target_of : ℕ → ℕ → ℕ
 target_of j back = max 1 (j - 1 - back)
 
--- ---- what is drawn, with the state behind it
+-- ---- what is drawn, with the state after it
 
 -- p below 110, then v below 100
 abbrev pub new_of : Side → ℕ → Made × ℕ

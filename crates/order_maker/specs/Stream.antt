@@ -1,4 +1,4 @@
--- The stream of made messages as bytes: FIX 4.2, one frame behind the other.
+-- The stream of made messages as bytes: FIX 4.2, one frame after the other.
 use Rattle.std.specs.Prelude.{ℕ, zero, suc, ◌+◌, ◌*◌, List, [], ◌++◌, length, pos, Some, option_map, unwrap_or, slice_get, codes, decimal, unsigned_abs}
 use Rattle.gx_base.specs.Frames.{field, frame_of}
 use Rattle.gx_base.specs.Line.{firm_name, instrument_name, decimals_of, side_text}

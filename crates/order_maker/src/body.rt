@@ -1,4 +1,4 @@
-//! The bodies of messages, field by field. Each call writes behind the first `at` bytes, and answers where what it wrote
+//! The bodies of messages, field by field. Each call writes after the first `at` bytes, and answers where what it wrote
 //! ends.
 ghost use Rattle.std.specs.Prelude.{◌≡◌, ◌+◌, ◌*◌, ◌≤◌, [], ◌∷◌, ◌++◌, length, take};
 ghost use Rattle.order_maker.specs.Stream.{head_fields, tick_at, order_fields, body_of};

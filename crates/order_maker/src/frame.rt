@@ -8,7 +8,7 @@ use gx_base::LONGEST_LINE;
 use line_parts::fields::{GAP, put_frame};
 use product_file::Product;
 
-/// Writes the frame of the message with this number behind the first `at` bytes of `into`, and answers where it ends.
+/// Writes the frame of the message with this number after the first `at` bytes of `into`, and answers where it ends.
 pub(crate) fn write_message(
     into: &mut [u8],
     at: usize,

@@ -19,7 +19,7 @@ struct Stand {
     state: u32,
 }
 
-/// Gives the frames of made messages, one behind the other, and never fails. Contracts see it as the bytes that are left
+/// Gives the frames of made messages, one after the other, and never fails. Contracts see it as the bytes that are left
 /// of the stream, and the count of the reads that have placed some.
 #[derive(Drop)]
 pub struct MakerSource<'a> {
@@ -105,7 +105,7 @@ fn place_frames(product: &Product, stand: &mut Stand, into: &mut [u8]) -> usize
     end
 }
 
-/// Writes the next frame behind the first `at` bytes of `into`, and answers where it ends.
+/// Writes the next frame after the first `at` bytes of `into`, and answers where it ends.
 fn place_next(product: &Product, stand: &mut Stand, into: &mut [u8], at: usize) -> usize
     requires room { at + LONGEST_LINE ≤ length into.old }
     requires some { 1 ≤ stand.old.left }

@@ -66,7 +66,7 @@ module _ (b : Book) (s : ℕ) (r : IsRight b) (room : length (live_orders b) < b
       let n : Entry = record { slot = s; order = waits; is_top = false } in
       right-lined b n r room fresh (none-any (is_named o.firm o.id) (live_orders b) u) (fit-waited b.instruments o p)
 
--- ---- an order goes behind the others of its level
+-- ---- an order goes after the others of its level
 
 module _ (b : Book) (k : IsRight b) where
   -- an order that rests does not wait

@@ -1,4 +1,4 @@
--- What holds of each order of a list, and of each order and each one behind it.
+-- What holds of each order of a list, and of each order and each one after it.
 use Rattle.std.proofs.Common.{◌≡◌, ◌≢◌, ℕ, Bool, true, false, cond, ◌||◌, List, [], ◌∷◌, ◌++◌, map, filter, refl, ap, ◌∙◌, inl, inr}
 use Rattle.std.specs.List.{AllByRecursion, list_any}
 use Rattle.plain_book.specs.declared.entry.Entry.{Entry}

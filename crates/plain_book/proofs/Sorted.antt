@@ -43,7 +43,7 @@ module _ (before : Entry → Entry → Bool) where
     pub behind : AllByRecursion (λ (x : Entry). before n x ≡ true) back
 
   module _ (laws : Orders before) where
-    -- what stands behind an entry that stands behind n
+    -- what stands after an entry that stands after n
     all-behind : (n e : Entry) (es : List Entry) → before n e ≡ true → AllByRecursion (Follows e) es → AllByRecursion (λ (x : Entry). before n x ≡ true) es
     all-behind n e [] b h = tt
     all-behind n e (x ∷ es) b h = (laws.past n e x b h.0, all-behind n e es b h.1)
@@ -66,7 +66,7 @@ module _ (before : Entry → Entry → Bool) where
         ∙ ap (λ (q : List Entry). q ++ n ∷ (e ∷ filter (before n) es)) (kept-none n es h)
         ∙ ap (λ (q : List Entry). n ∷ (e ∷ q)) (kept-all n es h)
 
-    -- none of the first i stands behind it and the next one does, or there is none: so it is put in at i
+    -- none of the first i stands after it and the next one does, or there is none: so it is put in at i
     pub put_at : (n : Entry) (es : List Entry) (i : ℕ) → EachPair Follows es → i ≤ length es → ((k : ℕ) → k < i → before n (entry_at es k) ≡ false) → (i < length es → before n (entry_at es i) ≡ true) → put n es ≡ take i es ++ n ∷ drop i es
     put_at n [] zero o le h g = refl
     put_at n [] (suc i) o le h g = absurd (omega arith)

@@ -79,7 +79,7 @@ new-best-all n (e ∷ es) o h =
       | false ↦ λ off. ((λ on. not-both (is_on i s e) on off), new-best-all n es o.1 (ap test (sym off) ∙ h))
     ] in go (is_on i s e) refl
 
--- behind an order that is not better than the best of its side, no order of the side is TOP
+-- after an order that is not better than the best of its side, no order of the side is TOP
 abbrev pub NoTopBehind : Entry → Entry → Type 0
 NoTopBehind n x = is_at_earlier_level n x ≡ true → x.is_top ≡ true → is_on x.order.instrument x.order.side n ≡ true → ⊥
 
@@ -163,7 +163,7 @@ tops-mapped f mark es levels t =
 -- ---- TOP is set
 
 module _ (i : ℕ) (s : Side) (top : Option ℕ) where
-  -- of two orders of the side only the one behind can be the new TOP, and then they have one price
+  -- of two orders of the side only the one after can be the new TOP, and then they have one price
   abbrev CanBeBehind : Entry → Entry → Type 0
   CanBeBehind a b = is_on i s a ≡ true → is_on i s b ≡ true → is_slot_in top b.slot ≡ true → (is_slot_in top a.slot ≡ false) × (a.order.price ≡ b.order.price)
 

@@ -149,7 +149,7 @@ module _ {E R : Type 0} {m : EmitMeanings E} {r : ShareMeanings R} {k : Level} {
         ap length
         (ap (still_to_come at end) w.remains.is ∙ ap (λ (x : Option ℕ). still_to_come x end level) w.next ∙ ap (λ (x : Option ℕ). still_to_come (slot_of w.rest) x level) w.remains.ends ∙ comes-rest w.remains.before w.rest w.remains.behind differ)
 
-  -- what the calls of a turn gave: the order, its share, the rule behind it, the slot that comes next and where the walk ends
+  -- what the calls of a turn gave: the order, its share, the rule after it, the slot that comes next and where the walk ends
   module _ {at end : Option ℕ} {rule : R} {now : MatchAt E} (w : IsWalk m r k step all start at end rule now) {slot : ℕ} (turn : IsTurn r k slot end rule now.book now.taker.order.leaves w.rest)
       {o : Order} {lots : ℕ} {at' end' : Option ℕ} {rule' : R} {next : MatchAt E} (is : o ≡ turn.entry.order) (share : lots ≡ r.share rule o) (behind : rule' ≡ r.behind rule o)
       (comes : at' ≡ before_end end (slot_after slot (orders_at (level_of (order_of slot now.book.resting)) now.book.resting))) (ends : end' ≡ end_after end slot lots o)
@@ -175,7 +175,7 @@ module _ {E R : Type 0} {m : EmitMeanings E} {r : ShareMeanings R} {k : Level} {
     end-is : end_given ≡ end'
     end-is = ap (λ (n : ℕ). end_after end slot n turn.entry.order) (sym lots-are) ∙ ap (end_after end slot lots) (sym is) ∙ sym ends
 
-    -- the walk goes on behind the order
+    -- the walk goes on after the order
     pub walk-on : IsWalk m r k step all start at' end' rule' next
     walk-on =
         subst (λ (x : R). IsWalk m r k step all start at' end' x next) (ap (r.behind rule) (sym is) ∙ sym behind)

@@ -159,7 +159,7 @@ pub head_of : (slot : ℕ) (rest : List Entry) → Some slot ≡ slot_of rest �
 head_of slot [] h = absurd (let f : Some slot ≡ None = h in cc)
 head_of slot (e ∷ es) h = record { entry = e; more = es; is = refl; slot_is = let f : Some slot ≡ Some e.slot = h in cc }
 
--- the order behind this one, unless the refreshed ones begin there
+-- the order after this one, unless the refreshed ones begin there
 pub next-is : (more behind : List Entry) → AllDiffer (more ++ behind) → before_end (slot_of behind) (slot_of (more ++ behind)) ≡ slot_of more
 next-is [] [] d = refl
 next-is [] (y ∷ ys) d = ap (λ (b : Bool). cond b None (Some y.slot)) (same y.slot)

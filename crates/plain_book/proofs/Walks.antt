@@ -9,7 +9,7 @@ use Rattle.plain_book.specs.Book.{AllDiffer}
 use Rattle.plain_book.proofs.Filters.{filter-comm}
 use Rattle.plain_book.proofs.Levels.{HasSlot-filter, AllDiffer-filter, HasSlot-middle, order_of-middle, order_of-filter, slot_after-middle, without-middle, with_order-middle, with_order-level, placed-level, is_level-same, renewed}
 
--- the order e stands in the level k of es, behind xs and before ys
+-- the order e stands in the level k of es, after xs and before ys
 pub record Stands (k : Level) (es xs : List Entry) (e : Entry) (ys : List Entry) : Type 0 where
   pub differ : AllDiffer es
   pub is : orders_at k es ≡ xs ++ e ∷ ys

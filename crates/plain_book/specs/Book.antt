@@ -145,7 +145,7 @@ abbrev pub AllDiffer : List Entry → Type 0
 AllDiffer [] = Unit {0}
 AllDiffer (e ∷ es) = (HasSlot e.slot es → ⊥) × AllDiffer es
 
--- each order stands so to each one behind it
+-- each order stands so to each one after it
 abbrev pub EachPair : (Entry → Entry → Type 0) → List Entry → Type 0
 EachPair R [] = Unit {0}
 EachPair R (e ∷ es) = AllByRecursion (R e) es × EachPair R es
@@ -154,14 +154,14 @@ EachPair R (e ∷ es) = AllByRecursion (R e) es × EachPair R es
 abbrev pub AreNamedApart : Entry → Entry → Type 0
 AreNamedApart a b = is_named a.order.firm a.order.id b ≡ false
 
--- a stands before b, and nothing says that it should stand behind it
+-- a stands before b, and nothing says that it should stand after it
 abbrev pub AreInBookOrder : Entry → Entry → Type 0
 AreInBookOrder a b = is_at_earlier_level b a ≡ false
 
 abbrev pub AreInLine : Entry → Entry → Type 0
 AreInLine a b = is_of_earlier_instrument b a ≡ false
 
--- b, which stands behind a on the same side, is TOP only where a has the same price and is not TOP. So TOP is at the best
+-- b, which stands after a on the same side, is TOP only where a has the same price and is not TOP. So TOP is at the best
 -- price of its side, and the only one there.
 abbrev pub MayPrecedeTop : Entry → Entry → Type 0
 MayPrecedeTop a b = b.is_top ≡ true → is_on b.order.instrument b.order.side a ≡ true → (a.is_top ≡ false) × (a.order.price ≡ b.order.price)

@@ -130,11 +130,11 @@ reordered slot o e = if e.slot == slot then record e { order = o } else e
 abbrev pub with_order : ℕ → Order → List Entry → List Entry
 with_order slot o es = map (reordered slot o) es
 
--- e comes behind n
+-- e comes after n
 abbrev pub is_at_earlier_level : Entry → Entry → Bool
 is_at_earlier_level n e = is_before (level_of n.order) (level_of e.order)
 
--- n is put behind every order whose instrument, side and price come before or equal its own
+-- n is put after every order whose instrument, side and price come before or equal its own
 abbrev pub placed : Entry → List Entry → List Entry
 placed n es = filter (λ e. not (is_at_earlier_level n e)) es ++ n ∷ filter (is_at_earlier_level n) es
 
@@ -142,7 +142,7 @@ placed n es = filter (λ e. not (is_at_earlier_level n e)) es ++ n ∷ filter (i
 abbrev pub is_of_earlier_instrument : Entry → Entry → Bool
 is_of_earlier_instrument n e = nat_lt n.order.instrument e.order.instrument
 
--- n is put behind the stops of its instrument, and of those before it
+-- n is put after the stops of its instrument, and of those before it
 abbrev pub lined_up : Entry → List Entry → List Entry
 lined_up n es = filter (λ e. not (is_of_earlier_instrument n e)) es ++ n ∷ filter (is_of_earlier_instrument n) es
 
@@ -181,7 +181,7 @@ abbrev pub refreshed : Order → Order
 refreshed o = record o { shown = min o.show o.leaves }
 
 -- The order of a slot has become o by a trade. Where nothing is open, it leaves. Where nothing is shown any more, it is
--- refreshed and goes behind the last order of its price. Else it stays. In the first two cases it is TOP no more.
+-- refreshed and goes after the last order of its price. Else it stays. In the first two cases it is TOP no more.
 abbrev pub settled : ℕ → Order → List Entry → List Entry
 settled slot o es =
     if o.leaves == 0 then without slot es

@@ -9,7 +9,7 @@ abbrev pub AreNone : List Share → Type 0
 AreNone [] = Unit {0}
 AreNone (share ∷ shares) = (share.1 ≡ 0) × AreNone shares
 
--- what a rule says: the share of an order, and the rule for the orders behind it
+-- what a rule says: the share of an order, and the rule for the orders after it
 pub record ShareMeanings (R : Type 0) : Type 0 where
   pub share : R → Order → ℕ
   pub behind : R → Order → R

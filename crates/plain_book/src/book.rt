@@ -86,7 +86,7 @@ pub trait Book {
     fn find(&self, firm: u8, id: &ShortId) -> Option<Slot>
         ensures { option_map slot_number result ≡ slot_named firm id.now (live_orders (book self.now)) };
 
-    /// An order comes to rest, behind the orders that stand at its price or before it. What it shows is its open quantity,
+    /// An order comes to rest, after the orders that stand at its price or before it. What it shows is its open quantity,
     /// or at most its `show`. Where it is better than every order of its side, the old TOP ends, and the order is TOP
     /// itself if `top_min` lots of it are open; with no `top_min` it is not.
     fn place(&mut self, order: Order, top_min: Option<u32>) -> Slot
@@ -96,7 +96,7 @@ pub trait Book {
         ensures fresh { HasSlot result.0 (live_orders (book self.old)) → ⊥ }
         ensures placed { book self.new ≡ book_placed result.0 order top_min (book self.old) };
 
-    /// A stop comes to wait, behind the stops of its instrument. Nothing of it is shown.
+    /// A stop comes to wait, after the stops of its instrument. Nothing of it is shown.
     fn wait(&mut self, order: Order) -> Slot
         requires room { length (live_orders (book self.old)) < (book self.old).capacity }
         requires unnamed { is_live order.firm order.id (live_orders (book self.old)) ≡ false }
@@ -104,7 +104,7 @@ pub trait Book {
         ensures fresh { HasSlot result.0 (live_orders (book self.old)) → ⊥ }
         ensures waited { book self.new ≡ book_waited result.0 order (book self.old) };
 
-    /// Some lots of a resting order are traded. It leaves where nothing is open then, is refreshed and goes behind the
+    /// Some lots of a resting order are traded. It leaves where nothing is open then, is refreshed and goes after the
     /// last order of its price where nothing is shown, and else stays. The answer is the order after the trade, before it
     /// is refreshed.
     fn trade(&mut self, slot: Slot, lots: u32) -> Order

@@ -36,7 +36,7 @@ pub(crate) fn put_back(entries: &mut Vec<Entry>, slot: u32, order: &Order)
     }
 }
 
-/// Puts an order in, behind those at its price and before it.
+/// Puts an order in, after those at its price and before it.
 pub(crate) fn put_in(entries: &mut Vec<Entry>, entry: Entry)
     requires ordered { EachPair AreInBookOrder entries.old.items }
     requires room { vec_len entries.old < vec_capacity entries.old }
@@ -49,7 +49,7 @@ pub(crate) fn put_in(entries: &mut Vec<Entry>, entry: Entry)
     }
 }
 
-/// Puts a stop in, behind those of its instrument and before it.
+/// Puts a stop in, after those of its instrument and before it.
 pub(crate) fn line_up(entries: &mut Vec<Entry>, entry: Entry)
     requires lined { EachPair AreInLine entries.old.items }
     requires room { vec_len entries.old < vec_capacity entries.old }

@@ -306,7 +306,7 @@ fn trade_order(
     given
 }
 
-/// The next part of an order is shown, and it goes behind the last order of its price. It is TOP no more.
+/// The next part of an order is shown, and it goes after the last order of its price. It is TOP no more.
 fn refresh(entries: &mut Vec<Entry>, slot: u32, order: &Order)
     requires ordered { EachPair AreInBookOrder entries.old.items }
     requires room { length (without slot entries.old.items) < vec_capacity entries.old }

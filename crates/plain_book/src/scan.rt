@@ -95,7 +95,7 @@ pub(crate) fn first_at(entries: &[Entry], instrument: u8, side: Side, price: Pri
     None
 }
 
-/// The order behind that of a slot, among those at the price of this order.
+/// The order after that of a slot, among those at the price of this order.
 pub(crate) fn next_at(entries: &[Entry], slot: u32, order: &Order) -> Option<Slot>
     ensures { option_map slot_number result ≡ slot_after slot (orders_at (level_of order.now) entries.now) }
 {
@@ -223,7 +223,7 @@ pub(crate) fn first_stop_reached(
     None
 }
 
-/// The stop of an instrument behind that of a slot.
+/// The stop of an instrument after that of a slot.
 pub(crate) fn next_stop(entries: &[Entry], slot: u32, instrument: u8) -> Option<Slot>
     ensures { option_map slot_number result ≡ slot_after slot (stops_of instrument entries.now) }
 {

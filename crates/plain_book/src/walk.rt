@@ -21,7 +21,7 @@ pub trait ShareRule {
 
     ghost meanings: { ShareMeanings Self };
 
-    /// The share of the next order, in lots. The rule is then that of the orders behind it.
+    /// The share of the next order, in lots. The rule is then that of the orders after it.
     fn share(&mut self, order: &Order) -> u32
         ensures share { result ≡ meanings.share self.old order.now }
         ensures behind { self.new ≡ meanings.behind self.old order.now };
@@ -59,7 +59,7 @@ fn is_slot_in(end: Option<Slot>, slot: Slot) -> bool
     }
 }
 
-/// The order behind that of a slot, unless the walk ends there.
+/// The order after that of a slot, unless the walk ends there.
 fn next_before<B: Book>(book: &B, slot: Slot, end: Option<Slot>) -> Option<Slot>
     requires { HasSlot slot.0 (B.book book.now).resting }
     ensures { let es = (B.book book.now).resting in option_map slot_number result ≡ before_end (option_map slot_number end)
@@ -78,7 +78,7 @@ fn is_refreshed_by(order: &Order, lots: u32) -> bool
     order.shown == lots && lots < order.leaves
 }
 
-/// Where the walk ends once an order has traded so many lots: at the first one that was refreshed. Behind it stand only
+/// Where the walk ends once an order has traded so many lots: at the first one that was refreshed. After it stand only
 /// such, which had their share.
 fn end_after(end: Option<Slot>, slot: Slot, order: &Order, lots: u32) -> Option<Slot>
     ensures { option_map slot_number result ≡ end_after (option_map slot_number end) slot.0 lots order.now }

@@ -14,7 +14,7 @@ use Rattle.price_level.proofs.RowLists.{each-row}
 without-none : (q : ℕ) (rs : List LevelRow) → AllByRecursion (λ (r : LevelRow). r.queue ≢ q) rs → without_row q rs ≡ rs
 without-none q rs h = filter-all (λ r. not (r.queue == q)) rs (all-with (λ r. r.queue ≢ q) (λ r. not (r.queue == q) ≡ true) (λ r ne. ap not (ne_eqb r.queue q ne)) rs h)
 
--- of the rows behind r none has its queue
+-- of the rows after r none has its queue
 rest-lacks : (r : LevelRow) (q : ℕ) (rs : List LevelRow) → r.queue ≡ q → AllByRecursion (AreRowsApart r) rs → AllByRecursion (λ (x : LevelRow). x.queue ≢ q) rs
 rest-lacks r q rs e h = all-with (AreRowsApart r) (λ x. x.queue ≢ q) (λ x k f. k.1 (f ∙ sym e)) rs h
 

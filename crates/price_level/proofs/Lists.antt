@@ -1,4 +1,4 @@
--- What holds of each element of a list, or of each one and those behind it; filters.
+-- What holds of each element of a list, or of each one and those after it; filters.
 use Rattle.std.proofs.Common.{◌≡◌, ℕ, ◌<◌, Bool, true, false, cond, List, [], ◌∷◌, ◌++◌, length, get_or, filter, map, refl, ap, ◌∙◌, arith}
 use Prim.Native.Nat.{zero, suc}
 use Rattle.std.specs.List.{AllByRecursion}

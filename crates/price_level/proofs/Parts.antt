@@ -11,7 +11,7 @@ use Rattle.price_level.specs.Inner.Sides.{rows_of, rows_of_side, row_number, Are
 use Rattle.price_level.proofs.Lists.{all-append, all-with, filter-all, filter-none}
 use Rattle.price_level.proofs.SideRows.{rows-number}
 
--- the side n of the sides from the number m on, with the rows ahead of it and behind it
+-- the side n of the sides from the number m on, with the rows ahead of it and after it
 pub record Around (table : List LevelRow) (m n k : ℕ) (all : List (List Step)) : Type 0 where
   pub ahead : List LevelRow
   pub behind : List LevelRow
@@ -77,7 +77,7 @@ module _ (n : ℕ) (ahead here behind : List LevelRow) (low : AllByRecursion (λ
       let b = filter-all p behind (all-with (λ r. n < row_number r) (λ r. p r ≡ true) (λ r lt. let ne : row_number r ≢ n = omega arith in t r ne) behind high) in
       filter-parts p ∙ (λ i. a i ++ (filter p here ++ b i))
 
-  -- a test that passes behind the side, and fails ahead of it
+  -- a test that passes after the side, and fails ahead of it
   pub filter-behind : (p : LevelRow → Bool) → ((r : LevelRow) → row_number r < n → p r ≡ false) → ((r : LevelRow) → n < row_number r → p r ≡ true) → filter p (ahead ++ (here ++ behind)) ≡ filter p here ++ behind
   filter-behind p f t =
       let a = filter-none p ahead (all-with (λ r. row_number r < n) (λ r. p r ≡ false) f ahead low) in

@@ -30,7 +30,7 @@ module _ (n : LevelRow) where
   abbrev back : List LevelRow → List LevelRow
   back rs = filter (row_before n) rs
 
-  -- what stands behind a row that n comes before
+  -- what stands after a row that n comes before
   behind : (r : LevelRow) (rs : List LevelRow) → row_before n r ≡ true → AllByRecursion (AreRowsApart r) rs → AllByRecursion (λ x. row_before n x ≡ true) rs
   behind r rs h a = all-with (AreRowsApart r) (λ x. row_before n x ≡ true) (λ x k. before-past (level_of_row n) (level_of_row r) (level_of_row x) h (before-apart (level_of_row r) (level_of_row x) k.0)) rs a
 
@@ -46,7 +46,7 @@ module _ (n : LevelRow) where
         | false ↦ λ h. ap (λ (x : List LevelRow). r ∷ x) (split rs a.1)
       ] in go (row_before n r) refl
 
-  -- a row that is not of this level, and does not come behind it, comes before it
+  -- a row that is not of this level, and does not come after it, comes before it
   ahead : (r : LevelRow) → row_before n r ≡ false → row_at (level_of_row n) r ≡ false → row_before r n ≡ true
   ahead r h g = before-other (level_of_row n) (level_of_row r) h g
 

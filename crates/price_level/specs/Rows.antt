@@ -109,7 +109,7 @@ with_sums q count shown leaves rs = map (resummed q count shown leaves) rs
 
 -- ---- what is true of them
 
--- each element stands so to each one behind it
+-- each element stands so to each one after it
 abbrev pub Pairs : {X : Type 0} → (X → X → Type 0) → List X → Type 0
 Pairs R [] = Unit {0}
 Pairs R (x ∷ xs) = AllByRecursion (R x) xs × Pairs R xs

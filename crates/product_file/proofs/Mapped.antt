@@ -40,7 +40,7 @@ module _ {A B C : Type 0} (g : B → C) (f : A → B) (xs : List A) (i : ℕ) (x
   pub take-mapped_twice : take (i + 1) (map g (map f xs)) ≡ take i (map g (map f xs)) ++ g (f x) ∷ []
   take-mapped_twice = take-mapped g (map f xs) i (f x) (within f xs i x h is) (sym (same f xs i x h is))
 
-  -- a test of all from an element on is that of the element and of all behind it
+  -- a test of all from an element on is that of the element and of all after it
   pub all-mapped_twice : (p : C → Bool) → list_all p (drop i (map g (map f xs))) ≡ (p (g (f x)) && list_all p (drop (i + 1) (map g (map f xs))))
   all-mapped_twice p = ap (list_all p) drop-mapped_twice
 

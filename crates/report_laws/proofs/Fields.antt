@@ -17,7 +17,7 @@ pub record IsTag (tag : String) (n : ℕ) : Type 0 where
   pub plain : list_any is_soh (codes tag) ≡ false
   pub reads : (value : List ℕ) → field_of (codes tag ++ 61 ∷ value) ≡ at n value
 
--- these bytes are these fields, whatever stands behind them
+-- these bytes are these fields, whatever stands after them
 pub record AreFields (bytes : List ℕ) (fields : List Field) : Type 0 where
   pub few : length bytes ≤ length fields * 80
   pub read : (rest : List ℕ) → fields_of (bytes ++ rest) ≡ fields ++ fields_of rest

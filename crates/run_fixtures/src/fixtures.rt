@@ -14,7 +14,7 @@ pub fn bytes_of(alloc: Global, text: &str) -> Result<Vec<u8>, AllocError> {
         .collect(alloc)
 }
 
-/// The bytes of these texts, one behind the other.
+/// The bytes of these texts, one after the other.
 pub fn join(alloc: Global, texts: &[&str]) -> Result<Vec<u8>, AllocError> {
     let mut bytes = Vec::new(alloc);
     for text in texts {
@@ -36,7 +36,7 @@ pub fn push_frame(alloc: Global, bytes: &mut Vec<u8>, body: &str) -> Result<(), 
     bytes.extend_from_slice(bytes_of(alloc, trailer.as_str())?.as_slice())
 }
 
-/// The frames of these bodies, one behind the other.
+/// The frames of these bodies, one after the other.
 pub fn frames_of(alloc: Global, bodies: &[&str]) -> Result<Vec<u8>, AllocError> {
     let mut bytes = Vec::new(alloc);
     for body in bodies {

@@ -164,7 +164,7 @@ fn expect_book(rt: &(impl Abort + AllocGlobal), text: &str, journal: &[u8], book
     expect_left(rt, text, "book", journal, done, book.as_bytes());
 }
 
-/// An order that was TOP is not TOP behind a product without the step, and is not again if the step comes back. Behind a product with the
+/// An order that was TOP is not TOP after a product without the step, and is not again if the step comes back. After a product with the
 /// step it stays TOP.
 #[test]
 fn top_ends(rt: HostRuntime) {

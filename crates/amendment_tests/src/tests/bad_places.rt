@@ -54,7 +54,7 @@ const ENTRIES: &str = "#1 entered 3 filled 0 open 3 cancelled 0
 #2 entered 1 filled 0 open 1 cancelled 0
 ";
 
-/// The commands that read each record answer 10 at this place, behind the lines of the sells.
+/// The commands that read each record answer 10 at this place, after the lines of the sells.
 fn expect_sells_sent(rt: &(impl Abort + AllocGlobal), text: &str, image: &[u8], at: usize) {
     let bad = ended(10, at as u64, 0);
     let reports = sells_again(rt);

@@ -200,7 +200,7 @@ fn expect_kept_after_a_crash(
     }
 }
 
-/// A run behind an amendment that crashes at a call keeps the buy or not, and always the amendment.
+/// A run after an amendment that crashes at a call keeps the buy or not, and always the amendment.
 #[test]
 fn crash_at_each_call_of_a_run_behind_an_amendment(rt: HostRuntime) {
     let mut station = station_of(&rt, amended_sells(&rt).as_slice());

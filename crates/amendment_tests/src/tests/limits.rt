@@ -20,7 +20,7 @@ fn roomy_station(rt: &(impl Abort + AllocGlobal), image: &[u8]) -> MemStation {
     MemStation::new(alloc, image, 140_000, 1_000, 1_000, Vec::new(alloc)).expect(rt, "memory")
 }
 
-/// A text with a comment of this sign behind it, so that it has so many bytes.
+/// A text with a comment of this sign after it, so that it has so many bytes.
 fn long_text(rt: &(impl Abort + AllocGlobal), text: &str, length: usize) -> String {
     let mut long = String::from_str(rt.alloc(), text).expect(rt, "memory");
     for _ in text.len()..length {

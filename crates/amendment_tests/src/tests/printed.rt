@@ -60,7 +60,7 @@ const LEDGER: &str = "#1 entered 30 filled 0 open 30 cancelled 0
 total entered 120 filled 80 open 40 cancelled 0
 ";
 
-/// The bytes that two stations sent, one behind the other.
+/// The bytes that two stations sent, one after the other.
 fn sent_by_both(rt: &(impl Abort + AllocGlobal), one: &MemStation, other: &MemStation) -> Vec<u8> {
     let mut sent = one.output().to_vec(rt.alloc()).expect(rt, "memory");
     push(rt, &mut sent, other.output());

@@ -69,7 +69,7 @@ const BAD_HEAD: &[u8] = b"\x01X\x00\x00\x00\x01x\x00";
 /// A record of messages which is no frame.
 const BAD_RECORD: &[u8] = b"\x01M\x00\x00\x00\x05hello\x00";
 
-/// A bad head is told before a product that may not follow, whatever the version; a record that is not good behind it.
+/// A bad head is told before a product that may not follow, whatever the version; a record that is not good after it.
 #[test]
 fn heads_before_products_before_records(rt: HostRuntime) {
     let sells = journal_of_sells(&rt);
@@ -91,7 +91,7 @@ fn heads_before_products_before_records(rt: HostRuntime) {
 /// A text of 8 bytes that gives no product.
 const NO_PRODUCT: &[u8] = b"firms=[]";
 
-/// A journal whose header has that text, with this digit of the version and these bytes behind the header.
+/// A journal whose header has that text, with this digit of the version and these bytes after the header.
 fn without_product(rt: &(impl Abort + AllocGlobal), version: u8, end: &[u8]) -> Vec<u8> {
     let mut bytes = b"\x01GXJOURN".to_vec(rt.alloc()).expect(rt, "memory");
     push(rt, &mut bytes, &[version, 0, 0, 0, 8]);
@@ -100,7 +100,7 @@ fn without_product(rt: &(impl Abort + AllocGlobal), version: u8, end: &[u8]) -> 
     bytes
 }
 
-/// The header's text gives no product: 10 at 9, in both versions, behind a bad head, and before anything of the product handed in. That of
+/// The header's text gives no product: 10 at 9, in both versions, after a bad head, and before anything of the product handed in. That of
 /// an amendment is told at its gate.
 #[test]
 fn last_text_without_a_product(rt: HostRuntime) {
@@ -117,7 +117,7 @@ fn last_text_without_a_product(rt: HostRuntime) {
     expect_refused(&rt, OTHER_TICK, bad.as_slice(), 10, 390);
 }
 
-/// Of the header's text alone nobody asks for a product who begins with the last image: behind an amendment it is not seen.
+/// Of the header's text alone nobody asks for a product who begins with the last image: after an amendment it is not seen.
 #[test]
 fn header_without_a_product(rt: HostRuntime) {
     let journal = journal_of_sells(&rt);

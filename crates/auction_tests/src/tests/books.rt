@@ -57,7 +57,7 @@ fn equal_prices(rt: HostRuntime) {
     expect_opening(&rt, b"", &EQUALS, EQUAL_PRICES);
 }
 
-/// 7 lots are bought. The first sell shows 5, is refreshed after these, and goes behind the other one: 15 and 4 are left.
+/// 7 lots are bought. The first sell shows 5, is refreshed after these, and goes after the other one: 15 and 4 are left.
 const HIDDEN_SELLS: [&str; 3] = [
     sell!("AAA", "a1", 20, "100.00", "59=0|210=5|"),
     sell!("BBB", "b1", 6, "100.00"),

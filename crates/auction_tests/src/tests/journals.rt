@@ -51,7 +51,7 @@ fn checkpoints(rt: HostRuntime) {
 /// A buy of a firm that comes later.
 const NEW_FIRM: [&str; 1] = [buy!("EEE", "e1", 3, "100.06")];
 
-/// Its order is collected behind an amendment that adds it: with a run after the amendment, and with an image after both.
+/// Its order is collected after an amendment that adds it: with a run after the amendment, and with an image after both.
 #[test]
 fn amendments(rt: HostRuntime) {
     let five = five_firms(&rt);

@@ -61,7 +61,7 @@ const TIED: [&str; 4] = [
     sell!("DDD", "d1", 2, "100.04"),
 ];
 
-/// Behind these messages, which use two numbers, the three would open at this price.
+/// After these messages, which use two numbers, the three would open at this price.
 fn expect_tied(rt: &(impl Abort + AllocGlobal), before: &[&str], price: &str) {
     let candidates = "ESZ4\n100.08 D 6 S 8 V 6\n100.04 D 6 S 8 V 6\n100.00 D 8 S 6 V 6";
     let opening = format!(in rt.alloc();

@@ -142,7 +142,7 @@ pub record IsAsMade (old new : Book) : Type 0 where
 
 -- ---- the order of the book
 
--- it does not go back behind the last order, if there is one
+-- it does not go back after the last order, if there is one
 abbrev pub is_behind : Option Order → Order → Bool
 is_behind None o = true
 is_behind (Some last) o = not (is_before (level_of o) (level_of last))
@@ -166,13 +166,13 @@ best_buy_with best o = if is_side o.side Buy && not (is_of_instrument o.instrume
 abbrev pub front_with : Front → Order → Front
 front_with front o = record { last = Some o; best_buy = best_buy_with front.best_buy o }
 
--- a buy order, which is not behind the last one
+-- a buy order, which is not after the last one
 abbrev pub IsBestOf : Option Order → Option Order → Type 0
 IsBestOf last None = Unit {0}
 IsBestOf None (Some best) = ⊥
 IsBestOf (Some last) (Some best) = (is_side best.side Buy ≡ true) × (is_before (level_of last) (level_of best) ≡ false)
 
--- the front tells of each order whether it may come behind these
+-- the front tells of each order whether it may come after these
 pub record IsFrontOf (orders : List Order) (front : Front) : Type 0 where
   pub behind : (o : Order) → is_in_book_order o orders ≡ is_behind front.last o
   pub clear : (o : Order) → is_behind front.last o ≡ true → is_uncrossed o orders ≡ is_clear_of front.best_buy o

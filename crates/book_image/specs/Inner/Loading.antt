@@ -47,7 +47,7 @@ pub record AreRightWaiting (instruments : ℕ) (resting : List Entry) (f : ℕ �
 
 -- ---- levels
 
--- the orders before an end stand at levels before those of the orders behind it
+-- the orders before an end stand at levels before those of the orders after it
 abbrev pub IsLevelEnd : (ℕ → Order) → ℕ → ℕ → Type 0
 IsLevelEnd f end count = (i k : ℕ) → i < end → end ≤ k → k < count → is_before (level_of (f i)) (level_of (f k)) ≡ true
 

@@ -1,4 +1,4 @@
--- What a call writes behind the first bytes of a room.
+-- What a call writes after the first bytes of a room.
 use Rattle.std.specs.Prelude.{◌≡◌, ℕ, ◌+◌, ◌*◌, List, [], ◌∷◌, ◌++◌, flat_map, length, take}
 use Rattle.gx_base.specs.declared.order.Order.{Order}
 use Rattle.plain_book.specs.declared.entry.Entry.{Entry}
@@ -6,7 +6,7 @@ use Rattle.book_image.specs.declared.format.TheConstants.{ROW_BYTES}
 use Rattle.book_image.specs.Rows.{padded, side_byte, order_kind_byte, life_byte}
 use Rattle.book_image.specs.Image.{entry_row}
 
--- Behind the first bytes, up to a place, these were written: so many, up to their end. The room is as large as before.
+-- After the first bytes, up to a place, these were written: so many, up to their end. The room is as large as before.
 pub record Appends (old new : List ℕ) (place end count : ℕ) (bytes : List ℕ) : Type 0 where
   pub written : take end new ≡ take place old ++ bytes
   pub ends : end ≡ place + count

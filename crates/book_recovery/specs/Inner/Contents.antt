@@ -1,4 +1,4 @@
--- Reading what a record holds, behind some messages that are counted.
+-- Reading what a record holds, after some messages that are counted.
 use Rattle.std.specs.Prelude.{◌≡◌, ℕ, ◌+◌, true, List, [], length, Option, Some, None, Result, Ok, Err}
 use Rattle.fix_frame.specs.Stream.{messages_of}
 use Rattle.product_file.specs.Products.{ProductLists}
@@ -11,7 +11,7 @@ use Rattle.book_recovery.specs.Records.{is_image_kind, image_in, image_kind, Has
 use Rattle.book_recovery.specs.declared.recovery.RecoverFault.{RecoverFault}
 use Rattle.book_recovery.specs.declared.recovery.RecoverFault.TheVariants as fault
 
--- the count behind a record: frames add theirs, and the state of an image says it
+-- the count after a record: frames add theirs, and the state of an image says it
 abbrev pub CountsBehind : ℕ → EntryKind → List (List ℕ) → State → ℕ → Type 0
 CountsBehind count Frames given core behind = behind ≡ count + length given
 CountsBehind count OldImage given core behind = (given ≡ []) × (behind ≡ core.desk.messages)
@@ -24,7 +24,7 @@ ReadsFrames count payload gate given (Ok behind) = AreGoodFrames count payload �
 ReadsFrames count payload gate given (Err fault.Store) = Unit {0}
 ReadsFrames count payload gate given (Err (fault.Bad at)) = (AreGoodFrames count payload → ⊥) × (at ≡ gate)
 
--- The payload is good; these are its messages, and so many are counted behind it. An image is that of the core.
+-- The payload is good; these are its messages, and so many are counted after it. An image is that of the core.
 pub record IsContent (product : ProductLists) (count : ℕ) (kind : EntryKind) (payload : List ℕ) (given : List (List ℕ)) (core : State) (behind : ℕ) : Type 0 where
   pub good : IsGoodAs product count kind payload
   pub given_are : given ≡ messages_as kind payload

@@ -22,7 +22,7 @@ abbrev pub FollowsLast : List ProductLists → ProductLists → Type 0
 FollowsLast [] product = Unit {0}
 FollowsLast (first ∷ later) product = may_follow (last_of first later) product ≡ Ok tt
 
--- the text gives a product that may follow the last one, and it stands behind that now
+-- the text gives a product that may follow the last one, and it stands after that now
 pub record IsKept (text : List ℕ) (old new : List ProductLists) : Type 0 where
   pub product : ProductLists
   pub gives : product_of text ≡ Ok product

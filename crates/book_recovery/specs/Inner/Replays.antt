@@ -38,7 +38,7 @@ ReadsImage kind product payload new gate (Ok t) = IsImageRead kind product paylo
 ReadsImage kind product payload new gate (Err fault.Store) = Unit {0}
 ReadsImage kind product payload new gate (Err (fault.Bad at)) = (HasRightImage kind product payload → ⊥) × (at ≡ gate)
 
--- The record is good behind so many messages, and the state is the one behind it; where it is frames, only if order numbers differed.
+-- The record is good after so many messages, and the state is the one after it; where it is frames, only if order numbers differed.
 pub record IsReplayed (product : ProductLists) (old new : State) (r : Record) : Type 0 where
   pub good : IsGoodRecord product old.desk.messages r
   pub messages : new.desk.messages ≡ count_behind old.desk.messages r

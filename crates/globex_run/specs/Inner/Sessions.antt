@@ -73,7 +73,7 @@ module _ {S : Type 0} (m : StationMeanings S) (limit : ℕ) (head : Header) wher
     pub is_state : IfOk result (λ journal. IsStateAfter kept state)
     pub bytes : ReadsAtMost (most_read records) (m.bytes_read old) (m.bytes_read new)
 
-  -- The journal of an image that keeps these records was opened, good or true or not: nothing is pending behind them, and those from the
+  -- The journal of an image that keeps these records was opened, good or true or not: nothing is pending after them, and those from the
   -- last book image on are counted.
   pub record RestsBehind (new : S) (image : List ℕ) (records : List Record) (state : State) (journal : Standing) : Type 0 where
     pub at_end : RestsAtEnd m head limit records journal.gate (max (length image) MOST_UNFINISHED) new
@@ -146,7 +146,7 @@ module _ {I S : Type 0} (m : StationMeanings S) (line : LineText) (product : Pro
     pub is_state : IsDone ending → then ≡ state_after product (state_kept kept) (messages_in added)
     pub published : IsDone ending → Published (events_from product (state_kept kept) (messages_in added))
 
-  -- Behind an image that keeps these records, good or true or not, some were added, and the next message has no room behind them, or
+  -- After an image that keeps these records, good or true or not, some were added, and the next message has no room after them, or
   -- cannot be counted.
   pub record IsFullBehind (records : List Record) (taken : List ℕ) (place count : ℕ) : Type 0 where
     pub added : List Record

@@ -37,7 +37,7 @@ fn framer_of_orders(rt: &(impl Abort + AllocGlobal)) -> Framer {
     framer
 }
 
-/// The lines of the five acceptances, and these fills behind them.
+/// The lines of the five acceptances, and these fills after them.
 fn expected_lines(rt: &(impl Abort + AllocGlobal), fills: &[&str]) -> Vec<u8> {
     let mut lines = frames_of(rt.alloc(), &ACCEPTED).expect(rt, "memory");
     let fills = frames_of(rt.alloc(), fills).expect(rt, "memory");
@@ -61,7 +61,7 @@ fn expect_lines(rt: &(impl Abort + AllocGlobal), name: &str, product: &Product, 
     expect_bytes(rt, name, log.bytes(), lines);
 }
 
-/// Applies the orders under this product, and looks for these fills behind the five acceptances.
+/// Applies the orders under this product, and looks for these fills after the five acceptances.
 fn expect_fills(rt: &(impl Abort + AllocGlobal), name: &str, product: &str, fills: &[&str]) {
     let product = read_product(rt.alloc(), product.as_bytes()).expect(rt, "a product");
     let lines = expected_lines(rt, fills);

@@ -18,7 +18,7 @@ pub(super) const IMAGE_HEAD: &[u8] = b"\x01D\x00\x00\x02\x9C";
 /// A gate and the head of an old image, of 667 bytes.
 const OLD_HEAD: &[u8] = b"\x01C\x00\x00\x02\x9B";
 
-/// The bytes of the journal of `ONE_ORDER` over the usual product, with the image of it behind them.
+/// The bytes of the journal of `ONE_ORDER` over the usual product, with the image of it after them.
 fn journal_with_image(rt: &(impl Abort + AllocGlobal), journal: &[u8]) -> Vec<u8> {
     let payload = one_order_image(rt);
     let front = front_of(rt, journal, 376);
@@ -63,7 +63,7 @@ fn expect_whole_run(rt: &(impl Abort + AllocGlobal), first: &[u8], third: &[u8])
     expect_sent(rt, "run", &all, b"", ended(0, 0, 3), sent.as_slice());
 }
 
-/// The reports of a message behind an image are those that the same message has in a run of all of them.
+/// The reports of a message after an image are those that the same message has in a run of all of them.
 #[test]
 fn run_behind_an_image(rt: HostRuntime) {
     let first = image_behind(&rt, "run", &ONE_ORDER, b"");
@@ -111,7 +111,7 @@ pub(super) fn expect_no_difference(
     expect(rt, "the end", ends);
 }
 
-/// An image of an empty book, two in a row, and two with messages between them and behind them.
+/// An image of an empty book, two in a row, and two with messages between them and after them.
 const SESSION: [Step; 17] = [
     ("checkpoint", &[], 0),
     ("book", &[], 0),
@@ -293,7 +293,7 @@ fn expect_hidden_record(
     expect_all_lines_before(rt, image, first_bad);
 }
 
-/// The first bytes of an image and of a record behind it, with a closed gate before the record.
+/// The first bytes of an image and of a record after it, with a closed gate before the record.
 fn with_closed_gate(rt: &(impl Abort + AllocGlobal), longer: &[u8], length: usize) -> Vec<u8> {
     let mut bytes = front_of(rt, longer, length)
         .to_vec(rt.alloc())
@@ -303,7 +303,7 @@ fn with_closed_gate(rt: &(impl Abort + AllocGlobal), longer: &[u8], length: usiz
     bytes
 }
 
-/// Of an image and a record behind it only the first bytes are left: behind an open gate the head of the record is bad, and a closed gate
+/// Of an image and a record after it only the first bytes are left: after an open gate the head of the record is bad, and a closed gate
 /// hides it. So it is in a journal of either version.
 fn expect_cut(rt: &(impl Abort + AllocGlobal), image: &[u8], longer: &[u8], length: usize) {
     let cut = front_of(rt, longer, length);
@@ -314,7 +314,7 @@ fn expect_cut(rt: &(impl Abort + AllocGlobal), image: &[u8], longer: &[u8], leng
     expect_all_like(rt, hidden.as_slice(), image);
 }
 
-/// A record behind an image that is cut behind so many of its bytes: a closed gate hides it, and behind an open one it is bad.
+/// A record after an image that is cut after so many of its bytes: a closed gate hides it, and after an open one it is bad.
 #[test]
 fn cut_behind_an_image(rt: HostRuntime) {
     let first = image_behind(&rt, "run", &ONE_ORDER, b"");
@@ -366,7 +366,7 @@ fn push_record(rt: &impl Abort, bytes: &mut Vec<u8>, record: Added) {
     }
 }
 
-/// A journal's first bytes, these records behind them, and a closed gate.
+/// A journal's first bytes, these records after them, and a closed gate.
 fn with_records(rt: &(impl Abort + AllocGlobal), front: &[u8], records: &[Added]) -> Vec<u8> {
     let mut bytes = front.to_vec(rt.alloc()).expect(rt, "memory");
     for record in records {
@@ -376,7 +376,7 @@ fn with_records(rt: &(impl Abort + AllocGlobal), front: &[u8], records: &[Added]
     bytes
 }
 
-/// Behind these first bytes of a journal the records are refused: by the commands that begin with the last image at one place, and
+/// After these first bytes of a journal the records are refused: by the commands that begin with the last image at one place, and
 /// by those that read each record at another.
 fn expect_bad(
     rt: &(impl Abort + AllocGlobal),
@@ -389,7 +389,7 @@ fn expect_bad(
     expect_bad_record(rt, image.as_slice(), bad, first_bad);
 }
 
-/// Behind these first bytes of a journal the last record is a right image of `ONE_ORDER`, and one before it is bad.
+/// After these first bytes of a journal the last record is a right image of `ONE_ORDER`, and one before it is bad.
 fn expect_hidden(
     rt: &(impl Abort + AllocGlobal),
     front: &[u8],
@@ -450,7 +450,7 @@ fn bad_records(rt: HostRuntime) {
     expect_bad(&rt, first, &[Added::Image(10, 0)], 414, 414);
 }
 
-/// A bad record behind another one: which of them the commands meet.
+/// A bad record after another one: which of them the commands meet.
 #[test]
 fn bad_records_behind_others(rt: HostRuntime) {
     let first = open_journal(&rt);
@@ -478,7 +478,7 @@ fn bad_records_behind_others(rt: HostRuntime) {
     expect_all_refused(&rt, first_version.as_slice(), 1_088);
 }
 
-/// A right image behind a bad record: only the commands that read each record meet that.
+/// A right image after a bad record: only the commands that read each record meet that.
 #[test]
 fn images_behind_bad_records(rt: HostRuntime) {
     let first = open_journal(&rt);
@@ -525,7 +525,7 @@ fn expect_image_added(rt: &(impl Abort + AllocGlobal), image: &[u8]) {
     expect_bytes(rt, "checkpoint", behind.as_slice(), want.as_slice());
 }
 
-/// With these records behind its first bytes a journal goes on as the one of now.
+/// With these records after its first bytes a journal goes on as the one of now.
 fn expect_going_on(rt: &(impl Abort + AllocGlobal), front: &[u8], records: &[Added], now: &[u8]) {
     let image = with_records(rt, front, records);
     expect_all_like(rt, image.as_slice(), now);
@@ -580,7 +580,7 @@ fn journals_of_before(rt: HostRuntime) {
     expect_all_going_on(&rt, front.as_slice());
 }
 
-/// The journal of `ONE_ORDER` with an image behind which two more messages can be counted.
+/// The journal of `ONE_ORDER` with an image after which two more messages can be counted.
 fn nearly_full(rt: &(impl Abort + AllocGlobal)) -> Vec<u8> {
     let front = open_journal(rt);
     let mut payload = one_order_image(rt);
@@ -608,7 +608,7 @@ fn expect_ended(
     expect_outcome(rt, line, got, outcome);
 }
 
-/// A record of a third message behind this image is bad.
+/// A record of a third message after this image is bad.
 fn expect_bad_third(rt: &(impl Abort + AllocGlobal), full: &[u8]) {
     let frame = frames_of(rt.alloc(), &[THIRD_ORDER]).expect(rt, "memory");
     let front = front_of(rt, full, LATER_GATE + 226);
@@ -616,7 +616,7 @@ fn expect_bad_third(rt: &(impl Abort + AllocGlobal), full: &[u8]) {
     expect_bad_record(rt, over.as_slice(), 1_314, 1_314);
 }
 
-/// Over an image behind which two more messages can be counted a run of three keeps two of them, and a record of a third is bad.
+/// Over an image after which two more messages can be counted a run of three keeps two of them, and a record of a third is bad.
 #[test]
 fn last_messages_that_are_counted(rt: HostRuntime) {
     let image = nearly_full(&rt);

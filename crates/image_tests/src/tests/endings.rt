@@ -158,7 +158,7 @@ fn no_room_for_an_image(rt: HostRuntime) {
     expect_bytes(&rt, "checkpoint", station.image(), before.as_slice());
 }
 
-/// A journal keeps the messages of `ONE_ORDER`, whose reports these are, and the next message is answered behind them.
+/// A journal keeps the messages of `ONE_ORDER`, whose reports these are, and the next message is answered after them.
 fn expect_kept(rt: &(impl Abort + AllocGlobal), image: &[u8], reports: &[u8]) {
     expect_sent(rt, "replay", &[], image, ended(0, 0, 2), reports);
     expect_third_reports(rt, image);

@@ -63,7 +63,7 @@ const ONE_ORDER_IMAGE: [(usize, u8); 25] = [
     (667, 1),
 ];
 
-/// Two instruments, of which the first has a TOP step, behind the number of orders that may be live.
+/// Two instruments, of which the first has a TOP step, after the number of orders that may be live.
 const TWO_INSTRUMENTS: &str = product_text!(
     name: "ESZ4",
     tick: 25,

@@ -248,7 +248,7 @@ fn expect_limit(
 }
 
 /// Two heartbeats of the longest body share a record, and the last heartbeat stands in one record with the two orders, as far as
-/// each has room in a record of its own behind those before it.
+/// each has room in a record of its own after those before it.
 #[test]
 fn journal_limit(rt: HostRuntime) {
     expect_limit(&rt, 1730, ended(0, 0, 35), &REPORTS, 131_066);

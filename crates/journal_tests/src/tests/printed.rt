@@ -14,7 +14,7 @@ fn with_texts(rt: &(impl Abort + AllocGlobal), bytes: &[u8], texts: &[&str]) -> 
     image_of(rt, &[bytes, texts.as_slice()])
 }
 
-/// Executes a command over a station: it reads these frames, its outcome counts so many messages, and it sends these texts behind what
+/// Executes a command over a station: it reads these frames, its outcome counts so many messages, and it sends these texts after what
 /// was sent.
 fn expect_step(
     rt: &(impl Abort + AllocGlobal),

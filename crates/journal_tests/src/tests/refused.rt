@@ -102,7 +102,7 @@ fn expect_bad(rt: &(impl Abort + AllocGlobal), image: &[u8], at: u64, is_read: b
     expect_left(rt, "steps", image, ended(0, 0, 0), &[STEPS]);
 }
 
-/// A payload that is no frame, a head with too great a length, and one behind the other, after a record of both orders. Each command
+/// A payload that is no frame, a head with too great a length, and one after the other, after a record of both orders. Each command
 /// meets a bad head before a bad payload.
 #[test]
 fn bad_records_behind_a_good_one(rt: HostRuntime) {
@@ -136,7 +136,7 @@ fn expect_run_refused(rt: &(impl Abort + AllocGlobal), records: &[&[u8]], place:
     expect_left(rt, "run", image.as_slice(), ended(10, place, 0), &[]);
 }
 
-/// Records that a run refuses: one longer than the image, one whose last frame is cut, and behind a good one an image of one byte.
+/// Records that a run refuses: one longer than the image, one whose last frame is cut, and after a good one an image of one byte.
 #[test]
 fn bad_records(rt: HostRuntime) {
     expect_run_refused(&rt, &[b"\x01M\x00\x00\x00\x64"], 149);

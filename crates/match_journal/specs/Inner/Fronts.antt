@@ -73,7 +73,7 @@ abbrev pub FrontAnswers : List ℕ → Result Class StartFault → Type 0
 FrontAnswers image (Ok c) = IsFront image c
 FrontAnswers image (Err e) = IsFrontFault image e
 
--- ---- and the gate behind the text
+-- ---- and the gate after the text
 
 abbrev pub has_closed_end : List ℕ → Class → Type 0
 has_closed_end image class.Empty = Unit {0}
@@ -253,7 +253,7 @@ is_sealed (class.Open version size) = false
 
 -- ---- a creation
 
--- the first gate is closed, and what stands behind it means nothing yet
+-- the first gate is closed, and what stands after it means nothing yet
 pub record IsClosed (image : List ℕ) : Type 0 where
   pub rest : List ℕ
   pub is : image ≡ 0 ∷ rest

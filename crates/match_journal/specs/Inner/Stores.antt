@@ -1,4 +1,4 @@
--- Bytes on their way to an image, in one write or in several that stand one behind the other.
+-- Bytes on their way to an image, in one write or in several that stand one after the other.
 use Rattle.std.specs.Prelude.{◌≡◌, ℕ, ◌+◌, ◌≤◌, List, [], ◌∷◌, ◌++◌, length, option_map, Some, Result, OnOk}
 use Rattle.std.specs.Int.{w32, to_be_bytes}
 use Rattle.gx_station.specs.Disk.{Torn, written}
@@ -9,7 +9,7 @@ use Rattle.gx_station.specs.StoreCalls.{OnStore}
 use Rattle.match_journal.specs.Steps.{Steps}
 use Rattle.match_journal.specs.Journal.{Record, kind_byte}
 
--- what is written of a record behind its closed gate: its kind, its length, its payload, and the next gate, closed
+-- what is written of a record after its closed gate: its kind, its length, its payload, and the next gate, closed
 abbrev pub staged : Record → List ℕ
 staged r = kind_byte r.kind ∷ (to_be_bytes w32 (length r.payload) ++ (r.payload ++ 0 ∷ []))
 

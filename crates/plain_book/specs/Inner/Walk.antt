@@ -1,4 +1,4 @@
--- How far a walk along a level goes: the orders that it refreshes stand behind those that it has still to meet.
+-- How far a walk along a level goes: the orders that it refreshes stand after those that it has still to meet.
 use Rattle.std.specs.Prelude.{ℕ, Bool, ◌&&◌, ◌==◌, nat_lt, if◌then◌else◌, Option, Some, None, is_none}
 use Rattle.gx_base.specs.declared.order.Order.{Order}
 use Rattle.plain_book.specs.Orders.{is_slot_in}

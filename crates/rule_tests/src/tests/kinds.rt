@@ -2,14 +2,14 @@
 use super::expect_reports;
 use run_fixtures::{PRODUCT, product_text};
 
-/// A sell of 100 that shows 10, one of 20 behind it, and a buy of 45.
+/// A sell of 100 that shows 10, one of 20 after it, and a buy of 45.
 const DISPLAY: [&str; 3] = [
     "35=D|49=AAA|56=GX|34=1|52=20240102-09:30:01|11=a1|55=ESZ4|54=2|38=100|40=2|44=100.00|59=0|210=10|",
     "35=D|49=AAA|56=GX|34=2|52=20240102-09:30:02|11=a2|55=ESZ4|54=2|38=20|40=2|44=100.00|59=0|",
     "35=D|49=BBB|56=GX|34=1|52=20240102-09:30:03|11=b1|55=ESZ4|54=1|38=45|40=2|44=100.00|59=0|",
 ];
 
-/// The refreshed order stands behind the other, and is refreshed twice more.
+/// The refreshed order stands after the other, and is refreshed twice more.
 const DISPLAY_REPORTS: [&str; 11] = [
     "35=8|34=1|49=GX|52=20240102-09:30:01|56=AAA|37=1|11=a1|17=1|20=0|150=0|39=0|55=ESZ4|54=2|38=100|40=2|44=100.00|59=0|151=100|14=0|6=0|60=20240102-09:30:01|9003=0|",
     "35=8|34=2|49=GX|52=20240102-09:30:02|56=AAA|37=2|11=a2|17=2|20=0|150=0|39=0|55=ESZ4|54=2|38=20|40=2|44=100.00|59=0|151=20|14=0|6=0|60=20240102-09:30:02|9003=0|",

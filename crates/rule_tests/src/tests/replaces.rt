@@ -13,7 +13,7 @@ const PLACE: [&str; 7] = [
     "35=D|49=CCC|56=GX|34=1|52=20240102-09:30:07|11=c1|55=ESZ4|54=1|38=11|40=2|44=100.00|59=0|",
 ];
 
-/// The lowered order keeps its place before the other, and the raised one stands behind it.
+/// The lowered order keeps its place before the other, and the raised one stands after it.
 const PLACE_REPORTS: [&str; 13] = [
     "35=8|34=1|49=GX|52=20240102-09:30:01|56=AAA|37=1|11=a1|17=1|20=0|150=0|39=0|55=ESZ4|54=2|38=10|40=2|44=100.00|59=0|151=10|14=0|6=0|60=20240102-09:30:01|9003=0|",
     "35=8|34=1|49=GX|52=20240102-09:30:02|56=BBB|37=2|11=b1|17=2|20=0|150=0|39=0|55=ESZ4|54=2|38=10|40=2|44=100.00|59=0|151=10|14=0|6=0|60=20240102-09:30:02|9003=0|",

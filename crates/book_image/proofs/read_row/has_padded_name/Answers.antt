@@ -16,7 +16,7 @@ long n row l h = grind (arith, common_steps)
 past : (n : ℕ) → 14 + n - 14 ≡ n
 past n = omega arith
 
--- the zeros behind the id
+-- the zeros after the id
 filled : (n : ℕ) (row : List ℕ) → length row ≡ 82 → n ≤ 24 → take n (drop 14 row) ++ drop n (replicate 24 0) ≡ padded (take n (drop 14 row))
 filled n row l h =
     ap (λ (xs : List ℕ). take n (drop 14 row) ++ xs) (drop-replicate n 24 0 ∙ ap (λ (k : ℕ). replicate (24 - k) 0) (sym (long n row l h)))

@@ -1,22 +1,14 @@
-use Rattle.std.proofs.Common.{◌≡◌, ◌≢◌, ℕ, ◌+◌, ◌*◌, ◌%◌, ◌^◌, ◌<◌, suc, Bool, true, false, not, cond, eqb, List, [], ◌∷◌, length, map, take, replicate, Some, None, sym, ap, ◌∙◌, arith, w8}
+use Rattle.std.proofs.Common.{◌≡◌, ◌≢◌, ℕ, ◌%◌, ◌^◌, ◌<◌, Bool, cond, eqb, List, length, map, take, replicate, Some, None, sym, ap, ◌∙◌, arith, w8}
 use Rattle.std.proofs.lemmas.Bool.{lt-ltb}
 use Rattle.std.proofs.lemmas.Simd.{bitmask_splat, trailing_mask_l}
 use Rattle.std.proofs.lemmas.List.{take_all}
 use Rattle.std.specs.Int.Count.{count_trailing_zeros}
 use Rattle.std.specs.List.{position, position_or_len}
 use Rattle.std.specs.Simd.Lanes.{mask_l, zip2, top}
+use Rattle.gx_base.proofs.Marks.{inside}
 use Rattle.gx_base.proofs.bytes.find_in_sixteen.Goals as goal
 
-inside_by : (b : Bool) (rest at long : ℕ) → 0 < cond b 1 0 + 2 * rest → (0 < rest → at < long) → cond (not b) (1 + at) 0 < suc long
-inside_by true rest at long some later = omega arith
-inside_by false rest at long some later = omega (arith, later (omega arith))
-
--- where a bit of the mask is set, a byte passes
-inside : (test : ℕ → Bool) (bytes : List ℕ) → 0 < mask_l (map test bytes) → position_or_len test bytes < length bytes
-inside test [] some = absurd (omega arith)
-inside test (x ∷ bytes) some = inside_by (test x) _ _ _ some (inside test bytes)
-
--- then the lowest bit is where `position` finds the first
+-- where a bit is set, the lowest one is where `position` finds the first
 lowest_is_position : (test : ℕ → Bool) (bytes : List ℕ) → length bytes ≡ 16 → 0 < mask_l (map test bytes) → Some (count_trailing_zeros 64 (mask_l (map test bytes))) ≡ position test bytes
 lowest_is_position test bytes long some =
     ap Some (trailing_mask_l test 64 bytes (omega arith) some)

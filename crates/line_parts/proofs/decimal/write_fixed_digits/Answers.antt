@@ -3,7 +3,7 @@ use Rattle.std.proofs.lemmas.List.{drop-set, drop-set-add}
 use Rattle.gx_base.specs.Numbers.{fixed_digits}
 use Rattle.line_parts.proofs.decimal.write_fixed_digits.Goals as goal
 
--- two bytes that are written at k, and what stands behind them
+-- two bytes that are written at k, and what stands after them
 from_pair : (k tens ones : ℕ) (into : List ℕ) → k + 2 ≤ length into → drop k (set (set into k tens) (k + 1) ones) ≡ tens ∷ ones ∷ drop (suc (suc k)) into
 from_pair k tens ones into room =
     let here : k < length into = omega arith in

@@ -14,7 +14,7 @@ fold_zeros (suc k) n = let same : n + 0 ≡ n = omega arith in fold_zeros k (n +
 sum_then_zeros : (xs : List ℕ) (k : ℕ) → sum (xs ++ replicate k 0) ≡ sum xs
 sum_then_zeros xs k = fold-append ◌+◌ 0 xs (replicate k 0) ∙ fold_zeros k (sum xs)
 
--- the first bytes and some of the zeros behind them
+-- the first bytes and some of the zeros after them
 summed : (end whole : ℕ) (old new : List ℕ) → end ≤ length old → end ≤ whole → whole ≤ end + BLOCK → take (end + BLOCK) new ≡ take end old ++ replicate BLOCK 0 → checksum_of (take whole new) ≡ checksum_of (take end old)
 summed end whole old new fits from to is =
     let k : ℕ = whole - end in
