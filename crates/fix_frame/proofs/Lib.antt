@@ -7,3 +7,4 @@ mod Ends
 mod Framings
 mod GivenEnds
 mod Bodies
+mod AtHand

@@ -1,8 +1,10 @@
-//! A scan of the bytes held, which goes on where it stopped. That it scans no byte twice is no claim of the proof.
+//! A scan of the bytes held. It reads a frame that is at hand whole in one pass, and else goes by parts, from where it stopped.
+//! That it scans few bytes twice is no claim of the proof.
 ghost use Rattle.std.specs.Prelude.{◌≡◌, ◌+◌, ◌%◌, ◌^◌, ◌↔◌, ◌<◌, ◌≤◌, [], length, take, IsTrue};
 ghost use Rattle.fix_frame.specs.Scans.{InBegin, InBody, InTrailer, IsAt, IsOpen, IsPart, IsScanOf, GivesFront};
 
 use crate::place::{BEGIN, Place, after_begin, after_body, after_length, after_trailer};
+use crate::whole::whole_frame;
 use line_parts::{TRAILER_LENGTH, checksum};
 
 /// What some bytes begin with.
@@ -46,6 +48,14 @@ impl Scan {
         ensures scan { IsScanOf self.new held.now }
         ensures front { GivesFront held.now result }
     {
+        // Most frames are at hand whole when the first of their bytes is looked at.
+        if self.count == 0 {
+            if let Some(length) = whole_frame(held) {
+                self.count = length;
+                self.place = Place::Whole;
+                return Front::Frame(length);
+            }
+        }
         while self.count < held.len() && self.is_open() {
             self.advance(held);
         }
@@ -98,7 +108,7 @@ impl Scan {
         self.checksum = self.checksum.wrapping_add(sum);
     }
 
-    /// Scans the bytes of the begin string that are there, behind so many that were scanned.
+    /// Scans the bytes of the begin string that are there, after so many that were scanned.
     #[inline]
     fn pass_begin(&mut self, held: &[u8], count: usize)
         requires more { self.old.count < length held.now }
@@ -122,7 +132,7 @@ impl Scan {
         self.pass(part.len(), checksum(part), after_body(left, part));
     }
 
-    /// Scans the bytes of the trailer that are there, behind so many that were scanned.
+    /// Scans the bytes of the trailer that are there, after so many that were scanned.
     #[inline]
     fn pass_trailer(&mut self, held: &[u8], count: usize)
         requires more { self.old.count < length held.now }
