@@ -12,7 +12,7 @@ use line_parts::{TRAILER_LENGTH, checksum, trailer_with};
 pub fn whole_frame(held: &[u8]) -> Option<usize>
     ensures { IfSome result (λ n. (n ≤ length held.now) × IsFrame (take n held.now)) }
 {
-    if held.len() < 16 || held[..12] != BEGIN[..] {
+    if held.len() < 16 || !held.starts_with(BEGIN) {
         return None;
     }
     let digits = if held[14] == SOH { 2 } else { 3 };
@@ -30,7 +30,7 @@ pub fn whole_frame(held: &[u8]) -> Option<usize>
         return None;
     }
     let trailer = trailer_with(checksum(&held[..end]));
-    if held[end..end + TRAILER_LENGTH] != trailer[..] {
+    if !held[end..].starts_with(&trailer) {
         return None;
     }
     Some(end + TRAILER_LENGTH)
