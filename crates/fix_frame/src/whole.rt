@@ -1,9 +1,10 @@
 //! A frame that is at hand whole, in one pass.
 ghost use Rattle.std.specs.Prelude.{◌≤◌, length, take, IfSome};
 ghost use Rattle.fix_frame.specs.Grammar.{IsFrame};
+ghost use Rattle.fix_frame.specs.Scans.{IsLengthText};
 
-use crate::place::{BEGIN, LONGEST_BODY};
-use gx_base::{SOH, are_digits, read_digits};
+use crate::place::BEGIN;
+use gx_base::SOH;
 use line_parts::{TRAILER_LENGTH, checksum, trailer_with};
 
 /// The length of the frame with which the bytes held begin, where all of it is there and its body has 10 to 999 bytes. `None`
@@ -16,14 +17,12 @@ pub fn whole_frame(held: &[u8]) -> Option<usize>
         return None;
     }
     let digits = if held[14] == SOH { 2 } else { 3 };
-    let text = &held[12..12 + digits];
-    if held[12 + digits] != SOH || !are_digits(text) {
+    if held[12 + digits] != SOH {
         return None;
     }
-    let count = read_digits(text) as usize;
-    let start = 13 + digits;
-    let end = start + count;
-    if count == 0 || count > LONGEST_BODY || held.len() < end + TRAILER_LENGTH {
+    let count = read_length(&held[12..12 + digits])?;
+    let end = 13 + digits + count;
+    if count == 0 || held.len() < end + TRAILER_LENGTH {
         return None;
     }
     if held[end - 1] != SOH {
@@ -34,4 +33,20 @@ pub fn whole_frame(held: &[u8]) -> Option<usize>
         return None;
     }
     Some(end + TRAILER_LENGTH)
+}
+
+/// The number that at most three digits write. `None` where a byte is no digit.
+#[inline]
+fn read_length(text: &[u8]) -> Option<usize>
+    requires { length text.now ≤ 3 }
+    ensures { IfSome result (λ n. IsLengthText text.now n) }
+{
+    let mut number = 0;
+    for byte in text {
+        if !byte.is_ascii_digit() {
+            return None;
+        }
+        number = number * 10 + (*byte - b'0') as usize;
+    }
+    Some(number)
 }
