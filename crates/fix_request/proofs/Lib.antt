@@ -11,6 +11,9 @@ mod AgreeChanges
 mod Answering
 mod Senders
 mod FirstField
+mod FirstMark
+mod Places
+mod Passing
 mod Rows
 mod ValidOrders
 mod Giving

@@ -1,7 +1,7 @@
 -- The values of the fields so far, and the faults in their form.
-use Rattle.std.proofs.Common.{◌≡◌, ℕ, suc, ◌+◌, ◌≤◌, Bool, true, false, not, cond, ◌&&◌, ◌==◌, List, [], ◌∷◌, length, map, Option, Some, None, Result, Ok, Err, refl, sym, ap, subst, ◌∙◌, arith, length-drop}
-use Rattle.std.specs.Prelude.{MatchResult, ⊤, find, is_some, option_map}
-use Rattle.std.specs.List.{position_or_len, before_first, after_first, list_all}
+use Rattle.std.proofs.Common.{◌≡◌, ℕ, ◌≤◌, Bool, true, false, not, cond, ◌&&◌, ◌==◌, List, [], ◌∷◌, length, map, Option, Some, None, Result, Ok, Err, refl, sym, ap, subst, ◌∙◌}
+use Rattle.std.specs.Prelude.{MatchResult, find, is_some, option_map}
+use Rattle.std.specs.List.{before_first, after_first, list_all}
 use Rattle.std.specs.Option.{option_or}
 use Rattle.std.proofs.lemmas.Bool.{cond-true}
 use Rattle.fix_request.specs.Fields.{is_soh, texts_of, has_tag, Field, field_of, fields_of, value_of}
@@ -23,7 +23,7 @@ noted_all values [] = values
 noted_all values (field ∷ fields) = noted_all (noted values field) fields
 
 -- the values that a choice by tag gives
-abbrev by_tag : (ℕ → Option (List ℕ)) → Values
+abbrev pub by_tag : (ℕ → Option (List ℕ)) → Values
 by_tag at =
     record {
       type = at 35;
@@ -183,19 +183,6 @@ pub any_read : (bytes rest : List ℕ) (values : Values) (r : Read) → 1 ≤ le
 any_read bytes rest values r some read so_far =
     let text = before_first is_soh rest in
     subst (Goes bytes) (sym read) (goes_on bytes rest values (has_tag text) (length (field_of text).value == 0) some refl refl so_far)
-
--- what stands behind is shorter
-abbrev Shortens : List ℕ → Read → Type 0
-Shortens bytes r = MatchResult r (λ on. suc (length on.0) ≤ length bytes) (λ f. ⊤)
-
-shortens : (rest : List ℕ) (values : Values) (tagged empty : Bool) → 1 ≤ length rest → Shortens rest (cond (not tagged) (Err (fault 2 0 0)) (cond empty (Err (empty_fault (field_of (before_first is_soh rest)).tag (after_first is_soh rest))) (Ok (after_first is_soh rest, noted values (field_of (before_first is_soh rest))))))
-shortens rest values false empty some = tt
-shortens rest values true true some = tt
-shortens rest values true false some = omega (arith, length-drop (position_or_len is_soh rest + 1) rest)
-
-pub shorter : (rest : List ℕ) (values : Values) (r : Read) → 1 ≤ length rest → r ≡ field_noted values rest → Shortens rest r
-shorter rest values r some read =
-    subst (Shortens rest) (sym read) (shortens rest values (has_tag (before_first is_soh rest)) (length (field_of (before_first is_soh rest)).value == 0) some)
 
 -- ---- the tags alone
 

@@ -1,5 +1,5 @@
 -- The steps at a message up to its header give its sender, or the refusal by the first fault of rules 1 to 6.
-use Rattle.std.proofs.Common.{◌≡◌, ℕ, Bool, true, false, cond, List, ◌∷◌, ◌++◌, Option, Some, None, Result, Ok, Err, refl, sym, ap, subst, ◌∙◌}
+use Rattle.std.proofs.Common.{◌≡◌, ℕ, Bool, true, false, cond, List, Option, Some, None, Result, Ok, Err, refl, sym, ap, subst, ◌∙◌}
 use Rattle.std.specs.Prelude.{IsTrue, OnOk, MatchResult}
 use Rattle.std.specs.List.{list_all}
 use Rattle.std.specs.Option.{option_or}
@@ -21,7 +21,6 @@ use Rattle.fix_request.specs.declared.request.Sender.{Sender}
 use Rattle.fix_request.specs.declared.request.Refusal.{Refusal}
 use Rattle.fix_request.specs.declared.request.Request.{Request}
 use Rattle.fix_request.specs.declared.request.Request.TheVariants as request
-use Rattle.fix_request.proofs.Giving.{Gives}
 use Rattle.fix_request.proofs.AgreeHeaders.{form_faults, values_give, firm_gives, target_gives, sequence_gives, time_gives}
 use Rattle.fix_request.proofs.Answering.{request_from, IsAnswer, IsKnown, part, inner_part, two_are}
 use Rattle.fix_request.proofs.Agree.{form_are}

@@ -6,3 +6,4 @@ pub mod Orders
 pub mod Requests
 pub mod Noting
 pub mod Views
+pub mod Slots

@@ -19,10 +19,11 @@ use gx_base::{Names, Stamp};
 pub fn read_firm(names: &Names, values: &Values) -> Result<u8, Fault>
     ensures { result ≡ firm_of names.now (values_view values.now) }
 {
-    if values.sender.is_empty() {
+    let sender = values.sender();
+    if sender.is_empty() {
         return Err(Fault::missing(4, tags::SENDER));
     }
-    match names.find_firm(values.sender) {
+    match names.find_firm(sender) {
         Some(firm) => Ok(firm),
         None => Err(Fault::comp_id(4, tags::SENDER)),
     }
@@ -33,7 +34,7 @@ pub fn read_firm(names: &Names, values: &Values) -> Result<u8, Fault>
 pub fn check_sender(names: &Names, values: &Values) -> Result<(), Fault>
     ensures { result ≡ exchange_of names.now 4 49 (values_view values.now).sender }
 {
-    check_exchange(names, 4, tags::SENDER, values.sender)
+    check_exchange(names, 4, tags::SENDER, values.sender())
 }
 
 /// Tries whether the exchange is the target (56).
@@ -41,7 +42,7 @@ pub fn check_sender(names: &Names, values: &Values) -> Result<(), Fault>
 pub fn check_target(names: &Names, values: &Values) -> Result<(), Fault>
     ensures { result ≡ target_of names.now (values_view values.now) }
 {
-    check_exchange(names, 5, tags::TARGET, values.target)
+    check_exchange(names, 5, tags::TARGET, values.target())
 }
 
 /// Tries whether the value of this tag is there, and is the exchange's name, as this rule asks.
@@ -65,10 +66,10 @@ fn check_exchange(names: &Names, rule: u8, tag: u32, text: &[u8]) -> Result<(), 
 pub fn read_sequence(values: &Values) -> Result<u32, Fault>
     ensures { result ≡ sequence_of (values_view values.now) }
 {
-    if values.sequence.is_empty() {
+    if values.sequence().is_empty() {
         return Err(Fault::missing(6, tags::SEQUENCE));
     }
-    match read_sequence_number(values.sequence) {
+    match read_sequence_number(values.sequence()) {
         Some(number) => Ok(number),
         None => Err(Fault::ill_formed(6, tags::SEQUENCE)),
     }
@@ -80,10 +81,10 @@ pub fn read_sequence(values: &Values) -> Result<u32, Fault>
 pub fn read_time(values: &Values) -> Result<Stamp, Fault>
     ensures { result ≡ time_of (values_view values.now) }
 {
-    if values.time.is_empty() {
+    if values.time().is_empty() {
         return Err(Fault::missing(6, tags::TIME));
     }
-    read_stamp(values.time)
+    read_stamp(values.time())
 }
 
 /// The time that a text is.

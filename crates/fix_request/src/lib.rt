@@ -14,6 +14,7 @@ mod read;
 mod refusal;
 mod request;
 mod session_changes;
+mod slots;
 mod tags;
 mod texts;
 mod values;

@@ -25,10 +25,10 @@ pub enum MessageType {
 pub fn read_type(values: &Values) -> Option<MessageType>
     ensures { result ≡ type_of (values_view values.now) }
 {
-    if values.message_type.is_empty() {
+    if values.message_type().is_empty() {
         return None;
     }
-    message_type_of(values.message_type)
+    message_type_of(values.message_type())
 }
 
 /// Whether a message changes the trading session (35=h).
@@ -36,7 +36,7 @@ pub fn read_type(values: &Values) -> Option<MessageType>
 pub fn is_change(values: &Values) -> bool
     ensures { result ≡ is_change (values_view values.now) }
 {
-    values.message_type == b"h".as_slice()
+    values.message_type() == b"h".as_slice()
 }
 
 /// The type of its text.

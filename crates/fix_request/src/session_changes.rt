@@ -57,8 +57,8 @@ fn change_of(names: &Names, values: &Values) -> Result<SessionChange, Refusal>
 fn read_status(values: &Values) -> Result<Trading, Fault>
     ensures { result ≡ status_of (values_view values.now) }
 {
-    check_needed(tags::STATUS, values.status)?;
-    match read_number(values.status) {
+    check_needed(tags::STATUS, values.status())?;
+    match read_number(values.status()) {
         Some(number) => read_session(number),
         None => Err(Fault::ill_formed(9, tags::STATUS)),
     }

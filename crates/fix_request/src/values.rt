@@ -1,58 +1,189 @@
 //! The values of the tags that rules name.
-ghost use Rattle.std.specs.Prelude.{◌≡◌, ◌≤◌, [], Some, length};
-ghost use Rattle.std.specs.List.{list_all};
-ghost use Rattle.std.specs.Option.{option_or};
-ghost use Rattle.fix_request.specs.Fields.{texts_of, has_tag};
+ghost use Rattle.std.specs.Prelude.{◌≡◌, ℕ, ◌<◌, ◌≤◌, [], length, IfOk};
+ghost use Rattle.std.specs.List.{list_all, after_first};
+ghost use Rattle.fix_request.specs.Fields.{is_soh, texts_of, has_tag};
 ghost use Rattle.fix_request.specs.Inner.Values.{values_of};
 ghost use Rattle.fix_request.specs.Inner.Rules.{result_map};
 ghost use Rattle.fix_request.specs.Inner.Requests.{checked_values, well_formed_values};
 ghost use Rattle.fix_request.specs.Inner.Noting.{noted, empty_fault, field_noted};
-ghost use Rattle.fix_request.specs.Inner.Views.{values_view, if_not_empty};
+ghost use Rattle.fix_request.specs.Inner.Views.{values_view, text_in, texts_of_places};
+ghost use Rattle.fix_request.specs.Inner.Slots.{slot_of, places_view, IsPlainAt};
 
 use crate::fault::Fault;
-use crate::fields::{has_tag_of_two_digits, read_field, short_field};
-use gx_base::{SOH, split_at_byte};
+use crate::fields::read_field;
+use crate::slots::{PLACES, slot_of, slot_of_digits};
+use gx_base::{SOH, soh_marks, split_at_byte};
 
 /// The values of the tags that rules name, each that of the first field with its tag, and empty where there is none: no field
 /// of a message that is read on has an empty value.
 #[derive(Clone, Copy, Debug)]
 pub struct Values<'a> {
+    /// Each at the place of its tag.
+    texts: [&'a [u8]; PLACES],
+}
+
+impl<'a> Values<'a> {
     /// 35.
-    pub message_type: &'a [u8],
+    #[tactic(auto, using(crate::proofs::Places::at_place))]
+    #[inline(always)]
+    pub fn message_type(&self) -> &'a [u8]
+        ensures { result.now ≡ text_in self.now 1 }
+    {
+        self.texts[1]
+    }
+
     /// 49.
-    pub sender: &'a [u8],
+    #[tactic(auto, using(crate::proofs::Places::at_place))]
+    #[inline(always)]
+    pub fn sender(&self) -> &'a [u8]
+        ensures { result.now ≡ text_in self.now 2 }
+    {
+        self.texts[2]
+    }
+
     /// 56.
-    pub target: &'a [u8],
+    #[tactic(auto, using(crate::proofs::Places::at_place))]
+    #[inline(always)]
+    pub fn target(&self) -> &'a [u8]
+        ensures { result.now ≡ text_in self.now 3 }
+    {
+        self.texts[3]
+    }
+
     /// 34.
-    pub sequence: &'a [u8],
+    #[tactic(auto, using(crate::proofs::Places::at_place))]
+    #[inline(always)]
+    pub fn sequence(&self) -> &'a [u8]
+        ensures { result.now ≡ text_in self.now 4 }
+    {
+        self.texts[4]
+    }
+
     /// 52.
-    pub time: &'a [u8],
+    #[tactic(auto, using(crate::proofs::Places::at_place))]
+    #[inline(always)]
+    pub fn time(&self) -> &'a [u8]
+        ensures { result.now ≡ text_in self.now 5 }
+    {
+        self.texts[5]
+    }
+
     /// 11.
-    pub id: &'a [u8],
+    #[tactic(auto, using(crate::proofs::Places::at_place))]
+    #[inline(always)]
+    pub fn id(&self) -> &'a [u8]
+        ensures { result.now ≡ text_in self.now 6 }
+    {
+        self.texts[6]
+    }
+
     /// 41.
-    pub old: &'a [u8],
+    #[tactic(auto, using(crate::proofs::Places::at_place))]
+    #[inline(always)]
+    pub fn old(&self) -> &'a [u8]
+        ensures { result.now ≡ text_in self.now 7 }
+    {
+        self.texts[7]
+    }
+
     /// 55.
-    pub symbol: &'a [u8],
+    #[tactic(auto, using(crate::proofs::Places::at_place))]
+    #[inline(always)]
+    pub fn symbol(&self) -> &'a [u8]
+        ensures { result.now ≡ text_in self.now 8 }
+    {
+        self.texts[8]
+    }
+
     /// 107.
-    pub description: &'a [u8],
+    #[tactic(auto, using(crate::proofs::Places::at_place))]
+    #[inline(always)]
+    pub fn description(&self) -> &'a [u8]
+        ensures { result.now ≡ text_in self.now 9 }
+    {
+        self.texts[9]
+    }
+
     /// 54.
-    pub side: &'a [u8],
+    #[tactic(auto, using(crate::proofs::Places::at_place))]
+    #[inline(always)]
+    pub fn side(&self) -> &'a [u8]
+        ensures { result.now ≡ text_in self.now 10 }
+    {
+        self.texts[10]
+    }
+
     /// 38.
-    pub quantity: &'a [u8],
+    #[tactic(auto, using(crate::proofs::Places::at_place))]
+    #[inline(always)]
+    pub fn quantity(&self) -> &'a [u8]
+        ensures { result.now ≡ text_in self.now 11 }
+    {
+        self.texts[11]
+    }
+
     /// 40.
-    pub kind: &'a [u8],
+    #[tactic(auto, using(crate::proofs::Places::at_place))]
+    #[inline(always)]
+    pub fn kind(&self) -> &'a [u8]
+        ensures { result.now ≡ text_in self.now 12 }
+    {
+        self.texts[12]
+    }
+
     /// 44.
-    pub price: &'a [u8],
+    #[tactic(auto, using(crate::proofs::Places::at_place))]
+    #[inline(always)]
+    pub fn price(&self) -> &'a [u8]
+        ensures { result.now ≡ text_in self.now 13 }
+    {
+        self.texts[13]
+    }
+
     /// 99.
-    pub trigger: &'a [u8],
+    #[tactic(auto, using(crate::proofs::Places::at_place))]
+    #[inline(always)]
+    pub fn trigger(&self) -> &'a [u8]
+        ensures { result.now ≡ text_in self.now 14 }
+    {
+        self.texts[14]
+    }
+
     /// 59.
-    pub life: &'a [u8],
+    #[tactic(auto, using(crate::proofs::Places::at_place))]
+    #[inline(always)]
+    pub fn life(&self) -> &'a [u8]
+        ensures { result.now ≡ text_in self.now 15 }
+    {
+        self.texts[15]
+    }
+
     /// 110.
-    pub min: &'a [u8],
+    #[tactic(auto, using(crate::proofs::Places::at_place))]
+    #[inline(always)]
+    pub fn min(&self) -> &'a [u8]
+        ensures { result.now ≡ text_in self.now 16 }
+    {
+        self.texts[16]
+    }
+
     /// 210.
-    pub show: &'a [u8],
+    #[tactic(auto, using(crate::proofs::Places::at_place))]
+    #[inline(always)]
+    pub fn show(&self) -> &'a [u8]
+        ensures { result.now ≡ text_in self.now 17 }
+    {
+        self.texts[17]
+    }
+
     /// 340.
-    pub status: &'a [u8],
+    #[tactic(auto, using(crate::proofs::Places::at_place))]
+    #[inline(always)]
+    pub fn status(&self) -> &'a [u8]
+        ensures { result.now ≡ text_in self.now 18 }
+    {
+        self.texts[18]
+    }
 }
 
 /// Notes the values of a body, where none is noted yet, in one pass. An `Err` is the first of these faults: the body does
@@ -75,30 +206,58 @@ fn read_fields<'a>(bytes: &'a [u8], values: &mut Values<'a>) -> Result<(), Fault
     requires { values_view values.now ≡ values_of [] }
     ensures { result_map (λ _. values_view values.exit.now) result ≡ well_formed_values bytes.now }
 {
-    let mut rest = bytes;
-    'fields: loop {
-        // Most tags have two digits, and need no search.
-        if has_tag_of_two_digits(rest) {
-            let field = short_field(rest);
-            if field.value.is_empty() {
-                return Err(fault_of_empty(field.tag, field.behind));
-            }
-            note(values, field.tag, field.value);
-            rest = field.behind;
-        } else if rest.is_empty() {
-            return Ok(());
-        } else {
-            rest = read_other_field(rest, values)?;
-        }
-    }
+    note_fields(bytes, &mut values.texts)
 }
 
-/// Notes the value of the first field of some bytes, and answers what stands behind it. An `Err` is the first of the faults in the
+/// Notes the texts of some fields at their places. A field ends at a SOH, and one mask tells where 64 bytes have any: what is not
+/// plain goes the long way, which finds its own SOH.
+#[inline]
+fn note_fields<'a>(bytes: &'a [u8], texts: &mut [&'a [u8]; PLACES]) -> Result<(), Fault>
+    requires { places_view (texts_of_places texts.now) ≡ values_of [] }
+    ensures { result_map (λ _. places_view (texts_of_places texts.exit.now)) result ≡ well_formed_values bytes.now }
+{
+    let mut start = 0;
+    // Those from `start` on that are left of the last mask.
+    let mut marks = 0;
+    'fields: while start < bytes.len() {
+        if marks == 0 {
+            marks = soh_marks(bytes, start);
+        }
+        if marks != 0 {
+            let count = marks.trailing_zeros() as usize;
+            let text = &bytes[start..start + count];
+            if let Some(slot) = plain_slot(text) {
+                note_at(texts, slot, &text[3..]);
+                marks = marks >> count >> 1;
+                start += count + 1;
+                continue 'fields;
+            }
+        }
+        let rest = read_other_field(&bytes[start..], texts)?;
+        start = bytes.len() - rest.len();
+        marks = 0;
+    }
+    Ok(())
+}
+
+/// The place of a field that has a tag of two digits and a value. `None` for any other text.
+#[inline(always)]
+fn plain_slot(text: &[u8]) -> Option<usize>
+    ensures { IsPlainAt text.now result }
+{
+    if text.len() < 4 || text[2] != b'=' {
+        return None;
+    }
+    slot_of_digits(text[0], text[1])
+}
+
+/// Notes the value of the first field of some bytes, and answers what comes after it. An `Err` is the first of the faults in the
 /// form of these bytes, where this field is one that has any.
 #[cold]
 #[inline(never)]
-fn read_other_field<'a>(bytes: &'a [u8], values: &mut Values<'a>) -> Result<&'a [u8], Fault>
-    ensures { result_map (λ rest. (rest.now, values_view values.exit.now)) result ≡ field_noted (values_view values.entry.now) bytes.now }
+fn read_other_field<'a>(bytes: &'a [u8], texts: &mut [&'a [u8]; PLACES]) -> Result<&'a [u8], Fault>
+    ensures noted { result_map (λ rest. (rest.now, places_view (texts_of_places texts.exit.now))) result ≡ field_noted (places_view (texts_of_places texts.entry.now)) bytes.now }
+    ensures rest { IfOk result (λ rest. rest.now ≡ after_first is_soh bytes.now) }
 {
     let (text, behind) = split_at_byte(bytes, SOH);
     let Some(field) = read_field(text) else {
@@ -107,7 +266,7 @@ fn read_other_field<'a>(bytes: &'a [u8], values: &mut Values<'a>) -> Result<&'a 
     if field.value.is_empty() {
         return Err(fault_of_empty(field.tag, behind));
     }
-    note(values, field.tag, field.value);
+    note(texts, field.tag, field.value);
     Ok(behind)
 }
 
@@ -146,64 +305,25 @@ pub fn no_values<'a>() -> Values<'a>
     ensures { values_view result ≡ values_of [] }
 {
     Values {
-        message_type: &[],
-        sender: &[],
-        target: &[],
-        sequence: &[],
-        time: &[],
-        id: &[],
-        old: &[],
-        symbol: &[],
-        description: &[],
-        side: &[],
-        quantity: &[],
-        kind: &[],
-        price: &[],
-        trigger: &[],
-        life: &[],
-        min: &[],
-        show: &[],
-        status: &[],
+        texts: [&[]; PLACES],
     }
 }
 
 /// Notes the value of one more field, unless an earlier one has its tag, or no rule names it.
-#[tactic(auto, unfolding(crate::specs::Inner::Noting::noted))]
-#[inline(always)]
-fn note<'a>(values: &mut Values<'a>, tag: u32, value: &'a [u8])
+fn note<'a>(texts: &mut [&'a [u8]; PLACES], tag: u32, value: &'a [u8])
     requires { 1 ≤ length value.now }
-    ensures { values_view values.exit.now ≡ noted (values_view values.entry.now) (record { tag = tag; value = value.entry.now }) }
+    ensures { places_view (texts_of_places texts.exit.now) ≡ noted (places_view (texts_of_places texts.entry.now)) (record { tag = tag; value = value.entry.now }) }
 {
-    match tag {
-        35 => note_first(&mut values.message_type, value),
-        49 => note_first(&mut values.sender, value),
-        56 => note_first(&mut values.target, value),
-        34 => note_first(&mut values.sequence, value),
-        52 => note_first(&mut values.time, value),
-        11 => note_first(&mut values.id, value),
-        41 => note_first(&mut values.old, value),
-        55 => note_first(&mut values.symbol, value),
-        107 => note_first(&mut values.description, value),
-        54 => note_first(&mut values.side, value),
-        38 => note_first(&mut values.quantity, value),
-        40 => note_first(&mut values.kind, value),
-        44 => note_first(&mut values.price, value),
-        99 => note_first(&mut values.trigger, value),
-        59 => note_first(&mut values.life, value),
-        110 => note_first(&mut values.min, value),
-        210 => note_first(&mut values.show, value),
-        340 => note_first(&mut values.status, value),
-        _ => {}
-    }
+    note_at(texts, slot_of(tag), value);
 }
 
-/// Notes a value, unless one is noted already.
+/// Notes a text at a place, unless one is noted there already.
 #[inline(always)]
-fn note_first<'a>(noted: &mut &'a [u8], value: &'a [u8])
-    requires { 1 ≤ length value.now }
-    ensures { if_not_empty noted.exit.now.now ≡ option_or (if_not_empty noted.entry.now.now) (Some value.entry.now) }
+fn note_at<'a>(texts: &mut [&'a [u8]; PLACES], slot: usize, value: &'a [u8])
+    requires { (slot < PLACES) × (1 ≤ length value.now) }
+    ensures { (tag : ℕ) → slot ≡ slot_of tag → places_view (texts_of_places texts.exit.now) ≡ noted (places_view (texts_of_places texts.entry.now)) (record { tag = tag; value = value.entry.now }) }
 {
-    if noted.is_empty() {
-        *noted = value;
+    if texts[slot].is_empty() {
+        texts[slot] = value;
     }
 }

@@ -1,4 +1,4 @@
-use Rattle.std.proofs.Common.{◌≡◌, Result, sym, ap, subst, ◌∙◌}
+use Rattle.std.proofs.Common.{Result, sym, ap, subst, ◌∙◌}
 use Rattle.std.specs.Prelude.{MatchResult, OnOk, IsTrue}
 use Rattle.std.specs.List.{list_all}
 use Rattle.fix_frame.specs.Grammar.{body_in}
