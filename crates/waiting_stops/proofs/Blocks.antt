@@ -8,6 +8,7 @@ use Rattle.std.proofs.lemmas.Grind.{div_ceil_times}
 use Rattle.std.specs.Int.{div_ceil}
 use Rattle.std.specs.Ordering.{nat_cmp, ord_min}
 use Rattle.waiting_stops.specs.declared.bound.Bound.{Bound}
+use Rattle.waiting_stops.specs.declared.place.Place.{Place}
 use Rattle.waiting_stops.specs.declared.queue.Wait.{Wait}
 use Rattle.waiting_stops.specs.Inner.Bounds.{IsCovered, IsPlaceCovered}
 use Rattle.waiting_stops.specs.Inner.Kept.{waits_in, place_at, AreBlocks, IsBoundOf, IsJoined, AreWidened}
@@ -30,7 +31,7 @@ place-unreached b q f (Some w) h = f w h
 pub lesser-of : (m n k : ℕ) → k ≡ ord_min nat_cmp m n → k ≡ min m n
 lesser-of m n k h = grind (arith, nat_tests)
 
-pub block-is : (n s e : ℕ) (ps : List (Option Wait)) → s ≤ length ps → e ≡ min (s + n) (length ps) → take (e - s) (drop s ps) ≡ take n (drop s ps)
+pub block-is : (n s e : ℕ) (ps : List Place) → s ≤ length ps → e ≡ min (s + n) (length ps) → take (e - s) (drop s ps) ≡ take n (drop s ps)
 block-is n s e ps le is = elim (leb_tells (s + n) (length ps)) [
   | inl t ↦ let h : s + n ≤ length ps = t.1 in let z : e - s ≡ n = omega arith in ap (λ (m : ℕ). take m (drop s ps)) z
   | inr t ↦

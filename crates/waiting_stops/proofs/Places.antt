@@ -1,12 +1,24 @@
 -- The stops in a row of places.
-use Rattle.std.proofs.Common.{◌≡◌, ◌≢◌, ℕ, ◌+◌, ◌<◌, ◌≤◌, Bool, true, false, ◌==◌, List, [], ◌∷◌, ◌++◌, length, set, filter, Option, Some, None, is_some, refl, sym, ap, ◌∙◌, arith, inl, inr}
+use Rattle.std.proofs.Common.{◌≡◌, ◌≢◌, ℕ, ◌+◌, ◌<◌, ◌≤◌, Bool, true, false, cond, ◌==◌, List, [], ◌∷◌, ◌++◌, length, set, get_or, take, drop, filter, Option, Some, None, is_some, refl, sym, ap, ◌∙◌, arith, inl, inr}
 use Prim.Native.Nat.{zero, suc}
 use Rattle.std.specs.List.{AllByRecursion}
 use Rattle.std.proofs.lemmas.Bool.Decides.{eqb_tells, Decides-eqb}
+use Rattle.std.proofs.lemmas.List.{get_or-map, map-set, map-append, take-map, drop-map}
 use Rattle.std.proofs.lemmas.List.Elements.{filter-append}
+use Rattle.waiting_stops.specs.declared.place.Place.{Place}
 use Rattle.waiting_stops.specs.declared.queue.Wait.{Wait}
 use Rattle.waiting_stops.specs.Waits.{first_slot, SlotsDiffer, without_slot}
-use Rattle.waiting_stops.specs.Inner.Kept.{waits_in, place_at, is_place_of}
+use Rattle.waiting_stops.specs.Inner.Kept.{wait_at, no_place, stops_at, waits_in, place_at, is_place_of}
+
+-- the stop of one of the places
+pub stop-is : (ps : List Place) (k : ℕ) (p : Place) → k < length ps → p ≡ get_or ps k p → place_at (stops_at ps) k ≡ wait_at p
+stop-is ps k p lt is = get_or-map wait_at ps k p None lt ∙ ap wait_at (sym is)
+
+pub stop-read : (ps : List Place) (k : ℕ) → k < length ps → wait_at (get_or ps k no_place) ≡ place_at (stops_at ps) k
+stop-read ps k lt = sym (get_or-map wait_at ps k no_place None lt)
+
+pub stops-part : (n s : ℕ) (ps : List Place) → stops_at (take n (drop s ps)) ≡ take n (drop s (stops_at ps))
+stops-part n s ps = sym (take-map wait_at n (drop s ps)) ∙ ap (take n) (sym (drop-map wait_at s ps))
 
 pub waits-append : (a b : List (Option Wait)) → waits_in (a ++ b) ≡ waits_in a ++ waits_in b
 waits-append [] b = refl
@@ -68,7 +80,29 @@ without-at slot (Some v ∷ ps) (suc k) h lt e =
     let f : (v.slot.0 == slot) ≡ false = other v.slot.0 slot ps k h.0 (omega arith) e in
     rw f (ap (λ (l : List Wait). v ∷ l) (without-at slot ps k h.1 (omega arith) e))
 
+pub stops-freed : (ps : List Place) (k : ℕ) (p : Place) → wait_at p ≡ None → stops_at (set ps k p) ≡ set (stops_at ps) k None
+stops-freed ps k p e = map-set wait_at ps k p ∙ ap (set (stops_at ps) k) e
+
+-- ---- a stop comes
+
+pub stops-more : (ps : List Place) (p : Place) (w : Wait) → wait_at p ≡ Some w → stops_at (ps ++ p ∷ []) ≡ stops_at ps ++ Some w ∷ []
+stops-more ps p w e = map-append wait_at ps (p ∷ []) ∙ ap (λ (o : Option Wait). stops_at ps ++ o ∷ []) e
+
 -- ---- the empty places go
+
+abbrev pub is_taken : Place → Bool
+is_taken p = is_some (wait_at p)
+
+pub stops-kept : (ps : List Place) → stops_at (filter is_taken ps) ≡ filter is_some (stops_at ps)
+stops-kept [] = refl
+stops-kept (p ∷ ps) =
+    let F = filter is_taken ps in
+    let G = filter is_some (stops_at ps) in
+    let go : (b : Bool) → stops_at (cond b (p ∷ F) F) ≡ cond b (wait_at p ∷ G) G = elim [
+      | true ↦ ap (λ (l : List (Option Wait)). wait_at p ∷ l) (stops-kept ps)
+      | false ↦ stops-kept ps
+    ] in
+    go (is_taken p)
 
 pub taken-waits : (ps : List (Option Wait)) → waits_in (filter is_some ps) ≡ waits_in ps
 taken-waits [] = refl

@@ -3,8 +3,9 @@ ghost use Rattle.std.specs.Prelude.{◌≡◌, false};
 ghost use Rattle.waiting_stops.specs.declared.queue.Wait.{Wait};
 ghost use Rattle.waiting_stops.specs.Waits.{is_reached_wait};
 ghost use Rattle.waiting_stops.specs.Inner.Bounds.{IsCovered};
-ghost use Rattle.waiting_stops.specs.Inner.Kept.{IsBoundOf, IsJoined};
+ghost use Rattle.waiting_stops.specs.Inner.Kept.{stops_at, IsBoundOf, IsJoined};
 
+use crate::place::Place;
 use crate::queue::Wait;
 use gx_base::{Price, Side};
 
@@ -73,12 +74,12 @@ impl Bound {
 }
 
 /// A bound on the stops of some places.
-pub(crate) fn bound_of(places: &[Option<Wait>]) -> Bound
-    ensures { IsBoundOf result places.now }
+pub(crate) fn bound_of(places: &[Place]) -> Bound
+    ensures { IsBoundOf result (stops_at places.now) }
 {
     let mut bound = Bound::none();
     for place in places {
-        if let Some(wait) = *place {
+        if let Some(wait) = place.wait() {
             bound.add(wait);
         }
     }

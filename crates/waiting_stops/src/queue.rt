@@ -5,10 +5,10 @@
 //! reaches none is told by one look, and else most places are passed over, 512 at once.
 ghost use Rattle.std.specs.Prelude.{◌≡◌, ◌<◌, ◌≤◌, ◌+◌, ◌*◌, ◌/◌, ◌^◌, [], None, filter, length, option_map, set, IfOk, vec_len, vec_capacity};
 ghost use Rattle.waiting_stops.specs.Waits.{slot_number, is_reached_wait, first_slot, SlotsDiffer, with_wait, without_slot};
-ghost use Rattle.waiting_stops.specs.Inner.Kept.{waits_in, waits_of, block, AreWidened, AreBlocks, IsQueue};
+ghost use Rattle.waiting_stops.specs.Inner.Kept.{stops_at, waits_in, waits_of, block, AreWidened, AreBlocks, IsQueue};
 
 use crate::bound::{Bound, bound_of, joined};
-use crate::place::{block_of, first_in, note_spots, place_of};
+use crate::place::{Place, block_of, first_in, note_spots, place_of};
 use gx_base::{Price, Side, Slot};
 use std::alloc::{AllocError, Global};
 
@@ -27,8 +27,8 @@ pub(crate) const BLOCK: usize = 512;
 /// The stops of an instrument, in the order in which they came.
 #[derive(Drop)]
 pub(crate) struct StopQueue {
-    /// The stops in their order. `None` where one has left.
-    places: Vec<Option<Wait>>,
+    /// The stops in their order. A place is free where one has left.
+    places: Vec<Place>,
     /// A bound for each 512 places.
     blocks: Vec<Bound>,
     /// A bound for all.
@@ -52,10 +52,10 @@ fn widen(blocks: &mut Vec<Bound>, next: usize, wait: Wait)
 }
 
 /// The bounds of all blocks, anew.
-fn fill_blocks(blocks: &mut Vec<Bound>, places: &[Option<Wait>])
+fn fill_blocks(blocks: &mut Vec<Bound>, places: &[Place])
     requires room { length places.now < block * vec_capacity blocks.old }
     requires fits { length places.now < 2 ^ 32 }
-    ensures blocks { AreBlocks blocks.new.items places.now }
+    ensures blocks { AreBlocks blocks.new.items (stops_at places.now) }
     ensures room { vec_capacity blocks.new ≡ vec_capacity blocks.old }
 {
     blocks.clear();
@@ -107,7 +107,7 @@ impl StopQueue {
     {
         widen(&mut self.blocks, self.places.len(), wait);
         self.whole.add(wait);
-        self.places.push_reserved(Some(wait));
+        self.places.push_reserved(Place::taken(wait));
         self.waiting += 1;
     }
 
@@ -121,7 +121,7 @@ impl StopQueue {
         ensures spots { vec_len spots.new ≡ vec_len spots.old }
         ensures spots_room { vec_capacity spots.new ≡ vec_capacity spots.old }
     {
-        self.places.retain(|place| place.is_some());
+        self.places.retain(|place| place.wait().is_some());
         note_spots(&self.places, spots);
         fill_blocks(&mut self.blocks, &self.places);
         self.whole = joined(&self.blocks);
@@ -145,13 +145,13 @@ impl StopQueue {
         requires queue { IsQueue self.old }
         requires within { place < vec_len self.old.places }
         ensures queue { IsQueue self.new }
-        ensures waits { waits_of self.new ≡ waits_in (set self.old.places.items place None) }
+        ensures waits { waits_of self.new ≡ waits_in (set (stops_at self.old.places.items) place None) }
         ensures room { vec_capacity self.new.places ≡ vec_capacity self.old.places }
     {
-        let Some(wait) = self.places[place] else {
+        let Some(wait) = self.places[place].wait() else {
             return;
         };
-        self.places[place] = None;
+        self.places[place] = Place::free();
         self.waiting -= 1;
         if self.waiting == 0 {
             self.clear();

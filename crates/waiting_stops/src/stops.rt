@@ -12,7 +12,7 @@ use std::marker::Model;
 /// number of stops of an instrument.
 ///
 /// `new` takes all the memory, and no part ever grows. `put` takes constant time, but where the places are all taken: then it passes over
-/// them once, of which at least a third is empty. `first_reached` takes two comparisons if trades reach no stop; else, as `take_out` at
+/// them once, of which at least a ninth is empty. `first_reached` takes two comparisons if trades reach no stop; else, as `take_out` at
 /// most, it looks at one in 512 places, and at 512 of them.
 #[derive(Drop)]
 pub struct WaitingStops {
@@ -38,7 +38,7 @@ impl Model for WaitingStops {
 fn room_for(capacity: u32) -> u32
     ensures { result ≡ room capacity }
 {
-    capacity.saturating_add(capacity / 2).saturating_add(1)
+    capacity.saturating_add(capacity / 8).saturating_add(1)
 }
 
 /// So many queues without stops, with room for so many stops each.
@@ -68,7 +68,7 @@ fn zeros(alloc: Global, count: usize) -> Result<Vec<u32>, AllocError>
 
 impl WaitingStops {
     /// No stops, of so many instruments, with room for so many of each. An `Err` is want of memory. It takes all the memory: for each
-    /// instrument one and a half places for each stop that it has room for, and four bytes for each slot.
+    /// instrument nine places of 16 bytes for each eight stops that it has room for, and four bytes for each slot.
     pub fn new(alloc: Global, capacity: u32, instruments: u8) -> Result<WaitingStops, AllocError>
         ensures { IfOk result (λ s. s ≡ no_stops capacity instruments) }
     {

@@ -1,12 +1,24 @@
 -- The stops of an instrument in their places, and the bounds on them.
-use Rattle.std.specs.Prelude.{◌≡◌, ℕ, ◌+◌, ◌*◌, ◌/◌, ◌<◌, ◌≤◌, ◌^◌, ◌==◌, true, false, Bool, List, [], ◌∷◌, map, length, min, slice_index_or, Option, Some, None, vec_capacity}
+use Rattle.std.specs.Prelude.{◌≡◌, ℕ, ◌+◌, ◌*◌, ◌/◌, ◌<◌, ◌≤◌, ◌^◌, ◌==◌, true, false, Bool, List, [], ◌∷◌, map, length, min, slice_index_or, Option, Some, None, option_map, pos, vec_capacity}
 use Rattle.std.specs.List.{AllByRecursion}
 use Rattle.waiting_stops.specs.declared.bound.Bound.{Bound}
+use Rattle.waiting_stops.specs.declared.place.Place.{Place}
 use Rattle.waiting_stops.specs.declared.queue.StopQueue.{StopQueue}
 use Rattle.waiting_stops.specs.declared.queue.Wait.{Wait}
 use Rattle.waiting_stops.specs.Inner.Bounds.{IsCovered, IsPlaceCovered}
 
 -- ---- places
+
+-- the stop that stands in a place
+abbrev pub wait_at : Place → Option Wait
+wait_at p = option_map (λ side. record { slot = p.slot; side = side; trigger = p.trigger }) p.side
+
+abbrev pub no_place : Place
+no_place = record { slot = record { 0 = 0 }; side = None; trigger = record { 0 = pos 0 } }
+
+-- the stop of each place, if one stands there
+abbrev pub stops_at : List Place → List (Option Wait)
+stops_at places = map wait_at places
 
 -- the stops that stand in these places
 abbrev pub waits_in : List (Option Wait) → List Wait
@@ -57,12 +69,12 @@ pub record AreWidened (old new : List Bound) (next : ℕ) (wait : Wait) : Type 0
 -- ---- the queue of an instrument
 
 abbrev pub waits_of : StopQueue → List Wait
-waits_of q = waits_in q.places.items
+waits_of q = waits_in (stops_at q.places.items)
 
 -- what is true of a queue at every moment
 pub record IsQueue (q : StopQueue) : Type 0 where
-  pub blocks : AreBlocks q.blocks.items q.places.items
-  pub whole : IsBoundOf q.whole q.places.items
+  pub blocks : AreBlocks q.blocks.items (stops_at q.places.items)
+  pub whole : IsBoundOf q.whole (stops_at q.places.items)
   pub count : q.waiting ≡ length (waits_of q)
   pub roomy : vec_capacity q.places < 2 ^ 32
   pub blocks_roomy : vec_capacity q.blocks ≡ vec_capacity q.places / block + 1
@@ -72,9 +84,9 @@ pub record IsQueue (q : StopQueue) : Type 0 where
 abbrev pub lists_of : List StopQueue → List (List Wait)
 lists_of queues = map waits_of queues
 
--- how many places there are for so many stops: at least a third of them is empty, so that the empty ones seldom go
+-- how many places there are for so many stops: at least a ninth of them is empty, so that the empty ones seldom go
 abbrev pub room : ℕ → ℕ
-room capacity = min (capacity + capacity / 2 + 1) 4294967295
+room capacity = min (capacity + capacity / 8 + 1) 4294967295
 
 -- what is true of each queue at every moment
 pub record HasRoom (capacity : ℕ) (q : StopQueue) : Type 0 where
