@@ -15,6 +15,7 @@ KINDS = {
     "orange": ("#fff1e5", "#bc4c00", "#bc4c00", "#3a1d08", "#f0883e", "#f0883e"),
     "violet": ("#f6eeff", "#8250df", "#8250df", "#271a3f", "#ab7df8", "#ab7df8"),
     "pink": ("#ffeff7", "#bf3989", "#bf3989", "#3a1630", "#f778ba", "#f778ba"),
+    "yellow": ("#fff8c5", "#9a6700", "#9a6700", "#2e2405", "#d29922", "#d29922"),
     "teal": ("#defaf7", "#0b7a75", "#0b7a75", "#0a2e2d", "#2dd4bf", "#2dd4bf"),
 }
 LIGHT = {"page": "#ffffff", "lane": "#ffffff", "ink": "#1f2328", "soft": "#59636e", "on": "#ffffff"}
