@@ -27,7 +27,7 @@ module _ (product : ProductLists) where
   abbrev cut : Entry → Entry
   cut e = untopped product e
 
-  has-cut : (s : ℕ) (es ws : List Entry) → HasSlot s (map cut es ++ ws) → HasSlot s (es ++ ws)
+  pub has-cut : (s : ℕ) (es ws : List Entry) → HasSlot s (map cut es ++ ws) → HasSlot s (es ++ ws)
   has-cut s [] ws h = h
   has-cut s (e ∷ es) ws h = elim h [ inl a ↦ inl a | inr a ↦ inr (has-cut s es ws a) ]
 

@@ -11,7 +11,7 @@ use Rattle.image_laws.proofs.States.{reached-as, frames-reached, reached-right, 
 use Rattle.order_kinds.proofs.Amended.{follows}
 use Rattle.image_laws.proofs.Amended.{reached-follows}
 
-history-reached : (history : History) → AreRightProducts history → IsHistory history → IsReached (last_product history) (length_kept history) (length (events_kept history)) (state_kept history)
+pub history-reached : (history : History) → AreRightProducts history → IsHistory history → IsReached (last_product history) (length_kept history) (length (events_kept history)) (state_kept history)
 history-reached (of_product product messages) right is = messages-reached product right messages
 history-reached (amended before product messages) right is =
     let last = last_product before in

@@ -98,7 +98,7 @@ module _ (product : ProductLists) (right : IsRightProduct product) where
       by-session (StepReaches product sent bound) by_number product request state
       (λ is_open. open-reached sent bound request state valid name h room is_open) (λ is_closed. closed-reached sent bound request state valid name h room)
 
-  step-reached : (sent bound : ℕ) (state : State) (frame : List ℕ) → IsReached product sent bound state → StepReaches product (sent + 1) bound (step_of product state frame)
+  pub step-reached : (sent bound : ℕ) (state : State) (frame : List ℕ) → IsReached product sent bound state → StepReaches product (sent + 1) bound (step_of product state frame)
   step-reached sent bound state frame h =
       let counted : IsReached product (sent + 1) bound (with_message state) = record {
         held = h.held;

@@ -1,0 +1,16 @@
+mod Chains
+mod Sweeps
+mod Open
+mod Sound
+mod Coming
+mod Reports
+mod StopsReached
+mod Outs
+mod Apart
+mod Closings
+mod Messages
+mod Lifted
+mod Firms
+mod TopFirst
+mod Lasting
+mod Proportion
