@@ -86,7 +86,7 @@ def size_of(count):
 
 def themes():
     """Each colour of the light theme by a name, and the same in the dark one."""
-    names = {INK: ("ink", DARK["ink"]), SOFT: ("soft", DARK["soft"]), GRID: ("grid", KINDS["plain"][4]), LIGHT["page"]: ("page", DARK["page"])}
+    names = {LIGHT[name]: (name, DARK[name]) for name in ("ink", "soft", "page")} | {GRID: ("grid", KINDS["plain"][4])}
     for kind, colours in KINDS.items():
         names.setdefault(colours[2], (kind, colours[5]))
     return names
@@ -107,8 +107,9 @@ def save(figure, name, title, desc):
     svg = re.sub(r"(fill|stroke): (#[0-9a-f]{6})", named, svg)
     svg = re.sub(r"font: ((?:bold |\d+ )?[0-9.]+px) [^;\"]*", r"font: \1 sans-serif", svg)
     dark = "".join(f"--{name}:{colour};" for name, colour in names.values())
-    head = f"<title>{escape(title)}</title>\n <desc>{escape(desc)}</desc>\n <style>@media (prefers-color-scheme:dark){{svg{{{dark}}}}}</style>\n"
-    svg = re.sub(r"(<svg [^>]*>\n)", lambda found: found[1] + " " + head, svg, count=1)
+    style = f"<style>@media (prefers-color-scheme:dark){{svg{{{dark}}}}}</style>"
+    head = f" <title>{escape(title)}</title>\n <desc>{escape(desc)}</desc>\n {style}\n"
+    svg = re.sub(r"(<svg [^>]*>\n)", lambda found: found[1] + head, svg, count=1)
     (PICTURES / name).write_text("\n".join(line.rstrip() for line in svg.splitlines()) + "\n")
 
 
@@ -163,14 +164,19 @@ def draw_lines(ax, rows, named, x, y):
     names = list(dict.fromkeys(row[named] for row in rows))
     for name, kind in zip(names, LINES):
         its = [row for row in rows if row[named] == name]
-        ax.plot([x(row) for row in its], [y(row) for row in its], "o-", color=STRONG[kind], label=name, linewidth=2, markersize=6)
+        ax.plot([x(row) for row in its], [y(row) for row in its], "o-", color=STRONG[kind], label=name, linewidth=2)
         others = [row for row in its if row[ANOTHER]]
         if others:
-            ax.plot([x(row) for row in others], [number(row[ANOTHER]) for row in others], "D--", color=STRONG["plain"], label=f"{name}, {ANOTHER}")
+            values = [number(row[ANOTHER]) for row in others]
+            ax.plot([x(row) for row in others], values, "D--", color=STRONG["plain"], label=f"{name}, {ANOTHER}")
     ax.xaxis.set_major_formatter(thousands)
     ax.yaxis.set_major_formatter(thousands)
     ax.grid(axis="y")
     ax.tick_params(length=0)
+
+
+def instructions_of(row):
+    return number(row["instructions"]) / number(row["divided by"])
 
 
 def draw_growth():
@@ -180,7 +186,7 @@ def draw_growth():
     figure.get_layout_engine().set(h_pad=0.12, w_pad=0.1)
     for ax, subject in zip(axes.flat, subjects):
         its = [row for row in rows if row["grows"] == subject]
-        draw_lines(ax, its, "line", lambda row: number(row["count"]), lambda row: number(row["instructions"]) / number(row["divided by"]))
+        draw_lines(ax, its, "line", lambda row: number(row["count"]), instructions_of)
         if subject == "live orders":
             ax.set_xscale("log")
             ax.xaxis.set_major_formatter(thousands)
@@ -190,7 +196,7 @@ def draw_growth():
         ax.set_title(f"More {subject}")
         ax.set_ylabel("instructions")
         ax.legend(loc="upper left")
-    desc = "; ".join(f"{row['line']}, {thousands(number(row['count']))} {row['grows']}: {thousands(number(row['instructions']) / number(row['divided by']))}" for row in rows)
+    desc = "; ".join(f"{row['line']}, {thousands(number(row['count']))} {row['grows']}: {thousands(instructions_of(row))}" for row in rows)
     save(figure, "growth.svg", "What a message costs as the book grows, in instructions", desc)
 
 

@@ -6,7 +6,7 @@ from drawing import Picture
 
 LIST = pathlib.Path(__file__).parents[2] / "crates.txt"
 COLUMNS = 5
-LEFT, TOP, LABEL = 24, 24, 188
+LEFT, TOP, LABEL = 24, 24, 206
 BOX, HEIGHT, GAP, PAD = 138, 34, 8, 10
 
 
@@ -69,9 +69,9 @@ def draw_legend(picture, y, width):
     picture.rect(x, y + 13, 19, 18, "blue-solid", 9)
     picture.text(x + 9.5, y + 26, "1", "on", 11, "middle", bold=True)
     picture.text(x + 28, y + 27, "the longest chain: each stands on the one before", "soft", 13)
-    for x, kind, dashed, words in ((x + 398, "violet", False, "laws alone"), (x + 520, "green", False, "the program"), (x + 656, "card", True, "tests alone")):
-        picture.rect(x, y + 13, 26, 18, kind, 4, dashed)
-        picture.text(x + 34, y + 27, words, "soft", 13)
+    for place, kind, words in ((398, "violet", "laws alone"), (520, "green", "the program"), (656, "card", "tests alone")):
+        picture.rect(x + place, y + 13, 26, 18, kind, 4, kind == "card")
+        picture.text(x + place + 34, y + 27, words, "soft", 13)
 
 
 def pictures():

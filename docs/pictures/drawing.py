@@ -23,11 +23,11 @@ DARK = {"page": "#0d1117", "lane": "#0d1117", "ink": "#f0f6fc", "soft": "#9198a1
 WIDTHS = [("ijlI'", 0.3), (" .,:;|!()[]/-ftr", 0.41), ("cksvxyzFJL_", 0.59), ("mwMW%@#", 0.97), ("ABCDEGHKNOPQRSTUVXYZ", 0.75)]
 
 
-def width_of(words, size, mono=False):
+def width_of(words, size, mono=False, bold=False):
     """About how wide these words are, rather too much than too little."""
     if mono:
         return 0.603 * size * len(words)
-    return size * sum(next((width for letters, width in WIDTHS if letter in letters), 0.63) for letter in words)
+    return (1.1 if bold else 1) * size * sum(next((width for letters, width in WIDTHS if letter in letters), 0.63) for letter in words)
 
 
 def rules(theme, places):
@@ -60,7 +60,7 @@ def number(value):
 
 
 class Picture:
-    """A picture of a fixed width, which grows as things are drawn."""
+    """A picture, to which each call adds what it draws."""
 
     def __init__(self, title, desc, width, height):
         self.title = title
@@ -71,22 +71,18 @@ class Picture:
 
     def rect(self, x, y, width, height, kind="plain", radius=6, dashed=False):
         more = " dashed" if dashed else ""
-        self.parts.append(
-            f'<rect class="{kind}{more}" x="{number(x)}" y="{number(y)}" width="{number(width)}" height="{number(height)}" rx="{radius}"/>'
-        )
+        place = f'x="{number(x)}" y="{number(y)}" width="{number(width)}" height="{number(height)}"'
+        self.parts.append(f'<rect class="{kind}{more}" {place} rx="{radius}"/>')
 
     def text(self, x, y, words, kind="ink", size=14, anchor="start", mono=False, bold=False):
         names = kind + (" mono" if mono else "") + (" bold" if bold else "")
-        self.parts.append(
-            f'<text class="{names}" x="{number(x)}" y="{number(y)}" font-size="{number(size)}" text-anchor="{anchor}">{escape(words)}</text>'
-        )
+        place = f'x="{number(x)}" y="{number(y)}" font-size="{number(size)}" text-anchor="{anchor}"'
+        self.parts.append(f'<text class="{names}" {place}>{escape(words)}</text>')
 
-    def box(self, x, y, width, height, lines, kind="plain", ink="ink", size=14, mono=False, bold=False, left=None, radius=6, dashed=False):
+    def box(self, x, y, width, height, lines, kind="plain", radius=6, dashed=False, **words):
         """A box with lines of words in its middle, or from `left` on."""
-        if isinstance(lines, str):
-            lines = [lines]
         self.rect(x, y, width, height, kind, radius, dashed)
-        self.words(x, y, width, height, lines, ink, size, mono, bold, left)
+        self.words(x, y, width, height, [lines] if isinstance(lines, str) else lines, **words)
 
     def words(self, x, y, width, height, lines, ink="ink", size=14, mono=False, bold=False, left=None):
         """Lines in the middle of a place. A line may be a pair of its words and its kind; all but the first are smaller."""
@@ -96,26 +92,16 @@ class Picture:
             words, kind = (line, ink if index == 0 else "soft") if isinstance(line, str) else line
             its_size = size if index == 0 else size * 0.85
             room = width - 6 if left is None else width - left - 4
-            if width_of(words, its_size, mono) > room:
-                raise ValueError(f"no room for {words!r}: {width_of(words, its_size, mono):.0f} in {room:.0f}")
+            its_width = width_of(words, its_size, mono, bold and index == 0)
+            if its_width > room:
+                raise ValueError(f"no room for {words!r}: {its_width:.0f} in {room:.0f}")
             place, anchor = (x + width / 2, "middle") if left is None else (x + left, "start")
             self.text(place, first + index * step, words, kind, its_size, anchor, mono, bold and index == 0)
 
-    def arrow(self, x, y, to_x, to_y):
-        """A straight arrow, to the right or down."""
-        self.parts.append(f'<path class="rule" d="M{number(x)} {number(y)}L{number(to_x)} {number(to_y)}"/>')
-        if to_y == y:
-            tip = f"M{number(to_x + 1)} {number(to_y)}l-7 -4v8z"
-        else:
-            tip = f"M{number(to_x)} {number(to_y + 1)}l-4 -7h8z"
-        self.parts.append(f'<path class="head" d="{tip}"/>')
-
-    def fan(self, x, y, width, to_x, to_y, to_width, kind="plain"):
-        """The shape that leads from a part, above, to what it is made of, below."""
-        self.parts.append(
-            f'<path class="{kind}" fill-opacity="0.45" stroke="none" d="M{number(x)} {number(y)}h{number(width)}'
-            f'L{number(to_x + to_width)} {number(to_y)}H{number(to_x)}z"/>'
-        )
+    def arrow(self, x, y, to_x):
+        """An arrow to the right."""
+        self.parts.append(f'<path class="rule" d="M{number(x)} {number(y)}H{number(to_x)}"/>')
+        self.parts.append(f'<path class="head" d="M{number(to_x + 1)} {number(y)}l-7 -4v8z"/>')
 
     def svg(self):
         head = (

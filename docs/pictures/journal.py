@@ -34,7 +34,11 @@ RECORD = [
     ("payload", "k bytes", "E + 6 to E + 5 + k", 38, "plain"),
     ("gate", "of the next", "E + 6 + k", 16, "blue"),
 ]
-MESSAGES = [("frame", "8=FIX.4.2 .. 10=nnn", "", 30, "green"), ("frame", "one after the other", "", 30, "green"), ("frame", "8,192 bytes at most", "", 30, "green")]
+MESSAGES = [
+    ("frame", "8=FIX.4.2 .. 10=nnn", "", 30, "green"),
+    ("frame", "one after the other", "", 30, "green"),
+    ("frame", "8,192 bytes at most", "", 30, "green"),
+]
 IMAGE = [
     ("counters", "552 bytes", "", 13, "violet"),
     ("instruments", "25 each", "", 15, "violet"),
@@ -45,7 +49,12 @@ IMAGE = [
     ("session", "1 byte", "", 10, "violet"),
 ]
 OLD_IMAGE = IMAGE[:-1] + [("none", "it was open", "", 10, "card")]
-AMENDMENT = [("t", "4 bytes", "", 10, "orange"), ("product text", "t bytes", "", 38, "orange"), ("image", "as of D, under this text", "", 46, "violet")]
+AMENDMENT = [
+    ("t", "4 bytes", "", 10, "orange"),
+    ("product text", "t bytes", "", 38, "orange"),
+    ("image", "as of D, under this text", "", 46, "violet"),
+]
+END = "Numbers have their highest byte first. r and w count the orders that rest and the stops that wait."
 
 
 def draw_strip(picture, x, y, width, parts):
@@ -77,13 +86,13 @@ def draw_head(picture, y, words):
 def pictures():
     picture = Picture(
         "The bytes of a journal",
-        "A journal is a gate, a header with a version and a product text, and records. A record is a gate, a kind, a length and a payload: frames "
-        "of messages (M), a book image (D, or C in an old form), or an amendment, which is a product text and an image (P). It is kept if its "
-        "gate is 1. The first gate that is not 1 ends the journal.",
+        "A journal is a gate, a header with a version and a product text, and records. A record is a gate, a kind, a length and a payload: "
+        "frames of messages (M), a book image (D, or C in an old form), or an amendment, which is a product text and an image (P). It is "
+        "kept if its gate is 1. The first gate that is not 1 ends the journal.",
         WIDTH + 2 * LEFT,
         0,
     )
-    y = draw_head(picture, 24, "A journal: a record is kept if its gate is 1, and the first other gate ends it")
+    y = draw_head(picture, 24, "A journal: a record is kept if its gate is 1. The first gate that is not 1 ends the journal")
     draw_strip(picture, LEFT, y, WIDTH, FILE)
     y = draw_head(picture, y + ROW + 20, "The header, after the first gate, at 0")
     y = draw_labelled(picture, y, ["version 2", "of this program"], HEADER)
@@ -95,6 +104,6 @@ def pictures():
     y = draw_labelled(picture, y, ["D", "checkpoint"], IMAGE, "violet")
     y = draw_labelled(picture, y, ["C", "earlier programs"], OLD_IMAGE, "violet")
     y = draw_labelled(picture, y, ["P", "amend"], AMENDMENT, "orange")
-    picture.box(LEFT, y + 12, WIDTH, 34, "Numbers have their highest byte first. r and w count the orders that rest and the stops that wait.", size=13, ink="soft")
+    picture.box(LEFT, y + 12, WIDTH, 34, END, size=13, ink="soft")
     picture.height = y + 12 + 34 + 24
     return {"journal.svg": picture.svg()}

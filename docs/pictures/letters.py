@@ -1,6 +1,6 @@
 """A match of each algorithm letter, as the reports in examples/LETTER tell it: the book before it and after it.
 
-The gate holds these reports to what the program sends, so the pictures show what the program does.
+run-example.sh holds these reports to what the program sends, so the pictures show what the program does.
 """
 
 import dataclasses
@@ -69,18 +69,16 @@ def pill(picture, x, y, step):
     return x + width + 6
 
 
-def bar(picture, x, y, height, order, taken=True):
+def bar(picture, x, y, height, order):
     """The lots of an order: what each step took in its colour, and the rest pale."""
     picture.rect(x, y, order.before * SCALE, height, "plain", 2)
-    for step, lots in order.given if taken else []:
+    for step, lots in order.given:
         picture.rect(x, y, lots * SCALE, height, f"{COLOURS[step]}-solid", 0)
         if lots > 1:
             picture.text(x + lots * SCALE / 2, y + height / 2 + 4, str(lots), "on", 11 if lots > 2 else 10, "middle", bold=True)
         x += lots * SCALE
-    if order.left() * SCALE > 60 or not taken:
-        words = str(order.left()) if taken else str(order.before)
-        if (order.left() if taken else order.before) > 4:
-            picture.text(x + (order.left() if taken else order.before) * SCALE / 2, y + height / 2 + 4, words, "soft", 11, "middle")
+    if order.left() > 10:
+        picture.text(x + order.left() * SCALE / 2, y + height / 2 + 4, str(order.left()), "soft", 11, "middle")
 
 
 def draw_panel(picture, x, y, match):
@@ -102,7 +100,8 @@ def draw_panel(picture, x, y, match):
         picture.rect(x + 124, y, 268, row - 4, "card", 4)
         bar(picture, x + 130, y + 4, row - 12, order)
         left = order.left()
-        picture.box(x + 396, y, 48, row - 4, str(left) if left else "gone", size=13, radius=4, bold=bool(left), ink="ink" if left else "soft")
+        ink = "ink" if left else "soft"
+        picture.box(x + 396, y, 48, row - 4, str(left or "gone"), size=13, radius=4, bold=bool(left), ink=ink)
         y += row
 
 
@@ -160,8 +159,9 @@ def draw_ladder(picture, x, y, width, words, match, taken):
         picture.rect(x, y, width, 46, "card" if lots else "plain", 6, dashed=not lots)
         picture.words(x, y, 70, 46, [f"#{order.number}", order.firm], size=13, left=12, bold=True)
         if lots:
-            picture.rect(x + 62, y + 13, max(lots * 2.4, 2), 20, "plain-solid", 2)
-        picture.words(x + width - 50, y, 46, 46, [str(lots) if lots else "gone"], "ink" if lots else "soft", 14 if lots else 12, bold=bool(lots))
+            picture.rect(x + 62, y + 13, max(lots * 1.9, 2), 20, "plain-solid", 2)
+        ink, size = ("ink", 14) if lots else ("soft", 12)
+        picture.words(x + width - 50, y, 46, 46, [str(lots or "gone")], ink, size, bold=bool(lots))
         y += 50
     total = sum(order.left() if taken else order.before for order in match.orders)
     picture.box(x, y, width, 46, [f"{total} lots", "are open"], size=14, bold=True)
@@ -171,7 +171,7 @@ def draw_step(picture, x, width, match, step):
     """A column: what the step takes of each order. Returns how many lots these are."""
     taken = 0
     picture.rect(x, 64, width, 34, f"{COLOURS[step]}-solid", 6)
-    picture.words(x, 64, width, 34, [step], "on", 9.5, bold=True)
+    picture.words(x, 64, width, 34, [step], "on", 11, bold=True)
     for index, order in enumerate(match.orders):
         lots = sum(lots for by, lots in order.given if by == step)
         picture.rect(x, 104 + index * 50, width, 46, COLOURS[step] if lots else "plain", 6)
@@ -181,21 +181,27 @@ def draw_step(picture, x, width, match, step):
     return taken
 
 
+def told(match):
+    """The match in words."""
+    before = ", ".join(f"#{order.number} sells {order.before}" for order in match.orders)
+    taken = [
+        f"{step} takes " + ", ".join(f"{lots} of #{order.number}" for order in match.orders for by, lots in order.given if by == step)
+        for step in match.steps
+    ]
+    after = ", ".join(f"#{order.number} has {order.left()}" for order in match.orders)
+    return f"Before: {before}. A buy wants {match.wanted}. {'. '.join(taken)}. After: {after}."
+
+
 def match_picture():
     """The match of the list with all six steps, step by step."""
     match = read_match("K")
     picture = Picture(
         "A match by all six steps",
-        "Before: " + ", ".join(f"#{order.number} sells {order.before}" for order in match.orders) + f". A buy wants {match.wanted}. "
-        + " ".join(
-            f"{step} takes " + ", ".join(f"{lots} of #{order.number}" for order in match.orders for by, lots in order.given if by == step) + "."
-            for step in match.steps
-        )
-        + " After: " + ", ".join(f"#{order.number} has {order.left()}" for order in match.orders) + ".",
+        told(match),
         980,
         24 + 80 + 4 * 50 + 46 + 24,
     )
-    side, gap = 240, 20
+    side, gap = 210, 16
     draw_ladder(picture, 24, 24, side, "the book before", match, False)
     draw_ladder(picture, 980 - 24 - side, 24, side, "the book after", match, True)
     x = 24 + side + gap

@@ -23,7 +23,13 @@ MOMENTS = [
     ("reports sent", "one after the other", "aaa1rrrr0", "aaa1rrrr0", [OLD, NEW], "a front of them"),
 ]
 KINDS = {"a": "plain", "r": "blue", "0": "card", "?": "orange"}
-LEGEND = [("a", "a byte from before", 176), ("r", "a byte of the record", 186), ("0", "a closed gate", 136), ("1", "an open gate", 132), ("?", "any byte: torn", 142)]
+LEGEND = [
+    ("a", "a byte from before", 176),
+    ("r", "a byte of the record", 186),
+    ("0", "a closed gate", 136),
+    ("1", "an open gate", 132),
+    ("?", "any byte: torn", 142),
+]
 
 
 def draw_cell(picture, x, y, letter):
@@ -42,7 +48,7 @@ def draw_stages(picture, y):
         x = LEFT + index * (width + gap)
         picture.box(x, y, width, 62, [name, words], kind, size=15, bold=True)
         if index:
-            picture.arrow(x - gap + 5, y + 31, x - 6, y + 31)
+            picture.arrow(x - gap + 5, y + 31, x - 6)
 
 
 def draw_row(picture, y, moment, is_last):
@@ -91,9 +97,9 @@ def draw_legend(picture, y):
 def pictures():
     picture = Picture(
         "One message from frame to report, and what a crash leaves",
-        "A frame is kept as a record after a closed gate, and synced. Then the gate is opened, and synced. Only then is the message matched and "
-        "its reports are sent. A crash before the gate is written leaves the messages before. A crash before the second sync leaves those, or "
-        "those and this one. A crash after it leaves this one too, whatever part of its reports was sent.",
+        "A frame is kept as a record after a closed gate, and synced. Then the gate is opened, and synced. Only then is the message "
+        "matched and its reports are sent. A crash before the gate is written leaves the messages before. A crash before the second sync "
+        "leaves those, or those and this one. A crash after it leaves this one too, whatever part of its reports was sent.",
         WIDTH,
         0,
     )
