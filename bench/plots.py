@@ -4,7 +4,8 @@
 A row of a file of figures is a bar, a part of one, or a point. Where the column `another program` has a figure too, it is drawn
 beside ours. The same figures give the same bytes with the same matplotlib.
 
-    /usr/bin/python3 bench/plots.py    wants matplotlib, as Debian's python3-matplotlib has it
+    /usr/bin/python3 bench/plots.py            wants matplotlib, as Debian's python3-matplotlib has it
+    /usr/bin/python3 bench/plots.py --check    says which figures of the files are not in docs/BENCH.md, and ends with 1 if there is one
 """
 
 import csv
@@ -24,6 +25,7 @@ sys.path.insert(0, str(PICTURES))
 from drawing import DARK, KINDS, LIGHT  # noqa: E402
 
 FIGURES = PICTURES / "figures"
+BENCH = PICTURES.parent / "BENCH.md"
 ANOTHER = "another program"
 GRID = KINDS["plain"][1]
 INK, SOFT = LIGHT["ink"], LIGHT["soft"]
@@ -252,7 +254,22 @@ def draw_start():
     save(figure, "start.svg", "A start by replay and from an image, over 400,000 messages", desc)
 
 
+def check():
+    """Says which figures docs/BENCH.md does not have."""
+    told = {found.rstrip(",") for found in re.findall(r"\d[\d,]*", BENCH.read_text())}
+    wrong = 0
+    for path in sorted(FIGURES.glob("*.csv")):
+        for row in rows_of(path.name):
+            for column, value in row.items():
+                if column not in (ANOTHER, "divided by") and value.isdigit() and value != "0" and f"{int(value):,}" not in told:
+                    print(f"{path.name}: {column} {int(value):,} is not in docs/BENCH.md")
+                    wrong = 1
+    return wrong
+
+
 def main():
+    if sys.argv[1:] == ["--check"]:
+        sys.exit(check())
     if sys.argv[1:]:
         sys.exit(__doc__)
     for draw in (draw_instructions, draw_growth, draw_dearest, draw_closes, draw_start):
