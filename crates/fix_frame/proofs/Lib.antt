@@ -8,3 +8,4 @@ mod Framings
 mod GivenEnds
 mod Bodies
 mod AtHand
+mod Sums

@@ -4,11 +4,15 @@ ghost use Rattle.fix_frame.specs.Grammar.{IsFrame};
 ghost use Rattle.fix_frame.specs.Scans.{IsLengthText};
 
 use crate::place::BEGIN;
+use crate::sum::block_checksum;
 use gx_base::SOH;
-use line_parts::{TRAILER_LENGTH, checksum, trailer_with};
+use line_parts::{TRAILER_LENGTH, trailer_with};
 
-/// The length of the frame with which the bytes held begin, where all of it is there and its body has 10 to 999 bytes. `None`
-/// says nothing.
+/// How many bytes a body has at least that is read in one pass. With its head it is a block then, of which the sum is made.
+const SHORTEST_BODY: usize = 17;
+
+/// The length of the frame with which the bytes held begin, where all of it is there and its body has `SHORTEST_BODY` to 999
+/// bytes. `None` says nothing.
 #[inline]
 pub fn whole_frame(held: &[u8]) -> Option<usize>
     ensures { IfSome result (λ n. (n ≤ length held.now) × IsFrame (take n held.now)) }
@@ -22,13 +26,13 @@ pub fn whole_frame(held: &[u8]) -> Option<usize>
     }
     let count = read_length(&held[12..12 + digits])?;
     let end = 13 + digits + count;
-    if count == 0 || held.len() < end + TRAILER_LENGTH {
+    if count < SHORTEST_BODY || held.len() < end + TRAILER_LENGTH {
         return None;
     }
     if held[end - 1] != SOH {
         return None;
     }
-    let trailer = trailer_with(checksum(&held[..end]));
+    let trailer = trailer_with(block_checksum(&held[..end]));
     if !held[end..].starts_with(&trailer) {
         return None;
     }
