@@ -20,6 +20,7 @@ pub fn whole_frame(held: &[u8]) -> Option<usize>
     if held.len() < 16 || !held.starts_with(BEGIN) {
         return None;
     }
+    // The digits of the length follow the begin string, two or three.
     let digits = if held[14] == SOH { 2 } else { 3 };
     if held[12 + digits] != SOH {
         return None;
