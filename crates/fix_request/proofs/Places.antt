@@ -3,7 +3,7 @@ use Rattle.std.proofs.Common.{◌≡◌, ◌≢◌, ℕ, zero, suc, ◌+◌, ◌
 use Rattle.std.proofs.lemmas.Bool.Decides.{nat_tests}
 use Rattle.std.specs.Char.{is_ascii_digit}
 use lib.Ieee.Fits.{and_l, and_r}
-use Rattle.fix_request.specs.declared.slots.TheConstants.{OF_DIGITS}
+use Rattle.fix_request.specs.declared.slots.TheConstants.{PLACES, OF_DIGITS}
 use Rattle.std.specs.Prelude.{◌∷◌, [], slice_index, slice_set, nat_lt, Option, Some, None}
 use Rattle.std.specs.Option.{option_or}
 use Rattle.std.specs.List.{position_or_len}
@@ -52,15 +52,15 @@ entry_at first second a b c d =
 
 -- ---- the places
 
-low_by : (b : Bool) (index : ℕ) → nat_lt index 18 ≡ b → cond b (index + 1) 0 < 19
+low_by : (b : Bool) (index : ℕ) → nat_lt index (length named_tags) ≡ b → cond b (index + 1) 0 < PLACES
 low_by true index is = grind (arith, nat_tests)
 low_by false index is = omega arith
 
-pub low_place : (tag : ℕ) → slot_of tag < 19
+pub low_place : (tag : ℕ) → slot_of tag < PLACES
 unfolding slot_of
-low_place tag = let index = position_or_len (λ named. named == tag) named_tags in low_by (nat_lt index 18) index refl
+low_place tag = let index = position_or_len (λ named. named == tag) named_tags in low_by (nat_lt index (length named_tags)) index refl
 
-index_by : (b : Bool) (index : ℕ) → nat_lt index 18 ≡ b → 1 ≤ cond b (index + 1) 0 → (index < 18) × (cond b (index + 1) 0 - 1 ≡ index)
+index_by : (b : Bool) (index : ℕ) → nat_lt index (length named_tags) ≡ b → 1 ≤ cond b (index + 1) 0 → (index < length named_tags) × (cond b (index + 1) 0 - 1 ≡ index)
 index_by true index is some = (grind (arith, nat_tests), omega arith)
 index_by false index is some = absurd (omega arith)
 
@@ -72,10 +72,10 @@ are_digits first second = is_ascii_digit first && not (first == 48) && is_ascii_
 digit_bytes : (first second : ℕ) → are_digits first second ≡ true → (49 ≤ first) × (first ≤ 57) × (48 ≤ second) × (second ≤ 57)
 digit_bytes first second h = (grind (arith, nat_tests), grind (arith, nat_tests), grind (arith, nat_tests), grind (arith, nat_tests))
 
-pub digits_placed : (first second row column slot : ℕ) → are_digits first second ≡ true → row ≡ first - 48 → column ≡ second - 48 → slot ≡ entry row column → Some slot ≡ slot_of_digits first second
+pub digits_placed : (first second row column slot : ℕ) → are_digits first second ≡ true → row ≡ first → column ≡ second → slot ≡ entry (row - 48) (column - 48) → Some slot ≡ slot_of_digits first second
 digits_placed first second row column slot are at_row at_column is =
     let w = digit_bytes first second are in
-    ap Some (is ∙ ap₂ entry at_row at_column ∙ entry_at first second w.0 w.1 w.2 w.3) ∙ sym (cond-true (are_digits first second) (Some (slot_of (first * 10 + second - 528))) None are)
+    ap Some (is ∙ ap₂ (λ a b. entry (a - 48) (b - 48)) at_row at_column ∙ entry_at first second w.0 w.1 w.2 w.3) ∙ sym (cond-true (are_digits first second) (Some (slot_of (first * 10 + second - 528))) None are)
 
 plain_by : (a b c : ℕ) (rest : List ℕ) (given : Option ℕ) (is : Bool) → are_digits a b ≡ is → 1 ≤ length rest → c ≡ 61 → given ≡ cond is (Some (slot_of (a * 10 + b - 528))) None → IsPlainAt (a ∷ b ∷ c ∷ rest) given
 plain_by a b c rest given true is long third e =
@@ -99,7 +99,7 @@ here : (tag : ℕ) → 1 ≤ slot_of tag → get_or named_tags (slot_of tag - 1)
 unfolding slot_of
 here tag known =
     let index = position_or_len (λ named. named == tag) named_tags in
-    let at = index_by (nat_lt index 18) index refl known in
+    let at = index_by (nat_lt index (length named_tags)) index refl known in
     let p : (get_or named_tags index 0 == tag) ≡ true = passes_at_first (λ named. named == tag) named_tags 0 at.0 in
     ap (λ n. get_or named_tags n 0) at.1 ∙ is_same _ _ p
 
@@ -114,7 +114,7 @@ some_text : (text : List ℕ) → 1 ≤ length text → if_not_empty text ≡ So
 some_text text some = cond-false (length text == 0) None (Some text) (grind (arith, nat_tests))
 
 -- by whether it is the value's tag, and whether a text is there
-noted_by : (texts : List (List ℕ)) (tag named : ℕ) (value : List ℕ) (is empty : Bool) → (tag == named) ≡ is → (length (get_or texts (slot_of tag) []) == 0) ≡ empty → 1 ≤ slot_of named → length texts ≡ 19 → 1 ≤ length value
+noted_by : (texts : List (List ℕ)) (tag named : ℕ) (value : List ℕ) (is empty : Bool) → (tag == named) ≡ is → (length (get_or texts (slot_of tag) []) == 0) ≡ empty → 1 ≤ slot_of named → length texts ≡ PLACES → 1 ≤ length value
     → text_at (cond empty (slice_set texts (slot_of tag) value) texts) named ≡ cond is (option_or (text_at texts named) (Some value)) (text_at texts named)
 noted_by texts tag named value true true is e known long some =
     let same : tag ≡ named = is_same tag named is in
@@ -155,7 +155,7 @@ same_named f g same = λ i. record {
   status = same 340 (omega arith) i;
 }
 
-pub noting : (texts : List (List ℕ)) (tag : ℕ) (value : List ℕ) → length texts ≡ 19 → 1 ≤ length value → places_view (noted_at (slot_of tag) value texts) ≡ noted (places_view texts) (record { tag = tag; value = value })
+pub noting : (texts : List (List ℕ)) (tag : ℕ) (value : List ℕ) → length texts ≡ PLACES → 1 ≤ length value → places_view (noted_at (slot_of tag) value texts) ≡ noted (places_view texts) (record { tag = tag; value = value })
 unfolding places_view noted
 noting texts tag value long some =
     same_named (text_at (noted_at (slot_of tag) value texts)) (λ named. noted_value named (text_at texts named) (record { tag = tag; value = value }))

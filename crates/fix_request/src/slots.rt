@@ -5,6 +5,9 @@ ghost use Rattle.fix_request.specs.Inner.Slots.{slot_of, slot_of_digits};
 /// How many places there are: one for the tags that no rule names, and one for each that a rule names.
 pub const PLACES: usize = 19;
 
+/// The digit `0`.
+const ZERO: usize = 48;
+
 /// The place of each tag below 100, by its two digits: 0 if no rule names it.
 static OF_DIGITS: [[u8; 10]; 10] = [
     [0, 0, 0, 0, 0, 0, 0, 0, 0, 0],
@@ -27,8 +30,9 @@ pub fn slot_of_digits(first: u8, second: u8) -> Option<usize>
     if !(b'1'..=b'9').contains(&first) || !second.is_ascii_digit() {
         return None;
     }
-    let row = &OF_DIGITS[usize::from(first - b'0')];
-    Some(usize::from(row[usize::from(second - b'0')]))
+    // As words before the subtraction: of bytes, it takes four instructions more.
+    let row = &OF_DIGITS[usize::from(first) - ZERO];
+    Some(usize::from(row[usize::from(second) - ZERO]))
 }
 
 /// The place of a tag.

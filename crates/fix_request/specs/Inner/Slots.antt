@@ -5,6 +5,7 @@ use Rattle.std.specs.List.{position_or_len}
 use Rattle.fix_request.specs.Fields.{has_tag, field_of}
 use Rattle.fix_request.specs.Inner.Values.{Values}
 use Rattle.fix_request.specs.Inner.Views.{if_not_empty}
+use Rattle.fix_request.specs.declared.slots.TheConstants.{PLACES}
 
 -- the tags that rules name, in the order of their places, of which the first is 1
 abbrev pub named_tags : List ℕ
@@ -12,7 +13,7 @@ named_tags = 35 ∷ 49 ∷ 56 ∷ 34 ∷ 52 ∷ 11 ∷ 41 ∷ 55 ∷ 107 ∷ 54 
 
 -- a place, if it is that of one of them, else 0
 abbrev pub place_or_zero : ℕ → ℕ
-place_or_zero index = if nat_lt index 18 then index + 1 else 0
+place_or_zero index = if nat_lt index (length named_tags) then index + 1 else 0
 
 -- the place of a tag: 0 for all that no rule names
 unfoldable pub slot_of : ℕ → ℕ
@@ -58,4 +59,4 @@ places_view texts =
 -- a text has a tag with this place, where it is given one, and a value after three bytes
 abbrev pub IsPlainAt : List ℕ → Option ℕ → Type 0
 IsPlainAt text given =
-    IfSome given (λ slot. (slot < 19) × (4 ≤ length text) × (has_tag text ≡ true) × (slot ≡ slot_of (field_of text).tag) × ((field_of text).value ≡ drop 3 text))
+    IfSome given (λ slot. (slot < PLACES) × (4 ≤ length text) × (has_tag text ≡ true) × (slot ≡ slot_of (field_of text).tag) × ((field_of text).value ≡ drop 3 text))
