@@ -1,9 +1,9 @@
 -- When an entry has a firm and an id.
 use Rattle.std.proofs.Common.{◌≡◌, ℕ, List, ◌∷◌, bytes_eq, sym, ap, ◌∙◌}
 use Rattle.std.proofs.lemmas.Slice.Eq.{bytes_eq-Decides}
-use Rattle.id_table.specs.Inner.Trees.{is_same}
+use Rattle.id_table.specs.Inner.Nodes.{is_same}
 use Rattle.id_table.proofs.Keys.{same_key-itself}
-use Rattle.id_table.proofs.Nodes.{by_test, differ, true_false}
+use Rattle.id_table.proofs.Tests.{by_test, differ, true_false}
 
 -- of one firm
 pub same_ids : (firm : ℕ) (id other : List ℕ) → bytes_eq other id ≡ is_same (firm ∷ id) (firm ∷ other)

@@ -1,10 +1,12 @@
 //! The slots of live orders, by the firm and the id that the firm gave the order.
 #![tactic(auto)]
 
-mod buckets;
+mod forest;
+mod free;
 mod hash;
+mod node;
+mod spot;
 mod table;
-mod tree;
 mod way;
 
 pub use table::IdTable;

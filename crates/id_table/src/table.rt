@@ -4,8 +4,9 @@ ghost use Rattle.std.specs.FinMap as map;
 ghost use Rattle.gx_base.specs.declared.order.Slot.{Slot as SlotValue};
 ghost use Rattle.id_table.specs.Ids.{key, empty_ids, with_slots};
 
-use crate::buckets::{empty_buckets, find_id, put_node, rename_node, spare_nodes, take_node};
-use crate::tree::{Entry, Node, Tree};
+use crate::forest::Forest;
+use crate::free::take_free;
+use crate::node::Entry;
 use gx_base::{ShortId, Slot};
 use std::alloc::{AllocError, Global};
 use std::marker::Model;
@@ -14,10 +15,9 @@ use std::marker::Model;
 /// map, with that number.
 #[derive(Drop)]
 pub struct IdTable {
-    buckets: Vec<Tree>,
-    /// The nodes that stand in no bucket: one for each id that there is still room for.
-    spare: Vec<Box<Node>>,
-    capacity: u32,
+    forest: Forest,
+    /// The nodes that had an id and have none now.
+    free: Vec<u32>,
     live: u32,
 }
 
@@ -28,25 +28,24 @@ impl Model for IdTable {
 
     ghost coded = { ids_code };
 
-    ghost use Rattle.std.specs.Prelude.{◌≡◌, ◌+◌, ◌*◌, vec_len, vec_capacity};
-    ghost use Rattle.id_table.specs.Inner.Buckets.{slots_of, IsKept};
+    ghost use Rattle.std.specs.Prelude.{vec_capacity};
+    ghost use Rattle.id_table.specs.Inner.Nodes.{slots_of};
+    ghost use Rattle.id_table.specs.Inner.Kept.{IsKept, HasRoom};
 
-    ghost view = { λ t. record { capacity = t.capacity; slots = slots_of t.buckets.items } };
+    ghost view = { λ t. record { capacity = t.forest.capacity; slots = slots_of t.forest.nodes.items } };
 
-    ghost invariant = { λ t. IsKept t.capacity t.live t.buckets.items (vec_len t.spare) (vec_capacity t.spare)
-        × (vec_capacity t.buckets ≡ 2 * t.capacity + 1) };
+    ghost invariant = { λ t. IsKept t.forest t.free.items t.live × HasRoom t.forest (vec_capacity t.free) };
 }
 
 impl IdTable {
-    /// An empty table for so many ids. An `Err` is want of memory: it takes 112 bytes for each of them, 72 of these in a
-    /// piece of its own, and 16 more. That is all the memory: no call changes how much a part has room for.
+    /// An empty table for so many ids. An `Err` is want of memory: it takes 60 bytes for each of them, and 4 more, in three
+    /// pieces. That is all the memory: no call changes how much a part has room for.
     pub fn new(alloc: Global, capacity: u32) -> Result<IdTable, AllocError>
         ensures { IfOk result (λ t. t ≡ empty_ids capacity) }
     {
         Ok(IdTable {
-            buckets: empty_buckets(alloc, 2 * capacity as usize + 1)?,
-            spare: spare_nodes(alloc, capacity as usize)?,
-            capacity,
+            forest: Forest::new(alloc, capacity)?,
+            free: Vec::with_capacity(alloc, capacity as usize)?,
             live: 0,
         })
     }
@@ -55,7 +54,7 @@ impl IdTable {
     pub fn capacity(&self) -> u32
         ensures { result ≡ self.now.capacity }
     {
-        self.capacity
+        self.forest.capacity
     }
 
     /// How many ids there are.
@@ -70,7 +69,7 @@ impl IdTable {
     pub fn find(&self, firm: u8, id: &ShortId) -> Option<Slot>
         ensures { result ≡ map.get self.now.slots (key firm id.now) }
     {
-        find_id(&self.buckets, self.capacity, firm, id)
+        self.forest.find(firm, id)
     }
 
     /// Gives an id that is not here a slot.
@@ -79,15 +78,15 @@ impl IdTable {
         requires absent { map.get self.old.slots (key firm id) ≡ None }
         ensures { self.new ≡ with_slots (map.insert self.old.slots (key firm id) slot) self.old }
     {
-        if let Some(mut node) = self.spare.pop() {
-            *node = Node {
-                entry: Entry { firm, slot, id },
-                low: Tree::Empty,
-                high: Tree::Empty,
-            };
-            put_node(&mut self.buckets, self.capacity, node);
-            self.live += 1;
-        }
+        let at = take_free(&mut self.free, &mut self.forest.nodes);
+        let entry = Entry {
+            id,
+            slot,
+            firm,
+            is_live: true,
+        };
+        self.forest.put(at, entry);
+        self.live += 1;
     }
 
     /// Takes an id out.
@@ -95,8 +94,8 @@ impl IdTable {
         requires { map.get self.old.slots (key firm id.now) ≢ None }
         ensures { self.new ≡ with_slots (map.remove self.old.slots (key firm id.now)) self.old }
     {
-        if let Some(node) = take_node(&mut self.buckets, self.capacity, firm, id) {
-            self.spare.push_reserved(node);
+        if let Some(taken) = self.forest.take(firm, id) {
+            self.free.push_reserved(taken.at);
             self.live -= 1;
         }
     }
@@ -108,6 +107,14 @@ impl IdTable {
         ensures { (slot : SlotValue) → map.get self.old.slots (key firm old.now) ≡ Some slot
             → self.new ≡ with_slots (map.insert (map.remove self.old.slots (key firm old.now)) (key firm new) slot) self.old }
     {
-        rename_node(&mut self.buckets, self.capacity, firm, old, new);
+        if let Some(taken) = self.forest.take(firm, old) {
+            let entry = Entry {
+                id: new,
+                slot: taken.slot,
+                firm,
+                is_live: true,
+            };
+            self.forest.put(taken.at, entry);
+        }
     }
 }

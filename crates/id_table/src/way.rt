@@ -1,7 +1,7 @@
 //! The way of an id through a tree: at each depth a bit of the id says on which side it goes on.
 ghost use Rattle.std.specs.Prelude.{◌≡◌, slice_index, reverse};
 ghost use Rattle.id_table.specs.Ids.{key};
-ghost use Rattle.id_table.specs.Inner.Ways.{is_high, next_depth};
+ghost use Rattle.id_table.specs.Inner.Ways.{is_high};
 
 use gx_base::ShortId;
 
@@ -23,18 +23,9 @@ fn byte_from_end(back: usize, firm: u8, id: &ShortId) -> u8
 /// Whether the id goes to the high side of a node at this depth: the bit of the id at this depth, where the last byte's
 /// lowest bit is the first. Ids differ at their end, so their ways part soon.
 #[inline]
-pub(crate) fn is_high(depth: u8, firm: u8, id: &ShortId) -> bool
+pub(crate) fn is_high(depth: usize, firm: u8, id: &ShortId) -> bool
     ensures { result ≡ is_high depth (key firm id.now) }
 {
-    let byte = byte_from_end(usize::from(depth / 8), firm, id);
+    let byte = byte_from_end(depth / 8, firm, id);
     (byte >> (depth % 8)) % 2 == 1
-}
-
-/// The depth of the nodes right below those at this depth. The greatest depth lies behind all bits of a key, and is
-/// followed by itself.
-#[inline]
-pub(crate) fn next_depth(depth: u8) -> u8
-    ensures { result ≡ next_depth depth }
-{
-    depth.saturating_add(1)
 }

@@ -8,4 +8,4 @@ pub returns : goal.returns
 unfolding is_high
 returns c =
     ap (λ (byte : ℕ). byte / 2 ^ (c.args.depth % 8) % 2 == 1)
-    (c.byte_from_end-byte.ensures ∙ ap (λ (back : ℕ). get_or (reverse (key c.args.firm c.args.id.now)) back 0) c.from.ensures)
+    c.byte_from_end-byte.ensures

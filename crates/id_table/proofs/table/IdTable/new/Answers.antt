@@ -1,11 +1,14 @@
-use Rattle.std.proofs.Common.{◌+◌, ◌*◌, ap, ◌∙◌}
-use Rattle.id_table.specs.Ids.{Slots}
-use Rattle.id_table.specs.Inner.Buckets.{slots_of}
-use Rattle.id_table.proofs.Kept.{kept_new, none_is}
+use Rattle.std.proofs.Common.{sym, ap, ◌∙◌, ◌+◌, ◌*◌, ℕ, arith}
+use Rattle.id_table.proofs.Kept.{kept_new}
 use Rattle.id_table.proofs.table.IdTable.new.Goals as goal
 
 pub invariant_of-result : goal.invariant_of-result
-invariant_of-result c = (kept_new c.args.capacity c.in_ok-empty_buckets.field-0.items _ _ c.in_ok-empty_buckets.ensures.items c.in_ok-spare_nodes.ensures.count c.in_ok-spare_nodes.ensures.room, c.in_ok-empty_buckets.ensures.room)
-
-pub returns : goal.returns
-returns c = ap (λ (m : Slots). record { capacity = c.args.capacity; slots = m }) (ap slots_of c.in_ok-empty_buckets.ensures.items ∙ none_is (2 * c.args.capacity + 1))
+invariant_of-result c =
+    let made = c.in_ok-new.ensures in (
+      kept_new c.in_ok-new.field-0 c.in_ok-with_capacity.field-0.items made.forest made.nodes c.in_ok-with_capacity.ensures.items,
+      record {
+        buckets = made.buckets_room ∙ ap (λ (n : ℕ). 2 * n + 1) (sym made.capacity);
+        nodes = made.nodes_room ∙ sym made.capacity;
+        free = omega (arith, c.in_ok-with_capacity.ensures.exact, made.capacity);
+      },
+    )
