@@ -16,18 +16,18 @@ use Rattle.step_config.specs.RightSteps.{AreRightSteps}
 use Rattle.step_config.specs.Rules.{top_rule_of}
 use Rattle.product_file.specs.Products.{ProductLists, IsRightProduct}
 use Rattle.plain_book.specs.declared.entry.Entry.{Entry}
-use Rattle.plain_book.specs.Orders.{opposite, is_side, order_of}
-use Rattle.plain_book.specs.Book.{Book, AllDiffer, IsRight, IsWaiting}
+use Rattle.plain_book.specs.Orders.{HasSlot, opposite, is_side, order_of}
+use Rattle.plain_book.specs.Book.{Book, live_orders, AllDiffer, IsRight, IsWaiting}
 use Rattle.plain_book.specs.Match.{MatchState}
-use Rattle.plain_book.proofs.Levels.{AllDiffer-front, AllDiffer-back, same, is_side-refl}
-use Rattle.plain_book.proofs.Pairs.{all-with}
+use Rattle.plain_book.proofs.Levels.{AllDiffer-front, AllDiffer-back, HasSlot-left, same, is_side-refl}
+use Rattle.plain_book.proofs.Pairs.{all-with, all-front}
 use Rattle.plain_book.proofs.Live.{fit_of, orders-at}
 use Rattle.level_sweep.specs.Sweep.{within_limit, facing_best, sweep}
 use Rattle.level_sweep.proofs.Showing.{showing-right}
 use Rattle.level_sweep.proofs.Swept.{sweep-order}
 use Rattle.match_laws.proofs.Done.{sweep-done}
 use Rattle.order_kinds.specs.NewOrders.{may_rest}
-use Rattle.order_kinds.specs.Entering.{taker_cancelled, taker_rested, finished, open_for, entered}
+use Rattle.order_kinds.specs.Entering.{as_limit, top_min_of, taker_cancelled, taker_rested, finished, open_for, entered}
 use Rattle.order_kinds.specs.Stops.{Naming, fill_range, next_stop, stop_triggered, stop_entered, stop_rounds, entered_with_stops, taker_waiting, come_in_as, come_in}
 use Rattle.balance_laws.proofs.Entered.{marked-stands, NamesByNumber}
 use Rattle.book_image.specs.Rules.{is_right_min}
@@ -41,7 +41,9 @@ use Rattle.market_laws.specs.Acts.{Act, after, after_acts, EachAct}
 use Rattle.market_laws.specs.Acts.Act.{trades, notes, rests, cancels, waits, triggers}
 use Rattle.market_laws.specs.Trades.{IsFair}
 use Rattle.market_laws.specs.RightActs.{IsAllOrNothing, IsNoted}
-use Rattle.market_laws.proofs.Sound.{IsSoundBook, IsSound, held-sound}
+use Rattle.image_laws.proofs.Orders.{IsOther, others-lack}
+use Rattle.market_laws.proofs.NewTops.{top-by-price}
+use Rattle.market_laws.proofs.Sound.{IsByNumber, IsSoundBook, IsSound, number-at, held-sound}
 use Rattle.market_laws.proofs.Chains.{Leads, leads-by, leads-then, each-with}
 use Rattle.market_laws.proofs.Sweeps.{SweepLaw, sweep-leads}
 use Rattle.market_laws.proofs.Open.{counts, weight, open-weight, weight-traded, weight-marked, none-open}
@@ -132,6 +134,10 @@ module _ (product : ProductLists) (sent count before instrument : ℕ) where
   law = record {
     kept = kept;
     right = λ m h. h.matched.held.book;
+    other = λ s m has h same.
+        (let b = m.book in
+        let number : (order_of s b.resting).number ≡ s = number-at s b.resting (all-front IsByNumber b.resting b.waiting (held-sound product count b h.matched.held).numbered) has in
+        others-lack m.taker.order.number (live_orders b) h.matched.coming.fresh (subst (λ (k : ℕ). HasSlot k (live_orders b)) (sym number ∙ same) (HasSlot-left s b.resting b.waiting has)));
     no_stop = λ m h. h.no_stop;
     fair = λ step s n m h fair. (fair, held-sound product count m.book h.matched.held);
     noted = λ s n m has on h. (record { rests = has; instrument = on }, held-sound product count m.book h.matched.held);
@@ -197,7 +203,7 @@ module _ (product : ProductLists) (sent count before instrument : ℕ) where
         let By = λ (a b : Bool). Leads IsSound m (cond a swept (cond b (taker_rested name steps swept) (taker_cancelled cause.Fak swept))) in
         let rested : o.leaves ≢ 0 → may_rest o.life ≡ true → Leads IsSound m (taker_rested name steps swept) = λ some may.
         leads-then IsSound m swept (taker_rested name steps swept) first
-        (subst (λ (k : ℕ). Leads IsSound swept (taker_rested k steps swept)) number (leads-by IsSound (rests steps) swept (record { is = (omega (arith, some), may); book = held-sound product count swept.book after.matched.held }))) in
+        (subst (λ (k : ℕ). Leads IsSound swept (taker_rested k steps swept)) number (leads-by IsSound (rests steps) swept (record { is = record { open_lots = omega (arith, some); life = may; top = λ is. top-by-price o.number (as_limit o) (top_min_of steps) swept.book.resting after.matched.held.book.ordered (all-front (IsOther o.number) swept.book.resting swept.book.waiting after.matched.coming.fresh) is }; book = held-sound product count swept.book after.matched.held }))) in
         let by_life : nat_lt (open_for m) m.taker.order.min ≡ false → o.leaves ≢ 0 → (b : Bool) → may_rest o.life ≡ b → By false b = λ enough some. elim [
           | true ↦ λ may. rested some may
           | false ↦ λ may. leads-then IsSound m swept (taker_cancelled cause.Fak swept) first (leads-by IsSound (cancels cause.Fak) swept (record { is = cancelled-rest m h asked enough some; book = held-sound product count swept.book after.matched.held }))

@@ -1,5 +1,5 @@
 -- What holds of every history, from what holds of each message.
-use Rattle.std.proofs.Common.{◌≡◌, ℕ, ◌+◌, ◌≤◌, Bool, true, false, cond, ◌||◌, ◌&&◌, List, [], ◌∷◌, ◌++◌, map, filter, length, Option, Some, Ok, refl, sym, ap, subst, ◌∙◌, arith, inl, inr, ◌⊎◌, append_assoc}
+use Rattle.std.proofs.Common.{◌≡◌, ℕ, ◌+◌, ◌≤◌, Bool, true, false, cond, ◌||◌, ◌&&◌, List, [], ◌∷◌, ◌++◌, map, filter, length, Option, Some, refl, sym, ap, subst, ◌∙◌, arith, inl, inr, ◌⊎◌, append_assoc}
 use Rattle.std.specs.Prelude.{slice_get}
 use Rattle.std.specs.List.{AllByRecursion}
 use Rattle.std.proofs.lemmas.List.{append_cancel_left, append-nil}
@@ -8,7 +8,6 @@ use Rattle.gx_base.specs.declared.order.Life.TheVariants.{Day, Gtc}
 use Rattle.gx_base.specs.declared.order.Order.{Order}
 use Rattle.gx_base.specs.declared.event.Event.{Event}
 use Rattle.product_file.specs.Products.{ProductLists, IsRightProduct, has_top_by}
-use Rattle.product_file.specs.Amendments.{may_follow}
 use Rattle.fix_request.specs.Requests.{request_of}
 use Rattle.fix_request.specs.declared.request.CancelOrder.{CancelOrder}
 use Rattle.fix_request.specs.declared.request.Request.{Request}
@@ -39,6 +38,7 @@ use Rattle.image_laws.proofs.Reached.{IsReached}
 use Rattle.image_laws.proofs.States.{step-reached, starts}
 use Rattle.image_laws.proofs.Histories.{history-reached}
 use Rattle.market_laws.specs.Streams.{OfEachState, OfEachMessage}
+use Rattle.market_laws.specs.Lines.{KeepsTheLine}
 use Rattle.market_laws.specs.Markets.{KeepsMarketsApart, unmarked, IsAmendedMarket, IsOut, IsNotOn, IsNoStopReached, LeavesNoneReached, IsCancelled, IsFree, IsTopFirst}
 use Rattle.market_laws.proofs.Messages.{step-right, last-right, next-right, amended-reached}
 use Rattle.market_laws.proofs.TopFirst.{NoTopAfter, TopsFirst, top-first}
@@ -59,6 +59,11 @@ module _ (P : State → Type 0) (empty : (product : ProductLists) → P (empty_s
   histories-hold (amended before product messages) right is =
       messages-hold product right.1 (length_kept before) (length (events_kept before)) (amended_state product (state_kept before)) messages (amended-reached before product right.0 is.0 is.1)
       (amends product (state_kept before) (histories-hold before right.0 is.0))
+
+-- ---- the line
+
+pub line-kept : OfEachMessage KeepsTheLine
+line-kept next history right is = (next-right history right is next).line
 
 -- ---- stops
 

@@ -2,10 +2,12 @@ mod Chains
 mod Sweeps
 mod Open
 mod Sound
+mod NewTops
 mod Coming
 mod Reports
 mod StopsReached
 mod Outs
+mod Passing
 mod Apart
 mod Closings
 mod Messages

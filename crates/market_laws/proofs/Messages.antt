@@ -2,6 +2,7 @@
 use Rattle.std.proofs.Common.{◌≡◌, ◌≢◌, ℕ, ◌+◌, ◌<◌, ◌≤◌, Bool, true, false, cond, List, [], ◌∷◌, ◌++◌, length, Option, Some, None, Result, Ok, Err, option_map, refl, sym, ap, subst, ◌∙◌, arith, inl, inr, ◌⊎◌}
 use Rattle.std.specs.Prelude.{IfSome, filter, not, ◌==◌}
 use Rattle.std.specs.List.{AllByRecursion}
+use Rattle.std.proofs.lemmas.Bool.Decides.{eqb_tells}
 use Rattle.gx_base.specs.Texts.{is_name}
 use Rattle.gx_base.specs.declared.price.Price.{Price}
 use Rattle.gx_base.specs.declared.order.Side.{Side}
@@ -31,7 +32,9 @@ use Rattle.plain_book.specs.declared.entry.Entry.{Entry}
 use Rattle.plain_book.specs.Orders.{HasSlot, level_of, order_of, best_of, opposite, is_of, slot_named, without, with_order}
 use Rattle.plain_book.specs.Book.{Book, live_orders, AllRest, AllWait, IsResting, IsWaiting, book_without, changed_to}
 use Rattle.plain_book.specs.Match.{MatchState}
-use Rattle.plain_book.proofs.Levels.{renewed, HasSlot-filter, is_side-same, HasSlot-either, order_of-left, order_of-right, slots-apart, without-none}
+use Rattle.plain_book.proofs.Right.{live-without}
+use Rattle.plain_book.proofs.Walks.{HasSlot-before}
+use Rattle.plain_book.proofs.Levels.{AllDiffer-front, renewed, HasSlot-filter, HasSlot-left, HasSlot-right, is_side-same, HasSlot-either, order_of-left, order_of-right, slots-apart, without-none}
 use Rattle.plain_book.proofs.Pairs.{pairs-filter, all-from, all-filter, all-both, all-with, all-append, all-front, all-back}
 use Rattle.plain_book.proofs.Live.{fit_of, orders-at}
 use Rattle.order_kinds.specs.State.{State, empty_state}
@@ -65,13 +68,15 @@ use Rattle.image_laws.proofs.Histories.{history-reached}
 use Rattle.image_laws.proofs.Amended.{reached-follows}
 use Rattle.balance_laws.proofs.Closings.{live-closed}
 use Rattle.market_laws.specs.Streams.{OfEachReport}
-use Rattle.market_laws.specs.Acts.{Act, EachAct, IsNoFill, HasNoFill, DoesActs}
+use Rattle.market_laws.specs.Acts.{Act, EachAct, IsNoFill, HasNoFill, IsAnnounced, BringsNoOrder, DoesActs}
 use Rattle.market_laws.specs.Trades.{IsProtected, IsProtectedMarket}
 use Rattle.market_laws.specs.RightActs.{IsRightAct, IsAllOrNothing}
 use Rattle.market_laws.proofs.Chains.{Leads, each-with}
-use Rattle.market_laws.proofs.Sound.{IsByNumber, IsSound}
+use Rattle.market_laws.proofs.Sound.{IsByNumber, number-at, IsSound}
+use Rattle.market_laws.specs.Lines.{StandsBefore, LetsPass, HasReport, KeepsTheLine}
 use Rattle.market_laws.specs.Markets.{IsReportOn, IsExpiry, KeepsMarketsApart, IsOut, IsNotOn, KeepsOut, IsUnreached, IsNoStopReached, ReachesNone, LeavesNoneReached}
-use Rattle.market_laws.proofs.Outs.{number-at, IsSilent, acts-silent, acts-orders}
+use Rattle.market_laws.proofs.Passing.{before-with, before-without, before-filter, has-first, has-second, Stands, acts-stand, stands-end}
+use Rattle.market_laws.proofs.Outs.{IsSilent, acts-silent, acts-orders}
 use Rattle.market_laws.proofs.Apart.{IsElsewhere, of-without, of-with, not-here, last-elsewhere, elsewhere, acts-here, acts-same}
 use Rattle.market_laws.proofs.StopsReached.{with-stops-unreached, with-stops-leave-none}
 use Rattle.market_laws.proofs.TopFirst.{NoTopAfter, TopsFirst, KeepsLevel, first-with, acts-first}
@@ -84,9 +89,10 @@ RightActs product acts start = EachAct IsSound acts start × IsProtectedMarket p
 
 -- what is to be shown of a message
 pub record IsRightMessage (product : ProductLists) (state : State) (step : State × List Event) : Type 0 where
-  pub does : HasNoFill step.1 ⊎ DoesActs (RightActs product) state step
+  pub does : BringsNoOrder state step ⊎ DoesActs (RightActs product) state step
   pub told : AllByRecursion KeepsRules step.1
   pub market : KeepsMarketsApart state step
+  pub line : KeepsTheLine state step
   pub out : (n : ℕ) → IsOut n state → KeepsOut n step
   pub fills : LeavesNoneReached step
   pub stops : IsNoStopReached state → IsNoStopReached step.0
@@ -98,10 +104,11 @@ pub record IsRightMessage (product : ProductLists) (state : State) (step : State
 told-alone : (product : ProductLists) (state : State) (desk : Desk) (event : Event) → HasNoFill (event ∷ []) → KeepsRules event → IsReportOn 0 event → ((n : ℕ) → IsNotOn n event) → ReachesNone state.book.waiting event → desk.orders ≡ state.desk.orders
     → IsRightMessage product state (record state { desk = desk }, event ∷ [])
 told-alone product state desk event none told on not_on reaches orders = record {
-  does = inl none;
+  does = inl (record { fills = none; live = λ n h. h });
   told = (told, tt);
   market = inl (record { instrument = 0; reports = (on, tt); others = λ j other. record { resting = refl; waiting = refl; last = refl } });
   fills = (reaches, tt);
+  line = λ a b h x y. inl h;
   out = λ n h. record { reports = (not_on n, tt); out = record { given = omega (arith, h.given, orders); gone = h.gone } };
   stops = λ h. h;
   tops = λ h. h;
@@ -112,13 +119,14 @@ told-alone product state desk event none told on not_on reaches orders = record 
 -- how it starts
 pub record Starts (product : ProductLists) (state : State) (start : MatchState) : Type 0 where
   pub book : start.book ≡ book_without start.taker.order.number state.book
-  pub reported : HasNoFill start.events
+  pub reported : IsAnnounced start
   pub rules : AllByRecursion KeepsRules start.events
   pub on : AllByRecursion (IsReportOn start.taker.order.instrument) start.events
   pub by : (n : ℕ) → start.taker.order.number ≢ n → AllByRecursion (IsNotOn n) start.events
   pub orders : state.desk.orders ≤ start.desk.orders
   pub far : (j : ℕ) → j ≢ start.taker.order.instrument → AllByRecursion (IsElsewhere j start.taker.order.number) (live_orders state.book)
   pub fresh : (n : ℕ) → IsOut n state → start.taker.order.number ≢ n
+  pub passed : (a b : ℕ) → (start.taker.order.number ≡ a) ⊎ (start.taker.order.number ≡ b) → StandsBefore a b state.book.resting → HasReport (LetsPass a b) start.events
   pub protected : IsProtectedMarket product start
 
 -- right acts from there, which leave no stop reached
@@ -155,16 +163,25 @@ acts-done product state start end s l fills stops =
                 };
           });
       fills = fills on;
+      line = λ a b_ h x y.
+          let goes : StandsBefore a b_ (without number b.resting) → Stands a b_ start = λ k. inl (subst (λ (z : Book). StandsBefore a b_ z.resting) (sym s.book) k) in
+          let begins : Stands a b_ start = elim (eqb_tells number a) [
+            | inl first ↦ inr (inl (s.passed a b_ (inl first.1) h))
+            | inr not_first ↦ elim (eqb_tells number b_) [
+              | inl second ↦ inr (inl (s.passed a b_ (inr second.1) h))
+              | inr not_second ↦ goes (before-without a b_ number b.resting (λ is. not_first.1 (sym is)) (λ is. not_second.1 (sym is)) h)
+            ]
+          ] in stands-end a b_ end x y (subst (Stands a b_) l.end (acts-stand a b_ l.acts start l.each begins));
       out = λ n h.
           let other = s.fresh n h in
           let was = lacks-others n (live_orders b) h.gone in
           let rest : AllByRecursion (IsOther n) start.book.resting = subst (λ (x : Book). AllByRecursion (IsOther n) x.resting) (sym s.book) (all-without (IsOther n) number b.resting (all-front (IsOther n) b.resting b.waiting was)) in
           let wait : AllByRecursion (IsOther n) start.book.waiting = subst (λ (x : Book). AllByRecursion (IsOther n) x.waiting) (sym s.book) (all-without (IsOther n) number b.waiting (all-back (IsOther n) b.resting b.waiting was)) in
-          let now : IsSilent n end = subst (IsSilent n) l.end (acts-silent n l.acts start l.each (record { incoming = other; rest = rest; wait = wait; reports = s.by n other })) in
+          let now : IsSilent n end = subst (IsSilent n) l.end (acts-silent n l.acts start l.each (record { away = record { incoming = other; rest = rest; wait = wait }; reports = s.by n other })) in
           let count : end.desk.orders ≡ start.desk.orders = ap (λ (m : MatchState). m.desk.orders) (sym l.end) ∙ acts-orders l.acts start in
           record {
             reports = now.reports;
-            out = record { given = omega (arith, h.given, s.orders, count); gone = others-lack n (live_orders end.book) (all-append (IsOther n) end.book.resting end.book.waiting now.rest now.wait) };
+            out = record { given = omega (arith, h.given, s.orders, count); gone = others-lack n (live_orders end.book) (all-append (IsOther n) end.book.resting end.book.waiting now.away.rest now.away.wait) };
           };
       stops = stops;
       tops = λ first.
@@ -285,13 +302,17 @@ module _ (product : ProductLists) (right : IsRightProduct product) (sent bound :
         acts-done product state start (new_of by_number terms new state)
         (record {
           book = without-fresh count state.book fresh;
-          reported = (tt, tt);
+          reported = record { event = _; is = refl; incoming = refl };
           rules = ((tt, tt), tt);
           on = (refl, tt);
           by = λ n other. (other, tt);
           orders = omega arith;
           far = λ j other. all-with (IsOther count) (IsElsewhere j count) (λ e k is. absurd (k is)) (live_orders state.book) fresh;
           fresh = λ n out is. omega (arith, out.given, is);
+          passed = λ a b which k. absurd (elim which [
+            | inl is ↦ others-lack count state.book.resting (all-front (IsOther count) state.book.resting state.book.waiting fresh) (subst (λ (n : ℕ). HasSlot n state.book.resting) (sym is) (has-first a b state.book.resting k))
+            | inr is ↦ others-lack count state.book.resting (all-front (IsOther count) state.book.resting state.book.waiting fresh) (subst (λ (n : ℕ). HasSlot n state.book.resting) (sym is) (has-second a b state.book.resting k))
+          ]);
           protected = λ market. new-protected terms passes market;
         })
         (come-in-leads product sent count bound on.number right on.rule.steps (instrument-right product new.named on right passes.named)
@@ -321,7 +342,7 @@ module _ (product : ProductLists) (right : IsRightProduct product) (sent bound :
             let g = orders-at IsAllOrNothing slot es (live-all-or-nothing b h.held.book.rest h.held.book.wait) has in
             let number : o.number ≡ slot = number-at slot es (all-with (IsRightEntry product state.desk.orders) IsByNumber (λ e r. r.slot) es h.held.entries) has in
             record {
-              does = inl (tt, tt);
+              does = inl (record { fills = (tt, tt); live = λ n k. HasSlot-filter (λ e. not (e.slot == slot)) n es (subst (HasSlot n) (live-without slot b) k) });
               told = ((tt, record { minimum = g.minimum; fok = g.fok }), tt);
               market = inl (record {
                 instrument = o.instrument;
@@ -335,6 +356,7 @@ module _ (product : ProductLists) (right : IsRightProduct product) (sent bound :
                     };
               });
               fills = (tt, tt);
+              line = λ a b_ k x y. inl (before-filter a b_ (λ e. not (e.slot == slot)) b.resting (AllDiffer-front b.resting b.waiting h.held.book.differ) k x y);
               out = λ n out.
                   let was = lacks-others n es out.gone in
                   record {
@@ -411,7 +433,13 @@ module _ (product : ProductLists) (right : IsRightProduct product) (sent bound :
         let number : was.number ≡ slot = number-at slot live (all-with (IsRightEntry product state.desk.orders) IsByNumber (λ e r. r.slot) live h.held.entries) has in
         let each = all-was slot live h.held.book.differ in
         record {
-          does = inl (tt, tt);
+          does = inl (record {
+            fills = (tt, tt);
+            live = λ n k. elim (HasSlot-either n (with_order slot now b.resting) (with_order slot now b.waiting) k) [
+              | inl here ↦ HasSlot-left n b.resting b.waiting (HasSlot-before slot n now b.resting here)
+              | inr here ↦ HasSlot-right n b.resting b.waiting (HasSlot-before slot n now b.waiting here)
+            ];
+          });
           told = ((tt, tt), tt);
           market = inl (record {
             instrument = was.instrument;
@@ -426,6 +454,7 @@ module _ (product : ProductLists) (right : IsRightProduct product) (sent bound :
                 };
           });
           fills = (tt, tt);
+          line = λ a b_ k x y. inl (before-with a b_ slot now b.resting k);
           out = λ n out.
               let old = lacks-others n live out.gone in
               record {
@@ -453,13 +482,14 @@ module _ (product : ProductLists) (right : IsRightProduct product) (sent bound :
         (acts-done product state start (come_in by_number on.rule.steps start)
         (record {
           book = ap (λ (n : ℕ). book_without n state.book) entry.slot;
-          reported = (tt, tt);
+          reported = record { event = _; is = refl; incoming = refl };
           rules = ((tt, tt), tt);
           on = (refl, tt);
           by = λ n other. (other, tt);
           orders = omega arith;
           far = λ j other. subst (λ (n : ℕ). AllByRecursion (IsElsewhere j n) live) entry.slot (elsewhere j was.instrument slot live other h.held.book.differ refl);
           fresh = λ n out is. out.gone (subst (λ (k : ℕ). HasSlot k live) (entry.slot ∙ is) has);
+          passed = λ a b which k. inl which;
           protected = λ market. absurd (no-market slot has market);
         })
         (come-in-leads product sent state.desk.orders bound on.number right on.rule.steps (instrument-right product request.named on right passes.named)
@@ -491,11 +521,12 @@ module _ (product : ProductLists) (right : IsRightProduct product) (sent bound :
 
   nothing-right : (state : State) (trading : Trading) → IsRightMessage product state (record state { trading = trading }, [])
   nothing-right state trading = record {
-    does = inl tt;
+    does = inl (record { fills = tt; live = λ n h. h });
     told = tt;
     market = inl (record { instrument = 0; reports = tt; others = λ j other. record { resting = refl; waiting = refl; last = refl } });
     out = λ n out. record { reports = tt; out = record { given = out.given; gone = out.gone } };
     fills = tt;
+    line = λ a b h x y. inl h;
     stops = λ unreached. unreached;
     tops = λ first. first;
   }
@@ -509,7 +540,7 @@ module _ (product : ProductLists) (right : IsRightProduct product) (sent bound :
       let Any : Entry → Type 0 = λ e. Unit {0} in
       let any : AllByRecursion Any gone = all-from Any (λ e. tt) gone in
       record {
-        does = inl (each-expiry IsNoFill Any (λ head e q. tt) time gone desk any);
+        does = inl (record { fills = each-expiry IsNoFill Any (λ head e q. tt) time gone desk any; live = λ n k. HasSlot-filter stays n es (subst (HasSlot n) (live-closed b) k) });
         told = each-expiry KeepsRules (λ (e : Entry). IsAllOrNothing e.order) (λ head e q. (tt, record { minimum = q.minimum; fok = q.fok })) time gone desk
             (all-filter (λ (e : Entry). IsAllOrNothing e.order) expires es (live-all-or-nothing b h.held.book.rest h.held.book.wait));
         market = inr (record {
@@ -529,6 +560,7 @@ module _ (product : ProductLists) (right : IsRightProduct product) (sent bound :
                 gone = λ k. out.gone (HasSlot-filter stays n es (subst (HasSlot n) (live-closed b) k));
               };
             };
+        line = λ a b_ k x y. inl (before-filter a b_ stays b.resting (AllDiffer-front b.resting b.waiting h.held.book.differ) k x y);
         fills = each-expiry (ReachesNone (book_closed b).waiting) Any (λ head e q. tt) time gone desk any;
         stops = λ unreached. all-filter (IsUnreached state.last) stays b.waiting unreached;
         tops = λ first. pairs-filter NoTopAfter stays b.resting first;

@@ -42,6 +42,7 @@ no-better k = record { fills = λ n e x p q is some. p; refreshes = λ n e p som
 pub record SweepLaw (I : MatchState → Type 0) (Law : Act → MatchState → Type 0) : Type 0 where
   pub kept : IsKeptByTrades I
   pub right : (m : MatchState) → I m → IsRight m.book
+  pub other : (s : ℕ) (m : MatchState) → HasSlot s m.book.resting → I m → (order_of s m.book.resting).number ≢ m.taker.order.number
   pub no_stop : (m : MatchState) → I m → m.taker.order.kind ≢ StopLimit
   pub fair : (step : StepName) (s n : ℕ) (m : MatchState) → I m → IsFair (record { before = m; step = step; slot = s; lots = n }) → Law (trades step s n) m
   pub noted : (s n : ℕ) (m : MatchState) → HasSlot s m.book.resting → (order_of s m.book.resting).instrument ≡ m.taker.order.instrument → I m → Law (notes s n) m
@@ -113,6 +114,7 @@ module _ (I : MatchState → Type 0) (Law : Act → MatchState → Type 0) (law 
         record {
           fit = record {
             rests = has;
+            other = law.other s m has h.is.holds;
             instrument = ap (λ (k : Level). k.instrument) at ∙ sym h.is.instrument_is;
             side = side_at ∙ sym h.is.side_is;
             some = some;

@@ -2,18 +2,18 @@
 --
 -- The definitions of a message say what comes of it as a whole. The laws of the market speak of what happens on the way: so a
 -- law says that some acts lead from where the message starts to exactly what the definitions say, and that each of them is right.
-use Rattle.std.specs.Prelude.{◌≡◌, ℕ, List, [], ◌∷◌, ◌⊎◌}
+use Rattle.std.specs.Prelude.{◌≡◌, ℕ, List, [], ◌∷◌, Option, Some, None, ◌⊎◌}
 use Rattle.std.specs.List.{AllByRecursion}
 use Rattle.gx_base.specs.declared.order.Order.{Order}
 use Rattle.gx_base.specs.declared.event.StepName.{StepName}
 use Rattle.gx_base.specs.declared.event.Cause.{Cause}
 use Rattle.gx_base.specs.declared.event.Event.{Event}
-use Rattle.gx_base.specs.declared.event.Event.TheVariants.{Fill}
+use Rattle.gx_base.specs.declared.event.Event.TheVariants.{Accepted, Fill, Replaced}
 use Rattle.step_config.specs.declared.step.Step.{Step}
 use Rattle.product_file.specs.Products.{ProductLists}
 use Rattle.plain_book.specs.declared.entry.Entry.{Entry}
-use Rattle.plain_book.specs.Orders.{order_of}
-use Rattle.plain_book.specs.Book.{book_without}
+use Rattle.plain_book.specs.Orders.{HasSlot, order_of}
+use Rattle.plain_book.specs.Book.{live_orders, book_without}
 use Rattle.plain_book.specs.Match.{MatchState, trade, book_share_noted}
 use Rattle.order_kinds.specs.State.{State}
 use Rattle.order_kinds.specs.Entering.{taker_cancelled, taker_rested}
@@ -93,12 +93,24 @@ IsNoFill _ = Unit {0}
 abbrev pub HasNoFill : List Event → Type 0
 HasNoFill events = AllByRecursion IsNoFill events
 
+-- the order that a report tells of as coming in: accepted, or replaced
+abbrev pub announced : Event → Option Order
+announced (Accepted head o) = Some o
+announced (Replaced head o old before) = Some o
+announced _ = None
+
+-- The one report so far is that the incoming order comes in.
+pub record IsAnnounced (start : MatchState) : Type 0 where
+  pub event : Event
+  pub is : start.events ≡ event ∷ []
+  pub incoming : announced event ≡ Some start.taker.order
+
 -- These acts are what a message does, which leads from a state to another one, with some events: an order comes in, which is
 -- no live one any more if it was one, and is reported. After the acts the book, the counters and all events are as they are
 -- after the message.
 pub record AreActs (state : State) (step : State × List Event) (start : MatchState) (acts : List Act) : Type 0 where
   pub book : start.book ≡ book_without start.taker.order.number state.book
-  pub reported : HasNoFill start.events
+  pub reported : IsAnnounced start
   pub end : step ≡ after_match start.taker.order.instrument state (after_acts acts start)
 
 -- a message does some acts, of which a law holds
@@ -108,13 +120,18 @@ pub record DoesActs (Law : List Act → MatchState → Type 0) (state : State) (
   pub are : AreActs state step start acts
   pub law : Law acts start
 
--- After any history, the next message reports no fill, or does acts of which a law of its product holds.
+-- No order comes in with a message: none of its reports is a fill, and each order that is live after it was live before.
+pub record BringsNoOrder (old : State) (step : State × List Event) : Type 0 where
+  pub fills : HasNoFill step.1
+  pub live : (number : ℕ) → HasSlot number (live_orders step.0.book) → HasSlot number (live_orders old.book)
+
+-- After any history, no order comes in with the next message, or it does acts of which a law of its product holds.
 abbrev pub InEachMessage : (ProductLists → List Act → MatchState → Type 0) → Type 0
 InEachMessage Law =
     (next : List ℕ) → OfEachHistory (λ history.
     let product = last_product history in
     let state = state_kept history in
-    let step = step_of product state next in HasNoFill step.1 ⊎ DoesActs (Law product) (with_message state) step)
+    let step = step_of product state next in BringsNoOrder (with_message state) step ⊎ DoesActs (Law product) (with_message state) step)
 
 -- a law holds of each trade of every history
 abbrev pub OfEachTrade : (Trade → Type 0) → Type 0

@@ -26,11 +26,13 @@ ghost use Rattle.market_laws.specs.Streams.{OfEachHistory, OfEachState, OfEachRe
 ghost use Rattle.market_laws.specs.Acts.{EachAct, InEachMessage, OfEachTrade};
 ghost use Rattle.market_laws.specs.Firms.{DifferInFirms};
 ghost use Rattle.market_laws.specs.Trades.{IsWithinLimits, KeepsLimit, IsProtectedMarket, IsAtBest, IsFirst, IsFit, IsNoStop};
-ghost use Rattle.market_laws.specs.RightActs.{IsRightAct, KeepsMinimum};
+ghost use Rattle.market_laws.specs.RightActs.{IsRightAct, KeepsMinimum, IsTopByPrice};
+ghost use Rattle.market_laws.specs.Lines.{KeepsTheLine};
 ghost use Rattle.market_laws.specs.Markets.{KeepsMarketsApart, IsAmendedMarket, IsOut, IsNotOn, IsNoStopReached, LeavesNoneReached, IsCancelled, IsFree, IsTopFirst};
 ghost use Rattle.market_laws.specs.Shares.{IsInProportion, shares_of, of_firms, IsBlind, hiding, IsShownPart};
 
-/// Each trade is of some lots, which its resting order shows and the incoming one wants, of one instrument and two sides.
+/// Each trade is of some lots, which its resting order shows and the incoming one wants, of two orders of one instrument and two
+/// sides.
 pub fn trades_are_fit()
     ensures { OfEachTrade IsFit }
 {}
@@ -48,9 +50,11 @@ pub fn nobody_is_traded_through()
     ensures { OfEachTrade IsAtBest }
 {}
 
-/// In a FIFO step the first in line trades first.
+/// First come, first served: in a FIFO step the first in line trades first, and of two orders that rest the first stays before the
+/// other one, unless nothing of it is shown any more or one of them is replaced.
 pub fn the_first_in_line_trades_first()
-    ensures { OfEachTrade IsFirst }
+    ensures trades { OfEachTrade IsFirst }
+    ensures line { OfEachMessage KeepsTheLine }
 {}
 
 /// A pro rata share is at most its part of what is offered, less than a lot below it where it reaches the least, nothing
@@ -66,9 +70,10 @@ pub fn steps_keep_their_percent()
     ensures top { (most : ℕ) (top : Option ℕ) (wanted : ℕ) (es : List Entry) → AllByRecursion (λ (share : Share). share.1 ≤ most) (top_shares most top wanted es) }
 {}
 
-/// The TOP order of a side is the first in line there.
+/// The TOP order of a side is the first in line there, and came to rest at a better price than every order there.
 pub fn top_is_first_in_line()
-    ensures { OfEachState (λ state. IsTopFirst state.book.resting) }
+    ensures line { OfEachState (λ state. IsTopFirst state.book.resting) }
+    ensures price { InEachMessage (λ product acts start. EachAct IsTopByPrice acts start) }
 {}
 
 /// An order that has a minimum trades at least that or nothing, and a FOK order all or nothing: so the report of each order that is
