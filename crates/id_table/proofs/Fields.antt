@@ -1,17 +1,15 @@
 -- The fields of a forest after an id came, and after one went.
-use Rattle.std.proofs.Common.{◌≡◌, ◌≢◌, ℕ, ◌<◌, ◌≤◌, Bool, true, false, List, length, get_or, Option, Some, None, refl, sym, ap, subst, ◌∙◌, arith, inl, inr}
+use Rattle.std.proofs.Common.{◌≡◌, ◌≢◌, ℕ, ◌<◌, true, false, List, length, get_or, Some, None, sym, ap, subst, ◌∙◌, arith, inl, inr}
 use Rattle.std.specs.FinMap as map
 use Rattle.std.proofs.lemmas.Bool.{cases_eq}
 use Rattle.gx_base.specs.declared.order.Slot.{Slot}
 use Rattle.id_table.specs.declared.node.Entry.{Entry}
-use Rattle.id_table.specs.declared.node.Node.{Node}
 use Rattle.id_table.specs.declared.spot.Place.{Place}
 use Rattle.id_table.specs.declared.spot.Place.TheVariants.{Bucket, Low, High}
 use Rattle.id_table.specs.declared.spot.Spot.{Spot}
 use Rattle.id_table.specs.declared.forest.Forest.{Forest}
-use Rattle.id_table.specs.declared.forest.Taken.{Taken}
 use Rattle.id_table.specs.Inner.Nodes.{nowhere, key_of, node_at, entry_at, is_live_at, slots_of, IsSet, IsMoved}
-use Rattle.id_table.specs.Inner.Places.{link_of, way, IsLinked}
+use Rattle.id_table.specs.Inner.Places.{link_of, IsLinked}
 use Rattle.id_table.specs.Inner.Forests.{AreTrees, IsForest, IsSpot, IsLeafBelow, IsTaken}
 use Rattle.id_table.specs.Inner.Ways.{home_of}
 use Rattle.id_table.proofs.Tests.{true_false}

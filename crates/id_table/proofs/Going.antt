@@ -1,17 +1,17 @@
 -- Trees: what an id that goes makes of them.
-use Rattle.std.proofs.Common.{◌≡◌, ◌≢◌, ℕ, ◌<◌, ◌≤◌, Bool, true, false, List, refl, sym, ap, subst, ◌∙◌, arith, ◌⊎◌, inl, inr}
-use Prim.Native.Nat.{zero, suc}
+use Rattle.std.proofs.Common.{◌≡◌, ◌≢◌, ℕ, ◌≤◌, Bool, true, false, List, refl, sym, ap, subst, ◌∙◌, arith, inl, inr}
+use Prim.Native.Nat.{suc}
 use Rattle.std.proofs.lemmas.Bool.{cases_eq}
 use Rattle.id_table.specs.declared.node.Entry.{Entry}
 use Rattle.id_table.specs.declared.spot.Place.{Place}
-use Rattle.id_table.specs.declared.spot.Place.TheVariants.{Bucket, Low, High}
+use Rattle.id_table.specs.declared.spot.Place.TheVariants.{Low, High}
 use Rattle.id_table.specs.Inner.Nodes.{nowhere, key_of}
 use Rattle.id_table.specs.Inner.Places.{side_of, way}
 use Rattle.id_table.specs.Inner.Forests.{AreTrees, Stands}
 use Rattle.id_table.specs.Inner.Ways.{is_high}
-use Rattle.id_table.proofs.Tests.{true_false, by_test}
-use Rattle.id_table.proofs.Ways.{side_bare, past_none, leads_before, same_node, not_bucket}
-use Rattle.id_table.proofs.Links.{cases_place, live_leads, live_above, same_until, stands_still}
+use Rattle.id_table.proofs.Tests.{true_false}
+use Rattle.id_table.proofs.Ways.{side_bare, past_none}
+use Rattle.id_table.proofs.Links.{cases_place, live_leads, stands_still}
 
 module _ (home : List ℕ → ℕ) (link : Place → ℕ) (entry : ℕ → Entry) (trees : AreTrees home link entry) (none : (entry nowhere).is_live ≡ false) (a : Place) (link' : Place → ℕ) (others : (p : Place) → p ≢ a → link' p ≡ link p) where
   abbrev at : List ℕ → ℕ → Place

@@ -1,5 +1,5 @@
 -- Tables: what holds of the fields after each call.
-use Rattle.std.proofs.Common.{◌≡◌, ◌≢◌, ℕ, ◌+◌, ◌-◌, ◌*◌, ◌<◌, ◌≤◌, Bool, true, false, cond, List, [], ◌∷◌, ◌++◌, length, get_or, Option, Some, None, is_some, refl, sym, ap, subst, ◌∙◌, arith}
+use Rattle.std.proofs.Common.{◌≡◌, ◌≢◌, ℕ, ◌+◌, ◌-◌, ◌<◌, ◌≤◌, cond, List, [], ◌∷◌, ◌++◌, length, Option, Some, None, is_some, refl, sym, ap, subst, ◌∙◌, arith}
 use Rattle.std.specs.Cmp.Lexicographic.{slice_cmp, nat_list_cmp_total}
 use Rattle.std.specs.Ordering.{nat_cmp}
 use Rattle.std.specs.FinMap as map
@@ -12,7 +12,7 @@ use Rattle.id_table.specs.declared.spot.Place.{Place}
 use Rattle.id_table.specs.declared.forest.Forest.{Forest}
 use Rattle.id_table.specs.declared.forest.Taken.{Taken}
 use Rattle.id_table.specs.Ids.{Slots}
-use Rattle.id_table.specs.Inner.Nodes.{nowhere, key_of, is_same, node_at, entry_at, is_live_at, slots_of}
+use Rattle.id_table.specs.Inner.Nodes.{nowhere, is_same, node_at, entry_at, is_live_at, slots_of}
 use Rattle.id_table.specs.Inner.Places.{link_of}
 use Rattle.id_table.specs.Inner.Forests.{AreTrees, IsForest, IsTaken, HasSameRoom}
 use Rattle.id_table.specs.Inner.Ways.{home_of}

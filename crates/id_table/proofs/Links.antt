@@ -5,12 +5,12 @@ use Rattle.std.proofs.lemmas.Bool.{cases_eq}
 use Rattle.id_table.specs.declared.node.Entry.{Entry}
 use Rattle.id_table.specs.declared.spot.Place.{Place}
 use Rattle.id_table.specs.declared.spot.Place.TheVariants.{Bucket, Low, High}
-use Rattle.id_table.specs.Inner.Nodes.{nowhere, key_of}
+use Rattle.id_table.specs.Inner.Nodes.{nowhere}
 use Rattle.id_table.specs.Inner.Places.{side_of, way}
 use Rattle.id_table.specs.Inner.Forests.{AreTrees, Stands}
 use Rattle.id_table.specs.Inner.Ways.{is_high}
-use Rattle.id_table.proofs.Tests.{true_false, by_test}
-use Rattle.id_table.proofs.Ways.{side_bare, past_none, leads_before, same_node, not_bucket}
+use Rattle.id_table.proofs.Tests.{true_false}
+use Rattle.id_table.proofs.Ways.{same_node, not_bucket}
 
 -- ---- whether two places are one
 

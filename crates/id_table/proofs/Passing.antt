@@ -1,19 +1,18 @@
 -- Searches: what a spot on a way has passed, and what it ends at.
-use Rattle.std.proofs.Common.{◌≡◌, ◌≢◌, ℕ, ◌+◌, ◌-◌, ◌*◌, ◌<◌, ◌≤◌, Bool, true, false, cond, List, length, get_or, refl, sym, ap, subst, ◌∙◌, arith, inl, inr}
-use Prim.Native.Nat.{zero, suc}
+use Rattle.std.proofs.Common.{◌≡◌, ◌≢◌, ℕ, ◌<◌, ◌≤◌, Bool, true, false, cond, List, length, refl, sym, ap, subst, ◌∙◌, arith, inl, inr}
+use Prim.Native.Nat.{suc}
 use Rattle.std.proofs.lemmas.Bool.{cases_eq, cases_lt}
 use Rattle.std.proofs.lemmas.List.{get_or_past}
 use Rattle.id_table.specs.declared.node.Node.{Node}
 use Rattle.id_table.specs.declared.spot.Place.{Place}
-use Rattle.id_table.specs.declared.spot.Place.TheVariants.{Bucket, Low, High}
 use Rattle.id_table.specs.declared.spot.Spot.{Spot}
 use Rattle.id_table.specs.declared.forest.Forest.{Forest}
 use Rattle.id_table.specs.Inner.Nodes.{nowhere, blank, key_of, node_at, entry_at, is_live_at}
 use Rattle.id_table.specs.Inner.Places.{link_at, link_of, side_of, way, IsBelow, IsWithin}
-use Rattle.id_table.specs.Inner.Forests.{AreTrees, IsForest, IsOnWay, IsSpot, IsOwnSpot, IsLeafBelow, Stands}
+use Rattle.id_table.specs.Inner.Forests.{IsForest, IsOnWay, IsSpot, Stands}
 use Rattle.id_table.specs.Inner.Ways.{home_of, is_high}
-use Rattle.id_table.proofs.Tests.{true_false, by_test}
-use Rattle.id_table.proofs.Ways.{past_none, leads_before, way_within, side_way, same_way, IsSameWay, IsSideWay}
+use Rattle.id_table.proofs.Tests.{true_false}
+use Rattle.id_table.proofs.Ways.{past_none, leads_before, way_within}
 
 -- a spot on the way of a key, which has passed nodes with other keys
 pub record HasPassed (f : Forest) (k : List ℕ) (s : Spot) : Type 0 where

@@ -1,15 +1,14 @@
 -- The way down from a node to one with nothing below it.
-use Rattle.std.proofs.Common.{◌≡◌, ◌≢◌, ℕ, ◌+◌, ◌<◌, ◌≤◌, Bool, true, cond, List, length, sym, ap, subst, ◌∙◌, arith}
+use Rattle.std.proofs.Common.{◌≡◌, ◌≢◌, ℕ, ◌<◌, ◌≤◌, Bool, true, cond, length, sym, ap, subst, ◌∙◌, arith}
 use Prim.Native.Nat.{suc}
 use Rattle.std.proofs.Math.Dec.{eqb}
 use Rattle.std.proofs.lemmas.Bool.{eqb-true, eqb-false}
 use Rattle.id_table.specs.declared.node.Node.{Node}
-use Rattle.id_table.specs.declared.spot.Place.{Place}
 use Rattle.id_table.specs.declared.spot.Spot.{Spot}
 use Rattle.id_table.specs.declared.forest.Forest.{Forest}
 use Rattle.id_table.specs.Inner.Nodes.{nowhere, key_of, entry_at}
 use Rattle.id_table.specs.Inner.Places.{link_of, side_of, way, IsBelow, IsWithin}
-use Rattle.id_table.specs.Inner.Forests.{IsForest, IsOnWay, IsOwnSpot, Stands}
+use Rattle.id_table.specs.Inner.Forests.{IsForest, IsOwnSpot, Stands}
 use Rattle.id_table.specs.Inner.Ways.{home_of}
 use Rattle.id_table.proofs.Passing.{none, link_side, link_within, side_within}
 use Rattle.id_table.proofs.Tests.{by_test}

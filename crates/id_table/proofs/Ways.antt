@@ -3,14 +3,14 @@ use Rattle.std.proofs.Common.{◌≡◌, ◌≢◌, ℕ, ◌<◌, ◌≤◌, Boo
 use Prim.Native.Nat.{zero, suc}
 use Rattle.std.proofs.Math.Dec.{eqb}
 use Rattle.std.specs.List.{AllByRecursion, IsDistinct, list_any}
-use Rattle.std.proofs.lemmas.Bool.{cases_eq, eqb-true, ne_eqb}
+use Rattle.std.proofs.lemmas.Bool.{cases_eq, ne_eqb}
 use Rattle.std.proofs.lemmas.Map.Steps.{length-le_from_distinct_below}
 use Rattle.id_table.specs.declared.node.Entry.{Entry}
 use Rattle.id_table.specs.declared.spot.Place.{Place}
 use Rattle.id_table.specs.declared.spot.Place.TheVariants.{Bucket, Low, High}
-use Rattle.id_table.specs.Inner.Nodes.{nowhere, key_of}
+use Rattle.id_table.specs.Inner.Nodes.{nowhere}
 use Rattle.id_table.specs.Inner.Places.{side_of, way}
-use Rattle.id_table.specs.Inner.Forests.{AreTrees, Stands}
+use Rattle.id_table.specs.Inner.Forests.{AreTrees}
 use Rattle.id_table.specs.Inner.Ways.{is_high}
 use Rattle.id_table.proofs.Tests.{true_false}
 

@@ -64,8 +64,9 @@ impl Forest {
         })
     }
 
-    /// Where the way of an id ends: at a link to the node that has it, or else at one that leads nowhere.
-    #[inline]
+    /// Where the way of an id ends: at a link to the node that has it, or else at one that leads nowhere. In each caller, so that
+    /// `find` does not keep the places that it passes.
+    #[inline(always)]
     fn spot_of(&self, firm: u8, id: &ShortId) -> Spot
         requires { IsForest self.now }
         ensures { IsSpot self.now (key firm id.now) result }

@@ -1,10 +1,9 @@
 -- What is true of the trees at every moment, and what their private calls answer.
-use Rattle.std.specs.Prelude.{◌≡◌, ◌≢◌, ℕ, ◌+◌, ◌*◌, ◌<◌, ◌≤◌, Bool, true, false, List, length, Some, vec_capacity}
+use Rattle.std.specs.Prelude.{◌≡◌, ◌≢◌, ℕ, ◌+◌, ◌*◌, ◌<◌, ◌≤◌, true, false, List, length, Some, vec_capacity}
 use Rattle.std.specs.FinMap as map
 use Rattle.id_table.specs.declared.node.Entry.{Entry}
-use Rattle.id_table.specs.declared.node.Node.{Node}
 use Rattle.id_table.specs.declared.spot.Place.{Place}
-use Rattle.id_table.specs.declared.spot.Place.TheVariants.{Bucket, Low, High}
+use Rattle.id_table.specs.declared.spot.Place.TheVariants.{Low, High}
 use Rattle.id_table.specs.declared.spot.Spot.{Spot}
 use Rattle.id_table.specs.declared.forest.Forest.{Forest}
 use Rattle.id_table.specs.declared.forest.Taken.{Taken}

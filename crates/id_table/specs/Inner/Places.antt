@@ -1,7 +1,6 @@
 -- Places of links, and the way of a key from link to link.
 use Rattle.std.specs.Prelude.{◌≡◌, ◌≢◌, ℕ, ◌+◌, ◌<◌, Bool, cond, List, length, get_or}
 use Prim.Native.Nat.{zero, suc}
-use Rattle.id_table.specs.declared.node.Entry.{Entry}
 use Rattle.id_table.specs.declared.node.Node.{Node}
 use Rattle.id_table.specs.declared.spot.Place.{Place}
 use Rattle.id_table.specs.declared.spot.Place.TheVariants.{Bucket, Low, High}

@@ -1,4 +1,3 @@
-use Rattle.std.proofs.Common.{arith}
 use Rattle.id_table.proofs.Frees.{popped}
 use Rattle.id_table.proofs.free.take_free.Goals as goal
 

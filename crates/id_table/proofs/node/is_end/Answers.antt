@@ -1,9 +1,8 @@
-use Rattle.std.proofs.Common.{◌≡◌, ◌<◌, true, false, List, length, sym, ap, subst, ◌∙◌}
+use Rattle.std.proofs.Common.{◌≡◌, ◌<◌, length, sym, ap, ◌∙◌}
 use Rattle.std.proofs.lemmas.Bool.{ltb-true}
 use Rattle.std.proofs.lemmas.List.{get_or_read}
 use Rattle.id_table.specs.declared.node.Node.{Node}
-use Rattle.id_table.specs.Ids.{key}
-use Rattle.id_table.specs.Inner.Nodes.{blank, key_of, is_same, node_at}
+use Rattle.id_table.specs.Inner.Nodes.{blank, key_of, node_at}
 use Rattle.id_table.proofs.Keys.{same_key-true}
 use Rattle.id_table.proofs.Tests.{differ_not}
 use Rattle.id_table.proofs.node.is_end.Goals as goal

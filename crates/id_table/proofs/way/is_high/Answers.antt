@@ -1,6 +1,4 @@
-use Rattle.std.proofs.Common.{ℕ, ◌/◌, ◌%◌, ◌^◌, ◌==◌, get_or, ap, ◌∙◌}
-use Rattle.std.specs.Prelude.{reverse}
-use Rattle.id_table.specs.Ids.{key}
+use Rattle.std.proofs.Common.{ℕ, ◌/◌, ◌%◌, ◌^◌, ◌==◌, ap}
 use Rattle.id_table.specs.Inner.Ways.{is_high}
 use Rattle.id_table.proofs.way.is_high.Goals as goal
 

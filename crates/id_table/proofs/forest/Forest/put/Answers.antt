@@ -1,4 +1,4 @@
-use Rattle.std.proofs.Common.{◌≡◌, ◌<◌, refl, length, arith}
+use Rattle.std.proofs.Common.{◌<◌, refl, length, arith}
 use Rattle.id_table.specs.declared.forest.Forest.{Forest}
 use Rattle.id_table.proofs.Fields.{put_forest, put_slots, put_lives}
 use Rattle.id_table.proofs.forest.Forest.put.Goals as goal

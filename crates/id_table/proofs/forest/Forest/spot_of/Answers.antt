@@ -1,7 +1,7 @@
-use Rattle.std.proofs.Common.{◌≡◌, ◌≢◌, ◌<◌, List, length, refl, subst, sym, ap, ◌∙◌, arith}
+use Rattle.std.proofs.Common.{◌≡◌, ◌≢◌, ◌<◌, List, length, refl, subst, sym, arith}
 use Rattle.id_table.specs.declared.node.Node.{Node}
 use Rattle.id_table.specs.Ids.{key}
-use Rattle.id_table.specs.Inner.Nodes.{nowhere, key_of, entry_at}
+use Rattle.id_table.specs.Inner.Nodes.{key_of, entry_at}
 use Rattle.id_table.specs.Inner.Places.{IsBelow}
 use Rattle.id_table.proofs.Passing.{depth_within, within_leads, next, ends}
 use Rattle.id_table.proofs.forest.Forest.spot_of.Goals as goal

@@ -1,7 +1,5 @@
-use Rattle.std.proofs.Common.{◌≡◌, ◌≢◌, ℕ, ◌-◌, ◌<◌, length}
+use Rattle.std.proofs.Common.{◌-◌, length}
 use Rattle.id_table.specs.Ids.{key}
-use Rattle.id_table.specs.Inner.Nodes.{nowhere, key_of, entry_at}
-use Rattle.id_table.specs.Inner.Forests.{IsOnWay}
 use Rattle.id_table.proofs.Passing.{HasPassed}
 use Rattle.id_table.proofs.forest.Forest.spot_of.Given as goal
 

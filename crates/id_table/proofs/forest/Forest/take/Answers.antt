@@ -1,4 +1,4 @@
-use Rattle.std.proofs.Common.{◌≡◌, ◌≢◌, ◌<◌, ℕ, List, None, refl, length, sym, ap, ◌∙◌, arith}
+use Rattle.std.proofs.Common.{None, refl, ap}
 use Rattle.std.proofs.lemmas.List.{get_or_read}
 use Rattle.id_table.specs.declared.node.Node.{Node}
 use Rattle.id_table.specs.Inner.Nodes.{blank}

@@ -1,4 +1,4 @@
-use Rattle.std.proofs.Common.{◌≡◌, ◌≤◌, None, length, refl, sym, ap, ◌∙◌, vec_capacity, arith}
+use Rattle.std.proofs.Common.{◌≡◌, ◌≤◌, None, length, refl, ap, ◌∙◌, vec_capacity, arith}
 use Rattle.std.specs.FinMap as map
 use Rattle.id_table.specs.declared.forest.Forest.{Forest}
 use Rattle.id_table.specs.Ids.{Ids, Slots, key, with_slots}

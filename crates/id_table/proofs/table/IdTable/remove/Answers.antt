@@ -1,6 +1,5 @@
-use Rattle.std.proofs.Common.{◌≡◌, ◌≢◌, ◌<◌, ◌-◌, ◌∷◌, ◌++◌, [], List, ℕ, None, subst, sym, ap, ◌∙◌, vec_len, vec_capacity, arith}
+use Rattle.std.proofs.Common.{◌≢◌, ◌<◌, ◌-◌, List, ℕ, None, subst, sym, ap, ◌∙◌, vec_capacity, arith}
 use Rattle.std.specs.FinMap as map
-use Rattle.id_table.specs.declared.forest.Forest.{Forest}
 use Rattle.id_table.specs.Ids.{Ids, key}
 use Rattle.id_table.specs.Inner.Nodes.{slots_of}
 use Rattle.id_table.specs.Inner.Kept.{IsKept}

@@ -1,8 +1,7 @@
-use Rattle.std.proofs.Common.{◌≡◌, ◌≢◌, ℕ, None, refl, sym, ap, ◌∙◌, vec_capacity, arith}
+use Rattle.std.proofs.Common.{◌≡◌, ◌≢◌, None, refl, sym, ap, ◌∙◌, vec_capacity}
 use Rattle.std.specs.FinMap as map
 use Rattle.id_table.specs.Ids.{Ids, Slots, key}
 use Rattle.id_table.specs.Inner.Nodes.{slots_of}
-use Rattle.id_table.specs.Inner.Forests.{HasSameRoom}
 use Rattle.id_table.proofs.Kept.{kept_rename, room_same, absent_without}
 use Rattle.id_table.proofs.table.IdTable.rename.Goals as goal
 
