@@ -1,25 +1,54 @@
 -- What each call of a pool makes of it.
 use Rattle.std.proofs.Common.{◌≡◌, ℕ, ◌+◌, ◌-◌, ◌<◌, ◌≤◌, List, length, map, sym, ap, subst, ◌∙◌, arith, slice_set, get_or, Some, None}
 use Rattle.gx_base.specs.declared.order.Order.{Order}
-use Rattle.order_pool.specs.Inner.Block.{Cell, with_order}
-use Rattle.order_pool.specs.Inner.Rings.{queue_at, next_at, IsPool, cells_moved, moved, queues_of, rings_of, free_of, IsLast}
+use Rattle.order_pool.specs.Inner.Block.{Cell, with_order, detached, attached}
+use Rattle.order_pool.specs.Inner.Lent.{Lent}
+use Rattle.order_pool.specs.Inner.Rings.{queue_at, next_at, IsPool, cells_moved, moved, queues_of, rings_of, free_of, IsLast, HasFree}
 use Rattle.order_pool.specs.Queues.{Queues, IsIn, IsLive, entries_at, first_slot, next_slot, order_of, appended, removed, with_entry, live_of}
 use Rattle.order_pool.proofs.Pools.{Seen, seen, with-rings, pool-back, view-back, view-out}
-use Rattle.order_pool.proofs.PoolCalls.{below, some_free, newest_is_free, not_live, live_some, live_is, first_is_in, first_is_some, first_is_none, next_is_in, next_is_some, next_is_none, IsPool-pushed, view-pushed, IsPool-unlinked}
+use Rattle.order_pool.proofs.PoolCalls.{below, newest_is_free, not_live, live_some, live_is, first_is_in, first_is_some, first_is_none, next_is_in, next_is_some, next_is_none, IsPool-pushed, view-pushed, IsPool-unlinked}
 use Rattle.order_pool.proofs.PoolFacts.{IsIn-appended}
 use Rattle.order_pool.proofs.Shown.{IsPool-ordered, view-ordered}
 
-module _ {cs : List Cell} {slots queues live : ℕ} {counts : List ℕ} (pool : IsPool cs slots queues live counts) {b : Queues} (shown : queues_of cs slots queues ≡ b) where
+-- the cells once a slot has moved
+pub cells-relocated : (old new : Lent) (capacity i r : ℕ) → old.slots ≡ capacity → new ≡ record old { cells = attached (detached old.cells i) i (old.slots + r) r } → new.cells ≡ cells_moved old.cells capacity i r
+cells-relocated old new capacity i r same e = ap (λ (b : Lent). b.cells) e ∙ ap (λ (n : ℕ). attached (detached old.cells i) i (n + r) r) same
+
+-- a free slot is there, and contracts see no change
+pub record IsReady (new : Lent) (capacity queues live i : ℕ) (counts : List ℕ) (b : Queues) : Type 0 where
+  pub slots : new.slots ≡ capacity
+  pub heads : new.heads ≡ queues + 1
+  pub pool : IsPool new.cells capacity queues new.lent live counts
+  pub shown : queues_of new.cells capacity queues ≡ b
+  pub last : IsLast i (free_of new.cells capacity queues)
+  pub lent : i < new.lent
+
+pub ready : (old new : Lent) (capacity queues live i : ℕ) (counts : List ℕ) (b : Queues) → old.slots ≡ capacity → old.heads ≡ queues + 1 → IsPool old.cells capacity queues old.lent live counts → queues_of old.cells capacity queues ≡ b
+    → HasFree old new queues live i → IsReady new capacity queues live i counts b
+ready old new capacity queues live i counts b same heads pool shown free =
+    let after : IsPool new.cells capacity queues new.lent live counts =
+    subst (λ (n : ℕ). IsPool new.cells n queues new.lent live counts) same (free.kept counts (subst (λ (n : ℕ). IsPool old.cells n queues old.lent live counts) (sym same) pool)) in
+    let last = subst (λ (n : ℕ). IsLast i (free_of new.cells n queues)) same free.last in
+    record {
+      slots = free.slots ∙ same;
+      heads = free.heads ∙ heads;
+      pool = after;
+      shown = subst (λ (n : ℕ). queues_of new.cells n queues ≡ queues_of old.cells n queues) same free.seen ∙ shown;
+      last = last;
+      lent = (newest_is_free new.cells capacity queues live counts (rings_of new.cells capacity queues) after i last).slot;
+    }
+
+module _ {cs : List Cell} {slots queues lent live : ℕ} {counts : List ℕ} (pool : IsPool cs slots queues lent live counts) {b : Queues} (shown : queues_of cs slots queues ≡ b) where
   abbrev L : List (List ℕ)
   L = rings_of cs slots queues
 
-  was : live_of b ≡ live
+  pub was : live_of b ≡ live
   was = sym (ap live_of shown) ∙ live_is cs slots queues live counts L pool
 
   -- ---- what is read
 
   -- a slot in queue q, as the fields have it
-  pub in_queue : (i q : ℕ) → IsIn b i q → Seen cs slots queues L i q
+  pub in_queue : (i q : ℕ) → IsIn b i q → Seen cs slots queues lent L i q
   in_queue i q h = seen cs slots queues L pool.whole b i q shown h
 
   pub is_queue : (q : ℕ) → q < length b.queues → q < queues
@@ -45,11 +74,8 @@ module _ {cs : List Cell} {slots queues live : ℕ} {counts : List ℕ} (pool : 
 
   -- ---- an order comes
 
-  pub one_free : live_of b < b.capacity → 0 < length (free_of cs slots queues)
-  one_free = some_free cs slots queues live counts L pool b shown
-
   pub record Pushed (i q : ℕ) (o : Order) (new : List Cell) (counts' : List ℕ) : Type 0 where
-    pub kept : IsPool new slots queues (live + 1) counts'
+    pub kept : IsPool new slots queues lent (live + 1) counts'
     pub fresh : IsLive b i → ⊥
     pub is : queues_of new slots queues ≡ record b { queues = appended q (i, o) b.queues }
     pub more : live_of (queues_of new slots queues) ≡ live_of b + 1
@@ -73,7 +99,7 @@ module _ {cs : List Cell} {slots queues live : ℕ} {counts : List ℕ} (pool : 
   -- ---- an order leaves
 
   pub record Unlinked (i : ℕ) (new : List Cell) (counts' : List ℕ) : Type 0 where
-    pub kept : IsPool new slots queues (live - 1) counts'
+    pub kept : IsPool new slots queues lent (live - 1) counts'
     pub is : queues_of new slots queues ≡ record b { queues = removed i b.queues }
     pub fewer : live_of (queues_of new slots queues) + 1 ≡ live_of b
     pub room : live_of (queues_of new slots queues) < slots
@@ -89,13 +115,13 @@ module _ {cs : List Cell} {slots queues live : ℕ} {counts : List ℕ} (pool : 
         kept = after;
         is = view-out cs slots queues L pool.whole i s.slot new e b shown;
         fewer = omega (arith, some, was, left);
-        room = omega (arith, some, left, pool.free);
+        room = omega (arith, some, left, pool.free, pool.whole.room);
       }
 
   -- ---- an order goes to the end of its queue
 
   pub record SentBack (i : ℕ) (new : List Cell) : Type 0 where
-    pub kept : IsPool new slots queues live counts
+    pub kept : IsPool new slots queues lent live counts
     pub is : (q : ℕ) → IsIn b i q → queues_of new slots queues ≡ record b { queues = appended q (i, order_of i (entries_at b.queues q)) (removed i b.queues) }
     pub same : live_of (queues_of new slots queues) ≡ live_of b
 
@@ -103,8 +129,8 @@ module _ {cs : List Cell} {slots queues live : ℕ} {counts : List ℕ} (pool : 
   sent_back i q r new h er e =
       let s = in_queue i q h in
       let low : r < queues = omega (arith, er, s.tag, s.queue) in
-      let after : IsPool new slots queues live counts =
-      subst (λ (ds : List Cell). IsPool ds slots queues live counts) (sym e)
+      let after : IsPool new slots queues lent live counts =
+      subst (λ (ds : List Cell). IsPool ds slots queues lent live counts) (sym e)
       (with-rings (cells_moved cs slots i r) slots queues live counts (moved L i r) (pool-back cs slots queues live counts L pool i r s.slot (omega arith) low (sym er))) in
       record {
         kept = after;
@@ -115,7 +141,7 @@ module _ {cs : List Cell} {slots queues live : ℕ} {counts : List ℕ} (pool : 
   -- ---- an order is set
 
   pub record Reset (i : ℕ) (o : Order) (new : List Cell) : Type 0 where
-    pub kept : IsPool new slots queues live counts
+    pub kept : IsPool new slots queues lent live counts
     pub is : queues_of new slots queues ≡ record b { queues = map (with_entry i o) b.queues }
     pub same : live_of (queues_of new slots queues) ≡ live_of b
 

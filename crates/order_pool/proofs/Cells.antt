@@ -1,6 +1,8 @@
 -- The cells of a block while its nodes change.
-use Rattle.std.proofs.Common.{◌≡◌, ℕ, ◌+◌, ◌<◌, ◌^◌, List, get_or, length, refl, sym, ap, ◌∙◌, arith, slice_set, subst, inl, inr, ◌≢◌}
-use Rattle.std.proofs.lemmas.List.{get_or_read, map-set, get_or-map, length-map, length-set, get_or-set_other}
+use Rattle.std.proofs.Common.{◌≡◌, ℕ, ◌+◌, ◌<◌, ◌^◌, List, [], ◌∷◌, ◌++◌, get_or, length, length-append, refl, sym, ap, ◌∙◌, arith, slice_set, subst, inl, inr, ◌≢◌}
+use Rattle.std.proofs.lemmas.List.{get_or_read, map-set, map-append, get_or-map, length-map, length-set, get_or-set_other}
+use Rattle.std.proofs.Math.ListN.{get_or-append}
+use Rattle.std.proofs.Math.Seq.{get_or-append_seam}
 use Rattle.std.proofs.lemmas.Grind.{get_or-set_at}
 use Rattle.std.proofs.lemmas.Bool.{cases_eq}
 use Rattle.std.specs.declared.vec.Vec.{Vec}
@@ -9,7 +11,7 @@ use denote.RawPtr.{Ptr, block_ptr, null_ptr, InBlock}
 use Rattle.order_pool.specs.declared.node.Node.{Node}
 use Rattle.gx_base.specs.declared.order.Order.{Order}
 use Rattle.order_pool.specs.Inner.Places.{place, index_of, IsPlace}
-use Rattle.order_pool.specs.Inner.Block.{Cell, cell_of, cells_of, node_at, cell_at, no_node, no_cell, node_size, with_order, with_next, with_prev, detached, attached, IsLinked, AllLinked, HasNoRoomLeft, IsClosed, closed_node, IsBlank, blank_node, first_tag, IsFresh}
+use Rattle.order_pool.specs.Inner.Block.{Cell, cell_of, cells_of, node_at, cell_at, no_node, no_cell, node_size, with_order, with_next, with_prev, detached, attached, cells_in, alone, blank_node, IsLinked, AllLinked, IsKept, HasCome}
 use Rattle.order_pool.specs.Queues.{no_order}
 
 pub index_of-place : (base : Ptr) (k : ℕ) → InBlock base → index_of node_size base (place node_size base k) ≡ k
@@ -21,6 +23,10 @@ pub IsPlace-place : (base : Ptr) (n k : ℕ) → InBlock base → k < n → IsPl
 IsPlace-place base n k h lt =
     let e = index_of-place base k h in
     record { within = rw e lt; is = ap (place node_size base) (sym e) }
+
+set-append_last : {X : Type 0} (xs : List X) (a b : X) → slice_set (xs ++ a ∷ []) (length xs) b ≡ xs ++ b ∷ []
+set-append_last [] a b = refl
+set-append_last (x ∷ xs) a b = ap (λ (ys : List _). x ∷ ys) (set-append_last xs a b)
 
 -- a node that is read and written back, changed
 pub node_changed : {Z : Type 0} (v : Vec Node Z) (i : ℕ) (read : Node) (change : Node → Node) → i < length v.items → read ≡ get_or v.items i read → with_item v i (change read) ≡ with_item v i (change (node_at v.items i))
@@ -54,19 +60,16 @@ cells-with_order base ns i o lt =
     cells-set base ns i _ ∙ ap (λ (c : Cell). slice_set (cells_of base ns) i (record c { order = o })) (sym (cell_at-cells base ns i lt))
 
 -- a node whose links are right takes the place of another
-pub AllLinked-set : (base : Ptr) (ns : List Node) (i : ℕ) (m : Node) → AllLinked base ns → (i < length ns → IsLinked base (length ns) i m) → AllLinked base (slice_set ns i m)
+pub AllLinked-set : (base : Ptr) (ns : List Node) (i : ℕ) (m : Node) → AllLinked base ns → (i < length ns → IsLinked base (length ns) m) → AllLinked base (slice_set ns i m)
 AllLinked-set base ns i m all one = λ k lt.
     let len : length (slice_set ns i m) ≡ length ns = length-set ns i m in
     let inside : k < length ns = omega arith in
-    let there : (n : ℕ) → n ≡ length ns → (x : Node) → IsLinked base (length ns) k x → IsLinked base n k x =
-    (λ n e x h. subst (λ (j : ℕ). IsLinked base j k x) (sym e) h) in
+    let there : (n : ℕ) → n ≡ length ns → (x : Node) → IsLinked base (length ns) x → IsLinked base n x =
+    (λ n e x h. subst (λ (j : ℕ). IsLinked base j x) (sym e) h) in
     there _ len _
     (elim (cases_eq k i) [
-      | inl e ↦
-          subst (λ (x : Node). IsLinked base (length ns) k x) (sym (get_or-set_at ns i k m no_node e (omega arith)))
-          (subst (λ (j : ℕ). IsLinked base (length ns) j m) (sym e) (one (omega arith)))
-      | inr ne ↦
-          subst (λ (x : Node). IsLinked base (length ns) k x) (sym (get_or-set_other ns i k m no_node ne)) (all k inside)
+      | inl e ↦ subst (IsLinked base (length ns)) (sym (get_or-set_at ns i k m no_node e (omega arith))) (one (omega arith))
+      | inr ne ↦ subst (IsLinked base (length ns)) (sym (get_or-set_other ns i k m no_node ne)) (all k inside)
     ])
 
 module _ {Z : Type 0} where
@@ -86,7 +89,7 @@ module _ {Z : Type 0} where
   pub kept_len : (v w : Vec Node Z) (i : ℕ) (m : Node) → w ≡ with_item v i m → length w.items ≡ length v.items
   kept_len v w i m e = ap (λ (u : Vec Node Z). length u.items) e ∙ length-set v.items i m
 
-  pub cells-detached : (v w z : Vec Node Z) (i : ℕ) (n : Node) → cell_at (cs v) i ≡ cell_of v.ptr n → IsLinked v.ptr (length v.items) i n
+  pub cells-detached : (v w z : Vec Node Z) (i : ℕ) (n : Node) → cell_at (cs v) i ≡ cell_of v.ptr n → IsLinked v.ptr (length v.items) n
       → w ≡ with_item v (at v n.prev) (record (node_at v.items (at v n.prev)) { next = n.next })
       → z ≡ with_item w (at w n.next) (record (node_at w.items (at w n.next)) { prev = n.prev })
       → cs z ≡ detached (cs v) i
@@ -102,7 +105,7 @@ module _ {Z : Type 0} where
       ∙ ap (λ (c : Cell). with_prev (with_next (cs v) c.prev c.next) c.next c.prev) (sym is)
 
   pub cells-attached : (v w x z : Vec Node Z) (i j t : ℕ) (here there : Ptr) (n : Node) → InBlock v.ptr → i < length v.items → j < length v.items
-      → here ≡ place node_size v.ptr i → there ≡ place node_size v.ptr j → cell_at (cs v) j ≡ cell_of v.ptr n → IsLinked v.ptr (length v.items) j n
+      → here ≡ place node_size v.ptr i → there ≡ place node_size v.ptr j → cell_at (cs v) j ≡ cell_of v.ptr n → IsLinked v.ptr (length v.items) n
       → w ≡ with_item v (at v n.prev) (record (node_at v.items (at v n.prev)) { next = here })
       → x ≡ with_item w (at w here) (record (node_at w.items (at w here)) { prev = n.prev; next = there; queue = t })
       → z ≡ with_item x (at x there) (record (node_at x.items (at x there)) { prev = here })
@@ -136,10 +139,6 @@ module _ {Z : Type 0} where
   pub kept_room : (v w : Vec Node Z) (i : ℕ) (m : Node) → w ≡ with_item v i m → w.cap ≡ v.cap
   kept_room v w i m e = ap (λ (u : Vec Node Z). u.cap) e
 
-  -- a Vec that is full still is once it was written
-  pub kept_full : (v w : Vec Node Z) (i : ℕ) (m : Node) → w ≡ with_item v i m → HasNoRoomLeft v → HasNoRoomLeft w
-  kept_full v w i m e full = subst HasNoRoomLeft (sym e) full
-
   -- a pointer to element i is still one once the Vec was written
   pub IsPlace-of : (v w : Vec Node Z) (i : ℕ) (p : Ptr) → w.ptr ≡ v.ptr → length w.items ≡ length v.items → InBlock v.ptr → p ≡ place node_size v.ptr i → i < length v.items → IsPlace node_size w.ptr w.len p
   IsPlace-of v w i p eb el inb ep lt =
@@ -147,7 +146,7 @@ module _ {Z : Type 0} where
       subst (λ (q : Ptr). IsPlace node_size w.ptr w.len q) (sym (ep ∙ ap (λ (b : Ptr). place node_size b i) (sym eb)))
       (IsPlace-place w.ptr w.len i (subst InBlock (sym eb) inb) (omega arith))
 
-  AllLinked-stored : (v w : Vec Node Z) (i : ℕ) (m : Node) → w ≡ with_item v i m → AllLinked v.ptr v.items → IsLinked v.ptr (length v.items) i m → AllLinked w.ptr w.items
+  AllLinked-stored : (v w : Vec Node Z) (i : ℕ) (m : Node) → w ≡ with_item v i m → AllLinked v.ptr v.items → IsLinked v.ptr (length v.items) m → AllLinked w.ptr w.items
   AllLinked-stored v w i m e all one =
       subst (λ (u : Vec Node Z). AllLinked u.ptr u.items) (sym e) (AllLinked-set v.ptr v.items i m all (λ _. one))
 
@@ -161,21 +160,21 @@ module _ {Z : Type 0} where
   moved_place v w p eb el h =
       subst (λ (b : Ptr). IsPlace node_size b (length w.items) p) (sym eb) (subst (λ (k : ℕ). IsPlace node_size v.ptr k p) (sym el) h)
 
-  pub AllLinked-detached : (v w z : Vec Node Z) (i : ℕ) (n : Node) → IsLinked v.ptr (length v.items) i n
+  pub AllLinked-detached : (v w z : Vec Node Z) (n : Node) → IsLinked v.ptr (length v.items) n
       → w ≡ with_item v (at v n.prev) (record (node_at v.items (at v n.prev)) { next = n.next })
       → z ≡ with_item w (at w n.next) (record (node_at w.items (at w n.next)) { prev = n.prev })
       → AllLinked v.ptr v.items → AllLinked z.ptr z.items
-  AllLinked-detached v w z i n linked e₁ e₂ all =
+  AllLinked-detached v w z n linked e₁ e₂ all =
       let bw : w.ptr ≡ v.ptr = kept_ptr v w _ _ e₁ in
       let lw : length w.items ≡ length v.items = kept_len v w _ _ e₁ in
       let old = all (at v n.prev) linked.prev.within in
-      let all₁ = AllLinked-stored v w _ _ e₁ all (record { prev = old.prev; next = linked.next; slot = old.slot }) in
+      let all₁ = AllLinked-stored v w _ _ e₁ all (record { prev = old.prev; next = linked.next }) in
       let nx = moved_place v w n.next bw lw linked.next in
       let old₂ = all₁ (at w n.next) nx.within in
-      AllLinked-stored w z _ _ e₂ all₁ (record { prev = moved_place v w n.prev bw lw linked.prev; next = old₂.next; slot = old₂.slot })
+      AllLinked-stored w z _ _ e₂ all₁ (record { prev = moved_place v w n.prev bw lw linked.prev; next = old₂.next })
 
   pub AllLinked-attached : (v w x z : Vec Node Z) (i j t : ℕ) (here there : Ptr) (n : Node) → InBlock v.ptr → i < length v.items → j < length v.items
-      → here ≡ place node_size v.ptr i → there ≡ place node_size v.ptr j → IsLinked v.ptr (length v.items) j n
+      → here ≡ place node_size v.ptr i → there ≡ place node_size v.ptr j → IsLinked v.ptr (length v.items) n
       → w ≡ with_item v (at v n.prev) (record (node_at v.items (at v n.prev)) { next = here })
       → x ≡ with_item w (at w here) (record (node_at w.items (at w here)) { prev = n.prev; next = there; queue = t })
       → z ≡ with_item x (at x there) (record (node_at x.items (at x there)) { prev = here })
@@ -186,78 +185,146 @@ module _ {Z : Type 0} where
       let bx : x.ptr ≡ v.ptr = kept_ptr w x _ _ e₂ ∙ bw in
       let lx : length x.items ≡ length v.items = kept_len w x _ _ e₂ ∙ lw in
       let old = all (at v n.prev) linked.prev.within in
-      let all₁ = AllLinked-stored v w _ _ e₁ all (record { prev = old.prev; next = at_place v v i here refl refl inb eh li; slot = old.slot }) in
+      let all₁ = AllLinked-stored v w _ _ e₁ all (record { prev = old.prev; next = at_place v v i here refl refl inb eh li }) in
       let hw = at_place v w i here bw lw inb eh li in
       let old₂ = all₁ (at w here) hw.within in
-      let all₂ = AllLinked-stored w x _ _ e₂ all₁ (record { prev = moved_place v w n.prev bw lw linked.prev; next = at_place v w j there bw lw inb et lj; slot = old₂.slot }) in
+      let all₂ = AllLinked-stored w x _ _ e₂ all₁ (record { prev = moved_place v w n.prev bw lw linked.prev; next = at_place v w j there bw lw inb et lj }) in
       let tx = at_place v x j there bx lx inb et lj in
       let old₃ = all₂ (at x there) tx.within in
-      AllLinked-stored x z _ _ e₃ all₂ (record { prev = at_place v x i here bx lx inb eh li; next = old₃.next; slot = old₃.slot })
+      AllLinked-stored x z _ _ e₃ all₂ (record { prev = at_place v x i here bx lx inb eh li; next = old₃.next })
 
-  stored_here : (v w : Vec Node Z) (i j : ℕ) (m : Node) → w ≡ with_item v i m → i < length v.items → j ≡ i → node_at w.items j ≡ m
-  stored_here v w i j m e lt is = ap (λ (u : Vec Node Z). node_at u.items j) e ∙ get_or-set_at v.items i j m no_node is lt
+  -- a node that is written keeps its number
+  pub kept_slot : (v w : Vec Node Z) (i : ℕ) (m : Node) → w ≡ with_item v i m → i < length v.items → m.slot ≡ (node_at v.items i).slot → (k : ℕ) → (node_at w.items k).slot ≡ (node_at v.items k).slot
+  kept_slot v w i m e lt is k =
+      ap (λ (u : Vec Node Z). (node_at u.items k).slot) e
+      ∙ elim (cases_eq k i) [
+        | inl w ↦ ap (λ (n : Node). n.slot) (get_or-set_at v.items i k m no_node w lt) ∙ is ∙ ap (λ (j : ℕ). (node_at v.items j).slot) (sym w)
+        | inr ne ↦ ap (λ (n : Node). n.slot) (get_or-set_other v.items i k m no_node ne)
+      ]
 
-  stored_other : (v w : Vec Node Z) (i j : ℕ) (m : Node) → w ≡ with_item v i m → j ≢ i → node_at w.items j ≡ node_at v.items j
-  stored_other v w i j m e ne = ap (λ (u : Vec Node Z). node_at u.items j) e ∙ get_or-set_other v.items i j m no_node ne
-
-  -- one more node leads to itself
-  pub closed_more : (old v w x : Vec Node Z) (k : ℕ) (here : Ptr) → IsClosed old v k → InBlock v.ptr → here ≡ place node_size v.ptr k → k < length v.items
-      → w ≡ with_item v (at v here) (record (node_at v.items (at v here)) { prev = here })
-      → x ≡ with_item w (at w here) (record (node_at w.items (at w here)) { next = here })
-      → IsClosed old x (k + 1)
-  closed_more old v w x k here closed inb eh lk e₁ e₂ =
-      let s = node_size in
-      let bw : w.ptr ≡ v.ptr = kept_ptr v w _ _ e₁ in
-      let bx : x.ptr ≡ v.ptr = kept_ptr w x _ _ e₂ ∙ bw in
+  pub IsKept-detached : (v w z : Vec Node Z) (n : Node) → IsLinked v.ptr (length v.items) n
+      → w ≡ with_item v (at v n.prev) (record (node_at v.items (at v n.prev)) { next = n.next })
+      → z ≡ with_item w (at w n.next) (record (node_at w.items (at w n.next)) { prev = n.prev })
+      → AllLinked v.ptr v.items → IsKept v z
+  IsKept-detached v w z n linked e₁ e₂ all =
       let lw : length w.items ≡ length v.items = kept_len v w _ _ e₁ in
-      let lx : length x.items ≡ length v.items = kept_len w x _ _ e₂ ∙ lw in
-      let hv : at v here ≡ k = ap (index_of s v.ptr) eh ∙ index_of-place v.ptr k inb in
-      let hw : at w here ≡ k = ap (λ (b : Ptr). index_of s b here) bw ∙ hv in
-      let was : node_at v.items (at v here) ≡ node_at old.items k = ap (node_at v.items) hv ∙ closed.rest k (omega arith) in
-      let between : node_at w.items (at w here) ≡ record (node_at old.items k) { prev = here } =
-      stored_here v w (at v here) (at w here) _ e₁ (omega arith) (hw ∙ sym hv) ∙ ap (λ (n : Node). record n { prev = here }) was in
+      let nx = moved_place v w n.next (kept_ptr v w _ _ e₁) lw linked.next in
       record {
-        base = bx ∙ closed.base;
-        many = lx ∙ closed.many;
-        room = kept_room w x _ _ e₂ ∙ kept_room v w _ _ e₁ ∙ closed.room;
-        in_block = λ _. subst InBlock (sym bx) inb;
-        done = λ j lj.
-            elim (cases_eq j k) [
-              | inl is ↦
-                  stored_here w x (at w here) j _ e₂ (omega arith) (is ∙ sym hw) ∙ ap (λ (n : Node). record n { next = here }) between
-                  ∙ ap (λ (n : Node). record n { prev = here; next = here }) (ap (node_at old.items) (sym is))
-                  ∙ ap (λ (p : Ptr). record (node_at old.items j) { prev = p; next = p }) (eh ∙ (λ t. place s (sym bx t) (sym is t)))
-              | inr ne ↦
-                  stored_other w x (at w here) j _ e₂ (λ q. ne (q ∙ hw)) ∙ stored_other v w (at v here) j _ e₁ (λ q. ne (q ∙ hv))
-                  ∙ closed.done j (omega arith) ∙ ap (λ (b : Ptr). closed_node b j (node_at old.items j)) (sym bx)
-            ];
-        rest = λ j lj.
-            stored_other w x (at w here) j _ e₂ (λ q. omega arith) ∙ stored_other v w (at v here) j _ e₁ (λ q. omega arith) ∙ closed.rest j (omega arith);
+        linked = AllLinked-detached v w z n linked e₁ e₂ all;
+        many = kept_len w z _ _ e₂ ∙ lw;
+        room = kept_room w z _ _ e₂ ∙ kept_room v w _ _ e₁;
+        slots = λ k. kept_slot w z _ _ e₂ nx.within refl k ∙ kept_slot v w _ _ e₁ linked.prev.within refl k;
       }
 
-  module _ (old v : Vec Node Z) (slots queues : ℕ) (blank : IsBlank slots queues (slots + queues + 1) old.items) (closed : IsClosed old v (slots + queues + 1)) where
-    inb : InBlock v.ptr
-    inb = closed.in_block (omega arith)
+  pub IsKept-attached : (v w x z : Vec Node Z) (i j t : ℕ) (here there : Ptr) (n : Node) → InBlock v.ptr → i < length v.items → j < length v.items
+      → here ≡ place node_size v.ptr i → there ≡ place node_size v.ptr j → IsLinked v.ptr (length v.items) n
+      → w ≡ with_item v (at v n.prev) (record (node_at v.items (at v n.prev)) { next = here })
+      → x ≡ with_item w (at w here) (record (node_at w.items (at w here)) { prev = n.prev; next = there; queue = t })
+      → z ≡ with_item x (at x there) (record (node_at x.items (at x there)) { prev = here })
+      → AllLinked v.ptr v.items → IsKept v z
+  IsKept-attached v w x z i j t here there n inb li lj eh et linked e₁ e₂ e₃ all =
+      let bw : w.ptr ≡ v.ptr = kept_ptr v w _ _ e₁ in
+      let lw : length w.items ≡ length v.items = kept_len v w _ _ e₁ in
+      let bx : x.ptr ≡ v.ptr = kept_ptr w x _ _ e₂ ∙ bw in
+      let lx : length x.items ≡ length v.items = kept_len w x _ _ e₂ ∙ lw in
+      let hw = at_place v w i here bw lw inb eh li in
+      let tx = at_place v x j there bx lx inb et lj in
+      record {
+        linked = AllLinked-attached v w x z i j t here there n inb li lj eh et linked e₁ e₂ e₃ all;
+        many = kept_len x z _ _ e₃ ∙ lx;
+        room = kept_room x z _ _ e₃ ∙ kept_room w x _ _ e₂ ∙ kept_room v w _ _ e₁;
+        slots = λ k. kept_slot x z _ _ e₃ tx.within refl k ∙ kept_slot w x _ _ e₂ hw.within refl k ∙ kept_slot v w _ _ e₁ linked.prev.within refl k;
+      }
 
-    fresh_node : (k : ℕ) → k < slots + queues + 1 → node_at v.items k ≡ closed_node v.ptr k (blank_node k (first_tag slots queues k))
-    fresh_node k lk = closed.done k lk ∙ ap (closed_node v.ptr k) (blank.each k lk)
+  -- ---- one node more
 
-    len : length v.items ≡ slots + queues + 1
-    len = closed.many ∙ blank.many
+  -- v has one more node than u, and in z it leads to itself
+  module _ (u v w z : Vec Node Z) (n : Node) (here : Ptr) (came : v.items ≡ u.items ++ n ∷ []) (base : v.ptr ≡ u.ptr) (room : v.cap ≡ u.cap) (inb : InBlock v.ptr) (eh : here ≡ place node_size v.ptr (length u.items))
+      (e₁ : w ≡ with_item v (at v here) (record (node_at v.items (at v here)) { prev = here })) (e₂ : z ≡ with_item w (at w here) (record (node_at w.items (at w here)) { next = here })) where
+    abbrev i : ℕ
+    i = length u.items
 
-    pub fresh-linked : AllLinked v.ptr v.items
-    fresh-linked = λ k lk.
-        let l = len in
-        let p : IsPlace node_size v.ptr (length v.items) (place node_size v.ptr k) = IsPlace-place v.ptr (length v.items) k inb lk in
-        subst (λ (n : Node). IsLinked v.ptr (length v.items) k n) (sym (fresh_node k (omega (arith, l)))) (record { prev = p; next = p; slot = refl })
+    longer : length v.items ≡ i + 1
+    longer = let e = ap {B = ℕ} length came in let l = length-append u.items (n ∷ []) in omega arith
 
-    pub fresh-cells : slots + queues + 1 < 2 ^ 32 → IsFresh slots queues (cells_of v.ptr v.items)
-    fresh-cells fits =
-        let l = len in
+    bw : w.ptr ≡ v.ptr
+    bw = kept_ptr v w _ _ e₁
+
+    lw : length w.items ≡ length v.items
+    lw = kept_len v w _ _ e₁
+
+    hv : at v here ≡ i
+    hv = ap (index_of node_size v.ptr) eh ∙ index_of-place v.ptr i inb
+
+    hw : at w here ≡ i
+    hw = ap (λ (b : Ptr). index_of node_size b here) bw ∙ hv
+
+    old_at : (k : ℕ) → k < i → node_at v.items k ≡ node_at u.items k
+    old_at k lt = ap (λ (l : List Node). node_at l k) came ∙ get_or-append u.items (n ∷ []) no_node k lt
+
+    new_at : node_at v.items i ≡ n
+    new_at = ap (λ (l : List Node). node_at l i) came ∙ get_or-append_seam u.items n [] no_node
+
+    -- the cells of the last node
+    cells_came : cs v ≡ cs u ++ cell_of v.ptr n ∷ []
+    cells_came = ap (cells_of v.ptr) came ∙ map-append (cell_of v.ptr) u.items (n ∷ []) ∙ ap (λ (b : Ptr). cells_of b u.items ++ cell_of v.ptr n ∷ []) base
+
+    long : length (cs u) ≡ i
+    long = length-map u.items (cell_of u.ptr)
+
+    set-last : (c d : Cell) → slice_set (cs u ++ c ∷ []) i d ≡ cs u ++ d ∷ []
+    set-last c d = ap (λ (k : ℕ). slice_set (cs u ++ c ∷ []) k d) (sym long) ∙ set-append_last (cs u) c d
+
+    cell-last : (c : Cell) → cell_at (cs u ++ c ∷ []) i ≡ c
+    cell-last c = ap (cell_at (cs u ++ c ∷ [])) (sym long) ∙ get_or-append_seam (cs u) c [] no_cell
+
+    pub cells-alone : (q : ℕ) → n.order ≡ no_order → n.queue ≡ q → cs z ≡ cs u ++ alone i q ∷ []
+    cells-alone q none tag =
+        let m = longer in
+        let c : Cell = cell_of v.ptr n in
+        let c₁ : Cell = record c { prev = i } in
+        let c₂ : Cell = record c₁ { next = i } in
+        let s₁ : cs w ≡ cs u ++ c₁ ∷ [] =
+        stored_prev v w _ here (omega (arith, hv)) e₁ ∙ (λ t. with_prev (cells_came t) (hv t) (hv t))
+        ∙ ap (λ (d : Cell). slice_set (cs u ++ c ∷ []) i (record d { prev = i })) (cell-last c) ∙ set-last c c₁ in
+        let s₂ : cs z ≡ cs u ++ c₂ ∷ [] =
+        stored_next w z _ here (omega (arith, hw, lw)) e₂ ∙ (λ t. with_next (s₁ t) (hw t) (hw t))
+        ∙ ap (λ (d : Cell). slice_set (cs u ++ c₁ ∷ []) i (record d { next = i })) (cell-last c₁) ∙ set-last c₁ c₂ in
+        s₂ ∙ (λ t. cs u ++ record { order = none t; prev = i; next = i; queue = tag t } ∷ [])
+
+    pub HasCome-alone : (slot : ℕ) → n.slot ≡ slot → AllLinked u.ptr u.items → HasCome u z slot
+    HasCome-alone slot is all =
+        let m = longer in
+        let p : IsPlace node_size v.ptr (length v.items) here = at_place v v i here refl refl inb eh (omega arith) in
+        let q : IsPlace node_size w.ptr (length w.items) here = moved_place v w here bw lw p in
+        let wider : (k : ℕ) (x : Ptr) → IsPlace node_size u.ptr i x → IsPlace node_size v.ptr (length v.items) x =
+        (λ k x h. subst (λ (b : Ptr). IsPlace node_size b (length v.items) x) (sym base) (record { within = (let l = h.within in omega arith); is = h.is })) in
+        let old : (k : ℕ) → k < i → IsLinked v.ptr (length v.items) (node_at v.items k) =
+        (λ k lt. subst (IsLinked v.ptr (length v.items)) (sym (old_at k lt)) (let h = all k lt in record { prev = wider k _ h.prev; next = wider k _ h.next })) in
+        -- the links of w: those of the last node lead to itself, or nowhere yet
+        let at_w : (k : ℕ) → k < i → node_at w.items k ≡ node_at v.items k =
+        (λ k lt. ap (λ (x : Vec Node Z). node_at x.items k) e₁ ∙ get_or-set_other v.items (at v here) k _ no_node (λ e. omega (arith, hv))) in
+        let at_z : (k : ℕ) → k < i → node_at z.items k ≡ node_at w.items k =
+        (λ k lt. ap (λ (x : Vec Node Z). node_at x.items k) e₂ ∙ get_or-set_other w.items (at w here) k _ no_node (λ e. omega (arith, hw))) in
+        let w_last : node_at w.items (at w here) ≡ record (node_at v.items (at v here)) { prev = here } =
+        ap (λ (x : Vec Node Z). node_at x.items (at w here)) e₁ ∙ get_or-set_at v.items (at v here) (at w here) _ no_node (hw ∙ sym hv) (omega (arith, hv)) in
+        let z_last : node_at z.items i ≡ record (node_at w.items (at w here)) { next = here } =
+        ap (λ (x : Vec Node Z). node_at x.items i) e₂ ∙ get_or-set_at w.items (at w here) i _ no_node (sym hw) (omega (arith, hw, lw)) in
+        let bz : z.ptr ≡ v.ptr = kept_ptr w z _ _ e₂ ∙ bw in
+        let lz : length z.items ≡ length v.items = kept_len w z _ _ e₂ ∙ lw in
+        let place_z : (x : Ptr) → IsPlace node_size v.ptr (length v.items) x → IsPlace node_size z.ptr (length z.items) x = (λ x h. moved_place v z x bz lz h) in
         record {
-          fits = fits;
-          many = length-map v.items (cell_of v.ptr) ∙ l;
-          each = λ k lk.
-              cell_at-cells v.ptr v.items k (omega (arith, l)) ∙ ap (cell_of v.ptr) (fresh_node k lk)
-              ∙ ap (λ (j : ℕ). record { order = no_order; prev = j; next = j; queue = first_tag slots queues k }) (index_of-place v.ptr k inb);
+          linked = λ k lt. elim (cases_eq k i) [
+            | inl e ↦
+                subst (λ (j : ℕ). IsLinked z.ptr (length z.items) (node_at z.items j)) (sym e)
+                (subst (IsLinked z.ptr (length z.items)) (sym (z_last ∙ ap (λ (x : Node). record x { next = here }) w_last)) (record { prev = place_z here p; next = place_z here p }))
+            | inr ne ↦
+                let low : k < i = omega (arith, lz) in
+                let h = old k low in
+                subst (IsLinked z.ptr (length z.items)) (sym (at_z k low ∙ at_w k low)) (record { prev = place_z _ h.prev; next = place_z _ h.next })
+          ];
+          many = lz ∙ m;
+          room = kept_room w z _ _ e₂ ∙ kept_room v w _ _ e₁ ∙ room;
+          slots = λ k lt. ap (λ (x : Node). x.slot) (at_z k lt ∙ at_w k lt ∙ old_at k lt);
+          last = ap (λ (x : Node). x.slot) (z_last ∙ ap (λ (x : Node). record x { next = here }) w_last) ∙ ap (λ (j : ℕ). (node_at v.items j).slot) hv ∙ ap (λ (x : Node). x.slot) new_at ∙ is;
         }

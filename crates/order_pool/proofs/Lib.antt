@@ -1,10 +1,11 @@
 -- Offered to the crates above: what they may cite.
 pub mod PoolFacts
 -- What the proofs of this crate alone cite.
+mod Blocks
 mod Calls
 mod Cells
+mod Numbers
 mod CellsAt
-mod Chained
 mod Lent
 mod Ordered
 mod Paths
@@ -13,5 +14,6 @@ mod PoolCalls
 mod Pools
 mod RingMoves
 mod Shown
+mod Starts
 mod Views
 mod WholeRings

@@ -8,8 +8,8 @@ use Rattle.order_pool.proofs.CellsAt.{kept}
 use Rattle.order_pool.proofs.RingMoves.{elsewhere}
 
 -- only the links and the tags count
-AreWholeRings-same : (cs ds : List Cell) (slots queues : ℕ) (L : List (List ℕ)) → length ds ≡ length cs → next_at ds ≡ next_at cs → prev_at ds ≡ prev_at cs → queue_at ds ≡ queue_at cs
-    → AreWholeRings cs slots queues L → AreWholeRings ds slots queues L
+AreWholeRings-same : (cs ds : List Cell) (slots queues : ℕ) {lent : ℕ} (L : List (List ℕ)) → length ds ≡ length cs → next_at ds ≡ next_at cs → prev_at ds ≡ prev_at cs → queue_at ds ≡ queue_at cs
+    → AreWholeRings cs slots queues lent L → AreWholeRings ds slots queues lent L
 AreWholeRings-same cs ds slots queues L len nx pv tg whole = record {
   are = record {
     cells = len ∙ whole.are.cells;
@@ -26,16 +26,18 @@ AreWholeRings-same cs ds slots queues L len nx pv tg whole = record {
         };
     heads = λ q lq. ap (λ (f : ℕ → ℕ). f (slots + q)) tg ∙ whole.are.heads q lq;
   };
+  room = whole.room;
   covers = λ k lk. subst (λ (f : ℕ → ℕ). (f k < queues + 1) × In k (ring_at L (f k))) (sym tg) (whole.covers k lk);
+  unlent = λ k le lk. ap (λ (f : ℕ → ℕ). f k) tg ∙ whole.unlent k le lk;
   total = whole.total;
 }
 
-module _ (cs : List Cell) (slots queues : ℕ) (L : List (List ℕ)) (whole : AreWholeRings cs slots queues L) (i : ℕ) (o : Order) (li : i < slots) where
+module _ (cs : List Cell) (slots queues : ℕ) {lent : ℕ} (L : List (List ℕ)) (whole : AreWholeRings cs slots queues lent L) (i : ℕ) (o : Order) (li : i < lent) where
   abbrev ds : List Cell
   ds = with_order cs i o
 
   wi : i < length cs
-  wi = omega (arith, whole.are.cells)
+  wi = omega (arith, whole.are.cells, whole.room)
 
   abbrev c : Cell
   c = record (cell_at cs i) { order = o }
@@ -46,7 +48,7 @@ module _ (cs : List Cell) (slots queues : ℕ) (L : List (List ℕ)) (whole : Ar
   pub ordered_next : (y : ℕ) → next_at ds y ≡ next_at cs y
   ordered_next = kept (λ c. c.next) cs i c wi refl
 
-  pub AreWholeRings-ordered : AreWholeRings ds slots queues L
+  pub AreWholeRings-ordered : AreWholeRings ds slots queues lent L
   AreWholeRings-ordered =
       AreWholeRings-same cs ds slots queues L (length-set cs i c) (λ j y. ordered_next y j) (λ j y. kept (λ c. c.prev) cs i c wi refl y j) (λ j y. ordered_queue y j) whole
 

@@ -9,7 +9,7 @@ use Rattle.order_pool.specs.Inner.Block.{Cell, with_order}
 use Rattle.order_pool.specs.Inner.Rings.{queue_at, prev_at, next_at, Each, In, IsLast, Path, AreWholeRings, IsPoolWith, IsPool, ring_at, moved, cells_moved, entry, queues_with, queues_of}
 use Rattle.order_pool.specs.Queues.{Entry, Queues, entries_at, appended, first_slot, next_slot, live_of, HasSlot, IsIn, IsLive}
 use Rattle.order_pool.proofs.Paths.{each-in, in-last}
-use Rattle.order_pool.proofs.WholeRings.{AreWholeRings-moved, length-ring-le, length-left}
+use Rattle.order_pool.proofs.WholeRings.{lent-in, AreWholeRings-moved, length-ring-le, length-left}
 use Rattle.order_pool.proofs.Views.{has_slot-entries, entries_at-qs, length-qs, moved_in, removed_free}
 use Rattle.order_pool.proofs.Pools.{Seen, seen, with-rings, length-came, pool-in, pool-out, view}
 use Rattle.order_pool.proofs.Ordered.{AreWholeRings-ordered, ordered_queue, ordered_mine, ordered_free}
@@ -18,8 +18,8 @@ lengths : (f : ℕ → Entry) (X : List (List ℕ)) → sum_by length (map (map 
 lengths f [] = refl
 lengths f (ks ∷ X) = omega (arith, sum_by-cons length (map f ks) (map (map f) X), sum_by-cons length ks X, length-map ks f, lengths f X)
 
-module _ (cs : List Cell) (slots queues live : ℕ) (counts : List ℕ) (L : List (List ℕ)) (pool : IsPoolWith cs slots queues live counts L) where
-  abbrev whole : AreWholeRings cs slots queues L
+module _ (cs : List Cell) (slots queues live : ℕ) {lent : ℕ} (counts : List ℕ) (L : List (List ℕ)) (pool : IsPoolWith cs slots queues lent live counts L) where
+  abbrev whole : AreWholeRings cs slots queues lent L
   whole = pool.whole
 
   pub live_is : live_of (queues_with cs slots queues L) ≡ live
@@ -28,7 +28,7 @@ module _ (cs : List Cell) (slots queues live : ℕ) (counts : List ℕ) (L : Lis
       omega (arith, lengths (entry cs) (take queues L), ap (sum_by length) all, sum_by_push length (take queues L) (ring_at L queues), whole.total, pool.free)
 
   -- a slot in a queue is counted
-  module _ (i q : ℕ) (s : Seen cs slots queues L i q) where
+  module _ (i q : ℕ) (s : Seen cs slots queues lent L i q) where
     pub live_some : 1 ≤ live
     live_some =
         let M = moved L i queues in
@@ -44,21 +44,16 @@ module _ (cs : List Cell) (slots queues live : ℕ) (counts : List ℕ) (L : Lis
   -- a free slot
   pub record Free (i : ℕ) : Type 0 where
     pub ring : In i (ring_at L queues)
-    pub slot : i < slots
+    pub slot : i < lent
     pub tag : queue_at cs i ≡ queues
     pub cell : i < length cs
-
-  pub some_free : (b : Queues) → queues_with cs slots queues L ≡ b → live_of b < b.capacity → 0 < length (ring_at L queues)
-  some_free b shown room =
-      let room' : live_of (queues_with cs slots queues L) < slots = subst (λ (c : Queues). live_of c < c.capacity) (sym shown) room in
-      omega (arith, live_is, pool.free)
 
   pub newest_is_free : (i : ℕ) → IsLast i (ring_at L queues) → Free i
   newest_is_free i last =
       let ring = whole.are.each queues (omega arith) in
       let m = in-last i (ring_at L queues) last in
-      let low : i < slots = each-in (λ k. k < slots) i (ring_at L queues) m ring.slot in
-      record { ring = m; slot = low; tag = each-in (λ k. queue_at cs k ≡ queues) i (ring_at L queues) m ring.tag; cell = omega (arith, whole.are.cells) }
+      let low : i < lent = lent-in cs slots queues L whole i queues (omega arith) m in
+      record { ring = m; slot = low; tag = each-in (λ k. queue_at cs k ≡ queues) i (ring_at L queues) m ring.tag; cell = omega (arith, whole.are.cells, whole.room) }
 
   pub not_live : (b : Queues) → queues_with cs slots queues L ≡ b → (i : ℕ) → Free i → IsLive b i → ⊥
   not_live b shown i free live =
@@ -66,26 +61,26 @@ module _ (cs : List Cell) (slots queues live : ℕ) (counts : List ℕ) (L : Lis
       omega (arith, s.tag, s.queue, free.tag)
 
   pub count_fits : (r : ℕ) → r < queues → get_or counts r 0 + 1 < 2 ^ 32
-  count_fits r lr = omega (arith, pool.counted r lr, length-ring-le L r (omega (arith, whole.are.count)), whole.total, pool.fits)
+  count_fits r lr = omega (arith, pool.counted r lr, length-ring-le L r (omega (arith, whole.are.count)), whole.total, whole.room, pool.fits)
 
   -- a free slot comes to a queue, with an order
   module _ (i r : ℕ) (o : Order) (free : Free i) (lr : r < queues) where
     abbrev ds : List Cell
     ds = with_order cs i o
 
-    whole₀ : AreWholeRings ds slots queues L
+    whole₀ : AreWholeRings ds slots queues lent L
     whole₀ = AreWholeRings-ordered cs slots queues L whole i o free.slot
 
     tag₀ : queue_at ds i ≡ queues
     tag₀ = ordered_queue cs slots queues L whole i o free.slot i ∙ free.tag
 
-    pool₀ : IsPoolWith ds slots queues live counts L
+    pool₀ : IsPoolWith ds slots queues lent live counts L
     pool₀ = record { whole = whole₀; fits = pool.fits; free = pool.free; many = pool.many; counted = pool.counted }
 
-    pub IsPool-pushed : (new : List Cell) (counts' : List ℕ) → new ≡ cells_moved ds slots i r → counts' ≡ slice_set counts r (get_or counts r 0 + 1) → IsPool new slots queues (live + 1) counts'
+    pub IsPool-pushed : (new : List Cell) (counts' : List ℕ) → new ≡ cells_moved ds slots i r → counts' ≡ slice_set counts r (get_or counts r 0 + 1) → IsPool new slots queues lent (live + 1) counts'
     IsPool-pushed new counts' e ec =
-        subst (λ (es : List Cell). IsPool es slots queues (live + 1) counts') (sym e)
-        (subst (λ (ns : List ℕ). IsPool (cells_moved ds slots i r) slots queues (live + 1) ns) (sym ec)
+        subst (λ (es : List Cell). IsPool es slots queues lent (live + 1) counts') (sym e)
+        (subst (λ (ns : List ℕ). IsPool (cells_moved ds slots i r) slots queues lent (live + 1) ns) (sym ec)
         (with-rings (cells_moved ds slots i r) slots queues (live + 1) (slice_set counts r (get_or counts r 0 + 1)) (moved L i r)
         (pool-in ds slots queues live counts L pool₀ i r free.slot (omega arith) (live + 1) (get_or counts r 0 + 1) lr tag₀ refl refl)))
 
@@ -144,7 +139,7 @@ module _ (cs : List Cell) (slots q : ℕ) where
             ∙ next_none i k ks h.2 low.1 (elim m [ inl e ↦ absurd (t.1 (sym e)) | inr n ↦ n ]) le
       ]
 
-module _ (cs : List Cell) (slots queues : ℕ) (L : List (List ℕ)) (whole : AreWholeRings cs slots queues L) (b : Queues) (shown : queues_with cs slots queues L ≡ b) where
+module _ (cs : List Cell) (slots queues : ℕ) {lent : ℕ} (L : List (List ℕ)) (whole : AreWholeRings cs slots queues lent L) (b : Queues) (shown : queues_with cs slots queues L ≡ b) where
   entries : (q : ℕ) → q < queues → entries_at b.queues q ≡ map (entry cs) (ring_at L q)
   entries q lq = ap (λ (c : Queues). entries_at c.queues q) (sym shown) ∙ entries_at-qs cs slots queues L whole q lq
 
@@ -184,8 +179,8 @@ module _ (cs : List Cell) (slots queues : ℕ) (L : List (List ℕ)) (whole : Ar
 
 -- ---- a slot that leaves its queue
 
-module _ (cs : List Cell) (slots queues live : ℕ) (counts : List ℕ) (L : List (List ℕ)) (pool : IsPoolWith cs slots queues live counts L) (i q : ℕ) (s : Seen cs slots queues L i q) where
-  pub IsPool-unlinked : (new : List Cell) (counts' : List ℕ) (k : ℕ) → k ≡ queue_at cs i → new ≡ cells_moved cs slots i queues → counts' ≡ slice_set counts k (get_or counts k 0 - 1) → IsPool new slots queues (live - 1) counts'
+module _ (cs : List Cell) (slots queues live : ℕ) {lent : ℕ} (counts : List ℕ) (L : List (List ℕ)) (pool : IsPoolWith cs slots queues lent live counts L) (i q : ℕ) (s : Seen cs slots queues lent L i q) where
+  pub IsPool-unlinked : (new : List Cell) (counts' : List ℕ) (k : ℕ) → k ≡ queue_at cs i → new ≡ cells_moved cs slots i queues → counts' ≡ slice_set counts k (get_or counts k 0 - 1) → IsPool new slots queues lent (live - 1) counts'
   IsPool-unlinked new counts' k ek e ec =
       let moved_cells = cells_moved cs slots i queues in
       let r = queue_at cs i in
@@ -193,7 +188,7 @@ module _ (cs : List Cell) (slots queues live : ℕ) (counts : List ℕ) (L : Lis
       let some = count_some cs slots queues live counts L pool i q s in
       let more : 0 < get_or counts r 0 = subst (λ (j : ℕ). 0 < get_or counts j 0) (sym s.tag) some in
       let any = live_some cs slots queues live counts L pool i q s in
-      subst (λ (ds : List Cell). IsPool ds slots queues (live - 1) counts') (sym e)
-      (subst (λ (ns : List ℕ). IsPool moved_cells slots queues (live - 1) ns) (sym (ec ∙ ap (λ (j : ℕ). slice_set counts j (get_or counts j 0 - 1)) ek))
+      subst (λ (ds : List Cell). IsPool ds slots queues lent (live - 1) counts') (sym e)
+      (subst (λ (ns : List ℕ). IsPool moved_cells slots queues lent (live - 1) ns) (sym (ec ∙ ap (λ (j : ℕ). slice_set counts j (get_or counts j 0 - 1)) ek))
       (with-rings moved_cells slots queues (live - 1) (slice_set counts r n) (moved L i queues)
       (pool-out cs slots queues live counts L pool i queues s.slot (omega arith) (live - 1) n (omega (arith, s.tag, s.queue)) refl (omega (arith, any)) (omega (arith, more)))))

@@ -8,14 +8,14 @@ use Rattle.order_pool.specs.Inner.Block.{Cell}
 use Rattle.order_pool.specs.Inner.Rings.{order_at, queue_at, In, AreWholeRings, IsPoolWith, IsPool, ring_at, without, moved, cells_moved, entry, queues_with, queues_of}
 use Rattle.order_pool.specs.Queues.{Entry, Queues, entries_at, removed, appended, order_of, HasSlot, IsIn}
 use Rattle.order_pool.proofs.Paths.{each-in}
-use Rattle.order_pool.proofs.WholeRings.{rings_of-is, AreWholeRings-moved, without-elsewhere, length-left, moved-other, moved-here}
+use Rattle.order_pool.proofs.WholeRings.{rings_of-is, lent-in, AreWholeRings-moved, without-elsewhere, length-left, moved-other, moved-here}
 use Rattle.order_pool.proofs.Views.{in-entries, entries_at-qs, length-qs, moved_in, moved_out}
 
 -- a slot in a queue, as the fields have it
-pub record Seen (cs : List Cell) (slots queues : ℕ) (L : List (List ℕ)) (i q : ℕ) : Type 0 where
+pub record Seen (cs : List Cell) (slots queues lent : ℕ) (L : List (List ℕ)) (i q : ℕ) : Type 0 where
   pub queue : q < queues
   pub ring : In i (ring_at L q)
-  pub slot : i < slots
+  pub slot : i < lent
   pub tag : queue_at cs i ≡ q
   pub cell : i < length cs
 
@@ -30,25 +30,25 @@ order_of-entries cs i (k ∷ ks) h =
           ∙ order_of-entries cs i ks (elim h [ inl e ↦ absurd (t.1 (sym e)) | inr m ↦ m ])
     ]
 
-module _ (cs : List Cell) (slots queues : ℕ) (L : List (List ℕ)) (whole : AreWholeRings cs slots queues L) where
-  pub seen : (b : Queues) (i q : ℕ) → queues_with cs slots queues L ≡ b → IsIn b i q → Seen cs slots queues L i q
+module _ (cs : List Cell) (slots queues : ℕ) {lent : ℕ} (L : List (List ℕ)) (whole : AreWholeRings cs slots queues lent L) where
+  pub seen : (b : Queues) (i q : ℕ) → queues_with cs slots queues L ≡ b → IsIn b i q → Seen cs slots queues lent L i q
   seen b i q e h =
       let here : IsIn (queues_with cs slots queues L) i q = subst (λ (c : Queues). IsIn c i q) (sym e) h in
       let lq : q < queues = subst (λ (n : ℕ). q < n) (length-qs cs slots queues L whole) here.0 in
       let m : In i (ring_at L q) = in-entries cs i (ring_at L q) (subst (HasSlot i) (entries_at-qs cs slots queues L whole q lq) here.1) in
       let ring = whole.are.each q (omega arith) in
-      let low : i < slots = each-in (λ k. k < slots) i (ring_at L q) m ring.slot in
-      record { queue = lq; ring = m; slot = low; tag = each-in (λ k. queue_at cs k ≡ q) i (ring_at L q) m ring.tag; cell = omega (arith, whole.are.cells) }
+      let low : i < lent = lent-in cs slots queues L whole i q (omega arith) m in
+      record { queue = lq; ring = m; slot = low; tag = each-in (λ k. queue_at cs k ≡ q) i (ring_at L q) m ring.tag; cell = omega (arith, whole.are.cells, whole.room) }
 
-  pub order_of-seen : (b : Queues) (i q : ℕ) → queues_with cs slots queues L ≡ b → Seen cs slots queues L i q → order_of i (entries_at b.queues q) ≡ order_at cs i
+  pub order_of-seen : (b : Queues) (i q : ℕ) → queues_with cs slots queues L ≡ b → Seen cs slots queues lent L i q → order_of i (entries_at b.queues q) ≡ order_at cs i
   order_of-seen b i q e s =
       ap (λ (c : Queues). order_of i (entries_at c.queues q)) (sym e) ∙ ap (order_of i) (entries_at-qs cs slots queues L whole q s.queue) ∙ order_of-entries cs i (ring_at L q) s.ring
 
-pub with-rings : (cs : List Cell) (slots queues live : ℕ) (counts : List ℕ) (L : List (List ℕ)) → IsPoolWith cs slots queues live counts L → IsPool cs slots queues live counts
-with-rings cs slots queues live counts L h = subst (λ (K : List (List ℕ)). IsPoolWith cs slots queues live counts K) (sym (rings_of-is cs slots queues L h.whole)) h
+pub with-rings : (cs : List Cell) (slots queues live : ℕ) {lent : ℕ} (counts : List ℕ) (L : List (List ℕ)) → IsPoolWith cs slots queues lent live counts L → IsPool cs slots queues lent live counts
+with-rings cs slots queues live {lent = lent} counts L h = subst (λ (K : List (List ℕ)). IsPoolWith cs slots queues lent live counts K) (sym (rings_of-is cs slots queues L h.whole)) h
 
-module _ (cs : List Cell) (slots queues live : ℕ) (counts : List ℕ) (L : List (List ℕ)) (pool : IsPoolWith cs slots queues live counts L) (i r : ℕ) (li : i < slots) (lr : r < queues + 1) where
-  abbrev whole : AreWholeRings cs slots queues L
+module _ (cs : List Cell) (slots queues live : ℕ) {lent : ℕ} (counts : List ℕ) (L : List (List ℕ)) (pool : IsPoolWith cs slots queues lent live counts L) (i r : ℕ) (li : i < lent) (lr : r < queues + 1) where
+  abbrev whole : AreWholeRings cs slots queues lent L
   whole = pool.whole
 
   abbrev q : ℕ
@@ -82,7 +82,7 @@ module _ (cs : List Cell) (slots queues live : ℕ) (counts : List ℕ) (L : Lis
       length-pushed ∙ ap (λ (k : ℕ). length (without i (ring_at L k)) + 1) (sym e) ∙ length-left cs slots queues L whole i r li lr ∙ ap (λ (k : ℕ). length (ring_at L k)) e
 
   -- to the end of its own queue
-  pub pool-back : r < queues → q ≡ r → IsPoolWith new slots queues live counts M
+  pub pool-back : r < queues → q ≡ r → IsPoolWith new slots queues lent live counts M
   pool-back low e = record {
     whole = AreWholeRings-moved cs slots queues L whole i r li lr;
     fits = pool.fits;
@@ -97,8 +97,8 @@ module _ (cs : List Cell) (slots queues live : ℕ) (counts : List ℕ) (L : Lis
   }
 
   -- the count of a queue is set to how many slots it has now, and the other queues stay
-  pool-set : (live' t n : ℕ) → t < queues → live' + length (ring_at M queues) ≡ slots → n ≡ length (ring_at M t) → ((k : ℕ) → k < queues → k ≢ t → length (ring_at M k) ≡ length (ring_at L k))
-      → IsPoolWith new slots queues live' (slice_set counts t n) M
+  pool-set : (live' t n : ℕ) → t < queues → live' + length (ring_at M queues) ≡ lent → n ≡ length (ring_at M t) → ((k : ℕ) → k < queues → k ≢ t → length (ring_at M k) ≡ length (ring_at L k))
+      → IsPoolWith new slots queues lent live' (slice_set counts t n) M
   pool-set live' t n low free is others = record {
     whole = AreWholeRings-moved cs slots queues L whole i r li lr;
     fits = pool.fits;
@@ -112,7 +112,7 @@ module _ (cs : List Cell) (slots queues live : ℕ) (counts : List ℕ) (L : Lis
   }
 
   -- from a queue to the free slots
-  pub pool-out : (live' n : ℕ) → q < queues → r ≡ queues → live' + 1 ≡ live → n + 1 ≡ get_or counts q 0 → IsPoolWith new slots queues live' (slice_set counts q n) M
+  pub pool-out : (live' n : ℕ) → q < queues → r ≡ queues → live' + 1 ≡ live → n + 1 ≡ get_or counts q 0 → IsPoolWith new slots queues lent live' (slice_set counts q n) M
   pool-out live' n low e el en =
       let ne : q ≢ r = (λ w. omega arith) in
       pool-set live' q n low
@@ -121,7 +121,7 @@ module _ (cs : List Cell) (slots queues live : ℕ) (counts : List ℕ) (L : Lis
       (λ k lk nq. length-other k (omega arith) (λ w. omega arith) nq)
 
   -- from the free slots to a queue
-  pub pool-in : (live' n : ℕ) → r < queues → q ≡ queues → live' ≡ live + 1 → n ≡ get_or counts r 0 + 1 → IsPoolWith new slots queues live' (slice_set counts r n) M
+  pub pool-in : (live' n : ℕ) → r < queues → q ≡ queues → live' ≡ live + 1 → n ≡ get_or counts r 0 + 1 → IsPoolWith new slots queues lent live' (slice_set counts r n) M
   pool-in live' n low e el en =
       let ne : q ≢ r = (λ w. omega arith) in
       pool-set live' r n low
@@ -131,7 +131,7 @@ module _ (cs : List Cell) (slots queues live : ℕ) (counts : List ℕ) (L : Lis
 
 -- ---- what a contract sees
 
-module _ (cs : List Cell) (slots queues : ℕ) (L : List (List ℕ)) (whole : AreWholeRings cs slots queues L) (i : ℕ) (li : i < slots) where
+module _ (cs : List Cell) (slots queues : ℕ) {lent : ℕ} (L : List (List ℕ)) (whole : AreWholeRings cs slots queues lent L) (i : ℕ) (li : i < lent) where
   abbrev qs : List (List Entry)
   qs = map (map (entry cs)) (take queues L)
 

@@ -40,23 +40,23 @@ module _ (cs : List Cell) (i : ℕ) (o : Order) (wi : i < length cs) where
   changed_rings [] = refl
   changed_rings (ks ∷ X) = λ j. changed_all ks j ∷ changed_rings X j
 
-module _ (cs : List Cell) (slots queues live : ℕ) (counts : List ℕ) (L : List (List ℕ)) (pool : IsPoolWith cs slots queues live counts L) (i : ℕ) (o : Order) (li : i < slots) where
-  whole₀ : AreWholeRings (with_order cs i o) slots queues L
+module _ (cs : List Cell) (slots queues live : ℕ) {lent : ℕ} (counts : List ℕ) (L : List (List ℕ)) (pool : IsPoolWith cs slots queues lent live counts L) (i : ℕ) (o : Order) (li : i < lent) where
+  whole₀ : AreWholeRings (with_order cs i o) slots queues lent L
   whole₀ = AreWholeRings-ordered cs slots queues L pool.whole i o li
 
-  pub IsPool-ordered : (new : List Cell) → new ≡ with_order cs i o → IsPool new slots queues live counts
+  pub IsPool-ordered : (new : List Cell) → new ≡ with_order cs i o → IsPool new slots queues lent live counts
   IsPool-ordered new e =
-      subst (λ (es : List Cell). IsPool es slots queues live counts) (sym e)
+      subst (λ (es : List Cell). IsPool es slots queues lent live counts) (sym e)
       (with-rings (with_order cs i o) slots queues live counts L (record { whole = whole₀; fits = pool.fits; free = pool.free; many = pool.many; counted = pool.counted }))
 
   pub view-ordered : (new : List Cell) → new ≡ with_order cs i o → (b : Queues) → queues_with cs slots queues L ≡ b → queues_of new slots queues ≡ record b { queues = map (with_entry i o) b.queues }
   view-ordered new e b shown =
       subst (λ (c : Queues). queues_of new slots queues ≡ record c { queues = map (with_entry i o) c.queues }) shown
       (ap (λ (es : List Cell). queues_of es slots queues) e ∙ ap (queues_with (with_order cs i o) slots queues) (rings_of-is (with_order cs i o) slots queues L whole₀)
-      ∙ (λ j. record { capacity = slots; queues = changed_rings cs i o (omega (arith, pool.whole.are.cells)) (take queues L) j }))
+      ∙ (λ j. record { capacity = slots; queues = changed_rings cs i o (omega (arith, pool.whole.are.cells, pool.whole.room)) (take queues L) j }))
 
-module _ (cs : List Cell) (slots queues : ℕ) (L : List (List ℕ)) (whole : AreWholeRings cs slots queues L) (b : Queues) (shown : queues_with cs slots queues L ≡ b) (i : ℕ) where
-  pub is_live : i < slots → queue_at cs i < queues → IsLive b i
+module _ (cs : List Cell) (slots queues : ℕ) {lent : ℕ} (L : List (List ℕ)) (whole : AreWholeRings cs slots queues lent L) (b : Queues) (shown : queues_with cs slots queues L ≡ b) (i : ℕ) where
+  pub is_live : i < lent → queue_at cs i < queues → IsLive b i
   is_live li lq =
       subst (λ (c : Queues). IsLive c i) shown (
         queue_at cs i,
@@ -66,24 +66,24 @@ module _ (cs : List Cell) (slots queues : ℕ) (L : List (List ℕ)) (whole : Ar
         ),
       )
 
-  pub live_slot : IsLive b i → i < slots
+  pub live_slot : IsLive b i → i < lent
   live_slot h = (seen cs slots queues L whole b i h.0 shown h.1).slot
 
   pub live_queue : IsLive b i → queue_at cs i < queues
   live_queue h = let s = seen cs slots queues L whole b i h.0 shown h.1 in omega (arith, s.tag, s.queue)
 
-  pub is_live_tested : (q : ℕ) → q ≡ queue_at cs i → i < slots → (IsTrue (nat_lt q queues) → IsLive b i) × (IsLive b i → IsTrue (nat_lt q queues))
+  pub is_live_tested : (q : ℕ) → q ≡ queue_at cs i → i < lent → (IsTrue (nat_lt q queues) → IsLive b i) × (IsLive b i → IsTrue (nat_lt q queues))
   is_live_tested q e li =
       (λ t. let below = ltb-true q queues t in is_live li (omega (arith, below)), λ h. let below = live_queue h in lt-ltb q queues (omega (arith, below)))
 
-  pub not_slot : slots ≤ i → (IsTrue (nat_lt i slots) → IsLive b i) × (IsLive b i → IsTrue (nat_lt i slots))
-  not_slot le = (λ t. let below = ltb-true i slots t in absurd (omega (arith, below)), λ h. lt-ltb i slots (live_slot h))
+  pub not_lent : lent ≤ i → (IsTrue (nat_lt i lent) → IsLive b i) × (IsLive b i → IsTrue (nat_lt i lent))
+  not_lent le = (λ t. let below = ltb-true i lent t in absurd (omega (arith, below)), λ h. lt-ltb i lent (live_slot h))
 
 no_repeat : (cs : List Cell) (ks : List ℕ) → AllDiffer ks → NoRepeat (map (entry cs) ks)
 no_repeat cs [] d = tt
 no_repeat cs (k ∷ ks) d = (λ h. each-in (λ j. j ≢ k) k ks (in-entries cs k ks h) d.0 refl, no_repeat cs ks d.1)
 
-pub rules : (cs : List Cell) (slots queues : ℕ) (L : List (List ℕ)) (whole : AreWholeRings cs slots queues L) (b : Queues) → queues_with cs slots queues L ≡ b → SlotsDiffer b
+pub rules : (cs : List Cell) (slots queues : ℕ) {lent : ℕ} (L : List (List ℕ)) (whole : AreWholeRings cs slots queues lent L) (b : Queues) → queues_with cs slots queues L ≡ b → SlotsDiffer b
 rules cs slots queues L whole b shown =
     subst SlotsDiffer shown
     (record {
@@ -93,5 +93,5 @@ rules cs slots queues L whole b shown =
       within = λ q h.
           let lq : q < queues = omega (arith, length-qs cs slots queues L whole) in
           subst NoRepeat (sym (entries_at-qs cs slots queues L whole q lq)) (no_repeat cs (ring_at L q) (whole.are.each q (omega arith)).differ);
-      below = λ i h. (seen cs slots queues L whole (queues_with cs slots queues L) i h.0 refl h.1).slot;
+      below = λ i h. let s = seen cs slots queues L whole (queues_with cs slots queues L) i h.0 refl h.1 in omega (arith, s.slot, whole.room);
     })

@@ -17,7 +17,7 @@ take-set-any (suc n) [] i a = refl
 take-set-any (suc n) (x ∷ xs) zero a = refl
 take-set-any (suc n) (x ∷ xs) (suc i) a = ap (λ (ys : List _). x ∷ ys) (take-set-any n xs i a)
 
-entry-same : (cs cs' : List Cell) → ((y : ℕ) → order_at cs' y ≡ order_at cs y) → entry cs' ≡ entry cs
+pub entry-same : (cs cs' : List Cell) → ((y : ℕ) → order_at cs' y ≡ order_at cs y) → entry cs' ≡ entry cs
 entry-same cs cs' same = λ j y. (y, same y j)
 
 module _ (cs : List Cell) (i : ℕ) where
@@ -44,7 +44,7 @@ in-entries cs i [] h = absurd h
 in-entries cs i (k ∷ ks) (inl e) = inl e
 in-entries cs i (k ∷ ks) (inr h) = inr (in-entries cs i ks h)
 
-module _ (cs : List Cell) (slots queues : ℕ) (L : List (List ℕ)) (whole : AreWholeRings cs slots queues L) where
+module _ (cs : List Cell) (slots queues : ℕ) {lent : ℕ} (L : List (List ℕ)) (whole : AreWholeRings cs slots queues lent L) where
   abbrev qs : List (List Entry)
   qs = map (map (entry cs)) (take queues L)
 
@@ -55,7 +55,7 @@ module _ (cs : List Cell) (slots queues : ℕ) (L : List (List ℕ)) (whole : Ar
   pub length-qs : length qs ≡ queues
   length-qs = length-map (take queues L) (map (entry cs)) ∙ length-take-le queues L (omega (arith, whole.are.count))
 
-  module _ (i : ℕ) (li : i < slots) where
+  module _ (i : ℕ) (li : i < lent) where
     abbrev L₁ : List (List ℕ)
     L₁ = map (without i) L
 

@@ -1,123 +1,137 @@
 //! One block of nodes, whose links are raw pointers. A contract sees a list of cells, whose links are indices.
-ghost use Rattle.std.specs.Prelude.{◌≡◌, ◌+◌, ◌<◌, length, IfOk};
-ghost use Rattle.order_pool.specs.Inner.Block.{cell_at, with_order, detached, attached, IsFresh};
+ghost use Rattle.std.specs.Prelude.{◌≡◌, ◌+◌, ◌<◌, ◌^◌, IfOk};
+ghost use Rattle.order_pool.specs.Inner.Block.{cell_at, with_order, detached, attached};
+ghost use Rattle.order_pool.specs.Inner.Lent.{IsNew};
 
-use crate::node::{Node, close, fill, relink, set_next, set_prev};
-use crate::pointer::{follow, pointer_to};
+use crate::node::{Node, attach, detach, push_alone};
+use crate::pointer::follow;
 use gx_base::Order;
 use std::alloc::{AllocError, Global};
 use std::marker::Model;
 
-/// Nodes in rings. Each ring has a head, which is a node too, so no link is null. The block never grows.
+/// Nodes in rings. Each ring has a head, which is a node too, so no link is null. The heads come first, and then the slots that were
+/// ever lent: so a slot takes no memory before its first order. Contracts see a cell for each slot, lent or not, and then the heads.
 #[derive(Drop)]
 pub(crate) struct Block {
     nodes: Vec<Node>,
+    slots: u32,
+    heads: u32,
 }
 
 impl Model for Block {
-    ghost use Rattle.std.specs.Prelude.{List};
-    ghost use Rattle.std.specs.Vec.{vec_ptr};
-    ghost use Rattle.order_pool.specs.Inner.Block.{Cell, cells_of, AllLinked, HasNoRoomLeft};
+    ghost use Rattle.std.specs.Prelude.{◌-◌, length};
+    ghost use Rattle.order_pool.specs.Inner.Block.{cells_in};
+    ghost use Rattle.order_pool.specs.Inner.Lent.{Lent, shown, IsBlock};
 
-    ghost Value = { List Cell };
+    ghost Value = { Lent };
 
-    ghost view = { λ b. cells_of (vec_ptr b.nodes) b.nodes.items };
+    ghost view = { λ b. record { slots = b.slots; heads = b.heads; lent = length b.nodes.items - b.heads; cells = shown b.slots b.heads (cells_in b.nodes) } };
 
-    ghost invariant = { λ b. AllLinked (vec_ptr b.nodes) b.nodes.items × HasNoRoomLeft b.nodes };
+    ghost invariant = { λ b. IsBlock b.slots b.heads b.nodes };
 }
 
 impl Block {
-    /// The order of a node.
-    pub(crate) fn order(&self, i: u32) -> &Order
-        requires { i < length self.now }
-        ensures { result.now ≡ (cell_at self.now i).order }
+    /// Heads in rings of their own, each with its number as its tag, and no slot lent, but room for so many.
+    pub(crate) fn new(alloc: Global, slots: u32, heads: u32) -> Result<Block, AllocError>
+        requires { slots + heads < 2 ^ 32 }
+        ensures { IfOk result (λ b. IsNew slots heads b) }
     {
-        &self.nodes[i as usize].order
+        let mut nodes = Vec::with_capacity(alloc, (slots + heads) as usize)?;
+        for head in 0..heads {
+            push_alone(&mut nodes, slots + head, head);
+        }
+        Ok(Block {
+            nodes,
+            slots,
+            heads,
+        })
     }
 
-    /// The tag of a node: the number of its queue, or of the free slots.
-    pub(crate) fn queue(&self, i: u32) -> u32
-        requires { i < length self.now }
-        ensures { result ≡ (cell_at self.now i).queue }
+    /// How many slots were ever lent. They are those below this number.
+    pub(crate) fn lent(&self) -> u32
+        ensures { result ≡ self.now.lent }
     {
-        self.nodes[i as usize].queue
+        self.nodes.len() as u32 - self.heads
     }
 
-    /// The number of the node that `next` of a node leads to.
-    pub(crate) fn next(&self, i: u32) -> u32
-        requires { i < length self.now }
-        ensures value { result ≡ (cell_at self.now i).next }
-        ensures within { result < length self.now }
+    /// Where the node of a slot is.
+    fn at(&self, slot: u32) -> usize
+        ensures { result ≡ self.now.heads + slot }
     {
-        follow(&self.nodes, self.nodes[i as usize].next).slot
+        self.heads as usize + slot as usize
     }
 
-    /// The number of the node that `prev` of a node leads to.
-    pub(crate) fn prev(&self, i: u32) -> u32
-        requires { i < length self.now }
-        ensures value { result ≡ (cell_at self.now i).prev }
-        ensures within { result < length self.now }
+    /// The order of a slot.
+    pub(crate) fn order(&self, slot: u32) -> &Order
+        requires { slot < self.now.lent }
+        ensures { result.now ≡ (cell_at self.now.cells slot).order }
     {
-        follow(&self.nodes, self.nodes[i as usize].prev).slot
-    }
-}
-
-impl Block {
-    /// Sets the order of a node.
-    pub(crate) fn set_order(&mut self, i: u32, order: &Order)
-        requires { i < length self.old }
-        ensures { self.new ≡ with_order self.old i order.now }
-    {
-        self.nodes[i as usize].order = *order;
+        &self.nodes[self.at(slot)].order
     }
 
-    /// Takes `i` out of its ring, and puts it before `j`, with the tag `queue`.
-    pub(crate) fn relocate(&mut self, i: u32, j: u32, queue: u32)
-        requires i_in { i < length self.old }
-        requires j_in { j < length self.old }
-        ensures { self.new ≡ attached (detached self.old i) i j queue }
+    /// The tag of a slot: the number of its ring.
+    pub(crate) fn queue(&self, slot: u32) -> u32
+        requires { slot < self.now.lent }
+        ensures { result ≡ (cell_at self.now.cells slot).queue }
     {
-        self.detach(i);
-        self.attach(i, j, queue);
+        self.nodes[self.at(slot)].queue
     }
 
-    /// Joins the neighbours of `i`, whose own links stay.
-    fn detach(&mut self, i: u32)
-        requires { i < length self.old }
-        ensures { self.new ≡ detached self.old i }
+    /// The number of the node that `next` of a slot leads to.
+    pub(crate) fn next(&self, slot: u32) -> u32
+        requires { slot < self.now.lent }
+        ensures { result ≡ (cell_at self.now.cells slot).next }
     {
-        let node = &self.nodes[i as usize];
-        let (prev, next) = (node.prev, node.next);
-        set_next(&mut self.nodes, prev, next);
-        set_prev(&mut self.nodes, next, prev);
+        follow(&self.nodes, self.nodes[self.at(slot)].next).slot
     }
 
-    /// Puts `i` before `j`, with the tag `queue`.
-    pub(crate) fn attach(&mut self, i: u32, j: u32, queue: u32)
-        requires i_in { i < length self.old }
-        requires j_in { j < length self.old }
-        ensures { self.new ≡ attached self.old i j queue }
+    /// The number of the first node of a ring.
+    pub(crate) fn first(&self, queue: u32) -> u32
+        requires { queue < self.now.heads }
+        ensures { result ≡ (cell_at self.now.cells (self.now.slots + queue)).next }
     {
-        let here = pointer_to(&self.nodes, i as usize);
-        let there = pointer_to(&self.nodes, j as usize);
-        let last = self.nodes[j as usize].prev;
-        set_next(&mut self.nodes, last, here);
-        relink(&mut self.nodes, here, last, there, queue);
-        set_prev(&mut self.nodes, there, here);
+        follow(&self.nodes, self.nodes[queue as usize].next).slot
+    }
+
+    /// The number of the last node of a ring.
+    pub(crate) fn last(&self, queue: u32) -> u32
+        requires { queue < self.now.heads }
+        ensures { result ≡ (cell_at self.now.cells (self.now.slots + queue)).prev }
+    {
+        follow(&self.nodes, self.nodes[queue as usize].prev).slot
     }
 }
 
 impl Block {
-    /// A node for each slot, one for the head of each queue, and one for the head of the free slots: each in a ring of its
-    /// own, with the tag of its queue, or of the free slots, which is the number of queues.
-    pub(crate) fn new(alloc: Global, slots: u32, queues: u32) -> Result<Block, AllocError>
-        ensures { IfOk result (λ cs. IsFresh slots queues cs) }
+    /// Lends a slot that never was, the next one, and puts it at the end of a ring.
+    pub(crate) fn lend(&mut self, queue: u32)
+        requires some { self.old.lent < self.old.slots }
+        requires queue_in { queue < self.old.heads }
+        ensures { self.new ≡ record self.old { lent = self.old.lent + 1; cells = attached self.old.cells self.old.lent (self.old.slots + queue) queue } }
     {
-        let Ok(count) = u32::try_from(u64::from(slots) + u64::from(queues) + 1) else {
-            return Err(AllocError);
-        };
-        let mut nodes = fill(alloc, slots, queues, count)?;
-        close(&mut nodes, count);
-        Ok(Block { nodes })
+        let slot = self.lent();
+        let at = self.nodes.len();
+        push_alone(&mut self.nodes, slot, self.heads);
+        attach(&mut self.nodes, at, queue as usize, queue);
+    }
+
+    /// Sets the order of a slot.
+    pub(crate) fn set_order(&mut self, slot: u32, order: &Order)
+        requires { slot < self.old.lent }
+        ensures { self.new ≡ record self.old { cells = with_order self.old.cells slot order.now } }
+    {
+        let at = self.at(slot);
+        self.nodes[at].order = *order;
+    }
+
+    /// Takes a slot out of its ring, and puts it at the end of another.
+    pub(crate) fn relocate(&mut self, slot: u32, queue: u32)
+        requires slot_in { slot < self.old.lent }
+        requires queue_in { queue < self.old.heads }
+        ensures { self.new ≡ record self.old { cells = attached (detached self.old.cells slot) slot (self.old.slots + queue) queue } }
+    {
+        let at = self.at(slot);
+        detach(&mut self.nodes, at);
+        attach(&mut self.nodes, at, queue as usize, queue);
     }
 }

@@ -1,13 +1,12 @@
 //! An order with its two links.
-ghost use Rattle.std.specs.Prelude.{◌≡◌, vec_len, vec_capacity, IfOk};
+ghost use Rattle.std.specs.Prelude.{◌≡◌, ◌<◌, [], ◌∷◌, ◌++◌, vec_len, vec_capacity};
 ghost use Rattle.std.specs.Vec.{vec_ptr, with_item};
 ghost use Rattle.order_pool.specs.Inner.Places.{index_of, IsPlace};
-ghost use Rattle.order_pool.specs.Inner.Block.{node_at, node_size, blank_node, first_tag, IsBlank, IsClosed};
+ghost use Rattle.order_pool.specs.Inner.Block.{node_at, node_size, blank_node, cells_in, alone, detached, attached, AllLinked, IsKept, HasCome};
 ghost use Rattle.order_pool.specs.Queues.{no_order};
 
 use crate::pointer::{follow_mut, pointer_to};
 use gx_base::{Kind, Life, Order, Price, ShortId, Side};
-use std::alloc::{AllocError, Global};
 use std::ptr::null_mut;
 
 /// A node of a block: an order in its ring, or the head of a ring.
@@ -16,7 +15,7 @@ pub(crate) struct Node {
     pub(crate) order: Order,
     pub(crate) prev: *mut Node,
     pub(crate) next: *mut Node,
-    /// Its number in the block.
+    /// Its number: that of its slot, or of the head, which is after the slots.
     pub(crate) slot: u32,
     /// The tag of its ring.
     pub(crate) queue: u32,
@@ -93,38 +92,45 @@ fn blank(slot: u32, queue: u32) -> Node
     }
 }
 
-/// The tag of node `k` of a new block.
-fn tag(slots: u32, queues: u32, k: u32) -> u32
-    ensures { result ≡ first_tag slots queues k }
+/// Joins the neighbours of node `i`, whose own links stay.
+pub(crate) fn detach(nodes: &mut Vec<Node>, i: usize)
+    requires linked { AllLinked (vec_ptr nodes.old) nodes.old.items }
+    requires within { i < vec_len nodes.old }
+    ensures cells { cells_in nodes.new ≡ detached (cells_in nodes.old) i }
+    ensures kept { IsKept nodes.old nodes.new }
 {
-    if k < slots { queues } else { k - slots }
+    let node = &nodes[i];
+    let (prev, next) = (node.prev, node.next);
+    set_next(nodes, prev, next);
+    set_prev(nodes, next, prev);
 }
 
-/// Nodes that lead nowhere, in a block with room for no more.
-pub(crate) fn fill(
-    alloc: Global,
-    slots: u32,
-    queues: u32,
-    count: u32,
-) -> Result<Vec<Node>, AllocError>
-    ensures blank { IfOk result (λ v. IsBlank slots queues count v.items) }
-    ensures room { IfOk result (λ v. vec_capacity v ≡ count) }
+/// Puts node `i` before node `j`, with the tag `queue`.
+pub(crate) fn attach(nodes: &mut Vec<Node>, i: usize, j: usize, queue: u32)
+    requires linked { AllLinked (vec_ptr nodes.old) nodes.old.items }
+    requires i_in { i < vec_len nodes.old }
+    requires j_in { j < vec_len nodes.old }
+    ensures cells { cells_in nodes.new ≡ attached (cells_in nodes.old) i j queue }
+    ensures kept { IsKept nodes.old nodes.new }
 {
-    let mut nodes = Vec::with_capacity(alloc, count as usize)?;
-    for k in 0..count {
-        nodes.push_reserved(blank(k, tag(slots, queues, k)));
-    }
-    Ok(nodes)
+    let here = pointer_to(nodes, i);
+    let there = pointer_to(nodes, j);
+    let last = nodes[j].prev;
+    set_next(nodes, last, here);
+    relink(nodes, here, last, there, queue);
+    set_prev(nodes, there, here);
 }
 
-/// Links each node to itself.
-pub(crate) fn close(nodes: &mut Vec<Node>, count: u32)
-    requires { vec_len nodes.old ≡ count }
-    ensures { IsClosed nodes.old nodes.new count }
+/// One node more, which leads to itself.
+pub(crate) fn push_alone(nodes: &mut Vec<Node>, slot: u32, queue: u32)
+    requires linked { AllLinked (vec_ptr nodes.old) nodes.old.items }
+    requires room { vec_len nodes.old < vec_capacity nodes.old }
+    ensures cells { cells_in nodes.new ≡ cells_in nodes.old ++ alone (vec_len nodes.old) queue ∷ [] }
+    ensures came { HasCome nodes.old nodes.new slot }
 {
-    for k in 0..count {
-        let here = pointer_to(nodes, k as usize);
-        set_prev(nodes, here, here);
-        set_next(nodes, here, here);
-    }
+    let at = nodes.len();
+    nodes.push_reserved(blank(slot, queue));
+    let here = pointer_to(nodes, at);
+    set_prev(nodes, here, here);
+    set_next(nodes, here, here);
 }

@@ -1,8 +1,7 @@
 //! The pool: queues of orders, as rings in one block.
 ghost use Rattle.std.specs.Prelude.{◌≡◌, ℕ, ◌+◌, ◌-◌, ◌^◌, ◌<◌, length, option_map, vec_len, vec_capacity, replicate, slice_index, slice_set, IfOk, IfSome, IsTrue, ◌↔◌, map};
 ghost use Rattle.order_pool.specs.Queues.{slot_number, empty_queues, order_of, first_slot, next_slot, IsIn, IsLive, entries_at, removed, appended, live_of, with_entry, SlotsDiffer};
-ghost use Rattle.order_pool.specs.Inner.Block.{IsFresh};
-ghost use Rattle.order_pool.specs.Inner.Rings.{AreRings, rings_of, free_of, IsLast, IsChained};
+ghost use Rattle.order_pool.specs.Inner.Rings.{AreWholeRings, rings_of, free_of, HasFree};
 
 use crate::block::Block;
 use gx_base::{Order, Slot};
@@ -24,24 +23,27 @@ pub struct Pool {
 impl Model for Pool {
     ghost use Rattle.std.specs.Prelude.{◌≡◌, vec_capacity};
     ghost use Rattle.order_pool.specs.Queues.{Queues};
+    ghost use Rattle.std.specs.Prelude.{◌+◌};
     ghost use Rattle.order_pool.specs.Inner.Rings.{queues_of, IsPool};
 
     ghost Value = { Queues };
 
-    ghost view = { λ p. queues_of p.block p.capacity p.queues };
+    ghost view = { λ p. queues_of p.block.cells p.capacity p.queues };
 
-    ghost invariant = { λ p. IsPool p.block p.capacity p.queues p.live p.counts.items × (vec_capacity p.counts ≡ p.queues) };
+    ghost invariant = { λ p. IsPool p.block.cells p.capacity p.queues p.block.lent p.live p.counts.items × (p.block.slots ≡ p.capacity) × (p.block.heads ≡ p.queues + 1) × (vec_capacity p.counts ≡ p.queues) };
 }
 
 impl Pool {
     /// Empty queues, so many, with room for so many orders. An `Err` is want of memory, also where nodes, queues and one more
     /// are together 2 to the power of 32 or more. It takes all the memory: a node for each order, for each queue and for the
-    /// free slots, and four bytes for each queue.
+    /// free slots, and four bytes for each queue. The nodes of orders are written when orders first come to them.
     pub fn new(alloc: Global, nodes: u32, queues: u32) -> Result<Pool, AllocError>
         ensures { IfOk result (λ p. p ≡ empty_queues nodes queues) }
     {
-        let mut block = Block::new(alloc, nodes, queues)?;
-        chain_free(&mut block, nodes, queues);
+        if u64::from(nodes) + u64::from(queues) + 1 > u64::from(u32::MAX) {
+            return Err(AllocError);
+        }
+        let block = Block::new(alloc, nodes, queues + 1)?;
         let counts = zeros(alloc, queues as usize)?;
         Ok(Pool {
             block,
@@ -82,7 +84,7 @@ impl Pool {
         ensures value { option_map slot_number result ≡ first_slot (entries_at self.now.queues queue) }
         ensures live { IfSome result (λ s. IsIn self.now (slot_number s) queue) }
     {
-        let first = self.block.next(self.capacity + queue);
+        let first = self.block.first(queue);
         if first < self.capacity {
             Some(Slot(first))
         } else {
@@ -140,7 +142,7 @@ impl Pool {
     pub fn is_live(&self, slot: Slot) -> bool
         ensures { IsTrue result ↔ IsLive self.now (slot_number slot) }
     {
-        slot.0 < self.capacity && self.block.queue(slot.0) < self.queues
+        slot.0 < self.block.lent() && self.block.queue(slot.0) < self.queues
     }
 }
 
@@ -155,9 +157,9 @@ impl Pool {
         ensures live { live_of self.new ≡ live_of self.old + 1 }
         ensures placed { IsIn self.new (slot_number result) queue }
     {
-        let slot = newest_free(&self.block, self.capacity, self.queues);
+        let slot = free_slot(&mut self.block, self.queues, self.live);
         self.block.set_order(slot, order);
-        self.block.relocate(slot, self.capacity + queue, queue);
+        self.block.relocate(slot, queue);
         raise(&mut self.counts, queue);
         self.live += 1;
         Slot(slot)
@@ -171,8 +173,7 @@ impl Pool {
         ensures room { live_of self.new < self.new.capacity }
     {
         let queue = self.block.queue(slot.0);
-        self.block
-            .relocate(slot.0, self.capacity + self.queues, self.queues);
+        self.block.relocate(slot.0, self.queues);
         lower(&mut self.counts, queue);
         self.live -= 1;
     }
@@ -188,7 +189,7 @@ impl Pool {
         ensures live { live_of self.new ≡ live_of self.old }
     {
         let queue = self.block.queue(slot.0);
-        self.block.relocate(slot.0, self.capacity + queue, queue);
+        self.block.relocate(slot.0, queue);
     }
 
     /// Gives a slot another order. It keeps its place.
@@ -231,22 +232,16 @@ fn raise(counts: &mut Vec<u32>, q: u32)
     counts[q as usize] += 1;
 }
 
-/// The free slot that became free last. There has to be one.
-fn newest_free(block: &Block, slots: u32, queues: u32) -> u32
-    requires rings { AreRings block.now slots queues (rings_of block.now slots queues) }
-    requires fits { slots + queues + 1 < 2 ^ 32 }
-    requires some { 0 < length (free_of block.now slots queues) }
-    ensures { IsLast result (free_of block.now slots queues) }
+/// The free slot that became free last, or else one that was never lent. One of these there has to be.
+fn free_slot(block: &mut Block, queues: u32, live: u32) -> u32
+    requires heads { block.old.heads ≡ queues + 1 }
+    requires whole { AreWholeRings block.old.cells block.old.slots queues block.old.lent (rings_of block.old.cells block.old.slots queues) }
+    requires free { live + length (free_of block.old.cells block.old.slots queues) ≡ block.old.lent }
+    requires some { live < block.old.slots }
+    ensures { HasFree block.old block.new queues live result }
 {
-    block.prev(slots + queues)
-}
-
-/// Puts the first `slots` nodes of a new block into the ring of free slots.
-fn chain_free(block: &mut Block, slots: u32, queues: u32)
-    requires { IsFresh slots queues block.old }
-    ensures { IsChained block.new slots queues slots }
-{
-    for k in 0..slots {
-        block.attach(k, slots + queues, queues);
+    if block.lent() == live {
+        block.lend(queues);
     }
+    block.last(queues)
 }

@@ -1,14 +1,14 @@
 -- What a block of nodes is to its callers: a list of cells, whose links are indices.
-use Rattle.std.specs.Prelude.{◌≡◌, ℕ, ◌+◌, ◌-◌, ◌^◌, ◌<◌, ◌≤◌, nat_lt, if◌then◌else◌, List, map, length, slice_index_or, slice_set, vec_len, vec_capacity}
+use Rattle.std.specs.Prelude.{◌≡◌, ℕ, ◌+◌, ◌<◌, List, map, length, slice_index_or, slice_set, vec_len, vec_capacity}
 use Rattle.std.specs.declared.vec.Vec.{Vec}
 use Rattle.std.specs.Vec.{vec_ptr}
 use Rattle.std.specs.Mem.{type_size}
 use Rattle.order_pool.specs.contracts.node.Node.{the_row}
-use denote.RawPtr.{Ptr, null_ptr, InBlock}
+use denote.RawPtr.{Ptr, null_ptr}
 use Rattle.gx_base.specs.declared.order.Order.{Order}
 use Rattle.order_pool.specs.declared.node.Node.{Node}
 use Rattle.order_pool.specs.Queues.{no_order}
-use Rattle.order_pool.specs.Inner.Places.{place, index_of, IsPlace}
+use Rattle.order_pool.specs.Inner.Places.{index_of, IsPlace}
 
 pub record Cell : Type 0 where
   pub order : Order
@@ -39,18 +39,16 @@ cell_of base n = record { order = n.order; prev = index_of node_size base n.prev
 abbrev pub cells_of : Ptr → List Node → List Cell
 cells_of base ns = map (cell_of base) ns
 
--- the links of a node lead to nodes of its block, and it knows its index k
-pub record IsLinked (base : Ptr) (count k : ℕ) (n : Node) : Type 0 where
+abbrev pub cells_in : {Z : Type 0} → Vec Node Z → List Cell
+cells_in v = cells_of (vec_ptr v) v.items
+
+-- the links of a node lead to nodes of its block
+pub record IsLinked (base : Ptr) (count : ℕ) (n : Node) : Type 0 where
   pub prev : IsPlace node_size base count n.prev
   pub next : IsPlace node_size base count n.next
-  pub slot : n.slot ≡ k
 
 abbrev pub AllLinked : Ptr → List Node → Type 0
-AllLinked base ns = (k : ℕ) → k < length ns → IsLinked base (length ns) k (node_at ns k)
-
--- a Vec has room for its elements, and for no more
-abbrev pub HasNoRoomLeft : {X Z : Type 0} → Vec X Z → Type 0
-HasNoRoomLeft v = vec_capacity v ≡ vec_len v
+AllLinked base ns = (k : ℕ) → k < length ns → IsLinked base (length ns) (node_at ns k)
 
 -- ---- what the calls do
 
@@ -74,34 +72,26 @@ attached cs i j q =
     let joined = with_next cs last i in
     with_prev (slice_set joined i (record (cell_at joined i) { prev = last; next = j; queue = q })) j i
 
--- ---- a new block
+-- what stays when links change
+pub record IsKept {Z : Type 0} (old new : Vec Node Z) : Type 0 where
+  pub linked : AllLinked (vec_ptr new) new.items
+  pub many : length new.items ≡ length old.items
+  pub room : vec_capacity new ≡ vec_capacity old
+  pub slots : (k : ℕ) → (node_at new.items k).slot ≡ (node_at old.items k).slot
+
+-- ---- one node more
 
 abbrev pub blank_node : ℕ → ℕ → Node
 blank_node k q = record { order = no_order; prev = null_ptr; next = null_ptr; slot = k; queue = q }
 
--- the tag of node k at first: free, or its ring's
-abbrev pub first_tag : ℕ → ℕ → ℕ → ℕ
-first_tag slots queues k = if nat_lt k slots then queues else (k - slots)
+-- a cell that leads to itself, at index k
+abbrev pub alone : ℕ → ℕ → Cell
+alone k q = record { order = no_order; prev = k; next = k; queue = q }
 
-pub record IsBlank (slots queues count : ℕ) (ns : List Node) : Type 0 where
-  pub many : length ns ≡ count
-  pub each : (k : ℕ) → k < count → node_at ns k ≡ blank_node k (first_tag slots queues k)
-
--- a node that leads to itself, at index k of a block from base
-abbrev pub closed_node : Ptr → ℕ → Node → Node
-closed_node base k n = record n { prev = place node_size base k; next = place node_size base k }
-
--- the first count nodes of old lead to themselves in new, and the others stay
-pub record IsClosed {Z : Type 0} (old new : Vec Node Z) (count : ℕ) : Type 0 where
-  pub base : vec_ptr new ≡ vec_ptr old
-  pub many : length new.items ≡ length old.items
+-- a node with this number has come to the end
+pub record HasCome {Z : Type 0} (old new : Vec Node Z) (slot : ℕ) : Type 0 where
+  pub linked : AllLinked (vec_ptr new) new.items
+  pub many : length new.items ≡ length old.items + 1
   pub room : vec_capacity new ≡ vec_capacity old
-  pub in_block : 0 < count → InBlock (vec_ptr new)
-  pub done : (k : ℕ) → k < count → node_at new.items k ≡ closed_node (vec_ptr new) k (node_at old.items k)
-  pub rest : (k : ℕ) → count ≤ k → node_at new.items k ≡ node_at old.items k
-
--- the cells of a new block
-pub record IsFresh (slots queues : ℕ) (cs : List Cell) : Type 0 where
-  pub fits : slots + queues + 1 < 2 ^ 32
-  pub many : length cs ≡ slots + queues + 1
-  pub each : (k : ℕ) → k < slots + queues + 1 → cell_at cs k ≡ record { order = no_order; prev = k; next = k; queue = first_tag slots queues k }
+  pub slots : (k : ℕ) → k < length old.items → (node_at new.items k).slot ≡ (node_at old.items k).slot
+  pub last : (node_at new.items (length old.items)).slot ≡ slot

@@ -1,10 +1,11 @@
 -- The queues of a pool, as rings of cells. Cell slots + q is where ring q begins and ends, and the last ring has the free slots.
-use Rattle.std.specs.Prelude.{◌≡◌, ◌≢◌, ℕ, ◌+◌, ◌^◌, ◌<◌, ◌==◌, not, if◌then◌else◌, List, [], ◌∷◌, ◌++◌, length, map, filter, take, sum_by, slice_index_or, slice_set, ◌⊎◌}
+use Rattle.std.specs.Prelude.{◌≡◌, ◌≢◌, ℕ, ◌+◌, ◌^◌, ◌<◌, ◌≤◌, ◌==◌, not, if◌then◌else◌, List, [], ◌∷◌, ◌++◌, length, map, filter, take, sum_by, slice_index_or, slice_set, ◌⊎◌}
 use Rattle.std.specs.List.{range_with_len}
 use Prim.Native.Nat.{zero, suc}
 use Rattle.gx_base.specs.declared.order.Order.{Order}
 use Rattle.order_pool.specs.Queues.{Entry, Queues}
 use Rattle.order_pool.specs.Inner.Block.{Cell, cell_at, detached, attached}
+use Rattle.order_pool.specs.Inner.Lent.{Lent}
 
 abbrev pub order_at : List Cell → ℕ → Order
 order_at cs k = (cell_at cs k).order
@@ -88,40 +89,33 @@ abbrev pub In : ℕ → List ℕ → Type 0
 In i [] = ⊥
 In i (k ∷ ks) = (i ≡ k) ⊎ In i ks
 
--- the rings of the cells are these, and each slot is in the one that its tag says
-pub record AreWholeRings (cs : List Cell) (slots queues : ℕ) (rings : List (List ℕ)) : Type 0 where
+-- the rings of the cells are these, and each slot that was ever lent is in the one that its tag says
+pub record AreWholeRings (cs : List Cell) (slots queues lent : ℕ) (rings : List (List ℕ)) : Type 0 where
   pub are : AreRings cs slots queues rings
-  pub covers : (k : ℕ) → k < slots → (queue_at cs k < queues + 1) × In k (ring_at rings (queue_at cs k))
-  pub total : sum_by length rings ≡ slots
+  pub room : lent ≤ slots
+  pub covers : (k : ℕ) → k < lent → (queue_at cs k < queues + 1) × In k (ring_at rings (queue_at cs k))
+  pub unlent : (k : ℕ) → lent ≤ k → k < slots → queue_at cs k ≡ queues + 1
+  pub total : sum_by length rings ≡ lent
 
 -- the cells once i has moved to the end of ring r
 abbrev pub cells_moved : List Cell → ℕ → ℕ → ℕ → List Cell
 cells_moved cs slots i r = attached (detached cs i) i (slots + r) r
 
 -- what is true of a pool's fields, if its rings are these
-pub record IsPoolWith (cs : List Cell) (slots queues live : ℕ) (counts : List ℕ) (rings : List (List ℕ)) : Type 0 where
-  pub whole : AreWholeRings cs slots queues rings
+pub record IsPoolWith (cs : List Cell) (slots queues lent live : ℕ) (counts : List ℕ) (rings : List (List ℕ)) : Type 0 where
+  pub whole : AreWholeRings cs slots queues lent rings
   pub fits : slots + queues + 1 < 2 ^ 32
-  pub free : live + length (ring_at rings queues) ≡ slots
+  pub free : live + length (ring_at rings queues) ≡ lent
   pub many : length counts ≡ queues
   pub counted : (q : ℕ) → q < queues → slice_index_or counts q 0 ≡ length (ring_at rings q)
 
-abbrev pub IsPool : List Cell → ℕ → ℕ → ℕ → List ℕ → Type 0
-IsPool cs slots queues live counts = IsPoolWith cs slots queues live counts (rings_of cs slots queues)
+abbrev pub IsPool : List Cell → ℕ → ℕ → ℕ → ℕ → List ℕ → Type 0
+IsPool cs slots queues lent live counts = IsPoolWith cs slots queues lent live counts (rings_of cs slots queues)
 
--- ---- a new pool
-
--- n empty rings, and then one
-abbrev pub first_rings : ℕ → List ℕ → List (List ℕ)
-first_rings zero free = free ∷ []
-first_rings (suc n) free = [] ∷ first_rings n free
-
--- the numbers below n
-abbrev pub up_to : ℕ → List ℕ
-up_to zero = []
-up_to (suc n) = up_to n ++ n ∷ []
-
--- the first n slots are in the ring of free slots
-pub record IsChained (cs : List Cell) (slots queues n : ℕ) : Type 0 where
-  pub are : AreRings cs slots queues (first_rings queues (up_to n))
-  pub tags : (k : ℕ) → k < n → queue_at cs k ≡ queues
+-- slot i became free last, or was lent now and never before; nothing else changed
+pub record HasFree (old new : Lent) (queues live i : ℕ) : Type 0 where
+  pub slots : new.slots ≡ old.slots
+  pub heads : new.heads ≡ old.heads
+  pub last : IsLast i (free_of new.cells old.slots queues)
+  pub kept : (counts : List ℕ) → IsPool old.cells old.slots queues old.lent live counts → IsPool new.cells old.slots queues new.lent live counts
+  pub seen : queues_of new.cells old.slots queues ≡ queues_of old.cells old.slots queues

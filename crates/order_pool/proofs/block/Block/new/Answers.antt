@@ -1,19 +1,50 @@
-use Rattle.std.proofs.Common.{◌≡◌, ◌+◌, ◌<◌, ◌^◌, ℕ, subst, arith}
-use Rattle.order_pool.specs.Inner.Block.{IsBlank, IsClosed}
-use Rattle.order_pool.proofs.Cells.{fresh-linked, fresh-cells}
+use Rattle.std.proofs.Common.{◌≡◌, ℕ, ◌+◌, ◌<◌, ◌∷◌, ◌++◌, [], List, length, refl, sym, ap, subst, ◌∙◌, arith, inl, inr}
+use Rattle.std.proofs.lemmas.Bool.{cases_eq}
+use Rattle.std.proofs.lemmas.List.{length-map}
+use Rattle.order_pool.specs.Inner.Block.{Cell, cell_at, cell_of, cells_in, node_at, alone}
+use Rattle.order_pool.specs.Inner.Lent.{number}
+use Rattle.order_pool.proofs.Numbers.{number-head}
+use Rattle.order_pool.proofs.Blocks.{alone-more, new-is}
 use Rattle.order_pool.proofs.block.Block.new.Goals as goal
+
+pub loop-head-preserved : goal.loop-head-preserved
+loop-head-preserved c =
+    let v = c.loop-head.nodes in
+    let w = c.push_alone.new.nodes in
+    let h = c.loop-head.invariant in
+    let came = c.push_alone.ensures.came in
+    let q = c.loop-head.head in
+    let long = length-map v.items (cell_of v.ptr) in
+    record {
+      count = omega (arith, came.many, v.ok.0, w.ok.0, h.count);
+      room = came.room ∙ h.room;
+      linked = came.linked;
+      slots_of = λ k lt. elim (cases_eq k (length v.items)) [
+        | inl e ↦ ap (λ (j : ℕ). (node_at w.items j).slot) e ∙ came.last ∙ omega (arith, v.ok.0, h.count)
+        | inr ne ↦ let low : k < length v.items = omega (arith, came.many) in came.slots k low ∙ h.slots_of k low
+      ];
+      each = λ k lt.
+          ap (λ (l : List Cell). cell_at l k) (c.push_alone.ensures.cells ∙ ap (λ (n : ℕ). cells_in v ++ alone n q ∷ []) h.count)
+          ∙ alone-more (cells_in v) q q (omega (arith, v.ok.0, h.count)) refl h.each k lt;
+    }
 
 pub invariant_of-result : goal.invariant_of-result
 invariant_of-result c =
-    let old = c.in_ok-nodes.nodes in
-    let is : c.in-Ok.count ≡ c.args.slots + c.args.queues + 1 = omega (arith, c.in-Ok.ensures, c.from.ensures, c.from-2.ensures) in (
-      fresh-linked old c.close.new.nodes c.args.slots c.args.queues (subst (λ (n : ℕ). IsBlank c.args.slots c.args.queues n old.items) is c.in_ok-nodes.ensures.blank) (subst (IsClosed old c.close.new.nodes) is c.close.ensures),
-      omega (arith, c.close.ensures.room, c.close.ensures.many, c.in_ok-nodes.ensures.room, c.in_ok-nodes.ensures.blank.many, c.close.new.nodes.ok.0),
-    )
+    let v = c.loop-head.nodes in
+    let h = c.loop-head.invariant in
+    let many : length v.items ≡ c.args.heads = omega (arith, v.ok.0, h.count, c.loop-head-test.false, c.loop-head.auto.head-end) in
+    record {
+      linked = h.linked;
+      fits = c.requires;
+      room = h.room;
+      headed = omega arith;
+      slots_of = λ k lt. h.slots_of k lt ∙ sym (number-head c.args.slots c.args.heads k (omega arith));
+    }
 
 pub returns : goal.returns
 returns c =
-    let old = c.in_ok-nodes.nodes in
-    let is : c.in-Ok.count ≡ c.args.slots + c.args.queues + 1 = omega (arith, c.in-Ok.ensures, c.from.ensures, c.from-2.ensures) in
-    let fits : c.args.slots + c.args.queues + 1 < 2 ^ 32 = omega (arith, c.in-Ok.ensures.0, c.from.ensures, c.from-2.ensures) in
-    fresh-cells old c.close.new.nodes c.args.slots c.args.queues (subst (λ (n : ℕ). IsBlank c.args.slots c.args.queues n old.items) is c.in_ok-nodes.ensures.blank) (subst (IsClosed old c.close.new.nodes) is c.close.ensures) fits
+    let v = c.loop-head.nodes in
+    let h = c.loop-head.invariant in
+    let many : length v.items ≡ c.args.heads = omega (arith, v.ok.0, h.count, c.loop-head-test.false, c.loop-head.auto.head-end) in
+    let long = length-map v.items (cell_of v.ptr) in
+    new-is c.args.slots c.args.heads (cells_in v) _ (omega arith) (omega arith) (λ k lt. h.each k (omega (arith, h.count, v.ok.0)))

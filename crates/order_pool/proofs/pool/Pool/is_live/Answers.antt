@@ -1,12 +1,18 @@
-use Rattle.order_pool.proofs.Shown.{is_live_tested, not_slot}
+use Rattle.std.proofs.Common.{ℕ, sym, subst, arith, nat_lt}
+use Rattle.std.specs.Prelude.{IsTrue}
+use Rattle.order_pool.specs.Queues.{IsLive}
+use Rattle.order_pool.proofs.Shown.{is_live_tested, not_lent}
 use Rattle.order_pool.proofs.pool.Pool.is_live.Goals as goal
 
-pub returns-then-slot-self : goal.returns-then-slot-self
-returns-then-slot-self c =
+pub returns-then-slot-lent : goal.returns-then-slot-lent
+returns-then-slot-lent c =
     let p = c.self.inside in
-    is_live_tested p.block p.capacity p.queues _ c.self.invariant.0.whole c.args.self.now c.self.view_is c.args.slot.0 c.queue.result c.queue.ensures c.if-slot-self.true
+    is_live_tested p.block.cells p.capacity p.queues _ c.self.invariant.0.whole c.args.self.now c.self.view_is c.args.slot.0 c.queue.result c.queue.ensures (omega (arith, c.lent.ensures, c.if-slot-lent.true))
 
-pub returns-else-slot-self : goal.returns-else-slot-self
-returns-else-slot-self c =
+pub returns-else-slot-lent : goal.returns-else-slot-lent
+returns-else-slot-lent c =
     let p = c.self.inside in
-    not_slot p.block p.capacity p.queues _ c.self.invariant.0.whole c.args.self.now c.self.view_is c.args.slot.0 c.if-slot-self.false
+    let i = c.args.slot.0 in
+    let now = c.args.self.now in
+    subst (λ (n : ℕ). (IsTrue (nat_lt i n) → IsLive now i) × (IsLive now i → IsTrue (nat_lt i n))) (sym c.lent.ensures)
+    (not_lent p.block.cells p.capacity p.queues _ c.self.invariant.0.whole now c.self.view_is i (omega (arith, c.lent.ensures, c.if-slot-lent.false)))

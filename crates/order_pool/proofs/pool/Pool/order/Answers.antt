@@ -4,9 +4,9 @@ use Rattle.order_pool.proofs.Calls.{in_queue}
 use Rattle.order_pool.proofs.pool.Pool.order.Goals as goal
 
 pub order-requires : goal.order-requires
-order-requires c = (in_queue c.self.invariant.0 c.self.view_is c.args.slot.0 c.requires.0 c.requires.1).cell
+order-requires c = (in_queue c.self.invariant.0 c.self.view_is c.args.slot.0 c.requires.0 c.requires.1).slot
 
 pub returns : goal.returns
 returns c = λ q h.
     let p = c.self.inside in
-    c.order.ensures ∙ sym (order_of-seen p.block p.capacity p.queues _ c.self.invariant.0.whole _ c.args.slot.0 q c.self.view_is (in_queue c.self.invariant.0 c.self.view_is c.args.slot.0 q h))
+    c.order.ensures ∙ sym (order_of-seen p.block.cells p.capacity p.queues _ c.self.invariant.0.whole _ c.args.slot.0 q c.self.view_is (in_queue c.self.invariant.0 c.self.view_is c.args.slot.0 q h))

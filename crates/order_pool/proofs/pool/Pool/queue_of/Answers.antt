@@ -4,7 +4,7 @@ use Rattle.order_pool.proofs.Calls.{in_queue}
 use Rattle.order_pool.proofs.pool.Pool.queue_of.Goals as goal
 
 pub queue-requires : goal.queue-requires
-queue-requires c = (in_queue c.self.invariant.0 c.self.view_is c.args.slot.0 c.requires.0 c.requires.1).cell
+queue-requires c = (in_queue c.self.invariant.0 c.self.view_is c.args.slot.0 c.requires.0 c.requires.1).slot
 
 pub returns : goal.returns
 returns c =

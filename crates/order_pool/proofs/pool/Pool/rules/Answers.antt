@@ -4,4 +4,4 @@ use Rattle.order_pool.proofs.pool.Pool.rules.Goals as goal
 pub returns : goal.returns
 returns c =
     let p = c.self.inside in
-    rules p.block p.capacity p.queues _ c.self.invariant.0.whole c.args.self.now c.self.view_is
+    rules p.block.cells p.capacity p.queues _ c.self.invariant.0.whole c.args.self.now c.self.view_is
