@@ -15,6 +15,7 @@ import json
 import os
 import pathlib
 import random
+import re
 import subprocess
 import sys
 import tempfile
@@ -192,7 +193,7 @@ class Browser:
             os.dup2(14, 4)
 
         words = [chromium, "--headless=new", "--no-sandbox", "--disable-gpu", "--remote-debugging-pipe", "--hide-scrollbars",
-                 "--window-size=1200,800", f"--user-data-dir={profile}"]
+                 "--window-size=1200,860", f"--user-data-dir={profile}"]
         self.process = subprocess.Popen(words, pass_fds=(3, 4), preexec_fn=set_pipes, stdin=subprocess.DEVNULL,
                                         stdout=subprocess.DEVNULL, stderr=subprocess.DEVNULL)
         os.close(reading)
@@ -283,6 +284,8 @@ SHOWN = """(() => {
         title: document.getElementById('ladders-title').textContent,
         ladders: [...document.querySelectorAll('table.ladder')].map(table => [table.dataset.instrument, cells(table)]),
         trades: trades ? cells(trades) : [],
+        bars: [...document.querySelectorAll('table.ladder:has(.bar)')]
+            .map(table => Math.max(...[...table.querySelectorAll('.bar')].map(bar => parseFloat(bar.style.width)))),
         unsure: document.querySelectorAll('#trades .unsure').length,
     };
 })()"""
@@ -321,19 +324,22 @@ class Checks:
             print(f"{what}: the page shows\n    {shown}\nand not\n    {wanted}")
 
 
-def moments_of(folder, count):
-    """Moments over the whole stream, half of them with trades."""
-    last = folder.messages()
-    changes = [int(line.split()[1]) for line in folder.feed if line[0] == "I"]
-    even = [last * k // (count // 2) for k in range(count // 2 + 1)]
-    return sorted({*even, *random.Random(1).sample(changes, min(count - count // 2, len(changes)))})
+def moments_of(browser, folder, count):
+    """Moments at even distances over the whole stream, and from each of them the next one that has trades, as the page says."""
+    moments = []
+    for part in range(count // 2):
+        even = folder.messages() * part // (count // 2 - 1)
+        browser.go(f"message={even}")
+        browser.tell("document.getElementById('trade-on').click()")
+        moments += [even, int(browser.tell("document.getElementById('message').value"))]
+    return moments
 
 
 def check_stream(checks, browser, page, name, folder, count):
     browser.open(page, "#message=3&order=2&levels=all")
     browser.choose(folder.files())
     checks.same(f"{name}: the link", browser.tell(SHOWN)["title"], "After message 3")
-    moments = moments_of(folder, count)
+    moments = moments_of(browser, folder, count)
     sure = trades = 0
     for message in moments:
         browser.go(f"message={message}&levels=all")
@@ -346,6 +352,7 @@ def check_stream(checks, browser, page, name, folder, count):
         else:
             checks.same(f"{name}, message {message}, trades", shown_trades(shown), wanted)
             sure += 1
+        checks.same(f"{name}, message {message}, longest bars", shown["bars"], [100.0] * len(shown["bars"]))
         trades += len(wanted) // 2
     print(f"{name}: {len(moments)} moments, {trades} trades, in {sure} moments placed for sure")
 
@@ -369,9 +376,9 @@ def check_unreadable(checks, browser, page):
     browser.open(page)
     browser.drop("feed.txt", "S 0 0\nI 1 0 1\nR ESZ4 S 100.00 10 1\nI 2 1 1\nR ESZ4 S 100.0O 6 1\nI 3 2 1\nR ESZ4 B 99.00 1 1\nhello\n")
     browser.drop("letter.txt", "Dear exchange,\nplease answer.\n")
-    listed = browser.tell("[...document.querySelectorAll('#faults tbody tr')].map(row => [...row.cells].slice(0, 3).map(cell => cell.textContent))")
-    checks.same("lines that cannot be read", listed, [["feed.txt", "5", "R ESZ4 S 100.0O 6 1"], ["feed.txt", "8", "hello"],
-                                                     ["letter.txt", "1", "Dear exchange,"], ["letter.txt", "2", "please answer."]])
+    listed = [re.sub(r" \(.*?\): ", ": ", line) for line in browser.tell("document.getElementById('faults').textContent").split("\n")]
+    checks.same("lines that cannot be read", listed, ["feed.txt, line 5: R ESZ4 S 100.0O 6 1", "feed.txt, line 8: hello",
+                                                     "letter.txt, line 1: Dear exchange,", "letter.txt, line 2: please answer."])
     browser.go("message=1")
     checks.same("before a bad line", browser.tell("document.getElementById('doubt').textContent"), "")
     browser.go("message=3")
@@ -400,8 +407,8 @@ def make_picture(program, chromium, page, file, dark):
         work = pathlib.Path(name)
         folder = session_stream(program, work / "session")
         browser = Browser(chromium, work / "profile", dark)
-        browser.open(page, "#message=263&order=150")
-        browser.ask("Emulation.setDeviceMetricsOverride", width=1200, height=800, deviceScaleFactor=1, mobile=False)
+        browser.open(page, "#message=249&order=137")
+        browser.ask("Emulation.setDeviceMetricsOverride", width=1200, height=860, deviceScaleFactor=1, mobile=False)
         browser.choose(folder.files())
         pathlib.Path(file).write_bytes(browser.picture())
         browser.close()
