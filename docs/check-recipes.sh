@@ -738,6 +738,13 @@ prepare_dispute() {
 }
 look_dispute() { :; }
 
+prepare_look() {
+    prepare_dispute
+}
+look_look() {
+    [ -e "$top/view/index.html" ] || fail 'there is no page'
+}
+
 prepare_socket() {
     take_example F
     cp orders input
