@@ -23,12 +23,15 @@ class Mistake:
 
 
 MISTAKES = [
-    Mistake("checksum-not-looked-at", "frames", set()),
-    Mistake("percent-of-the-rest", "steps", set()),
-    Mistake("top-without-its-least", "top", set()),
-    Mistake("replaced-leaves-without-fills", "replaces", set()),
-    Mistake("expired-stays-open", "trading-sessions", set()),
-    Mistake("stop-at-its-limit", "stops", set()),
+    Mistake("checksum-not-looked-at", "frames", {"session-messages", "opening-price"}),
+    Mistake("percent-of-the-rest", "steps", {"product-file", "whole-days"}),
+    Mistake("top-without-its-least", "top", {"product-file", "printed-forms"}),
+    Mistake("replaced-leaves-without-fills", "replaces", {
+        "product-file", "new-orders", "top", "stops", "trading-sessions", "ends-of-a-run", "whole-days", "printed-forms"}),
+    Mistake("expired-stays-open", "trading-sessions", {
+        "counters", "generator", "book-images", "amendments", "session-messages", "opening-price", "level-feed"}),
+    Mistake("stop-at-its-limit", "stops", {
+        "new-orders", "replaces", "trading-sessions", "ends-of-a-run", "whole-days", "printed-forms", "book-images", "level-feed"}),
 ]
 
 

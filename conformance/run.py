@@ -135,7 +135,8 @@ def try_call(program, work, call):
         faults.append(f"exit status: expected {call.status}, got {status}")
     line = f"globex: status {call.status} at {call.at} after {call.after} messages\n" if call.status else ""
     if errors != line.encode():
-        faults.append(f"standard error:\n  expected {line.strip() or 'nothing'}\n  got      {shown(errors.strip()) or 'nothing'}")
+        faults.append(f"standard error:\n  expected {line.strip() or 'nothing'}\n"
+                      f"  got      {shown(errors.strip()) or 'nothing'}")
     if call.status in UNCHANGED_AT or not WRITING & set(call.words):
         if content_of(work / JOURNAL) != before:
             faults.append("the journal has changed")
@@ -166,6 +167,10 @@ def output_faults(expected, got):
 
 # ---- sessions ----
 
+def name_of(action):
+    return f"call {action.number}: {' '.join(action.words)}" if isinstance(action, Call) else "journal"
+
+
 def try_session(program, session):
     """Nothing, or what differs in the first step that differs, with its rule."""
     with tempfile.TemporaryDirectory(prefix="conformance-") as folder:
@@ -179,8 +184,7 @@ def try_session(program, session):
                 else:
                     put(work, step.action)
             except Difference as difference:
-                what = f"call {step.action.number}: {' '.join(step.action.words)}" if isinstance(step.action, Call) else "journal"
-                return f"line {step.line}, {what}\nrule: {step.rule}\n{difference}"
+                return f"line {step.line}, {name_of(step.action)}\nrule: {step.rule}\n{difference}"
     return None
 
 
@@ -233,9 +237,10 @@ def main():
     parser.add_argument("--list", action="store_true", help="print the sessions and the rules that they try, and run none")
     arguments = parser.parse_args()
     headings = read_chapters(HERE)
+    unknown = [name for name in arguments.chapters if name.partition("/")[0] not in headings]
     sessions = chosen_sessions(headings, arguments.chapters, arguments.without)
-    if not sessions:
-        parser.error("no session is chosen")
+    if unknown or not sessions:
+        parser.error(f"no chapter {unknown[0]}" if unknown else "no session is chosen")
     if arguments.list:
         for session in sessions:
             print(f"{session.chapter}/{session.name}")

@@ -140,7 +140,7 @@ class Reader:
         elif match := EXCHANGE.fullmatch(line):
             self.add_bytes(*match.groups())
         elif match := STATUS.fullmatch(line):
-            call = self.calls[max(self.calls)]
+            call = self.call_at(len(self.calls))
             call.status, call.at, call.after = (int(value or 0) for value in match.groups())
         elif match := CALL.fullmatch(line):
             self.begin_call(int(match[1]), (match[2] or "").split())
@@ -163,8 +163,13 @@ class Reader:
         self.calls[number] = Call(number, words)
         self.add_step(self.calls[number])
 
+    def call_at(self, number):
+        if number not in self.calls:
+            raise Malformed(f"no call {number} stands before" if number else "no call stands before")
+        return self.calls[number]
+
     def add_bytes(self, side, form, text):
-        call = self.calls[max(self.calls)]
+        call = self.call_at(len(self.calls))
         if form == "~":
             call.pieces.append(b"")
             return
@@ -178,9 +183,9 @@ class Reader:
 
     def data_of(self, form, text):
         if form == "*":
-            return b"".join(self.calls[int(number)].output for number in text.split())
+            return b"".join(self.call_at(int(number)).output for number in text.split())
         if form == "@":
-            return b"".join(b"".join(self.calls[int(number)].pieces) for number in text.split())
+            return b"".join(b"".join(self.call_at(int(number)).pieces) for number in text.split())
         if form == ".":
             return bytes_of(text, b"|") + b"\n"
         return bytes_of(text) if form == "=" else frame_of(bytes_of(text))
@@ -208,7 +213,7 @@ def read_session(path):
     reader = Reader(path.read_text(encoding="ascii"))
     try:
         return Session(path.parent.name, path.stem, reader.read())
-    except (Malformed, ValueError, KeyError) as fault:
+    except (Malformed, ValueError) as fault:
         raise SystemExit(f"{path}:{reader.place}: {fault}") from None
 
 

@@ -6,12 +6,12 @@ How near that comes to an engine with this mistake, the comment at each variant 
 touch go to PROGRAM as they are.
 """
 
-import json
 import os
 import re
 import subprocess
 import sys
 import tempfile
+import tomllib
 from decimal import Decimal, InvalidOperation
 from pathlib import Path
 
@@ -21,7 +21,7 @@ LEAD_MARKET_MAKERS = re.compile(rb"lmm = \[[^\]]*\]")
 PERCENT = re.compile(rb"(percent = )(\d+)")
 READING = {"run", "session", "opening"}         # the commands that read messages
 REPORTING = {"run", "replay", "session"}        # the commands that send reports
-STOP_PRICES = Path(".stop-prices.json")         # what `stop-at-its-limit` has to know from one call to the next
+TRUE_STOP = 20099                               # the tag by which a changed stop order tells its own stop price
 PRODUCT, JOURNAL = "product.toml", "journal.gxj"
 
 
@@ -83,30 +83,61 @@ def expired_stays_open(body):
     return with_value(with_value(body, 151, value(body, 9003)), 9003, b"0")
 
 
-def limit_for_stop(body):
-    """A stop order whose stop price is its limit, if both are prices and the limit is not short of the stop price."""
+def limit_for_stop(body, instruments):
+    """A stop order whose stop price is its limit; the true one is in a tag that is passed over. One that is refused stays."""
     try:
         limit, stop = Decimal(value(body, 44).decode()), Decimal(value(body, 99).decode())
     except InvalidOperation:
         return body
-    is_short = limit < stop if value(body, 54) == b"1" else limit > stop
-    if value(body, 40) != b"4" or is_short:
+    instrument = instruments.get((value(body, 107) or value(body, 55)).decode())
+    if value(body, 40) != b"4" or instrument is None or not is_price(stop, instrument):
         return body
-    known = json.loads(STOP_PRICES.read_text()) if STOP_PRICES.exists() else {}
-    known[f"{value(body, 49).decode()} {value(body, 11).decode()}"] = str(stop)
-    STOP_PRICES.write_text(json.dumps(known))
-    return with_value(body, 99, value(body, 44))
+    is_short = limit < stop if value(body, 54) == b"1" else limit > stop
+    return body if is_short else with_value(body, 99, value(body, 44)) + b"%d=" % TRUE_STOP + value(body, 99) + b"\x01"
 
 
-def own_stop_price(body):
+def is_price(price, instrument):
+    units = price * 10 ** instrument["decimals"]
+    return units % instrument["tick"] == 0 and abs(units) <= 999_999_999_999
+
+
+def true_stop(body):
+    """The message that was sent, of one that limit_for_stop gave."""
+    stop = value(body, TRUE_STOP)
+    return with_value(body.removesuffix(b"%d=%b\x01" % (TRUE_STOP, stop)), 99, stop) if stop else body
+
+
+def own_stop_price(body, stops):
     """A report with the stop price that the client gave, and not with the one that PROGRAM was given."""
-    known = json.loads(STOP_PRICES.read_text()) if STOP_PRICES.exists() else {}
-    order = value(body, 41) if value(body, 150) == b"4" and value(body, 41) else value(body, 11)
-    stop = known.get(f"{value(body, 56).decode()} {order.decode()}")
+    order = value(body, 150) == b"4" and value(body, 41) or value(body, 11)
+    stop = stops.get((value(body, 56), order))
     if not value(body, 99) or stop is None:
         return body
     decimals = len(value(body, 44).partition(b".")[2])
-    return with_value(body, 99, f"{Decimal(stop):.{decimals}f}".encode())
+    return with_value(body, 99, f"{Decimal(stop.decode()):.{decimals}f}".encode())
+
+
+def own_stop_row(line, stops):
+    """A line of the book with the stop price that the client gave."""
+    words = line.split(b" ")
+    if words[0] == b"W" and (words[-2], words[-1]) in stops:
+        decimals = len(words[3].partition(b".")[2])
+        words[2] = f"{Decimal(stops[words[-2], words[-1]].decode()):.{decimals}f}".encode()
+    return b" ".join(words)
+
+
+def change_records(journal, change):
+    """A journal with the bodies in its records of messages changed."""
+    place = 13 + int.from_bytes(journal[9:13], "big")
+    parts = [journal[:place]]
+    while journal[place:place + 1] == b"\x01":
+        end = place + 6 + int.from_bytes(journal[place + 2:place + 6], "big")
+        payload = journal[place + 6:end]
+        if journal[place + 1:place + 2] == b"M":
+            payload = change_bodies(payload, change)
+        parts.append(journal[place:place + 2] + len(payload).to_bytes(4, "big") + payload)
+        place = end
+    return b"".join(parts) + journal[place:]
 
 
 def percents_of_the_rest(array):
@@ -138,28 +169,77 @@ def call(program, words, data=None):
 
 
 def call_changed(program, words, change_input, change_output):
+    if not (READING | REPORTING) & set(words):
+        os.execv(program, [program, *words])
     data = sys.stdin.buffer.read() if READING & set(words) else None
     done = call(program, words, change_input(data) if data is not None else None)
     sys.stdout.buffer.write(change_output(done.stdout) if REPORTING & set(words) else done.stdout)
     return done.returncode
 
 
-def call_under_another_product(program, words, pairs_of):
-    """Calls PROGRAM in a folder with a changed product. In the journal, too, the texts are changed, and then changed back."""
-    pairs = pairs_of(Path(PRODUCT).read_bytes()) if Path(PRODUCT).exists() else []
-    if not pairs or "steps" in words or subprocess.run([program, "steps"], capture_output=True).returncode:
-        os.execv(program, [program, *words])
+def call_apart(program, words, to_program, from_program, data=None):
+    """Calls PROGRAM in a folder of its own, with product and journal changed; the journal is changed back for this folder."""
     here = Path.cwd()
     with tempfile.TemporaryDirectory() as folder:
-        os.chdir(folder)
-        for name in (PRODUCT, JOURNAL):
+        for name, change in to_program.items():
             if (here / name).exists():
-                Path(name).write_bytes(exchanged((here / name).read_bytes(), pairs))
-        status = subprocess.run([program, *words]).returncode
-        if Path(JOURNAL).exists():
-            (here / JOURNAL).write_bytes(exchanged(Path(JOURNAL).read_bytes(), [(new, old) for old, new in pairs]))
-        os.chdir(here)
-    return status
+                (Path(folder) / name).write_bytes(change((here / name).read_bytes()))
+        kept = Path(folder) / JOURNAL
+        given = kept.read_bytes() if kept.exists() else b""
+        done = subprocess.run([program, *words], input=data, stdout=subprocess.PIPE, cwd=folder)
+        journal = kept.read_bytes() if kept.exists() else b""
+        if journal != given:
+            (here / JOURNAL).write_bytes(from_program(journal))
+    return done, journal
+
+
+def call_under_another_product(program, words, pairs_of):
+    """Calls PROGRAM with another product. In the journal, too, the texts are changed, and then changed back."""
+    pairs = pairs_of(Path(PRODUCT).read_bytes()) if Path(PRODUCT).exists() else []
+    if not pairs or "steps" in words or not accepts_product(program):
+        os.execv(program, [program, *words])
+    there = [(new, old) for old, new in pairs]
+    change = {name: lambda content: exchanged(content, pairs) for name in (PRODUCT, JOURNAL)}
+    done, _ = call_apart(program, words, change, lambda journal: exchanged(journal, there), sys.stdin.buffer.read())
+    sys.stdout.buffer.write(done.stdout)
+    return done.returncode
+
+
+def call_with_other_stops(program, words):
+    """Calls PROGRAM with stop orders changed, in the input and in the journal, and changes them and the reports back."""
+    if not accepts_product(program):
+        os.execv(program, [program, *words])
+    instruments = {table["name"]: table for table in tomllib.loads(Path(PRODUCT).read_text())["instrument"]}
+
+    def change(body):
+        return limit_for_stop(body, instruments)
+
+    files = {PRODUCT: same, JOURNAL: lambda journal: change_records(journal, change)}
+    data = change_bodies(sys.stdin.buffer.read(), change)
+    done, journal = call_apart(program, words, files, lambda journal: change_records(journal, true_stop), data)
+    stops = stops_of(journal)
+    output = change_bodies(done.stdout, lambda body: own_stop_price(body, stops))
+    if "book" in words:
+        output = b"\n".join(own_stop_row(line, stops) for line in output.split(b"\n"))
+    sys.stdout.buffer.write(output)
+    return done.returncode
+
+
+def stops_of(journal):
+    """The true stop prices of the stop orders that a journal keeps, by firm and id."""
+    stops = {}
+
+    def note(body):
+        if value(body, TRUE_STOP):
+            stops[value(body, 49), value(body, 11)] = value(body, TRUE_STOP)
+        return body
+
+    change_records(journal, note)
+    return stops
+
+
+def accepts_product(program):
+    return subprocess.run([program, "steps"], capture_output=True).returncode == 0
 
 
 def exchanged(content, pairs):
@@ -185,9 +265,9 @@ VARIANTS = {
     # Exact in the reports. The printed forms are right.
     "expired-stays-open": lambda program, words: call_changed(
         program, words, same, lambda data: change_bodies(data, expired_stays_open)),
-    # Stops wait for their limit. The stop price's own tick is not tried then, and `book` prints the limit for it.
-    "stop-at-its-limit": lambda program, words: call_changed(
-        program, words, lambda data: change_bodies(data, limit_for_stop), lambda data: change_bodies(data, own_stop_price)),
+    # Exact in what is reported and kept, but for images. PROGRAM is given longer messages, so that places after one of
+    # these are greater where a call tells them.
+    "stop-at-its-limit": call_with_other_stops,
 }
 
 
