@@ -121,6 +121,7 @@ fn order(number: u64) -> Order {
     }
 }
 
+#[inline(always)]
 fn push_back(pool: &mut Pool, queue: u32, number: u64) {
     if queue < pool.queues() && pool.live() < pool.capacity() {
         pool.push_back(queue, &order(number));

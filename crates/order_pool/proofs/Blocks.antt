@@ -8,7 +8,7 @@ use Rattle.std.specs.declared.vec.Vec.{Vec}
 use Rattle.gx_base.specs.declared.order.Order.{Order}
 use Rattle.order_pool.specs.declared.node.Node.{Node}
 use Rattle.order_pool.specs.Inner.Places.{index_of, IsPlace}
-use Rattle.order_pool.specs.Inner.Block.{Cell, cell_at, cell_of, cells_of, cells_in, node_at, no_cell, no_node, node_size, alone, with_order, detached, attached, AllLinked, IsLinked, IsKept, HasCome}
+use Rattle.order_pool.specs.Inner.Block.{Cell, cell_at, cell_of, cells_in, node_at, no_cell, no_node, node_size, alone, with_order, detached, attached, AllLinked, IsLinked, IsKept, HasCome}
 use Rattle.order_pool.specs.Inner.Lent.{Lent, number, numbered, shown, IsBlock, IsNew}
 use Rattle.order_pool.proofs.Cells.{cell_at-cells}
 use Rattle.order_pool.proofs.Numbers.{number-head, number-of, number-slot, shown-length, shown-unlent, shown-number, shown-order, shown-detached, shown-attached, shown-alone, links-in}

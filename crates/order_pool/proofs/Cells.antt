@@ -1,5 +1,5 @@
 -- The cells of a block while its nodes change.
-use Rattle.std.proofs.Common.{◌≡◌, ℕ, ◌+◌, ◌<◌, ◌^◌, List, [], ◌∷◌, ◌++◌, get_or, length, length-append, refl, sym, ap, ◌∙◌, arith, slice_set, subst, inl, inr, ◌≢◌}
+use Rattle.std.proofs.Common.{◌≡◌, ℕ, ◌+◌, ◌<◌, List, [], ◌∷◌, ◌++◌, get_or, length, length-append, refl, sym, ap, ◌∙◌, arith, slice_set, subst, inl, inr}
 use Rattle.std.proofs.lemmas.List.{get_or_read, map-set, map-append, get_or-map, length-map, length-set, get_or-set_other}
 use Rattle.std.proofs.Math.ListN.{get_or-append}
 use Rattle.std.proofs.Math.Seq.{get_or-append_seam}
@@ -11,7 +11,7 @@ use denote.RawPtr.{Ptr, block_ptr, null_ptr, InBlock}
 use Rattle.order_pool.specs.declared.node.Node.{Node}
 use Rattle.gx_base.specs.declared.order.Order.{Order}
 use Rattle.order_pool.specs.Inner.Places.{place, index_of, IsPlace}
-use Rattle.order_pool.specs.Inner.Block.{Cell, cell_of, cells_of, node_at, cell_at, no_node, no_cell, node_size, with_order, with_next, with_prev, detached, attached, cells_in, alone, blank_node, IsLinked, AllLinked, IsKept, HasCome}
+use Rattle.order_pool.specs.Inner.Block.{Cell, cell_of, cells_of, node_at, cell_at, no_node, no_cell, node_size, with_order, with_next, with_prev, detached, attached, alone, IsLinked, AllLinked, IsKept, HasCome}
 use Rattle.order_pool.specs.Queues.{no_order}
 
 pub index_of-place : (base : Ptr) (k : ℕ) → InBlock base → index_of node_size base (place node_size base k) ≡ k

@@ -1,5 +1,5 @@
 -- The cells that a block shows, while its nodes change.
-use Rattle.std.proofs.Common.{◌≡◌, ◌≢◌, ℕ, ◌+◌, ◌-◌, ◌<◌, ◌≤◌, Bool, true, false, cond, nat_lt, List, [], ◌∷◌, ◌++◌, get_or, length, length-append, refl, sym, ap, ◌∙◌, arith, slice_set, subst, inl, inr}
+use Rattle.std.proofs.Common.{◌≡◌, ◌≢◌, ℕ, ◌+◌, ◌-◌, ◌<◌, ◌≤◌, Bool, true, false, cond, nat_lt, List, [], ◌∷◌, ◌++◌, get_or, length, length-append, sym, ap, ◌∙◌, arith, slice_set, inl, inr}
 use Rattle.std.proofs.Math.ListN.{get_or-append}
 use Rattle.std.proofs.Math.Seq.{get_or-append_seam}
 use Rattle.std.proofs.lemmas.List.{length-set, get_or-set_same, get_or-set_other, same_lists, length-map}
@@ -9,7 +9,7 @@ use Rattle.std.proofs.lemmas.Bool.{cases_eq}
 use Rattle.std.proofs.lemmas.Bool.Decides.{nat_tests, leb_tells}
 use Rattle.gx_base.specs.declared.order.Order.{Order}
 use Rattle.order_pool.specs.declared.node.Node.{Node}
-use Rattle.order_pool.specs.Inner.Block.{Cell, cell_at, no_cell, cell_of, cells_of, node_at, alone, with_order, with_next, with_prev, detached, attached, AllLinked}
+use Rattle.order_pool.specs.Inner.Block.{Cell, cell_at, no_cell, cell_of, cells_of, alone, with_order, with_next, with_prev, detached, attached, AllLinked}
 use Rattle.order_pool.specs.Inner.Lent.{number, index, numbered, shown_at, shown}
 use Rattle.order_pool.proofs.Cells.{cell_at-cells}
 use denote.RawPtr.{Ptr}

@@ -1,13 +1,12 @@
 -- The rings of a new pool, and a slot that is lent.
-use Rattle.std.proofs.Common.{◌≡◌, ◌≢◌, ℕ, ◌+◌, ◌<◌, ◌≤◌, ◌^◌, List, [], ◌∷◌, ◌++◌, length, map, refl, sym, ap, subst, ◌∙◌, add-one, arith, inl, inr, take, slice_set, replicate, length-append, get_or}
+use Rattle.std.proofs.Common.{◌≡◌, ◌≢◌, ℕ, ◌+◌, ◌<◌, ◌^◌, List, [], ◌∷◌, ◌++◌, length, map, refl, sym, ap, subst, ◌∙◌, add-one, arith, take, slice_set, replicate, length-append, get_or}
 use Prim.Native.Nat.{zero, suc}
-use Rattle.std.proofs.lemmas.List.{get_or-replicate, length-replicate, length-set, take-set-le}
-use Rattle.std.proofs.lemmas.Bool.{cases_eq}
+use Rattle.std.proofs.lemmas.List.{get_or-replicate, length-replicate, take-set-le}
 use Rattle.std.proofs.lemmas.List.Sums.{sum_by-cons}
 use Rattle.std.specs.Prelude.{sum_by}
-use Rattle.order_pool.specs.Inner.Block.{Cell, cell_at, attached}
+use Rattle.order_pool.specs.Inner.Block.{Cell, attached}
 use Rattle.order_pool.specs.Inner.Lent.{Lent, IsNew}
-use Rattle.order_pool.specs.Inner.Rings.{order_at, queue_at, prev_at, next_at, Each, IsLast, Path, IsRing, AreRings, AreWholeRings, IsPool, IsPoolWith, HasFree, ring_at, rings_of, free_of, entry, queues_of, queues_with}
+use Rattle.order_pool.specs.Inner.Rings.{prev_at, next_at, IsLast, IsRing, AreWholeRings, IsPool, HasFree, ring_at, rings_of, free_of, entry, queues_of, queues_with}
 use Rattle.order_pool.specs.Queues.{Entry}
 use Rattle.order_pool.proofs.Paths.{path-end}
 use Rattle.order_pool.proofs.WholeRings.{rings_of-is, AreWholeRings-lent, lent_order, ring-lent, ring-lent_other}

@@ -104,6 +104,8 @@ impl Block {
 
 impl Block {
     /// Lends a slot that never was, the next one, and puts it at the end of a ring.
+    #[cold]
+    #[inline(never)]
     pub(crate) fn lend(&mut self, queue: u32)
         requires some { self.old.lent < self.old.slots }
         requires queue_in { queue < self.old.heads }

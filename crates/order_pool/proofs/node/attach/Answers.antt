@@ -1,6 +1,5 @@
 use Rattle.std.proofs.Common.{◌<◌, length, ap, ◌∙◌, sym, subst, arith}
 use Rattle.std.proofs.lemmas.List.{get_or_read}
-use Rattle.order_pool.specs.declared.node.Node.{Node}
 use Rattle.order_pool.specs.Inner.Block.{cell_of, no_node, IsLinked}
 use Rattle.order_pool.proofs.Cells.{cell_at-cells, cells-attached, kept_ptr, kept_len, IsPlace-of, IsKept-attached}
 use Rattle.order_pool.proofs.node.attach.Goals as goal

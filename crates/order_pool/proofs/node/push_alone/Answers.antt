@@ -1,6 +1,6 @@
-use Rattle.std.proofs.Common.{◌≡◌, ◌+◌, ◌<◌, ◌++◌, ◌∷◌, [], List, length, length-append, ℕ, refl, ap, ◌∙◌, sym, subst, arith}
+use Rattle.std.proofs.Common.{◌≡◌, ◌<◌, ◌++◌, ◌∷◌, [], length, ℕ, refl, ap, ◌∙◌, sym, arith}
 use Rattle.order_pool.specs.declared.node.Node.{Node}
-use Rattle.order_pool.specs.Inner.Block.{Cell, cells_in, blank_node, alone}
+use Rattle.order_pool.specs.Inner.Block.{cells_in, blank_node, alone}
 use Rattle.order_pool.specs.Inner.Places.{place}
 use Rattle.order_pool.specs.Inner.Block.{node_size}
 use Rattle.order_pool.proofs.Cells.{kept_ptr, kept_len, IsPlace-of, cells-alone, HasCome-alone}

@@ -1,4 +1,4 @@
-use Rattle.std.proofs.Common.{◌≡◌, ◌≢◌, ◌+◌, ◌<◌, sym, ap, subst, ◌∙◌, arith}
+use Rattle.std.proofs.Common.{◌≢◌, ◌+◌, ◌<◌, sym, ap, subst, ◌∙◌, arith}
 use Rattle.order_pool.specs.Inner.Lent.{Lent}
 use Rattle.order_pool.specs.Inner.Rings.{HasFree, prev_at}
 use Rattle.order_pool.proofs.Starts.{again, anew}

@@ -1,4 +1,4 @@
-use Rattle.std.proofs.Common.{◌≡◌, ◌<◌, ℕ, length, sym, subst, ◌∙◌, arith, get_or, inl, inr, None, Some}
+use Rattle.std.proofs.Common.{ℕ, sym, subst, arith, get_or, inl, inr}
 use Rattle.std.proofs.lemmas.Bool.{cases_eq}
 use Rattle.std.proofs.lemmas.List.{length-map}
 use Rattle.waiting_stops.specs.declared.bound.Bound.{Bound}
@@ -6,7 +6,7 @@ use Rattle.waiting_stops.specs.declared.queue.Wait.{Wait}
 use Rattle.waiting_stops.proofs.Blocks.{place-covered}
 use Rattle.waiting_stops.proofs.Places.{stop-read}
 use Rattle.waiting_stops.specs.Inner.Bounds.{IsCovered, IsPlaceCovered}
-use Rattle.waiting_stops.specs.Inner.Kept.{wait_at, no_place, stops_at}
+use Rattle.waiting_stops.specs.Inner.Kept.{wait_at, no_place}
 use Rattle.waiting_stops.proofs.bound.bound_of.Goals as goal
 use Rattle.waiting_stops.proofs.bound.bound_of.Goals.{in-Some, in_default}
 

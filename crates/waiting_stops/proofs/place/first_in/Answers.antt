@@ -1,6 +1,6 @@
-use Rattle.std.proofs.Common.{◌≡◌, ◌<◌, ℕ, false, refl, sym, ap, ◌∙◌, arith}
+use Rattle.std.proofs.Common.{◌<◌, ℕ, sym, ap, ◌∙◌, arith}
 use Rattle.std.proofs.lemmas.List.{length-map}
-use Rattle.waiting_stops.proofs.Places.{is_place, stop-is, stop-read, passes-none, passes-first}
+use Rattle.waiting_stops.proofs.Places.{is_place, stop-read, passes-none, passes-first}
 use Rattle.waiting_stops.specs.Inner.Kept.{wait_at, stops_at}
 use Rattle.waiting_stops.specs.Waits.{is_reached_wait, first_slot}
 use Rattle.waiting_stops.proofs.place.first_in.Goals as goal

@@ -1,5 +1,5 @@
-use Rattle.std.proofs.Common.{◌≡◌, ◌+◌, ◌-◌, ◌<◌, ℕ, ◌++◌, ◌∷◌, [], length, sym, ap, subst, ◌∙◌, arith}
-use Rattle.order_pool.specs.Inner.Block.{cells_in, alone, HasCome}
+use Rattle.std.proofs.Common.{◌≡◌, ◌+◌, ℕ, ◌++◌, ◌∷◌, [], length, ap, ◌∙◌, arith}
+use Rattle.order_pool.specs.Inner.Block.{cells_in, alone}
 use Rattle.order_pool.specs.Inner.Lent.{Lent}
 use Rattle.order_pool.proofs.Blocks.{lent, IsBlock-lent}
 use Rattle.order_pool.proofs.block.Block.lend.Goals as goal

@@ -1,8 +1,7 @@
-use Rattle.std.proofs.Common.{◌≡◌, ℕ, ◌+◌, ◌<◌, ◌∷◌, ◌++◌, [], List, length, refl, sym, ap, subst, ◌∙◌, arith, inl, inr}
+use Rattle.std.proofs.Common.{◌≡◌, ℕ, ◌<◌, ◌∷◌, ◌++◌, [], List, length, refl, sym, ap, ◌∙◌, arith, inl, inr}
 use Rattle.std.proofs.lemmas.Bool.{cases_eq}
 use Rattle.std.proofs.lemmas.List.{length-map}
 use Rattle.order_pool.specs.Inner.Block.{Cell, cell_at, cell_of, cells_in, node_at, alone}
-use Rattle.order_pool.specs.Inner.Lent.{number}
 use Rattle.order_pool.proofs.Numbers.{number-head}
 use Rattle.order_pool.proofs.Blocks.{alone-more, new-is}
 use Rattle.order_pool.proofs.block.Block.new.Goals as goal

@@ -1,4 +1,4 @@
-use Rattle.std.proofs.Common.{◌<◌, ◌+◌, length, sym, ap, ◌∙◌, arith}
+use Rattle.std.proofs.Common.{◌<◌, length, sym, ap, ◌∙◌, arith}
 use Rattle.order_pool.specs.Inner.Block.{Cell}
 use Rattle.order_pool.specs.Inner.Lent.{Lent}
 use Rattle.order_pool.proofs.Blocks.{read-slot, lent-in, links-of, followed}

@@ -1,5 +1,5 @@
-use Rattle.std.proofs.Common.{◌≡◌, ◌+◌, ℕ, sym, ap, subst, ◌∙◌, arith, List}
-use Rattle.order_pool.specs.Inner.Block.{Cell, cells_in, detached, attached}
+use Rattle.std.proofs.Common.{◌≡◌, ◌+◌, ℕ, sym, ap, ◌∙◌}
+use Rattle.order_pool.specs.Inner.Block.{cells_in, detached, attached}
 use Rattle.order_pool.specs.Inner.Lent.{Lent}
 use Rattle.order_pool.proofs.Blocks.{relocated, IsBlock-relocated}
 use Rattle.order_pool.proofs.block.Block.relocate.Goals as goal

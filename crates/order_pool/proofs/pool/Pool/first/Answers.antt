@@ -1,4 +1,4 @@
-use Rattle.std.proofs.Common.{◌≡◌, ◌+◌, ℕ, ap, ◌∙◌}
+use Rattle.std.proofs.Common.{◌+◌, ℕ, ap, ◌∙◌}
 use Rattle.order_pool.specs.Inner.Rings.{next_at}
 use Rattle.order_pool.proofs.Calls.{first_some, first_none}
 use Rattle.order_pool.proofs.pool.Pool.first.Goals as goal

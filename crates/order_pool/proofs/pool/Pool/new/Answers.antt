@@ -1,4 +1,4 @@
-use Rattle.std.proofs.Common.{◌≡◌, ◌+◌, ◌<◌, ◌^◌, arith}
+use Rattle.std.proofs.Common.{◌+◌, ◌<◌, ◌^◌, arith}
 use Rattle.order_pool.proofs.Starts.{IsPool-new, view-new}
 use Rattle.order_pool.proofs.pool.Pool.new.Goals as goal
 

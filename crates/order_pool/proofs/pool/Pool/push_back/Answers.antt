@@ -1,5 +1,5 @@
-use Rattle.std.proofs.Common.{◌≡◌, ◌+◌, ◌<◌, ℕ, List, sym, ap, subst, ◌∙◌, arith, length}
-use Rattle.order_pool.specs.Inner.Block.{Cell, detached, attached, with_order}
+use Rattle.std.proofs.Common.{◌≡◌, ◌+◌, ℕ, sym, ap, subst, ◌∙◌, arith, length}
+use Rattle.order_pool.specs.Inner.Block.{detached, attached, with_order}
 use Rattle.order_pool.specs.Inner.Lent.{Lent}
 use Rattle.order_pool.specs.Inner.Rings.{AreWholeRings, IsPool, rings_of, free_of, cells_moved}
 use Rattle.order_pool.specs.Queues.{Queues}

@@ -1,4 +1,4 @@
-use Rattle.std.proofs.Common.{◌≡◌, ℕ, ap, subst, sym, ◌∙◌}
+use Rattle.std.proofs.Common.{ℕ, ap, subst, sym, ◌∙◌}
 use Rattle.order_pool.specs.Inner.Lent.{Lent}
 use Rattle.order_pool.specs.Inner.Rings.{IsPool}
 use Rattle.order_pool.proofs.Calls.{in_queue, reset}

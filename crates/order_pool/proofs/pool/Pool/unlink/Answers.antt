@@ -1,4 +1,4 @@
-use Rattle.std.proofs.Common.{◌≡◌, ◌-◌, ℕ, ◌<◌, get_or, ap, sym, subst, ◌∙◌, arith}
+use Rattle.std.proofs.Common.{◌-◌, ℕ, ◌<◌, get_or, ap, sym, subst, ◌∙◌, arith}
 use Rattle.order_pool.specs.Inner.Lent.{Lent}
 use Rattle.order_pool.specs.Inner.Rings.{IsPool}
 use Rattle.order_pool.proofs.PoolCalls.{live_some, count_some}
