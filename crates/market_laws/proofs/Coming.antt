@@ -1,5 +1,5 @@
 -- An order that comes in does right acts: its sweep, and then it rests or is cancelled, and so does each stop that it triggers.
-use Rattle.std.proofs.Common.{◌≡◌, ◌≢◌, ℕ, ◌+◌, ◌≤◌, Bool, true, false, cond, ◌&&◌, List, [], ◌∷◌, length, Option, Some, None, is_some, slice_get, refl, sym, ap, subst, ◌∙◌, arith, inl, inr, sum_by}
+use Rattle.std.proofs.Common.{◌≡◌, ◌≢◌, ℕ, ◌+◌, ◌≤◌, Bool, true, false, cond, ◌&&◌, List, [], ◌∷◌, ◌++◌, length, Option, Some, None, is_some, slice_get, refl, sym, ap, subst, ◌∙◌, arith, inl, inr, sum_by}
 use Prim.Native.Nat.{zero, suc}
 use Rattle.std.specs.Prelude.{◌==◌, nat_lt}
 use Rattle.std.proofs.lemmas.Bool.Decides.{eqb_tells, nat_tests}
@@ -10,6 +10,7 @@ use Rattle.gx_base.specs.declared.order.Life.{Life}
 use Rattle.gx_base.specs.declared.order.Life.TheVariants.{Day, Gtc, Fak, Fok}
 use Rattle.gx_base.specs.declared.order.Side.{Side}
 use Rattle.gx_base.specs.declared.order.Order.{Order}
+use Rattle.gx_base.specs.declared.event.Event.{Event}
 use Rattle.gx_base.specs.declared.event.Cause.TheVariants as cause
 use Rattle.step_config.specs.declared.step.Step.{Step}
 use Rattle.step_config.specs.RightSteps.{AreRightSteps}
@@ -46,7 +47,9 @@ use Rattle.market_laws.proofs.NewTops.{top-by-price}
 use Rattle.market_laws.proofs.Sound.{IsByNumber, IsSoundBook, IsSound, number-at, held-sound}
 use Rattle.market_laws.proofs.Chains.{Leads, leads-by, leads-then, each-with}
 use Rattle.market_laws.proofs.Sweeps.{SweepLaw, sweep-leads}
-use Rattle.market_laws.proofs.Open.{counts, weight, open-weight, weight-traded, weight-marked, none-open}
+use Rattle.market_laws.proofs.Sums.{weight-traded, weight-marked}
+use Rattle.market_laws.proofs.FirmSums.{own_part, book_open, part-none, adds-same, AddsComing, AddsIn, trade-adds, note-adds, cancel-adds, rest-adds, wait-adds, trigger-adds}
+use Rattle.market_laws.proofs.Open.{counts, weight, open-weight, none-open}
 
 -- ---- the acts of a sweep
 
@@ -90,16 +93,26 @@ sweep-takes (trades step s n ∷ acts) m h =
     let es = m.book.resting in
     let rested = fit_of m.book.instruments s es h.0.1.right.rest t.fit.rests in
     let c : counts o.instrument (opposite o.side) o.price (order_of s es) ≡ true = counted _ _ _ _ _ t.fit.instrument t.fit.side t.limit in
-    let one = weight-traded o.instrument (opposite o.side) o.price s n es (front-differ m.book h.0.1.right) t.fit.rests c (omega (arith, t.fit.shown, rested.within)) in
-    omega (arith, sweep-takes acts (after (trades step s n) m) h.1, one)
+    let one = weight-traded (counts o.instrument (opposite o.side) o.price) (λ x filled leaves shown. refl) s n es (front-differ m.book h.0.1.right) t.fit.rests (omega (arith, t.fit.shown, rested.within)) in
+    omega (arith, sweep-takes acts (after (trades step s n) m) h.1, one, ap (λ (x : Bool). cond x n 0) c)
 sweep-takes (notes s n ∷ acts) m h =
     let o = m.taker.order in
     sweep-takes acts (after (notes s n) m) h.1
-    ∙ ap (λ (k : ℕ). k + o.filled) (weight-marked o.instrument (opposite o.side) o.price s n m.book.resting (front-differ m.book h.0.1.right) h.0.0.rests)
+    ∙ ap (λ (k : ℕ). k + o.filled) (weight-marked (counts o.instrument (opposite o.side) o.price) (λ x k. refl) s n m.book.resting (front-differ m.book h.0.1.right) h.0.0.rests)
 sweep-takes (rests steps ∷ acts) m h = absurd h.0
 sweep-takes (cancels why ∷ acts) m h = absurd h.0
 sweep-takes (waits ∷ acts) m h = absurd h.0
 sweep-takes (triggers stop ∷ acts) m h = absurd h.0
+
+-- and a firm's balance holds after it as before
+sweep-adds : (firm : ℕ) (told : List Event) (acts : List Act) (m : MatchState) → EachAct SweepAct acts m → AddsComing firm told m → AddsComing firm told (after_acts acts m)
+sweep-adds firm told [] m h k = k
+sweep-adds firm told (trades step s n ∷ acts) m h k = sweep-adds firm told acts (after (trades step s n) m) h.1 (trade-adds firm told step s n m h.0.0.fit h.0.1.right k)
+sweep-adds firm told (notes s n ∷ acts) m h k = sweep-adds firm told acts (after (notes s n) m) h.1 (note-adds firm told s n m h.0.0.rests h.0.1.right k)
+sweep-adds firm told (rests steps ∷ acts) m h k = absurd h.0
+sweep-adds firm told (cancels why ∷ acts) m h k = absurd h.0
+sweep-adds firm told (waits ∷ acts) m h k = absurd h.0
+sweep-adds firm told (triggers stop ∷ acts) m h k = absurd h.0
 
 -- ---- an order that is entered
 
@@ -217,6 +230,26 @@ module _ (product : ProductLists) (sent count before instrument : ℕ) where
           | false ↦ λ enough. end enough
         ] in go (nat_lt (open_for m) m.taker.order.min) refl
 
+    entered-adds : (firm : ℕ) (told : List Event) (name : ℕ) (m : MatchState) → Matching m → AddsComing firm told m → AddsIn firm told (entered name steps m)
+    entered-adds firm told name m h k =
+        let limit = m.taker.order.price in
+        let swept = sweep steps limit m in
+        let o = swept.taker.order in
+        let l = sweep-leads Matching SweepAct law steps right.each m h in
+        let after : AddsComing firm told swept = subst (AddsComing firm told) l.end (sweep-adds firm told l.acts m l.each k) in
+        let By = λ (a b : Bool). AddsIn firm told (cond a swept (cond b (taker_rested name steps swept) (taker_cancelled cause.Fak swept))) in
+        let by_life : (b : Bool) → By false b = elim [ true ↦ rest-adds firm told name steps swept after | false ↦ cancel-adds firm told cause.Fak swept after ] in
+        let end : AddsIn firm told (finished name steps swept) = elim (eqb_tells o.leaves 0) [
+          | inl t ↦
+              let whole : book_open firm swept.book + own_part firm o o.leaves ≡ book_open firm swept.book = omega (arith, ap (own_part firm o) t.1, part-none firm o) in
+              subst (λ (a : Bool). By a (may_rest o.life)) (sym t.0) (adds-same firm (told ++ swept.events) _ _ whole after)
+          | inr t ↦ subst (λ (a : Bool). By a (may_rest o.life)) (sym t.0) (by_life (may_rest o.life))
+        ] in
+        let go : (c : Bool) → AddsIn firm told (cond c (taker_cancelled cause.MinQty m) (finished name steps swept)) = elim [
+          | true ↦ cancel-adds firm told cause.MinQty m k
+          | false ↦ end
+        ] in go (nat_lt (open_for m) m.taker.order.min)
+
   -- ---- and the stops that it triggers
 
   right-asked : (life : Life) (o : Order) → is_right_min life o ≡ true → o.leaves ≡ o.quantity → life ≡ Fok → o.min ≡ o.leaves
@@ -230,11 +263,13 @@ module _ (product : ProductLists) (sent count before instrument : ℕ) where
     record Comes (m end : MatchState) : Type 0 where
       leads : Leads IsSound m end
       at_rest : IsAtRest product sent count before instrument end
+      adds : (firm : ℕ) (told : List Event) → AddsComing firm told m → AddsIn firm told end
 
     entered-comes : (name : ℕ) (m : MatchState) → name ≡ m.taker.order.number → IsEntering product sent count before instrument m → m.taker.order.kind ≢ StopLimit → IsAsked m.taker.order → Comes m (entered name steps m)
     entered-comes name m named h no_stop asked = record {
       leads = entered-leads steps right name m named (record { matched = h.matching; no_stop = no_stop }) asked;
       at_rest = entered-kept product sent count before instrument product_right steps right favors name m named h;
+      adds = λ firm told k. entered-adds steps right firm told name m (record { matched = h.matching; no_stop = no_stop }) k;
     }
 
     stop-comes : (name : ℕ → ℕ) (a m : MatchState) → ((number : ℕ) → name number ≡ number) → (next : Option Entry) → next_stop m ≡ next → Comes a m → Comes a (stop_entered next name steps m)
@@ -256,26 +291,34 @@ module _ (product : ProductLists) (sent count before instrument : ℕ) where
         record {
           leads = leads-then IsSound a m end h.leads (leads-then IsSound m start end (leads-by IsSound (triggers e) m (record { is = is; book = held-sound product count b held })) k.leads);
           at_rest = k.at_rest;
+          adds = λ firm told q. k.adds firm told (trigger-adds firm told e m stands held.book.differ (h.adds firm told q));
         }
+
+    -- what an order does that comes in
+    pub record ComesIn (m end : MatchState) : Type 0 where
+      pub leads : Leads IsSound m end
+      pub adds : (firm : ℕ) (told : List Event) → AddsComing firm told m → AddsIn firm told end
 
     rounds-come : (n : ℕ) (naming : Naming) (a m : MatchState) → NamesByNumber naming → Comes a m → Comes a (stop_rounds n naming steps m)
     rounds-come zero naming a m named h = h
     rounds-come (suc n) naming a m named h =
         let k = stop_rounds n naming steps m in stop-comes (naming n) a k (λ number. named n number) (next_stop k) refl (rounds-come n naming a m named h)
 
-    with-stops-come : (naming : Naming) (m : MatchState) → NamesByNumber naming → m.taker.order.kind ≢ StopLimit → IsIncoming product sent count before instrument m → IsAsked m.taker.order → Leads IsSound m (entered_with_stops naming steps m)
+    with-stops-come : (naming : Naming) (m : MatchState) → NamesByNumber naming → m.taker.order.kind ≢ StopLimit → IsIncoming product sent count before instrument m → IsAsked m.taker.order → ComesIn m (entered_with_stops naming steps m)
     with-stops-come naming m named enters h asked =
         let o = m.taker.order in
         let k = entered (naming 0 o.number) steps m in
         let first : Comes m k = entered-comes (naming 0 o.number) m (named 0 o.number)
         (record { matching = record { held = h.held; coming = h.coming; no_trigger = h.enters enters; told = h.told }; uncrossed = h.uncrossed; room = h.room }) enters asked in
-        (rounds-come (length k.book.waiting) (λ n. naming (n + 1)) m k (λ n number. named (n + 1) number) first).leads
+        let all = rounds-come (length k.book.waiting) (λ n. naming (n + 1)) m k (λ n number. named (n + 1) number) first in
+        record { leads = all.leads; adds = all.adds }
 
-    come-in-as-leads : (kind : Kind) (naming : Naming) (m : MatchState) → m.taker.order.kind ≡ kind → NamesByNumber naming → IsIncoming product sent count before instrument m → IsAsked m.taker.order → Leads IsSound m (come_in_as kind naming steps m)
+    come-in-as-leads : (kind : Kind) (naming : Naming) (m : MatchState) → m.taker.order.kind ≡ kind → NamesByNumber naming → IsIncoming product sent count before instrument m → IsAsked m.taker.order → ComesIn m (come_in_as kind naming steps m)
     come-in-as-leads StopLimit naming m is named h asked =
-        subst (λ (k : ℕ). Leads IsSound m (taker_waiting k m)) (sym (named 0 m.taker.order.number)) (leads-by IsSound waits m (record { is = is; book = held-sound product count m.book h.held }))
+        subst (λ (k : ℕ). ComesIn m (taker_waiting k m)) (sym (named 0 m.taker.order.number))
+        (record { leads = leads-by IsSound waits m (record { is = is; book = held-sound product count m.book h.held }); adds = λ firm told k. wait-adds firm told m.taker.order.number m k })
     come-in-as-leads Limit naming m is named h asked = with-stops-come naming m named (λ stops. absurd (let k : Limit ≡ StopLimit = sym is ∙ stops in cc)) h asked
     come-in-as-leads Market naming m is named h asked = with-stops-come naming m named (λ stops. absurd (let k : Market ≡ StopLimit = sym is ∙ stops in cc)) h asked
 
-    pub come-in-leads : (naming : Naming) (m : MatchState) → NamesByNumber naming → IsIncoming product sent count before instrument m → IsAsked m.taker.order → Leads IsSound m (come_in naming steps m)
+    pub come-in-leads : (naming : Naming) (m : MatchState) → NamesByNumber naming → IsIncoming product sent count before instrument m → IsAsked m.taker.order → ComesIn m (come_in naming steps m)
     come-in-leads naming m named h asked = come-in-as-leads m.taker.order.kind naming m refl named h asked

@@ -25,7 +25,7 @@ use Rattle.order_kinds.specs.Stops.{by_number}
 use Rattle.order_kinds.specs.Step.{with_message, request_step, step_of, state_after, events_from}
 use Rattle.order_kinds.specs.Amendments.{untopped, amended_state}
 use Rattle.order_kinds.specs.Histories.{History, of_product, amended, AreRightProducts, IsHistory, last_product, with_messages, length_kept, state_kept, events_kept}
-use Rattle.order_kinds.specs.Balance.{last_open}
+use Rattle.order_kinds.specs.Balance.{last_open, total_filled, total_cancelled}
 use Rattle.order_kinds.proofs.SessionSteps.{by-session}
 use Rattle.order_kinds.proofs.LiveOrders.{named-own}
 use Rattle.order_kinds.proofs.FurtherMessages.{state-further, events-further}
@@ -37,7 +37,9 @@ use Rattle.image_laws.proofs.Amended.{has-cut}
 use Rattle.image_laws.proofs.Reached.{IsReached}
 use Rattle.image_laws.proofs.States.{step-reached, starts}
 use Rattle.image_laws.proofs.Histories.{history-reached}
-use Rattle.market_laws.specs.Streams.{OfEachState, OfEachMessage}
+use Rattle.market_laws.specs.Streams.{OfEachHistory, OfEachState, OfEachMessage}
+use Rattle.market_laws.specs.Firms.{reports_of_firm, IsBalancedFor}
+use Rattle.market_laws.proofs.FirmSums.{Adds, book_open, open-is, adds-same, adds-nothing, amended-open}
 use Rattle.market_laws.specs.Lines.{KeepsTheLine}
 use Rattle.market_laws.specs.Markets.{KeepsMarketsApart, unmarked, IsAmendedMarket, IsOut, IsNotOn, IsNoStopReached, LeavesNoneReached, IsCancelled, IsFree, IsTopFirst}
 use Rattle.market_laws.proofs.Messages.{step-right, last-right, next-right, amended-reached}
@@ -210,6 +212,29 @@ closed-out n history right is given none =
       given = given;
       gone = λ has. omega (arith, live-open b n h.held.book.rest h.held.book.wait has, (histories-balance history right).leaves n, none);
     }
+
+-- ---- a firm's balance
+
+module _ (firm : ℕ) where
+  messages-add : (product : ProductLists) → IsRightProduct product → (sent bound : ℕ) (state : State) (frames : List (List ℕ)) (told : List Event) → IsReached product sent bound state → Adds firm told (book_open firm state.book)
+      → Adds firm (told ++ events_from product state frames) (book_open firm (state_after product state frames).book)
+  messages-add product right sent bound state [] told h k = adds-nothing firm told (book_open firm state.book) k
+  messages-add product right sent bound state (frame ∷ frames) told h k =
+      let step = step_of product state frame in
+      let one = (step-right product right sent bound state frame h).firms firm told k in
+      subst (λ (l : List Event). Adds firm l (book_open firm (state_after product step.0 frames).book)) (append_assoc told step.1 (events_from product step.0 frames))
+      (messages-add product right (sent + 1) (bound + length step.1) step.0 frames (told ++ step.1) (step-reached product right sent bound state frame h) one)
+
+  histories-add : (history : History) → AreRightProducts history → IsHistory history → Adds firm (events_kept history) (book_open firm (state_kept history).book)
+  histories-add (of_product product messages) right is = messages-add product right 0 0 (empty_state product) messages [] (starts product right) (record { is = refl })
+  histories-add (amended before product messages) right is =
+      messages-add product right.1 (length_kept before) (length (events_kept before)) (amended_state product (state_kept before)) messages (events_kept before) (amended-reached before product right.0 is.0 is.1)
+      (adds-same firm (events_kept before) _ _ (sym (amended-open firm product (state_kept before).book)) (histories-add before right.0 is.0))
+
+  pub firm-balances : OfEachHistory (λ history. IsBalancedFor firm (events_kept history) (state_kept history))
+  firm-balances history right is =
+      let own = reports_of_firm firm (events_kept history) in
+      (histories-add history right is).is ∙ ap (λ (n : ℕ). total_filled own + (n + total_cancelled own)) (sym (open-is firm (live_orders (state_kept history).book)))
 
 -- ---- cancels
 

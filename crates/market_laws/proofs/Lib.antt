@@ -1,5 +1,7 @@
 mod Chains
 mod Sweeps
+mod Sums
+mod FirmSums
 mod Open
 mod Sound
 mod NewTops

@@ -1,8 +1,9 @@
 -- Each message reports no fill, or does right acts.
 use Rattle.std.proofs.Common.{◌≡◌, ◌≢◌, ℕ, ◌+◌, ◌<◌, ◌≤◌, Bool, true, false, cond, List, [], ◌∷◌, ◌++◌, length, Option, Some, None, Result, Ok, Err, option_map, refl, sym, ap, subst, ◌∙◌, arith, inl, inr, ◌⊎◌}
-use Rattle.std.specs.Prelude.{IfSome, filter, not, ◌==◌}
+use Rattle.std.specs.Prelude.{IfSome, filter, not, ◌==◌, nat_le, ◌-◌}
+use Rattle.order_kinds.specs.Balance.{order_in}
 use Rattle.std.specs.List.{AllByRecursion}
-use Rattle.std.proofs.lemmas.Bool.Decides.{eqb_tells}
+use Rattle.std.proofs.lemmas.Bool.Decides.{eqb_tells, nat_tests}
 use Rattle.gx_base.specs.Texts.{is_name}
 use Rattle.gx_base.specs.declared.price.Price.{Price}
 use Rattle.gx_base.specs.declared.order.Side.{Side}
@@ -75,6 +76,8 @@ use Rattle.market_laws.proofs.Chains.{Leads, each-with}
 use Rattle.market_laws.proofs.Sound.{IsByNumber, number-at, IsSound}
 use Rattle.market_laws.specs.Lines.{StandsBefore, LetsPass, HasReport, KeepsTheLine}
 use Rattle.market_laws.specs.Markets.{IsReportOn, IsExpiry, KeepsMarketsApart, IsOut, IsNotOn, KeepsOut, IsUnreached, IsNoStopReached, ReachesNone, LeavesNoneReached}
+use Rattle.market_laws.specs.Firms.{has_firm}
+use Rattle.market_laws.proofs.FirmSums.{Adds, book_open, adds-same, adds-none, adds-nothing, AddsComing, AddsIn, accepted-adds, replaced-adds, open-without, open-with, cancelled-adds, close-adds}
 use Rattle.market_laws.proofs.Passing.{before-with, before-without, before-filter, has-first, has-second, Stands, acts-stand, stands-end}
 use Rattle.market_laws.proofs.Outs.{IsSilent, acts-silent, acts-orders}
 use Rattle.market_laws.proofs.Apart.{IsElsewhere, of-without, of-with, not-here, last-elsewhere, elsewhere, acts-here, acts-same}
@@ -93,6 +96,7 @@ pub record IsRightMessage (product : ProductLists) (state : State) (step : State
   pub told : AllByRecursion KeepsRules step.1
   pub market : KeepsMarketsApart state step
   pub line : KeepsTheLine state step
+  pub firms : (firm : ℕ) (told : List Event) → Adds firm told (book_open firm state.book) → Adds firm (told ++ step.1) (book_open firm step.0.book)
   pub out : (n : ℕ) → IsOut n state → KeepsOut n step
   pub fills : LeavesNoneReached step
   pub stops : IsNoStopReached state → IsNoStopReached step.0
@@ -101,14 +105,15 @@ pub record IsRightMessage (product : ProductLists) (state : State) (step : State
 -- ---- one report
 
 -- a message that changes nothing, and is told in a report that is none of an order
-told-alone : (product : ProductLists) (state : State) (desk : Desk) (event : Event) → HasNoFill (event ∷ []) → KeepsRules event → IsReportOn 0 event → ((n : ℕ) → IsNotOn n event) → ReachesNone state.book.waiting event → desk.orders ≡ state.desk.orders
+told-alone : (product : ProductLists) (state : State) (desk : Desk) (event : Event) → order_in event ≡ None → HasNoFill (event ∷ []) → KeepsRules event → IsReportOn 0 event → ((n : ℕ) → IsNotOn n event) → ReachesNone state.book.waiting event → desk.orders ≡ state.desk.orders
     → IsRightMessage product state (record state { desk = desk }, event ∷ [])
-told-alone product state desk event none told on not_on reaches orders = record {
+told-alone product state desk event no_order none told on not_on reaches orders = record {
   does = inl (record { fills = none; live = λ n h. h });
   told = (told, tt);
   market = inl (record { instrument = 0; reports = (on, tt); others = λ j other. record { resting = refl; waiting = refl; last = refl } });
   fills = (reaches, tt);
   line = λ a b h x y. inl h;
+  firms = λ firm told k. adds-none firm told event (book_open firm state.book) (ap (has_firm firm) no_order) k;
   out = λ n h. record { reports = (not_on n, tt); out = record { given = omega (arith, h.given, orders); gone = h.gone } };
   stops = λ h. h;
   tops = λ h. h;
@@ -126,15 +131,16 @@ pub record Starts (product : ProductLists) (state : State) (start : MatchState) 
   pub orders : state.desk.orders ≤ start.desk.orders
   pub far : (j : ℕ) → j ≢ start.taker.order.instrument → AllByRecursion (IsElsewhere j start.taker.order.number) (live_orders state.book)
   pub fresh : (n : ℕ) → IsOut n state → start.taker.order.number ≢ n
+  pub firms : (firm : ℕ) (told : List Event) → Adds firm told (book_open firm state.book) → AddsComing firm told start
   pub passed : (a b : ℕ) → (start.taker.order.number ≡ a) ⊎ (start.taker.order.number ≡ b) → StandsBefore a b state.book.resting → HasReport (LetsPass a b) start.events
   pub protected : IsProtectedMarket product start
 
 -- right acts from there, which leave no stop reached
-acts-done : (product : ProductLists) (state : State) (start end : MatchState) → Starts product state start → Leads IsSound start end
+acts-done : (product : ProductLists) (state : State) (start end : MatchState) → Starts product state start → Leads IsSound start end → ((firm : ℕ) (told : List Event) → AddsComing firm told start → AddsIn firm told end)
     → (AllByRecursion (IsReportOn start.taker.order.instrument) end.events → AllByRecursion (ReachesNone end.book.waiting) end.events)
     → (IsNoStopReached state → IsNoStopReached (after_match start.taker.order.instrument state end).0)
     → IsRightMessage product state (after_match start.taker.order.instrument state end)
-acts-done product state start end s l fills stops =
+acts-done product state start end s l adds fills stops =
     let i = start.taker.order.instrument in
     let number = start.taker.order.number in
     let b = state.book in
@@ -163,6 +169,7 @@ acts-done product state start end s l fills stops =
                 };
           });
       fills = fills on;
+      firms = λ firm told k. adds firm told (s.firms firm told k);
       line = λ a b_ h x y.
           let goes : StandsBefore a b_ (without number b.resting) → Stands a b_ start = λ k. inl (subst (λ (z : Book). StandsBefore a b_ z.resting) (sym s.book) k) in
           let begins : Stands a b_ start = elim (eqb_tells number a) [
@@ -254,6 +261,13 @@ live-all-or-nothing b rest wait =
     (all-with (λ (e : Entry). IsResting b.instruments e.order) P (λ e r. record { minimum = inr (omega (arith, r.fit.no_min)); fok = λ fok. absurd (not-fok e.order.life r.fit.life fok) }) b.resting rest)
     (all-with (λ (e : Entry). IsWaiting b.instruments e.order) P (λ e w. record { minimum = inl w.fit.unfilled; fok = λ fok. w.fit.unfilled }) b.waiting wait)
 
+live-whole : (b : Book) → AllRest b.instruments b.resting → AllWait b.instruments b.waiting → AllByRecursion (λ (e : Entry). e.order.filled + e.order.leaves ≡ e.order.quantity) (live_orders b)
+live-whole b rest wait =
+    let P = λ (e : Entry). e.order.filled + e.order.leaves ≡ e.order.quantity in
+    all-append P b.resting b.waiting
+    (all-with (λ (e : Entry). IsResting b.instruments e.order) P (λ e r. r.fit.whole) b.resting rest)
+    (all-with (λ (e : Entry). IsWaiting b.instruments e.order) P (λ e w. omega (arith, w.fit.unfilled, w.fit.whole)) b.waiting wait)
+
 -- no order of the book has the number
 without-fresh : (n : ℕ) (b : Book) → AllByRecursion (IsOther n) (live_orders b) → b ≡ book_without n b
 without-fresh n b fresh =
@@ -299,6 +313,9 @@ module _ (product : ProductLists) (right : IsRightProduct product) (sent bound :
         let fresh : AllByRecursion (IsOther count) (live_orders state.book) =
         all-with (IsRightEntry product state.desk.orders) (IsOther count) (λ e r is. omega (arith, r.slot, r.given, is)) (live_orders state.book) h.held.entries in
         let asked : IsAsked start.taker.order = record { unfilled = λ some. refl; whole = λ fok. fok-least new.life new fok } in
+        let comes = come-in-leads product sent count bound on.number right on.rule.steps (instrument-right product new.named on right passes.named)
+        (λ some. ap has_top_by (news.is_of product right sent bound new state valid name h room terms passes) ∙ some)
+        by_number start (λ before number. refl) (news.start-kept product right sent bound new state valid name h room terms passes) asked in
         acts-done product state start (new_of by_number terms new state)
         (record {
           book = without-fresh count state.book fresh;
@@ -309,15 +326,14 @@ module _ (product : ProductLists) (right : IsRightProduct product) (sent bound :
           orders = omega arith;
           far = λ j other. all-with (IsOther count) (IsElsewhere j count) (λ e k is. absurd (k is)) (live_orders state.book) fresh;
           fresh = λ n out is. omega (arith, out.given, is);
+          firms = λ firm told k. accepted-adds firm told state.book _ start.taker.order refl k;
           passed = λ a b which k. absurd (elim which [
             | inl is ↦ others-lack count state.book.resting (all-front (IsOther count) state.book.resting state.book.waiting fresh) (subst (λ (n : ℕ). HasSlot n state.book.resting) (sym is) (has-first a b state.book.resting k))
             | inr is ↦ others-lack count state.book.resting (all-front (IsOther count) state.book.resting state.book.waiting fresh) (subst (λ (n : ℕ). HasSlot n state.book.resting) (sym is) (has-second a b state.book.resting k))
           ]);
           protected = λ market. new-protected terms passes market;
         })
-        (come-in-leads product sent count bound on.number right on.rule.steps (instrument-right product new.named on right passes.named)
-        (λ some. ap has_top_by (news.is_of product right sent bound new state valid name h room terms passes) ∙ some)
-        by_number start (λ before number. refl) (news.start-kept product right sent bound new state valid name h room terms passes) asked)
+        comes.leads comes.adds
         (λ told. come-in-leaves-none on.rule.steps start (λ waiting. (tt, tt)) told)
         (λ unreached. come-in-unreached on.rule.steps start state.last refl unreached (λ stops. new-unreached terms passes stops))
 
@@ -325,7 +341,7 @@ module _ (product : ProductLists) (right : IsRightProduct product) (sent bound :
     new-right =
         let go : (r : Result Terms NewFault) → terms_of product new state ≡ r → IsRightMessage product state (accepted_or_refused by_number r new state) = elim [
           | Ok terms ↦ λ is. accepted-right terms (new-passes product new state terms is)
-          | Err f ↦ λ is. told-alone product state _ _ (tt, tt) (tt, tt) tt (λ n. tt) tt refl
+          | Err f ↦ λ is. told-alone product state _ _ refl (tt, tt) (tt, tt) tt (λ n. tt) tt refl
         ] in go (terms_of product new state) refl
 
   -- ---- cancels
@@ -335,7 +351,7 @@ module _ (product : ProductLists) (right : IsRightProduct product) (sent bound :
       let es = live_orders state.book in
       let b = state.book in
       let go : (slot : Option ℕ) → slot_named request.sender.firm request.old es ≡ slot → IsRightMessage product state (cancel_by slot request state) = elim [
-        | None ↦ λ is. told-alone product state _ _ (tt, tt) (tt, tt) tt (λ n. tt) tt refl
+        | None ↦ λ is. told-alone product state _ _ refl (tt, tt) (tt, tt) tt (λ n. tt) tt refl
         | Some slot ↦ λ is.
             let has = named-has request.sender.firm request.old es slot is in
             let o = order_of slot es in
@@ -356,6 +372,7 @@ module _ (product : ProductLists) (right : IsRightProduct product) (sent bound :
                     };
               });
               fills = (tt, tt);
+              firms = λ firm told k. cancelled-adds firm told (book_open firm (book_without slot b)) _ o _ _ (adds-same firm told _ _ (sym (open-without firm slot b h.held.book.differ has)) k);
               line = λ a b_ k x y. inl (before-filter a b_ (λ e. not (e.slot == slot)) b.resting (AllDiffer-front b.resting b.waiting h.held.book.differ) k x y);
               out = λ n out.
                   let was = lacks-others n es out.gone in
@@ -425,8 +442,15 @@ module _ (product : ProductLists) (right : IsRightProduct product) (sent bound :
         ∙ ap (λ (i : ℕ). is_reached_already request.side (price_at request.trigger) (last_of i state.last)) (sym is_on)
         ∙ subst (λ (k : Kind). is_stop_reached k request.side request.trigger (last_of on.number state.last) ≡ false) (kind ∙ stops) passes.reached)
 
-    in-place-right : (slot : ℕ) → HasSlot slot live → IsRightMessage product state (replaced_in_place request slot state)
-    in-place-right slot has =
+    -- what is open of a live order, and of it once it is replaced
+    whole : (slot : ℕ) → HasSlot slot live → let was = order_of slot live in was.filled + was.leaves ≡ was.quantity
+    whole slot has = orders-at (λ (o : Order). o.filled + o.leaves ≡ o.quantity) slot live (live-whole state.book h.held.book.rest h.held.book.wait) has
+
+    left-open : (slot : ℕ) → nat_le request.quantity (order_of slot live).filled ≡ false → (request.quantity - (order_of slot live).filled) + (order_of slot live).filled ≡ request.quantity
+    left-open slot more = grind (arith, nat_tests)
+
+    in-place-right : (slot : ℕ) → HasSlot slot live → nat_le request.quantity (order_of slot live).filled ≡ false → IsRightMessage product state (replaced_in_place request slot state)
+    in-place-right slot has more =
         let b = state.book in
         let was = order_of slot live in
         let now : Order = changed_to request.id request.quantity (least_after request was) was in
@@ -454,6 +478,9 @@ module _ (product : ProductLists) (right : IsRightProduct product) (sent bound :
                 };
           });
           fills = (tt, tt);
+          firms = λ firm told k.
+              adds-same firm _ _ _ (sym (open-with firm slot now b h.held.book.differ has))
+              (replaced-adds firm told (book_open firm (book_without slot b)) _ was.id was now refl (whole slot has) (left-open slot more) (adds-same firm told _ _ (sym (open-without firm slot b h.held.book.differ has)) k));
           line = λ a b_ k x y. inl (before-with a b_ slot now b.resting k);
           out = λ n out.
               let old = lacks-others n live out.gone in
@@ -478,6 +505,9 @@ module _ (product : ProductLists) (right : IsRightProduct product) (sent bound :
         let was = order_of slot live in
         let entry = entry-at product state.desk.orders slot live h.held.entries has in
         let is_on = replaces.on_is product right sent bound request state valid name h is_open slot has own on passes in
+        let comes = come-in-leads product sent state.desk.orders bound on.number right on.rule.steps (instrument-right product request.named on right passes.named)
+        (λ some. ap has_top_by (replaces.is_of product right sent bound request state valid name h is_open slot has own on passes) ∙ some)
+        by_number start (λ before number. refl) (replaces.start-kept product right sent bound request state valid name h is_open slot has own on passes) (asked-anew slot has) in
         subst (λ (i : ℕ). IsRightMessage product state (after_match i state (come_in by_number on.rule.steps start))) (sym is_on)
         (acts-done product state start (come_in by_number on.rule.steps start)
         (record {
@@ -489,19 +519,19 @@ module _ (product : ProductLists) (right : IsRightProduct product) (sent bound :
           orders = omega arith;
           far = λ j other. subst (λ (n : ℕ). AllByRecursion (IsElsewhere j n) live) entry.slot (elsewhere j was.instrument slot live other h.held.book.differ refl);
           fresh = λ n out is. out.gone (subst (λ (k : ℕ). HasSlot k live) (entry.slot ∙ is) has);
+          firms = λ firm told k.
+              replaced-adds firm told (book_open firm (book_without slot state.book)) _ was.id was start.taker.order refl (whole slot has) (left-open slot passes.filled) (adds-same firm told _ _ (sym (open-without firm slot state.book h.held.book.differ has)) k);
           passed = λ a b which k. inl which;
           protected = λ market. absurd (no-market slot has market);
         })
-        (come-in-leads product sent state.desk.orders bound on.number right on.rule.steps (instrument-right product request.named on right passes.named)
-        (λ some. ap has_top_by (replaces.is_of product right sent bound request state valid name h is_open slot has own on passes) ∙ some)
-        by_number start (λ before number. refl) (replaces.start-kept product right sent bound request state valid name h is_open slot has own on passes) (asked-anew slot has))
+        comes.leads comes.adds
         (λ told. come-in-leaves-none on.rule.steps start (λ waiting. (tt, tt)) told)
         (λ unreached. come-in-unreached on.rule.steps start state.last refl (all-without (IsUnreached state.last) slot state.book.waiting unreached) (λ stops. anew-unreached slot has own on passes stops)))
 
     replaced-right : (slot : ℕ) → HasSlot slot live → (order_of slot live).firm ≡ request.sender.firm → (on : ListedInstrument) → PassesAsReplace product request (order_of slot live) state on → IsRightMessage product state (replaced by_number on request slot state)
     replaced-right slot has own on passes =
         let go : (c : Bool) → IsRightMessage product state (cond c (replaced_in_place request slot state) (replaced_anew by_number on request slot state)) = elim [
-          | true ↦ in-place-right slot has
+          | true ↦ in-place-right slot has passes.filled
           | false ↦ anew-right slot has own on passes
         ] in go (keeps_place request (order_of slot live))
 
@@ -510,10 +540,10 @@ module _ (product : ProductLists) (right : IsRightProduct product) (sent bound :
         let found = slot_named request.sender.firm request.old live in
         let by : (slot : ℕ) → found ≡ Some slot → (r : Result ListedInstrument ChangeFault) → replace_terms product request (order_of slot live) state ≡ r → IsRightMessage product state (replaced_or_refused r by_number request slot state) = λ slot at. elim [
           | Ok on ↦ λ is. replaced-right slot (named-has request.sender.firm request.old live slot at) (named-own request.sender.firm request.old slot live h.held.book.differ at) on (replace-passes product request (order_of slot live) state on is)
-          | Err f ↦ λ is. told-alone product state _ _ (tt, tt) (tt, tt) tt (λ n. tt) tt refl
+          | Err f ↦ λ is. told-alone product state _ _ refl (tt, tt) (tt, tt) tt (λ n. tt) tt refl
         ] in
         let go : (slot : Option ℕ) → found ≡ slot → IsRightMessage product state (replace_at slot by_number product request state) = elim [
-          | None ↦ λ is. told-alone product state _ _ (tt, tt) (tt, tt) tt (λ n. tt) tt refl
+          | None ↦ λ is. told-alone product state _ _ refl (tt, tt) (tt, tt) tt (λ n. tt) tt refl
           | Some slot ↦ λ is. by slot is (replace_terms product request (order_of slot live) state) refl
         ] in go found refl
 
@@ -527,6 +557,7 @@ module _ (product : ProductLists) (right : IsRightProduct product) (sent bound :
     out = λ n out. record { reports = tt; out = record { given = out.given; gone = out.gone } };
     fills = tt;
     line = λ a b h x y. inl h;
+    firms = λ firm told k. adds-nothing firm told (book_open firm state.book) k;
     stops = λ unreached. unreached;
     tops = λ first. first;
   }
@@ -560,6 +591,7 @@ module _ (product : ProductLists) (right : IsRightProduct product) (sent bound :
                 gone = λ k. out.gone (HasSlot-filter stays n es (subst (HasSlot n) (live-closed b) k));
               };
             };
+        firms = λ firm told k. close-adds firm told time b desk k;
         line = λ a b_ k x y. inl (before-filter a b_ stays b.resting (AllDiffer-front b.resting b.waiting h.held.book.differ) k x y);
         fills = each-expiry (ReachesNone (book_closed b).waiting) Any (λ head e q. tt) time gone desk any;
         stops = λ unreached. all-filter (IsUnreached state.last) stays b.waiting unreached;
@@ -581,16 +613,16 @@ module _ (product : ProductLists) (right : IsRightProduct product) (sent bound :
   open-right (Replace order) state valid name h room is_open = replace-right order state valid name h is_open
   open-right (Session change) state valid name h room is_open = session-right change state h
   open-right (Passed sender) state valid name h room is_open = nothing-right state state.trading
-  open-right (Refused refusal) state valid name h room is_open = told-alone product state _ _ (tt, tt) (tt, tt) tt (λ n. tt) tt refl
+  open-right (Refused refusal) state valid name h room is_open = told-alone product state _ _ refl (tt, tt) (tt, tt) tt (λ n. tt) tt refl
 
   -- a message of a closed market that is no new order and no replace is as in an open one
   closed-right : (request : Request) (state : State) → IsReached product sent bound state → IsRightMessage product state (closed_step_as by_number product request state)
-  closed-right (New order) state h = told-alone product state _ _ (tt, tt) (tt, tt) tt (λ n. tt) tt refl
-  closed-right (Replace order) state h = told-alone product state _ _ (tt, tt) (tt, tt) tt (λ n. tt) tt refl
+  closed-right (New order) state h = told-alone product state _ _ refl (tt, tt) (tt, tt) tt (λ n. tt) tt refl
+  closed-right (Replace order) state h = told-alone product state _ _ refl (tt, tt) (tt, tt) tt (λ n. tt) tt refl
   closed-right (Cancel order) state h = cancel-right order state h
   closed-right (Session change) state h = session-right change state h
   closed-right (Passed sender) state h = nothing-right state state.trading
-  closed-right (Refused refusal) state h = told-alone product state _ _ (tt, tt) (tt, tt) tt (λ n. tt) tt refl
+  closed-right (Refused refusal) state h = told-alone product state _ _ refl (tt, tt) (tt, tt) tt (λ n. tt) tt refl
 
   request-right : (request : Request) (state : State) → IsValidRequest product request → HasName request → IsReached product sent bound state → state.desk.orders < sent → IsRightMessage product state (request_step product request state)
   request-right request state valid name h room =

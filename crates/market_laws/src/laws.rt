@@ -24,7 +24,7 @@ ghost use Rattle.order_kinds.specs.Histories.{History, AreRightProducts, IsHisto
 ghost use Rattle.order_kinds.specs.Balance.{last_open};
 ghost use Rattle.market_laws.specs.Streams.{OfEachHistory, OfEachState, OfEachReport, OfEachMessage};
 ghost use Rattle.market_laws.specs.Acts.{EachAct, InEachMessage, OfEachTrade};
-ghost use Rattle.market_laws.specs.Firms.{DifferInFirms};
+ghost use Rattle.market_laws.specs.Firms.{DifferInFirms, IsBalancedFor};
 ghost use Rattle.market_laws.specs.Trades.{IsWithinLimits, KeepsLimit, IsProtectedMarket, IsAtBest, IsFirst, IsFit, IsNoStop};
 ghost use Rattle.market_laws.specs.RightActs.{IsRightAct, KeepsMinimum, IsTopByPrice};
 ghost use Rattle.market_laws.specs.Lines.{KeepsTheLine};
@@ -131,6 +131,11 @@ pub fn markets_are_apart()
 pub fn firms_are_equal()
     ensures shares { (firm : Entry → ℕ) (step : Step) (top : Option ℕ) (wanted : ℕ) (es : List Entry) → IsBlind step → shares_of step top wanted (of_firms firm es) ≡ shares_of step top wanted es }
     ensures sweep { (firm : ℕ → ℕ) (steps : List Step) (limit : Price) (a b : MatchState) → AllByRecursion IsBlind steps → DifferInFirms firm a b → DifferInFirms firm (sweep steps limit a) (sweep steps limit b) }
+{}
+
+/// A firm's fills add up: what its orders entered is filled, open, or cancelled.
+pub fn firms_balance()
+    ensures { (firm : ℕ) → OfEachHistory (λ history. IsBalancedFor firm (events_kept history) (state_kept history)) }
 {}
 
 /// Hidden stays hidden: what is shown at a level depends on no lot that is not shown, and an order never shows more than its display
