@@ -1,9 +1,9 @@
 -- Each message reports no fill, or does right acts.
-use Rattle.std.proofs.Common.{◌≡◌, ◌≢◌, ℕ, ◌+◌, ◌<◌, ◌≤◌, Bool, true, false, cond, List, [], ◌∷◌, ◌++◌, length, Option, Some, None, Result, Ok, Err, option_map, refl, sym, ap, subst, ◌∙◌, arith, inl, inr, ◌⊎◌}
+use Rattle.std.proofs.Common.{◌≡◌, ◌≢◌, ℕ, ◌+◌, ◌<◌, ◌≤◌, Bool, true, false, cond, ◌&&◌, List, [], ◌∷◌, ◌++◌, length, Option, Some, None, Result, Ok, Err, option_map, refl, sym, ap, subst, ◌∙◌, arith, inl, inr, ◌⊎◌}
 use Rattle.std.specs.Prelude.{IfSome, filter, not, ◌==◌, nat_le, ◌-◌}
 use Rattle.order_kinds.specs.Balance.{order_in}
 use Rattle.std.specs.List.{AllByRecursion}
-use Rattle.std.proofs.lemmas.Bool.Decides.{eqb_tells, nat_tests}
+use Rattle.std.proofs.lemmas.Bool.Decides.{eqb_tells, nat_tests, Decides-int_eq}
 use Rattle.gx_base.specs.Texts.{is_name}
 use Rattle.gx_base.specs.declared.price.Price.{Price}
 use Rattle.gx_base.specs.declared.order.Side.{Side}
@@ -26,6 +26,8 @@ use Rattle.fix_request.specs.ValidRequests.{IsValidRequest, IsValidNew, IsValidR
 use Rattle.fix_request.specs.declared.request.NewOrder.{NewOrder}
 use Rattle.fix_request.specs.declared.request.CancelOrder.{CancelOrder}
 use Rattle.fix_request.specs.declared.request.ReplaceOrder.{ReplaceOrder}
+use Rattle.fix_request.specs.declared.request.Px.{Px}
+use Rattle.fix_request.specs.declared.request.Px.TheVariants.{Absent}
 use Rattle.fix_request.specs.declared.request.Request.{Request}
 use Rattle.fix_request.specs.declared.request.SessionChange.{SessionChange}
 use Rattle.fix_request.specs.declared.request.Request.TheVariants.{New, Cancel, Replace, Session, Passed, Refused}
@@ -45,7 +47,7 @@ use Rattle.order_kinds.specs.Entering.{last_fill, last_after}
 use Rattle.order_kinds.specs.NewOrders.{Terms, terms_of, limit_of, least_of, order_on}
 use Rattle.order_kinds.specs.Accepting.{new_start, new_of, accepted, accepted_or_refused, new_step, after_match}
 use Rattle.order_kinds.specs.Cancels.{cancel_by, cancel_step}
-use Rattle.order_kinds.specs.Replaces.{least_kept, least_after, new_price, keeps_place, replaced_order, replaced_start, replaced_anew, replaced_in_place, replaced, replaced_or_refused, replace_at, replace_terms, replace_step}
+use Rattle.order_kinds.specs.Replaces.{least_kept, least_after, new_price, is_same_price, keeps_place, replaced_order, replaced_start, replaced_anew, replaced_in_place, replaced, replaced_or_refused, replace_at, replace_terms, replace_step}
 use Rattle.order_kinds.specs.Stops.{by_number, taker_waiting, come_in_as, come_in}
 use Rattle.order_kinds.specs.TradingSessions.{stays, expires, expiring, book_closed, market_closed, session_changed, session_step}
 use Rattle.order_kinds.specs.Step.{with_message, open_step_as, closed_step_as, request_step, step_of, events_from}
@@ -53,6 +55,7 @@ use Rattle.order_kinds.specs.Amendments.{amended_state}
 use Rattle.order_kinds.specs.Histories.{History, of_product, amended, AreRightProducts, IsHistory, last_product, length_kept, state_kept, events_kept}
 use Rattle.order_kinds.proofs.SessionSteps.{by-session}
 use Rattle.order_kinds.proofs.Amended.{follows}
+use Rattle.order_kinds.proofs.Terms.{no-trigger}
 use Rattle.order_kinds.proofs.Refusals.{PassesAsNew, new-passes, PassesAsReplace, replace-passes}
 use Rattle.balance_laws.proofs.Requests.{instrument-right, named-has}
 use Rattle.image_laws.specs.Right.{IsRightEntry}
@@ -74,7 +77,7 @@ use Rattle.market_laws.specs.Trades.{IsProtected, IsProtectedMarket}
 use Rattle.market_laws.specs.RightActs.{IsRightAct, IsAllOrNothing}
 use Rattle.market_laws.proofs.Chains.{Leads, each-with}
 use Rattle.market_laws.proofs.Sound.{IsByNumber, number-at, IsSound}
-use Rattle.market_laws.specs.Lines.{StandsBefore, LetsPass, HasReport, KeepsTheLine}
+use Rattle.market_laws.specs.Lines.{StandsBefore, LosesPlace, LetsPass, HasReport, KeepsTheLine}
 use Rattle.market_laws.specs.Markets.{IsReportOn, IsExpiry, KeepsMarketsApart, IsOut, IsNotOn, KeepsOut, IsUnreached, IsNoStopReached, ReachesNone, LeavesNoneReached}
 use Rattle.market_laws.specs.Firms.{has_firm}
 use Rattle.market_laws.proofs.FirmSums.{Adds, book_open, adds-same, adds-none, adds-nothing, AddsComing, AddsIn, accepted-adds, replaced-adds, open-without, open-with, cancelled-adds, close-adds}
@@ -132,7 +135,7 @@ pub record Starts (product : ProductLists) (state : State) (start : MatchState) 
   pub far : (j : ℕ) → j ≢ start.taker.order.instrument → AllByRecursion (IsElsewhere j start.taker.order.number) (live_orders state.book)
   pub fresh : (n : ℕ) → IsOut n state → start.taker.order.number ≢ n
   pub firms : (firm : ℕ) (told : List Event) → Adds firm told (book_open firm state.book) → AddsComing firm told start
-  pub passed : (a b : ℕ) → (start.taker.order.number ≡ a) ⊎ (start.taker.order.number ≡ b) → StandsBefore a b state.book.resting → HasReport (LetsPass a b) start.events
+  pub passed : (a b : ℕ) → (start.taker.order.number ≡ a) ⊎ (start.taker.order.number ≡ b) → StandsBefore a b state.book.resting → HasReport (LetsPass state.book.resting a b) start.events
   pub protected : IsProtectedMarket product start
 
 -- right acts from there, which leave no stop reached
@@ -171,14 +174,14 @@ acts-done product state start end s l adds fills stops =
       fills = fills on;
       firms = λ firm told k. adds firm told (s.firms firm told k);
       line = λ a b_ h x y.
-          let goes : StandsBefore a b_ (without number b.resting) → Stands a b_ start = λ k. inl (subst (λ (z : Book). StandsBefore a b_ z.resting) (sym s.book) k) in
-          let begins : Stands a b_ start = elim (eqb_tells number a) [
+          let goes : StandsBefore a b_ (without number b.resting) → Stands b.resting a b_ start = λ k. inl (subst (λ (z : Book). StandsBefore a b_ z.resting) (sym s.book) k) in
+          let begins : Stands b.resting a b_ start = elim (eqb_tells number a) [
             | inl first ↦ inr (inl (s.passed a b_ (inl first.1) h))
             | inr not_first ↦ elim (eqb_tells number b_) [
               | inl second ↦ inr (inl (s.passed a b_ (inr second.1) h))
               | inr not_second ↦ goes (before-without a b_ number b.resting (λ is. not_first.1 (sym is)) (λ is. not_second.1 (sym is)) h)
             ]
-          ] in stands-end a b_ end x y (subst (Stands a b_) l.end (acts-stand a b_ l.acts start l.each begins));
+          ] in stands-end b.resting a b_ end x y (subst (Stands b.resting a b_) l.end (acts-stand b.resting a b_ l.acts start l.each begins));
       out = λ n h.
           let other = s.fresh n h in
           let was = lacks-others n (live_orders b) h.gone in
@@ -267,6 +270,28 @@ live-whole b rest wait =
     all-append P b.resting b.waiting
     (all-with (λ (e : Entry). IsResting b.instruments e.order) P (λ e r. r.fit.whole) b.resting rest)
     (all-with (λ (e : Entry). IsWaiting b.instruments e.order) P (λ e w. omega (arith, w.fit.unfilled, w.fit.whole)) b.waiting wait)
+
+more-than : (a b : ℕ) → nat_le a b ≡ false → b < a
+more-than a b h = grind (arith, nat_tests)
+
+-- a replace that does not keep the place of an order without a stop price raises its quantity or changes its price
+same-price-self : (price : Price) → is_same_price price price ≡ true
+same-price-self price = (Decides-int_eq price.0 price.0).1 refl
+
+loses-place : (request : ReplaceOrder) (was : Order) → keeps_place request was ≡ false → request.trigger ≡ Absent → LosesPlace was (replaced_order request was)
+loses-place request was moves absent =
+    let price = new_price request.price was.price in
+    let trigger = new_price request.trigger was.trigger in
+    let go : (p t q : Bool) → is_same_price price was.price ≡ p → is_same_price trigger was.trigger ≡ t → nat_le request.quantity was.quantity ≡ q → (p && (t && q)) ≡ false → LosesPlace was (replaced_order request was) = elim [
+      | false ↦ λ t q is _ _ _. inr (λ same. (let e : true ≡ false = sym (same-price-self was.price) ∙ ap (λ (x : Price). is_same_price x was.price) same ∙ is in cc))
+      | true ↦ elim [
+        | false ↦ λ q _ is _ _. absurd (let e : true ≡ false = sym (same-price-self was.trigger) ∙ sym (ap (λ (x : Px). is_same_price (new_price x was.trigger) was.trigger) absent) ∙ is in cc)
+        | true ↦ elim [
+          | false ↦ λ _ _ is _. inl (more-than request.quantity was.quantity is)
+          | true ↦ λ _ _ _ k. absurd (let e : true ≡ false = k in cc)
+        ]
+      ]
+    ] in go (is_same_price price was.price) (is_same_price trigger was.trigger) (nat_le request.quantity was.quantity) refl refl refl moves
 
 -- no order of the book has the number
 without-fresh : (n : ℕ) (b : Book) → AllByRecursion (IsOther n) (live_orders b) → b ≡ book_without n b
@@ -423,6 +448,14 @@ module _ (product : ProductLists) (right : IsRightProduct product) (sent bound :
               record { unfilled = λ some. w.fit.unfilled; whole = λ fok. omega (arith, fok-kept was.life was.min request.quantity fok, w.fit.unfilled) }
         ]
 
+    -- a resting order has no stop price, and gets none
+    absent-trigger : (slot : ℕ) (has : HasSlot slot live) (own : (order_of slot live).firm ≡ request.sender.firm) (on : ListedInstrument) (passes : PassesAsReplace product request (order_of slot live) state on) → HasSlot slot state.book.resting → request.trigger ≡ Absent
+    absent-trigger slot has own on passes rests =
+        let b = state.book in
+        let kind = replaces.kind_is product right sent bound request state valid name h is_open slot has own on passes in
+        let r : IsResting b.instruments (order_of slot live) = subst (IsResting b.instruments) (sym (order_of-left slot b.resting b.waiting rests)) (fit_of b.instruments slot b.resting h.held.book.rest rests) in
+        no-trigger request.kind request.price request.trigger valid.prices (λ stops. (let e : Limit ≡ StopLimit = sym r.fit.kind ∙ sym kind ∙ stops in cc))
+
     anew-unreached : (slot : ℕ) (has : HasSlot slot live) (own : (order_of slot live).firm ≡ request.sender.firm) (on : ListedInstrument) (passes : PassesAsReplace product request (order_of slot live) state on) → (order_of slot live).kind ≡ StopLimit
         → IsUnreached state.last (named (order_of slot live).number (record (replaced_order request (order_of slot live)) { shown = 0 }))
     anew-unreached slot has own on passes stops =
@@ -499,8 +532,8 @@ module _ (product : ProductLists) (right : IsRightProduct product) (sent bound :
           tops = λ first. first-with slot now b.resting (all-with (IsWas slot was) (KeepsLevel slot now) (λ e is at. ap level_of (is at)) b.resting (all-front (IsWas slot was) b.resting b.waiting each)) first;
         }
 
-    anew-right : (slot : ℕ) → HasSlot slot live → (order_of slot live).firm ≡ request.sender.firm → (on : ListedInstrument) → PassesAsReplace product request (order_of slot live) state on → IsRightMessage product state (replaced_anew by_number on request slot state)
-    anew-right slot has own on passes =
+    anew-right : (slot : ℕ) → HasSlot slot live → (order_of slot live).firm ≡ request.sender.firm → (on : ListedInstrument) → PassesAsReplace product request (order_of slot live) state on → keeps_place request (order_of slot live) ≡ false → IsRightMessage product state (replaced_anew by_number on request slot state)
+    anew-right slot has own on passes moves =
         let start = replaced_start request slot state in
         let was = order_of slot live in
         let entry = entry-at product state.desk.orders slot live h.held.entries has in
@@ -521,7 +554,14 @@ module _ (product : ProductLists) (right : IsRightProduct product) (sent bound :
           fresh = λ n out is. out.gone (subst (λ (k : ℕ). HasSlot k live) (entry.slot ∙ is) has);
           firms = λ firm told k.
               replaced-adds firm told (book_open firm (book_without slot state.book)) _ was.id was start.taker.order refl (whole slot has) (left-open slot passes.filled) (adds-same firm told _ _ (sym (open-without firm slot state.book h.held.book.differ has)) k);
-          passed = λ a b which k. inl which;
+          passed = λ a b which k.
+              let b_ = state.book in
+              let rests : HasSlot slot b_.resting = elim which [
+                | inl is ↦ subst (λ (n : ℕ). HasSlot n b_.resting) (sym (entry.slot ∙ is)) (has-first a b b_.resting k)
+                | inr is ↦ subst (λ (n : ℕ). HasSlot n b_.resting) (sym (entry.slot ∙ is)) (has-second a b b_.resting k)
+              ] in
+              let same : was ≡ order_of was.number b_.resting = order_of-left slot b_.resting b_.waiting rests ∙ ap (λ (n : ℕ). order_of n b_.resting) entry.slot in
+              inl (which, subst (λ (o : Order). LosesPlace o start.taker.order) same (loses-place request was moves (absent-trigger slot has own on passes rests)));
           protected = λ market. absurd (no-market slot has market);
         })
         comes.leads comes.adds
@@ -530,10 +570,10 @@ module _ (product : ProductLists) (right : IsRightProduct product) (sent bound :
 
     replaced-right : (slot : ℕ) → HasSlot slot live → (order_of slot live).firm ≡ request.sender.firm → (on : ListedInstrument) → PassesAsReplace product request (order_of slot live) state on → IsRightMessage product state (replaced by_number on request slot state)
     replaced-right slot has own on passes =
-        let go : (c : Bool) → IsRightMessage product state (cond c (replaced_in_place request slot state) (replaced_anew by_number on request slot state)) = elim [
-          | true ↦ in-place-right slot has passes.filled
-          | false ↦ anew-right slot has own on passes
-        ] in go (keeps_place request (order_of slot live))
+        let go : (c : Bool) → keeps_place request (order_of slot live) ≡ c → IsRightMessage product state (cond c (replaced_in_place request slot state) (replaced_anew by_number on request slot state)) = elim [
+          | true ↦ λ stays. in-place-right slot has passes.filled
+          | false ↦ λ moves. anew-right slot has own on passes moves
+        ] in go (keeps_place request (order_of slot live)) refl
 
     replace-right : IsRightMessage product state (replace_step by_number product request state)
     replace-right =

@@ -130,40 +130,44 @@ module _ (a b : ℕ) where
   before-back n es is level differ ordered h =
       let W = without b es in before-put n (filter (λ e. not (is_at_earlier_level n e)) W) (filter (is_at_earlier_level n) W) is (stays-ahead (level_of n.order) n es refl (sym level) differ ordered h)
 
+module _ (old : List Entry) (a b : ℕ) where
+  abbrev Ahead : List Entry → Type 0
+  Ahead es = StandsBefore a b es
+
   -- ---- acts
 
   abbrev Passed : List Event → Type 0
-  Passed events = HasReport (LetsPass a b) events
+  Passed events = HasReport (LetsPass old a b) events
 
   passed-more : (xs ys : List Event) → Passed xs → Passed (xs ++ ys)
   passed-more [] ys h = absurd h
   passed-more (x ∷ xs) ys h = elim h [ inl k ↦ inl k | inr m ↦ inr (passed-more xs ys m) ]
 
-  passed-last : (xs : List Event) (x : Event) → LetsPass a b x → Passed (xs ++ x ∷ [])
+  passed-last : (xs : List Event) (x : Event) → LetsPass old a b x → Passed (xs ++ x ∷ [])
   passed-last [] x h = inl h
   passed-last (y ∷ xs) x h = inr (passed-last xs x h)
 
   -- the one stands before the other, or may have been passed, or one of them is gone
   abbrev pub Stands : MatchState → Type 0
-  Stands m = Before m.book.resting ⊎ (Passed m.events ⊎ (IsAway a m ⊎ IsAway b m))
+  Stands m = Ahead m.book.resting ⊎ (Passed m.events ⊎ (IsAway a m ⊎ IsAway b m))
 
   -- another order trades
-  settled-other : (s : ℕ) (o : Order) (es : List Entry) → a ≢ s → b ≢ s → EachPair AreInBookOrder es → Before es → Before (settled s o es)
+  settled-other : (s : ℕ) (o : Order) (es : List Entry) → a ≢ s → b ≢ s → EachPair AreInBookOrder es → Ahead es → Ahead (settled s o es)
   settled-other s o es first second ordered h =
-      let left = before-without s es first second h in
+      let left = before-without a b s es first second h in
       elim (eqb_tells o.leaves 0) [
-        | inl t ↦ subst Before (sym (settled-gone s o es t.1)) left
+        | inl t ↦ subst Ahead (sym (settled-gone s o es t.1)) left
         | inr t ↦ elim (eqb_tells o.shown 0) [
-          | inl u ↦ subst Before (sym (settled-back s o es t.1 u.1)) (before-placed (back_entry s o es) (without s es) (pairs-filter AreInBookOrder (λ e. not (e.slot == s)) es ordered) left)
-          | inr u ↦ subst Before (sym (settled-stays s o es t.1 u.1)) (before-with s o es h)
+          | inl u ↦ subst Ahead (sym (settled-back s o es t.1 u.1)) (before-placed a b (back_entry s o es) (without s es) (pairs-filter AreInBookOrder (λ e. not (e.slot == s)) es ordered) left)
+          | inr u ↦ subst Ahead (sym (settled-stays s o es t.1 u.1)) (before-with a b s o es h)
         ]
       ]
 
   -- the order that stands after trades, and some of it is open
-  settled-second : (s : ℕ) (o : Order) (es : List Entry) → s ≡ b → o.leaves ≢ 0 → level_of o ≡ level_of (order_of s es) → AllDiffer es → EachPair AreInBookOrder es → Before es → Before (settled s o es)
+  settled-second : (s : ℕ) (o : Order) (es : List Entry) → s ≡ b → o.leaves ≢ 0 → level_of o ≡ level_of (order_of s es) → AllDiffer es → EachPair AreInBookOrder es → Ahead es → Ahead (settled s o es)
   settled-second s o es is some level differ ordered h = elim (eqb_tells o.shown 0) [
-    | inl u ↦ subst Before (sym (settled-back s o es some u.1)) (subst (λ (k : ℕ). Before (placed (back_entry s o es) (without k es))) (sym is) (before-back (back_entry s o es) es is (level ∙ ap (λ (k : ℕ). level_of (order_of k es)) is) differ ordered h))
-    | inr u ↦ subst Before (sym (settled-stays s o es some u.1)) (before-with s o es h)
+    | inl u ↦ subst Ahead (sym (settled-back s o es some u.1)) (subst (λ (k : ℕ). Ahead (placed (back_entry s o es) (without k es))) (sym is) (before-back a b (back_entry s o es) es is (level ∙ ap (λ (k : ℕ). level_of (order_of k es)) is) differ ordered h))
+    | inr u ↦ subst Ahead (sym (settled-stays s o es some u.1)) (before-with a b s o es h)
   ]
 
   -- an order that is traded whole is gone
@@ -181,7 +185,7 @@ module _ (a b : ℕ) where
         wait = lacks-others n b.waiting (λ k. slots-apart s es b.waiting right.differ has (subst (λ (x : ℕ). HasSlot x b.waiting) (sym is) k));
       }
 
-  trade-stands : (step : StepName) (s lots : ℕ) (m : MatchState) → IsSound (trades step s lots) m → Before m.book.resting → Stands (after (trades step s lots) m)
+  trade-stands : (step : StepName) (s lots : ℕ) (m : MatchState) → IsSound (trades step s lots) m → Ahead m.book.resting → Stands (after (trades step s lots) m)
   trade-stands step s lots m sound h =
       let b_ = m.book in
       let es = b_.resting in
@@ -194,7 +198,7 @@ module _ (a b : ℕ) where
           | inl none ↦ inr (inr (inl (traded-gone a s lots step m sound first.1 none.1)))
           | inr some ↦ elim (eqb_tells now.shown 0) [
             | inl used ↦ inr (inl (passed-more _ _ (passed-last m.events _ (number ∙ first.1, used.1))))
-            | inr left ↦ inl (subst Before (sym (settled-stays s now es some.1 left.1)) (before-with s now es h))
+            | inr left ↦ inl (subst Ahead (sym (settled-stays s now es some.1 left.1)) (before-with a b s now es h))
           ]
         ]
         | inr not_first ↦ elim (eqb_tells s b) [
@@ -206,29 +210,29 @@ module _ (a b : ℕ) where
         ]
       ]
 
-  rest-stands : (steps : List Step) (m : MatchState) → IsSound (rests steps) m → Before m.book.resting → Before (after (rests steps) m).book.resting
+  rest-stands : (steps : List Step) (m : MatchState) → IsSound (rests steps) m → Ahead m.book.resting → Ahead (after (rests steps) m).book.resting
   rest-stands steps m sound h =
       let o = as_limit m.taker.order in
       let es = m.book.resting in
       let ordered = sound.book.right.ordered in
       let N = λ (top : Bool). let x : Entry = record { slot = m.taker.order.number; order = record o { shown = first_shown o }; is_top = top } in x in
-      let go : (best : Bool) → Before (placed (N (best && makes_top (top_min_of steps) o.leaves)) (cond best (with_top o.instrument o.side None es) es)) = elim [
-        | true ↦ before-placed (N (makes_top (top_min_of steps) o.leaves)) (with_top o.instrument o.side None es) (ordered-marked o.instrument o.side None es ordered) (before-map (topped o.instrument o.side None) (λ e. refl) es h)
-        | false ↦ before-placed (N false) es ordered h
+      let go : (best : Bool) → Ahead (placed (N (best && makes_top (top_min_of steps) o.leaves)) (cond best (with_top o.instrument o.side None es) es)) = elim [
+        | true ↦ before-placed a b (N (makes_top (top_min_of steps) o.leaves)) (with_top o.instrument o.side None es) (ordered-marked o.instrument o.side None es ordered) (before-map a b (topped o.instrument o.side None) (λ e. refl) es h)
+        | false ↦ before-placed a b (N false) es ordered h
       ] in go (is_new_best o es)
 
-  trigger-stands : (stop : Entry) (m : MatchState) → IsSound (triggers stop) m → Before m.book.resting → Before (after (triggers stop) m).book.resting
+  trigger-stands : (stop : Entry) (m : MatchState) → IsSound (triggers stop) m → Ahead m.book.resting → Ahead (after (triggers stop) m).book.resting
   trigger-stands stop m sound h =
       let b_ = m.book in
       let differ = sound.book.right.differ in
       let stands = marked-stands m.taker.order.instrument (fill_range m.events) b_.waiting stop (AllDiffer-back b_.resting b_.waiting differ) sound.is in
       let other : (n : ℕ) → HasSlot n b_.resting → n ≢ stop.slot = λ n rests is. slots-apart stop.slot b_.resting b_.waiting differ (subst (λ (k : ℕ). HasSlot k b_.resting) is rests) stands.has in
-      before-without stop.slot b_.resting (other a (has-first b_.resting h)) (other b (has-second b_.resting h)) h
+      before-without a b stop.slot b_.resting (other a (has-first a b b_.resting h)) (other b (has-second a b b_.resting h)) h
 
   -- while it stands before the other one
-  ahead-stands : (act : Act) (m : MatchState) → IsSound act m → Before m.book.resting → Stands (after act m)
+  ahead-stands : (act : Act) (m : MatchState) → IsSound act m → Ahead m.book.resting → Stands (after act m)
   ahead-stands (trades step s lots) m sound h = trade-stands step s lots m sound h
-  ahead-stands (notes s lots) m sound h = inl (before-with s (record (order_of s m.book.resting) { prorated = lots }) m.book.resting h)
+  ahead-stands (notes s lots) m sound h = inl (before-with a b s (record (order_of s m.book.resting) { prorated = lots }) m.book.resting h)
   ahead-stands (rests steps) m sound h = inl (rest-stands steps m sound h)
   ahead-stands (cancels why) m sound h = inl h
   ahead-stands waits m sound h = inl h
@@ -260,7 +264,7 @@ module _ (a b : ℕ) where
   acts-stand (act ∷ acts) m each h = acts-stand acts (after act m) each.1 (act-stands act m each.0 h)
 
   -- two orders that rest at the end are not gone
-  pub stands-end : (m : MatchState) → HasSlot a m.book.resting → HasSlot b m.book.resting → Stands m → Before m.book.resting ⊎ Passed m.events
+  pub stands-end : (m : MatchState) → HasSlot a m.book.resting → HasSlot b m.book.resting → Stands m → Ahead m.book.resting ⊎ Passed m.events
   stands-end m x y h = elim h [
     | inl ahead ↦ inl ahead
     | inr other ↦ elim other [

@@ -51,7 +51,7 @@ pub fn nobody_is_traded_through()
 {}
 
 /// First come, first served: in a FIFO step the first in line trades first, and of two orders that rest the first stays before the
-/// other one, unless nothing of it is shown any more or one of them is replaced.
+/// other one, unless nothing of it is shown any more or one of them is replaced with another price or a greater quantity.
 pub fn the_first_in_line_trades_first()
     ensures trades { OfEachTrade IsFirst }
     ensures line { OfEachMessage KeepsTheLine }
