@@ -24,13 +24,13 @@ use Rattle.market_laws.specs.Firms.{Told, told, DifferInFirms}
 use Rattle.market_laws.proofs.Proportion.{filter-firms, blind-shares}
 
 module _ (firm : ℕ → ℕ) where
-  abbrev by_slot : Entry → ℕ
+  abbrev pub by_slot : Entry → ℕ
   by_slot e = firm e.slot
 
-  abbrev F : List Entry → List Entry
+  abbrev pub F : List Entry → List Entry
   F es = of_firms by_slot es
 
-  abbrev with_firm : ℕ → Order → Order
+  abbrev pub with_firm : ℕ → Order → Order
   with_firm f o = record o { firm = f }
 
   -- ---- lists
@@ -43,10 +43,10 @@ module _ (firm : ℕ → ℕ) where
   price-same [] = refl
   price-same (e ∷ es) = refl
 
-  side-same : (i : ℕ) (d : Side) (es : List Entry) → side_of i d (F es) ≡ F (side_of i d es)
+  pub side-same : (i : ℕ) (d : Side) (es : List Entry) → side_of i d (F es) ≡ F (side_of i d es)
   side-same i d es = filter-firms by_slot (is_on i d) (λ e. refl) es
 
-  best-same : (i : ℕ) (d : Side) (es : List Entry) → best_of i d (F es) ≡ best_of i d es
+  pub best-same : (i : ℕ) (d : Side) (es : List Entry) → best_of i d (F es) ≡ best_of i d es
   best-same i d es = ap price_of (side-same i d es) ∙ price-same (side_of i d es)
 
   top-same : (i : ℕ) (d : Side) (es : List Entry) → top_of i d (F es) ≡ top_of i d es
@@ -73,7 +73,7 @@ module _ (firm : ℕ → ℕ) where
   order-at : (s : ℕ) (es : List Entry) → HasSlot s es → order_of s (F es) ≡ with_firm (firm s) (order_of s es)
   order-at s es h = order-same s es ∙ ap (λ (f : ℕ). with_firm f (order_of s es)) (firm-at s es h)
 
-  without-same : (s : ℕ) (es : List Entry) → without s (F es) ≡ F (without s es)
+  pub without-same : (s : ℕ) (es : List Entry) → without s (F es) ≡ F (without s es)
   without-same s es = filter-firms by_slot (λ e. not (e.slot == s)) (λ e. refl) es
 
   with-same : (s : ℕ) (o now : Order) (es : List Entry) → (HasSlot s es → now ≡ with_firm (firm s) o) → with_order s now (F es) ≡ F (with_order s o es)
@@ -90,7 +90,7 @@ module _ (firm : ℕ → ℕ) where
       ] in
       ap (λ (x : Entry). x ∷ with_order s now (F es)) one ∙ ap (λ (l : List Entry). of_firm by_slot (reordered s o e) ∷ l) (with-same s o now es (λ k. h (inr k)))
 
-  placed-same : (n : Entry) (es : List Entry) → placed (of_firm by_slot n) (F es) ≡ F (placed n es)
+  pub placed-same : (n : Entry) (es : List Entry) → placed (of_firm by_slot n) (F es) ≡ F (placed n es)
   placed-same n es =
       let p = is_at_earlier_level n in
       let q = λ (e : Entry). not (p e) in
@@ -132,17 +132,17 @@ module _ (firm : ℕ → ℕ) where
 
   -- ---- a trade
 
-  told-one : (xs ys : List Event) (x y : Event) → map told xs ≡ map told ys → told x ≡ told y → map told (xs ++ x ∷ []) ≡ map told (ys ++ y ∷ [])
+  pub told-one : (xs ys : List Event) (x y : Event) → map told xs ≡ map told ys → told x ≡ told y → map told (xs ++ x ∷ []) ≡ map told (ys ++ y ∷ [])
   told-one xs ys x y h k =
       map-append told xs (x ∷ []) ∙ ap (λ (l : List (Option Told)). l ++ told x ∷ []) h ∙ ap (λ (t : Option Told). map told ys ++ t ∷ []) k ∙ sym (map-append told ys (y ∷ []))
 
-  abbrev Alike : MatchState → MatchState → Type 0
+  abbrev pub Alike : MatchState → MatchState → Type 0
   Alike a b = DifferInFirms firm a b
 
-  number-same : (a b : MatchState) → Alike a b → b.taker.order.number ≡ a.taker.order.number
+  pub number-same : (a b : MatchState) → Alike a b → b.taker.order.number ≡ a.taker.order.number
   number-same a b h = ap (λ (o : Order). o.number) h.incoming
 
-  leaves-same : (a b : MatchState) → Alike a b → b.taker.order.leaves ≡ a.taker.order.leaves
+  pub leaves-same : (a b : MatchState) → Alike a b → b.taker.order.leaves ≡ a.taker.order.leaves
   leaves-same a b h = ap (λ (o : Order). o.leaves) h.incoming
 
   trade-alike : (step : StepName) (s n : ℕ) (a b : MatchState) → Alike a b → Alike (trade step s n a) (trade step s n b)

@@ -15,6 +15,7 @@ mod Closings
 mod Messages
 mod Lifted
 mod Firms
+mod FirmsComing
 mod TopFirst
 mod Lasting
 mod Proportion

@@ -125,11 +125,11 @@ left-unreached i events last es none h =
 -- ---- rounds of stops
 
 -- an order that is entered changes no waiting stop, and keeps its instrument
-record IsEntered (m end : MatchState) : Type 0 where
-  waiting : end.book.waiting ≡ m.book.waiting
-  instrument : end.taker.order.instrument ≡ m.taker.order.instrument
+pub record IsEntered (m end : MatchState) : Type 0 where
+  pub waiting : end.book.waiting ≡ m.book.waiting
+  pub instrument : end.taker.order.instrument ≡ m.taker.order.instrument
 
-entered-waits : (name : ℕ) (steps : List Step) (m : MatchState) → IsEntered m (entered name steps m)
+pub entered-waits : (name : ℕ) (steps : List Step) (m : MatchState) → IsEntered m (entered name steps m)
 entered-waits name steps m =
     let price = m.taker.order.price in
     let swept = sweep steps price m in

@@ -18,13 +18,14 @@ ghost use Rattle.level_sweep.specs.Sweep.{sweep};
 ghost use Rattle.match_laws.specs.Laws.{lots_shared, IsUncrossed};
 ghost use Rattle.line_laws.specs.Lines.{with_pairs};
 ghost use Rattle.order_kinds.specs.State.{State};
+ghost use Rattle.order_kinds.specs.Stops.{by_number, come_in};
 ghost use Rattle.order_kinds.specs.Step.{with_message, step_of};
 ghost use Rattle.order_kinds.specs.Amendments.{amended_state};
 ghost use Rattle.order_kinds.specs.Histories.{History, AreRightProducts, IsHistory, last_product, with_messages, state_kept, events_kept};
 ghost use Rattle.order_kinds.specs.Balance.{last_open};
 ghost use Rattle.market_laws.specs.Streams.{OfEachHistory, OfEachState, OfEachReport, OfEachMessage};
 ghost use Rattle.market_laws.specs.Acts.{EachAct, InEachMessage, OfEachTrade};
-ghost use Rattle.market_laws.specs.Firms.{DifferInFirms, IsBalancedFor};
+ghost use Rattle.market_laws.specs.Firms.{DifferInFirms, DifferInFirmsAlone, AreStopsNumbered, IsBalancedFor};
 ghost use Rattle.market_laws.specs.Trades.{IsWithinLimits, KeepsLimit, IsProtectedMarket, IsAtBest, IsFirst, IsFit, IsNoStop};
 ghost use Rattle.market_laws.specs.RightActs.{IsRightAct, KeepsMinimum, IsTopByPrice};
 ghost use Rattle.market_laws.specs.Lines.{KeepsTheLine};
@@ -127,10 +128,13 @@ pub fn markets_are_apart()
 {}
 
 /// Firms are equal: but for LMM, the shares of a step do not change with the firms of the orders, whatever they are, and a sweep
-/// by such steps trades the same lots of the same orders.
+/// by such steps trades the same lots of the same orders. So does all that an order does that comes in, with the stops that it
+/// triggers.
 pub fn firms_are_equal()
     ensures shares { (firm : Entry → ℕ) (step : Step) (top : Option ℕ) (wanted : ℕ) (es : List Entry) → IsBlind step → shares_of step top wanted (of_firms firm es) ≡ shares_of step top wanted es }
     ensures sweep { (firm : ℕ → ℕ) (steps : List Step) (limit : Price) (a b : MatchState) → AllByRecursion IsBlind steps → DifferInFirms firm a b → DifferInFirms firm (sweep steps limit a) (sweep steps limit b) }
+    ensures comes_in { (firm : ℕ → ℕ) (steps : List Step) (a b : MatchState) → AllByRecursion IsBlind steps → AreStopsNumbered a → DifferInFirmsAlone firm a b
+        → DifferInFirmsAlone firm (come_in by_number steps a) (come_in by_number steps b) }
 {}
 
 /// A firm's fills add up: what its orders entered is filled, open, or cancelled.
