@@ -68,7 +68,8 @@ pub fn shares_are_in_proportion()
 pub fn steps_keep_their_percent()
     ensures split { (percent wanted : ℕ) (es : List Entry) → lots_shared (split_shares percent wanted es) * 100 ≤ wanted * percent }
     ensures maker { (maker : LmmShare) (wanted : ℕ) (es : List Entry) → lots_shared (lmm_shares (maker ∷ []) wanted es) * 100 ≤ wanted * maker.percent }
-    ensures top { (most : ℕ) (top : Option ℕ) (wanted : ℕ) (es : List Entry) → AllByRecursion (λ (share : Share). share.1 ≤ most) (top_shares most top wanted es) }
+    ensures top { (most : ℕ) (top : Option ℕ) (wanted : ℕ) (es : List Entry)
+        → AllByRecursion (λ (share : Share). share.1 ≤ most) (top_shares most top wanted es) }
 {}
 
 /// The TOP order of a side is the first in line there, and came to rest at a better price than every order there.
@@ -106,7 +107,9 @@ pub fn acts_are_right()
 /// Out means out. An order of which nothing is open by its last report is out, and one that is out is never reported again, whatever
 /// messages and amendments follow.
 pub fn out_means_out()
-    ensures closed { (number : ℕ) → OfEachHistory (λ history. number ≤ (state_kept history).desk.orders → last_open number (events_kept history) ≡ 0 → IsOut number (state_kept history)) }
+    ensures closed { (number : ℕ) → OfEachHistory (λ history.
+        let state = state_kept history in
+        number ≤ state.desk.orders → last_open number (events_kept history) ≡ 0 → IsOut number state) }
     ensures never { (number : ℕ) (history : History) (messages : List (List ℕ)) (pairs : List (ProductLists × List (List ℕ))) (more : List Event)
         → let longer = with_pairs (with_messages history messages) pairs in AreRightProducts longer → IsHistory longer
         → IsOut number (state_kept history) → events_kept longer ≡ events_kept history ++ more → AllByRecursion (IsNotOn number) more }
@@ -117,7 +120,8 @@ pub fn cancels_are_never_refused()
     ensures { (next : List ℕ) (request : CancelOrder) → OfEachHistory (λ history.
         let product = last_product history in
         let state = state_kept history in
-        request_of product next ≡ Cancel request → is_live request.sender.firm request.old (live_orders state.book) ≡ true → IsCancelled request (with_message state) (step_of product state next)) }
+        request_of product next ≡ Cancel request → is_live request.sender.firm request.old (live_orders state.book) ≡ true
+        → IsCancelled request (with_message state) (step_of product state next)) }
 {}
 
 /// Markets are apart: each message has one instrument and changes no other market, or it closes each market by the same rule. An
@@ -131,10 +135,12 @@ pub fn markets_are_apart()
 /// by such steps trades the same lots of the same orders. So does all that an order does that comes in, with the stops that it
 /// triggers.
 pub fn firms_are_equal()
-    ensures shares { (firm : Entry → ℕ) (step : Step) (top : Option ℕ) (wanted : ℕ) (es : List Entry) → IsBlind step → shares_of step top wanted (of_firms firm es) ≡ shares_of step top wanted es }
-    ensures sweep { (firm : ℕ → ℕ) (steps : List Step) (limit : Price) (a b : MatchState) → AllByRecursion IsBlind steps → DifferInFirms firm a b → DifferInFirms firm (sweep steps limit a) (sweep steps limit b) }
-    ensures comes_in { (firm : ℕ → ℕ) (steps : List Step) (a b : MatchState) → AllByRecursion IsBlind steps → AreStopsNumbered a → DifferInFirmsAlone firm a b
-        → DifferInFirmsAlone firm (come_in by_number steps a) (come_in by_number steps b) }
+    ensures shares { (firm : Entry → ℕ) (step : Step) (top : Option ℕ) (wanted : ℕ) (es : List Entry) → IsBlind step
+        → shares_of step top wanted (of_firms firm es) ≡ shares_of step top wanted es }
+    ensures sweep { (firm : ℕ → ℕ) (steps : List Step) (limit : Price) (a b : MatchState) → AllByRecursion IsBlind steps
+        → DifferInFirms firm a b → DifferInFirms firm (sweep steps limit a) (sweep steps limit b) }
+    ensures comes_in { (firm : ℕ → ℕ) (steps : List Step) (a b : MatchState) → AllByRecursion IsBlind steps → AreStopsNumbered a
+        → DifferInFirmsAlone firm a b → DifferInFirmsAlone firm (come_in by_number steps a) (come_in by_number steps b) }
 {}
 
 /// A firm's fills add up: what its orders entered is filled, open, or cancelled.
