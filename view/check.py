@@ -365,11 +365,11 @@ def check_moving(checks, browser, page, folder):
     browser.press("ArrowLeft")
     checks.same("arrow keys", browser.tell(SHOWN)["title"], "After message 3")
     browser.tell("document.getElementById('order').value = 3; document.getElementById('order').dispatchEvent(new Event('change'))")
-    browser.wait_for("location.hash !== '#message=2'")
-    checks.same("the link is kept", browser.tell("location.hash"), "#message=3&order=3")
-    life = browser.tell("[...document.querySelectorAll('#life tbody tr')].map(row => [...row.cells].map(cell => cell.textContent).join(' '))")
-    ledger = [line for line in (folder.path / "ledger.txt").read_text().splitlines() if line.startswith("#3 ")]
-    checks.same("the life of an order", len(life), len(ledger))
+    browser.wait_for("location.hash === '#message=3&order=3'")
+    life = browser.tell("[...document.querySelectorAll('#life tbody tr')]"
+                        ".map(row => [...row.cells].slice(2).map(cell => cell.textContent))")
+    ledger = [line.split()[2::2] for line in (folder.path / "ledger.txt").read_text().splitlines() if line.startswith("#3 ")]
+    checks.same("the life of an order", life, ledger)
 
 
 def check_unreadable(checks, browser, page):
