@@ -2,6 +2,7 @@
 
 A case is a product, the messages that fill its book, and messages of one kind. `instructions_of` serves the book alone, and then the book
 with those messages, and divides what the others took by their number. Callgrind counts, so the numbers are the same in each run.
+What a message costs as its book grows is counted by `growth.py`.
 """
 
 import dataclasses
@@ -20,21 +21,18 @@ COLLECTED = re.compile(r"Collected : (\d+)")
 MAKERS = ["BBB", "CCC", "DDD", "EEE", "FFF", "GGG", "HHH", "III"]
 
 
+def product_text(letter="", orders=MOST_ORDERS):
+    """The product of the stored run with nine firms and room for so many orders, and with other keys in place of the letter F."""
+    text = streams.product_text(f"max_orders = {orders}\njournal_limit = 268435456\n", ["AAA", *MAKERS])
+    return text.replace('algorithm = "F"', letter or 'algorithm = "F"')
+
+
 @dataclasses.dataclass
 class Case:
     name: str
     book: list
     messages: list
-    letter: str = ""
-
-
-def product_text(letter="", orders=MOST_ORDERS):
-    """The product of the stored run with nine firms and room for so many orders, and with other keys in place of the letter F."""
-    head, instrument = pathlib.Path(streams.PRODUCT).read_text().split("\n\n", 1)
-    firms = ", ".join(f'"{firm}"' for firm in ["AAA", *MAKERS])
-    head = re.sub(r"firms = .*", f"firms = [{firms}]", head)
-    instrument = instrument.replace('algorithm = "F"', letter or 'algorithm = "F"')
-    return f"{head}\nmax_orders = {orders}\njournal_limit = 268435456\n\n{instrument}"
+    product: str = dataclasses.field(default_factory=product_text)
 
 
 def market_makers(percent):
@@ -93,9 +91,6 @@ def far_stops(count):
 def stop_cases(scale):
     """The cases of stops, so many times smaller."""
     more, half = 1_000 // scale, 50_000 // scale
-    pairs = [entered(f"p{k}", 2 - k % 2, 1, MIDDLE) for k in range(2 * more)]
-    for count in (0, 10_000 // scale, half):
-        yield Case(f"an order, every other of which trades, {count:,} stops that none reaches", far_stops(count), pairs)
     yield Case(f"a stop that comes, {half:,} stops", far_stops(half), [stop(f"n{k}", 1, 1, 2 * MIDDLE, 2 * MIDDLE) for k in range(more)])
     yield Case(f"a cancel of a stop, {half:,} stops", far_stops(half), [cancelled(f"w{7 * k}") for k in range(more)])
 
@@ -105,10 +100,7 @@ def cases(scale):
     yield from stop_cases(scale)
     most, more = 95_000 // scale, 1_000 // scale
     half = 50_000 // scale
-    worse = lambda levels: [entered(f"w{k}", 2, 1, MIDDLE + levels + 1 + k) for k in range(more)]
     unfilled = [entered(f"f{k}", 1, 999_999, 2 * MIDDLE, "59=4|") for k in range(more)]
-    for levels in (1_000, 40_000 // scale, most):
-        yield Case(f"a new order at the worst price, {levels:,} levels", falling(levels), worse(levels))
     yield Case(f"a cancel of the worst price, {most:,} levels", falling(most), [cancelled(f"s{k}") for k in range(more)])
     yield Case(
         f"a trade that closes the best of {most:,} levels",
@@ -128,19 +120,19 @@ def cases(scale):
         f"a buy of one lot, {half:,} orders at a price, 8 market makers without orders",
         at_one_price(half, ["AAA"]),
         [entered(f"b{k}", 1, 1, MIDDLE) for k in range(more)],
-        market_makers(10),
+        product_text(market_makers(10)),
     )
     yield Case(
         f"a buy of {half // 2:,} lots, {half:,} orders at a price, 8 market makers without orders",
         at_one_price(half, ["AAA"]),
         [entered("b", 1, half // 2, MIDDLE)],
-        market_makers(10),
+        product_text(market_makers(10)),
     )
     yield Case(
         f"a buy of {half // 2:,} lots, {half:,} orders at a price, 8 market makers with orders",
         at_one_price(half, MAKERS),
         [entered("b", 1, half // 2, MIDDLE)],
-        market_makers(10),
+        product_text(market_makers(10)),
     )
 
 
@@ -155,8 +147,8 @@ def counted(program, product, frames):
 
 def instructions_of(program, case):
     """How many instructions each of the case's messages takes."""
-    product = product_text(case.letter)
-    return (counted(program, product, case.book + case.messages) - counted(program, product, case.book)) / len(case.messages)
+    before, after = (counted(program, case.product, frames) for frames in (case.book, case.book + case.messages))
+    return (after - before) / len(case.messages)
 
 
 def print_instructions(program, scale):

@@ -31,6 +31,7 @@ GRID = KINDS["plain"][1]
 INK, SOFT = LIGHT["ink"], LIGHT["soft"]
 STRONG = {kind: colours[2] for kind, colours in KINDS.items()}
 LINES = ["blue", "orange", "green", "violet"]
+GROWTH = [["live orders"], ["levels"], ["waiting stops"], ["firms", "instruments"]]
 PARTS = {
     "making": "yellow",
     "framing": "teal",
@@ -177,28 +178,36 @@ def draw_lines(ax, rows, named, x, y):
     ax.tick_params(length=0)
 
 
-def instructions_of(row):
-    return number(row["instructions"]) / number(row["divided by"])
+def scale_counts(ax, counts):
+    """A scale on which each tenfold count is as far from the one before it, from 0 on where that is a count."""
+    if 0 in counts:
+        ax.set_xscale("symlog", linthresh=100)
+    else:
+        ax.set_xscale("log")
+    if max(counts) < 100:
+        ax.set_xticks(sorted(counts))
+    ax.xaxis.set_major_formatter(thousands)
+    ax.minorticks_off()
 
 
 def draw_growth():
     rows = rows_of("growth.csv")
-    subjects = list(dict.fromkeys(row["grows"] for row in rows))
     figure, axes = begun(9.6, 6.4, nrows=2, ncols=2)
     figure.get_layout_engine().set(h_pad=0.12, w_pad=0.1)
-    for ax, subject in zip(axes.flat, subjects):
-        its = [row for row in rows if row["grows"] == subject]
-        draw_lines(ax, its, "line", lambda row: number(row["count"]), instructions_of)
-        if subject == "live orders":
-            ax.set_xscale("log")
-            ax.xaxis.set_major_formatter(thousands)
-            ax.minorticks_off()
+    for ax, subjects in zip(axes.flat, GROWTH):
+        its = [row for row in rows if row["grows"] in subjects]
+        if not its:
+            ax.set_axis_off()
+            continue
+        draw_lines(ax, its, "line", lambda row: number(row["count"]), lambda row: number(row["instructions"]))
+        scale_counts(ax, {int(row["count"]) for row in its})
         top = ax.get_ylim()[1]
         ax.set_ylim(0, top * 1.45)
-        ax.set_title(f"More {subject}")
+        ax.set_title(f"More {' or '.join(subjects)}")
         ax.set_ylabel("instructions")
         ax.legend(loc="upper left")
-    desc = "; ".join(f"{row['line']}, {thousands(number(row['count']))} {row['grows']}: {thousands(instructions_of(row))}" for row in rows)
+    told = (f"{row['line']}, {thousands(number(row['count']))} {row['grows']}: {thousands(number(row['instructions']))}" for row in rows)
+    desc = "; ".join(told)
     save(figure, "growth.svg", "What a message costs as the book grows, in instructions", desc)
 
 
@@ -261,7 +270,7 @@ def check():
     for path in sorted(FIGURES.glob("*.csv")):
         for row in rows_of(path.name):
             for column, value in row.items():
-                if column not in (ANOTHER, "divided by") and value.isdigit() and value != "0" and f"{int(value):,}" not in told:
+                if column != ANOTHER and value.isdigit() and value != "0" and f"{int(value):,}" not in told:
                     print(f"{path.name}: {column} {int(value):,} is not in docs/BENCH.md")
                     wrong = 1
     return wrong
