@@ -108,8 +108,7 @@ def made_rows(program, count, with_functions):
     with tempfile.TemporaryDirectory(dir=streams.MEMORY_FOLDER) as folder:
         streams.write_product(folder, KEYS)
         first, _ = streams.made(program, folder, count)
-        all_of_them, line = streams.made(program, folder, count + MORE)
-    live = int(line.rsplit(" ", 1)[1])
+        all_of_them, live = streams.made(program, folder, count + MORE)
     drilled = [profile_of(program, [*DRILL, str(count + more)], b"") for more in (0, MORE)]
     row("drill, made", live, *drilled, with_functions)
     ran = [profile_of(program, ["run"], b"".join(frames)) for frames in (first, all_of_them)]

@@ -1,6 +1,8 @@
 """Streams of FIX frames, always the same ones, and what the other scripts of this folder share."""
 
 import os
+import pathlib
+import re
 import subprocess
 
 TOP = os.path.dirname(os.path.dirname(os.path.abspath(__file__)))
@@ -10,14 +12,22 @@ MEMORY_FOLDER = "/dev/shm"
 JOURNAL = "journal.gxj"
 
 FIRMS = ["AAA", "BBB", "CCC", "DDD"]
+INSTRUMENT = "ESZ4"
+FRAME = re.compile(rb"8=.*?\x0110=\d{3}\x01")
+
+
+def product_text(keys="", firms=FIRMS, instruments=(INSTRUMENT,)):
+    """The product of the stored run for these firms and instruments, with more keys before its instruments."""
+    head, instrument = pathlib.Path(PRODUCT).read_text().split("\n\n", 1)
+    listed = ", ".join(f'"{firm}"' for firm in firms)
+    head = re.sub(r"firms = .*", f"firms = [{listed}]", head)
+    each = "\n".join(instrument.replace(INSTRUMENT, name) for name in instruments)
+    return f"{head}\n{keys}\n{each}"
 
 
 def write_product(folder, keys=""):
     """The product of the stored run in a folder, with more keys before its instruments."""
-    with open(PRODUCT) as file:
-        head, instruments = file.read().split("\n\n", 1)
-    with open(os.path.join(folder, "product.toml"), "w") as file:
-        file.write(f"{head}\n{keys}\n{instruments}")
+    pathlib.Path(folder, "product.toml").write_text(product_text(keys))
 
 
 def payloads(journal):
@@ -47,8 +57,8 @@ def price_text(price):
     return f"{price // 100}.{price % 100:02d}"
 
 
-def order(firm, number, side, lots, price):
-    return frame(head("D", firm, number) + f"55=ESZ4|54={side}|38={lots}|40=2|44={price_text(price)}|59=0|")
+def order(firm, number, side, lots, price, instrument=INSTRUMENT):
+    return frame(head("D", firm, number) + f"55={instrument}|54={side}|38={lots}|40=2|44={price_text(price)}|59=0|")
 
 
 def cancel(firm, number, old):
@@ -67,19 +77,21 @@ def draws(seed):
         yield state // 65_536
 
 
-def mixed(seed, count):
-    """So many messages, eight orders to two cancels, at prices that cross now and then."""
+def mixed(seed, count, firms=FIRMS, instruments=(INSTRUMENT,)):
+    """So many messages, eight orders to two cancels, at prices that cross now and then. The firms take turns by message, and the
+    instruments by eight messages, of which four buy; all else is the same whatever these are."""
     draw = draws(seed)
     frames = []
     for number in range(1, count + 1):
-        firm = FIRMS[number % 4]
+        firm = firms[number % len(firms)]
         if next(draw) % 10 < 8:
             side = 1 + number // 4 % 2
             price = (9_900 if side == 1 else 9_990) + next(draw) % 110
-            frames.append(order(firm, number, side, next(draw) % 100 + 1, price))
+            instrument = instruments[number // 8 % len(instruments)]
+            frames.append(order(firm, number, side, next(draw) % 100 + 1, price, instrument))
         else:
             old = max(number - 4 * (1 + next(draw) % 100), 1)
-            frames.append(cancel(FIRMS[old % 4], number, old))
+            frames.append(cancel(firms[old % len(firms)], number, old))
     return frames
 
 
@@ -111,10 +123,10 @@ def changing(live, count):
 
 
 def made(program, folder, count):
-    """The messages of a drill, and the line that it prints. Leaves no journal."""
+    """The messages of a drill, and how many orders live after them. Leaves no journal."""
     words = [program, "drill", "--first", "1", "--count", str(count)]
     done = subprocess.run(words, check=True, cwd=folder, stdout=subprocess.PIPE)
     journal = os.path.join(folder, JOURNAL)
-    frames = payloads(journal)
+    frames = FRAME.findall(b"".join(payloads(journal)))
     os.remove(journal)
-    return frames, done.stdout.decode().strip()
+    return frames, int(done.stdout.split()[-1])
