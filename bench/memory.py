@@ -8,7 +8,7 @@ Then every other order is cancelled and comes again, at another price. `run` tak
 What is resident counts, not the address space, of which all is taken at the start.
 
     ./run-example.sh                     builds the program
-    bench/memory.py [PROGRAM]
+    bench/memory.py [PROGRAM]            wants time, a package of Debian
 """
 
 import os
@@ -61,14 +61,14 @@ def default_stream():
 
 
 def resident(program, command, folder, given):
-    """MiB that the process had resident at most, or this script, which is small: so it makes its streams one message at a time."""
+    """MiB that the process had resident at most. A process begins with what its parent has, so the small program `time` starts it."""
+    told = pathlib.Path(folder, "resident")
     with open(given, "rb") as source, open(os.devnull, "wb") as sink:
-        call = subprocess.Popen([program, command], cwd=folder, stdin=source, stdout=sink)
-        _, status, used = os.wait4(call.pid, 0)
-    call.returncode = os.waitstatus_to_exitcode(status)
-    if call.returncode != 0:
-        sys.exit(f"{command} ended with status {call.returncode}")
-    return used.ru_maxrss / 1024
+        words = ["/usr/bin/time", "--format", "%M", "--output", told, program, command]
+        status = subprocess.run(words, cwd=folder, stdin=source, stdout=sink).returncode
+    if status != 0:
+        sys.exit(f"{command} ended with status {status}")
+    return int(told.read_text()) / 1024
 
 
 def measure(program, what, write_product, stream):
