@@ -70,13 +70,13 @@ module _ (firm : ℕ → ℕ) where
     | inr t ↦ ap (λ (b : Bool). (cond b (of_firm by_slot e).order (order_of s (F es))).firm) t.0 ∙ firm-at s es (elim h [ inl is ↦ absurd (t.1 is) | inr k ↦ k ])
   ]
 
-  order-at : (s : ℕ) (es : List Entry) → HasSlot s es → order_of s (F es) ≡ with_firm (firm s) (order_of s es)
+  pub order-at : (s : ℕ) (es : List Entry) → HasSlot s es → order_of s (F es) ≡ with_firm (firm s) (order_of s es)
   order-at s es h = order-same s es ∙ ap (λ (f : ℕ). with_firm f (order_of s es)) (firm-at s es h)
 
   pub without-same : (s : ℕ) (es : List Entry) → without s (F es) ≡ F (without s es)
   without-same s es = filter-firms by_slot (λ e. not (e.slot == s)) (λ e. refl) es
 
-  with-same : (s : ℕ) (o now : Order) (es : List Entry) → (HasSlot s es → now ≡ with_firm (firm s) o) → with_order s now (F es) ≡ F (with_order s o es)
+  pub with-same : (s : ℕ) (o now : Order) (es : List Entry) → (HasSlot s es → now ≡ with_firm (firm s) o) → with_order s now (F es) ≡ F (with_order s o es)
   with-same s o now [] h = refl
   with-same s o now (e ∷ es) h =
       let one : reordered s now (of_firm by_slot e) ≡ of_firm by_slot (reordered s o e) = elim (eqb_tells e.slot s) [

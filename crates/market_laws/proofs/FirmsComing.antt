@@ -100,7 +100,7 @@ module _ (firm : ℕ → ℕ) where
       ∙ ap first_entry (filter-firms (by_slot firm) (is_reached_by range) (λ e. refl) (stops_of i es))
       ∙ first-all (filter (is_reached_by range) (stops_of i es))
 
-  length-all : (es : List Entry) → length (All es) ≡ length es
+  pub length-all : (es : List Entry) → length (All es) ≡ length es
   length-all [] = refl
   length-all (e ∷ es) = ap suc (length-all es)
 

@@ -16,6 +16,9 @@ mod Messages
 mod Lifted
 mod Firms
 mod FirmsComing
+mod FirmsCounted
+mod FirmsMessages
+mod FirmsChanges
 mod TopFirst
 mod Lasting
 mod Proportion

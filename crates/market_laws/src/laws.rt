@@ -1,5 +1,5 @@
 //! Laws of the market. Their functions do nothing: what is proved is what their contracts say.
-ghost use Rattle.std.specs.Prelude.{◌≡◌, ℕ, ◌*◌, ◌<◌, ◌≤◌, ◌++◌, true, List, [], ◌∷◌, map, Option};
+ghost use Rattle.std.specs.Prelude.{◌≡◌, ℕ, ◌+◌, ◌*◌, ◌<◌, ◌≤◌, ◌++◌, true, List, [], ◌∷◌, map, Option};
 ghost use Rattle.std.specs.List.{AllByRecursion};
 ghost use Rattle.gx_base.specs.declared.order.LmmShare.{LmmShare};
 ghost use Rattle.gx_base.specs.declared.price.Price.{Price};
@@ -8,9 +8,11 @@ ghost use Rattle.step_config.specs.declared.step.Step.{Step};
 ghost use Rattle.product_file.specs.Products.{ProductLists};
 ghost use Rattle.fix_request.specs.Requests.{request_of};
 ghost use Rattle.fix_request.specs.declared.request.CancelOrder.{CancelOrder};
-ghost use Rattle.fix_request.specs.declared.request.Request.TheVariants.{Cancel};
+ghost use Rattle.fix_request.specs.declared.request.ReplaceOrder.{ReplaceOrder};
+ghost use Rattle.fix_request.specs.declared.request.NewOrder.{NewOrder};
+ghost use Rattle.fix_request.specs.declared.request.Request.TheVariants.{New, Cancel, Replace};
 ghost use Rattle.plain_book.specs.declared.entry.Entry.{Entry};
-ghost use Rattle.plain_book.specs.Orders.{Level, shown_at, is_live};
+ghost use Rattle.plain_book.specs.Orders.{Level, shown_at, is_live, slot_named};
 ghost use Rattle.plain_book.specs.Book.{live_orders};
 ghost use Rattle.plain_book.specs.Match.{MatchState, Share};
 ghost use Rattle.plain_book.specs.Steps.{split_shares, lmm_shares, top_shares};
@@ -25,7 +27,7 @@ ghost use Rattle.order_kinds.specs.Histories.{History, AreRightProducts, IsHisto
 ghost use Rattle.order_kinds.specs.Balance.{last_open};
 ghost use Rattle.market_laws.specs.Streams.{OfEachHistory, OfEachState, OfEachReport, OfEachMessage};
 ghost use Rattle.market_laws.specs.Acts.{EachAct, InEachMessage, OfEachTrade};
-ghost use Rattle.market_laws.specs.Firms.{DifferInFirms, DifferInFirmsAlone, AreStopsNumbered, IsBalancedFor};
+ghost use Rattle.market_laws.specs.Firms.{DifferInFirms, DifferInFirmsAlone, AreStopsNumbered, AreOfOtherFirms, AreServedAlike, new_of_firm, cancel_of_firm, replace_of_firm, HasBlindSteps, IsBalancedFor};
 ghost use Rattle.market_laws.specs.Trades.{IsWithinLimits, KeepsLimit, IsProtectedMarket, IsAtBest, IsFirst, IsFit, IsNoStop};
 ghost use Rattle.market_laws.specs.RightActs.{IsRightAct, KeepsMinimum, IsTopByPrice};
 ghost use Rattle.market_laws.specs.Lines.{KeepsTheLine};
@@ -141,6 +143,35 @@ pub fn firms_are_equal()
         → DifferInFirms firm a b → DifferInFirms firm (sweep steps limit a) (sweep steps limit b) }
     ensures comes_in { (firm : ℕ → ℕ) (steps : List Step) (a b : MatchState) → AllByRecursion IsBlind steps → AreStopsNumbered a
         → DifferInFirmsAlone firm a b → DifferInFirmsAlone firm (come_in by_number steps a) (come_in by_number steps b) }
+{}
+
+/// Messages are served alike, whatever firms send them, but for LMM. Let two states differ in the firms of their orders alone, and two
+/// messages in their own firms alone. If a new id is free in both states or in neither, and an old id names the same order in both or
+/// none, then both messages are refused for the same reason, or the same lots of the same orders trade. The states after them differ in
+/// firms alone again, so the law goes on with the next message.
+pub fn messages_are_served_alike()
+    ensures new { (firm : ℕ → ℕ) (next other : List ℕ) (new : NewOrder) (b : State) → OfEachHistory (λ history.
+        let product = last_product history in
+        let a = state_kept history in
+        let own = firm (a.desk.orders + 1) in
+        AreOfOtherFirms firm a b → HasBlindSteps product new.named
+        → request_of product next ≡ New new → request_of product other ≡ New (new_of_firm own new)
+        → is_live own new.id (live_orders b.book) ≡ is_live new.sender.firm new.id (live_orders a.book)
+        → AreServedAlike firm (step_of product a next) (step_of product b other)) }
+    ensures cancel { (firm : ℕ → ℕ) (own : ℕ) (next other : List ℕ) (request : CancelOrder) (b : State) → OfEachHistory (λ history.
+        let product = last_product history in
+        let a = state_kept history in
+        AreOfOtherFirms firm a b → request_of product next ≡ Cancel request → request_of product other ≡ Cancel (cancel_of_firm own request)
+        → slot_named own request.old (live_orders b.book) ≡ slot_named request.sender.firm request.old (live_orders a.book)
+        → AreServedAlike firm (step_of product a next) (step_of product b other)) }
+    ensures replace { (firm : ℕ → ℕ) (own : ℕ) (next other : List ℕ) (request : ReplaceOrder) (b : State) → OfEachHistory (λ history.
+        let product = last_product history in
+        let a = state_kept history in
+        AreOfOtherFirms firm a b → HasBlindSteps product request.named
+        → request_of product next ≡ Replace request → request_of product other ≡ Replace (replace_of_firm own request)
+        → slot_named own request.old (live_orders b.book) ≡ slot_named request.sender.firm request.old (live_orders a.book)
+        → is_live own request.id (live_orders b.book) ≡ is_live request.sender.firm request.id (live_orders a.book)
+        → AreServedAlike firm (step_of product a next) (step_of product b other)) }
 {}
 
 /// A firm's fills add up: what its orders entered is filled, open, or cancelled.
