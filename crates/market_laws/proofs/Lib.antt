@@ -19,6 +19,7 @@ mod FirmsComing
 mod FirmsCounted
 mod FirmsMessages
 mod FirmsChanges
+mod FirmsClosing
 mod TopFirst
 mod Lasting
 mod Proportion

@@ -10,7 +10,8 @@ ghost use Rattle.fix_request.specs.Requests.{request_of};
 ghost use Rattle.fix_request.specs.declared.request.CancelOrder.{CancelOrder};
 ghost use Rattle.fix_request.specs.declared.request.ReplaceOrder.{ReplaceOrder};
 ghost use Rattle.fix_request.specs.declared.request.NewOrder.{NewOrder};
-ghost use Rattle.fix_request.specs.declared.request.Request.TheVariants.{New, Cancel, Replace};
+ghost use Rattle.fix_request.specs.declared.request.SessionChange.{SessionChange};
+ghost use Rattle.fix_request.specs.declared.request.Request.TheVariants.{New, Cancel, Replace, Session};
 ghost use Rattle.plain_book.specs.declared.entry.Entry.{Entry};
 ghost use Rattle.plain_book.specs.Orders.{Level, shown_at, is_live, slot_named};
 ghost use Rattle.plain_book.specs.Book.{live_orders};
@@ -148,7 +149,7 @@ pub fn firms_are_equal()
 /// Messages are served alike, whatever firms send them, but for LMM. Let two states differ in the firms of their orders alone, and two
 /// messages in their own firms alone. If a new id is free in both states or in neither, and an old id names the same order in both or
 /// none, then both messages are refused for the same reason, or the same lots of the same orders trade. The states after them differ in
-/// firms alone again, so the law goes on with the next message.
+/// firms alone again, so the law goes on with the next message. A change of the trading session does the same in both, too.
 pub fn messages_are_served_alike()
     ensures new { (firm : ℕ → ℕ) (next other : List ℕ) (new : NewOrder) (b : State) → OfEachHistory (λ history.
         let product = last_product history in
@@ -172,6 +173,10 @@ pub fn messages_are_served_alike()
         → slot_named own request.old (live_orders b.book) ≡ slot_named request.sender.firm request.old (live_orders a.book)
         → is_live own request.id (live_orders b.book) ≡ is_live request.sender.firm request.id (live_orders a.book)
         → AreServedAlike firm (step_of product a next) (step_of product b other)) }
+    ensures session { (firm : ℕ → ℕ) (next : List ℕ) (change : SessionChange) (b : State) → OfEachHistory (λ history.
+        let product = last_product history in
+        let a = state_kept history in
+        AreOfOtherFirms firm a b → request_of product next ≡ Session change → AreServedAlike firm (step_of product a next) (step_of product b next)) }
 {}
 
 /// A firm's fills add up: what its orders entered is filled, open, or cancelled.
