@@ -1,6 +1,7 @@
 //! Runs that apply all of their messages, with the reports of each. Each file has the messages and reports of its cases, and a test that goes through them.
 mod displays;
 mod kinds;
+mod laws;
 mod levels;
 mod orders;
 mod refusals;
