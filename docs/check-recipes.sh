@@ -241,8 +241,8 @@ look_amend() {
     echo "35=D|49=EEE|56=GX|34=1|52=20240108-12:00:00|11=e1|55=ESZ4|54=1|38=1|40=2|44=100.00|59=0|" |
         "$tools/frames" make --product product.toml >orders
     serve
-    expect "$("$globex" fills | wc -l)" 2 'fills behind the amendment'
-    "$globex" replay | cmp - sent >&2 || fail 'sent is not what replay sends behind the amendment'
+    expect "$("$globex" fills | wc -l)" 2 'fills after the amendment'
+    "$globex" replay | cmp - sent >&2 || fail 'sent is not what replay sends after the amendment'
 }
 
 # A journal of the stored orders, and a copy of it, which no session changes.

@@ -20,7 +20,7 @@ use Rattle.market_laws.specs.Acts.{Act, after, after_acts, EachAct}
 use Rattle.market_laws.specs.Acts.Act.{trades, notes, rests, cancels, waits, triggers}
 use Rattle.market_laws.proofs.Sound.{IsSound}
 
--- b stands behind a, of its side, and is not TOP
+-- b stands after a, of its side, and is not TOP
 abbrev pub NoTopAfter : Entry → Entry → Type 0
 NoTopAfter a b = is_on b.order.instrument b.order.side a ≡ true → b.is_top ≡ false
 
@@ -67,7 +67,7 @@ first-with s o es levels h =
 
 -- ---- an order is put in that is not TOP
 
--- no order behind it, of its side, is TOP
+-- no order after it, of its side, is TOP
 abbrev HasNoTopAfter : Entry → Entry → Type 0
 HasNoTopAfter n b = is_at_earlier_level n b ≡ true → is_on b.order.instrument b.order.side n ≡ true → b.is_top ≡ false
 
@@ -90,7 +90,7 @@ first-placed n es ordered none ahead h =
     (all-with (λ (a : Entry). Ahead a × Before a) (λ (a : Entry). NoTopAfter a n) (λ a k. k.0 k.1) p.front (all-both Ahead Before p.front (front-of Ahead p.front p.back (subst (AllByRecursion Ahead) p.whole ahead)) p.ahead))
     (all-with (λ (b : Entry). HasNoTopAfter n b × Behind b) (λ (b : Entry). NoTopAfter n b) (λ b k. k.0 k.1) p.back (all-both (HasNoTopAfter n) Behind p.back (back-of (HasNoTopAfter n) p.front p.back (subst (AllByRecursion (HasNoTopAfter n)) p.whole none)) p.behind))
 
--- what stands behind the order of a slot is not TOP
+-- what stands after the order of a slot is not TOP
 none-behind : (s : ℕ) (k : Level) (n : Entry) (es : List Entry) → level_of n.order ≡ k → HasSlot s es → level_of (order_of s es) ≡ k → EachPair AreInBookOrder es → TopsFirst es → AllByRecursion (HasNoTopAfter n) es
 none-behind s k n [] nk has is ordered h = tt
 none-behind s k n (e ∷ es) nk has is ordered h = elim (eqb_tells e.slot s) [
@@ -141,7 +141,7 @@ none-on n (e ∷ es) = (
   none-on n es,
 )
 
--- where it is not better than all of its side, no TOP stands behind it
+-- where it is not better than all of its side, no TOP stands after it
 not-best : (n : Entry) (es : List Entry) → is_new_best n.order es ≡ false → TopsFirst es → AllByRecursion (HasNoTopAfter n) es
 not-best n [] h tops = tt
 not-best n (e ∷ es) h tops =
