@@ -80,7 +80,7 @@ def number(text):
 
 
 def thousands(value, _=None):
-    return f"{value:,.0f}"
+    return f"{value:,.0f}" if value >= 1 or value == 0 else f"{value:g}"
 
 
 def size_of(count):
