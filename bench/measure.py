@@ -3,7 +3,8 @@
 
 Makes 100,000 limit orders and cancels of four firms, always the same ones, in ten streams of 10,000. In a folder in memory
 it runs the program over each stream with a new journal, one after the other, forty times, and then over the journals that
-these runs leave with an empty input, which is recovery alone. In a folder on a disk it runs the program over one stream of
+these runs leave with an empty input, which is recovery alone. It measures the time by the clock, and the processor time of the
+program with its starts. In a folder on a disk it runs the program over one stream of
 100,000 from a file, where each record waits for two syncs, and measures beside it, in turn, what the syncs of records of
 8,192 bytes cost without the engine. It does the same once more on a slower disk, which strace makes of this one: each sync takes
 two milliseconds more. The spread between the rounds is the machine's noise.
@@ -17,11 +18,15 @@ recovers from the image. The bytes are those that the process read beside its wo
     bench/measure.py [PROGRAM [DISK_FOLDER]]   the folder is a new one in that one, or in the current one
     bench/measure.py --disk [PROGRAM [DISK_FOLDER]]   the part on a disk alone
     bench/measure.py --checkpoint [PROGRAM]    the last part alone
-    bench/measure.py --compare PROGRAM..       the first part alone, of several programs, in turn within each round
+    bench/measure.py --compare PROGRAM..       the first part alone, of several programs, in turn within each round. Any program will do
+                                               that takes the word `run`, and product, input and journal as this one does. For each
+                                               program after the first it also says how many times the first one's speed it has, by
+                                               processor time in the same round
 """
 
 import os
 import pathlib
+import resource
 import shutil
 import statistics
 import subprocess
@@ -44,11 +49,31 @@ RESTART_ROUNDS = 5
 KEYS = "max_orders = 100000\njournal_limit = 67108864\n"
 
 
+class Seconds:
+    """Seconds by the clock, and seconds of processor time of the processes that ended meanwhile, user and system together."""
+
+    def __init__(self, clock=0.0, processor=0.0):
+        self.clock = clock
+        self.processor = processor
+
+    @staticmethod
+    def now():
+        used = resource.getrusage(resource.RUSAGE_CHILDREN)
+        return Seconds(time.perf_counter(), used.ru_utime + used.ru_stime)
+
+    def since(self, start):
+        return Seconds(self.clock - start.clock, self.processor - start.processor)
+
+    def add(self, other):
+        self.clock += other.clock
+        self.processor += other.processor
+
+
 def run(program, folder, bytes_in):
     """Seconds and report bytes of one run."""
-    started = time.perf_counter()
+    started = Seconds.now()
     done = subprocess.run([program, "run"], cwd=folder, input=bytes_in, stdout=subprocess.PIPE, check=True)
-    return time.perf_counter() - started, len(done.stdout)
+    return Seconds.now().since(started), len(done.stdout)
 
 
 def new_folder(parent, keys=""):
@@ -60,15 +85,15 @@ def new_folder(parent, keys=""):
 
 def serve_and_recover(program, folder, inputs):
     """Seconds of serving, seconds of recovering and report bytes, of one round over all inputs."""
-    served = recovered = 0.0
+    served, recovered = Seconds(), Seconds()
     reports = 0
     for bytes_in in inputs:
         pathlib.Path(folder, streams.JOURNAL).unlink(missing_ok=True)
         seconds, sent = run(program, folder, bytes_in)
-        served += seconds
+        served.add(seconds)
         reports += sent
         seconds, _ = run(program, folder, b"")
-        recovered += seconds
+        recovered.add(seconds)
     return served, recovered, reports
 
 
@@ -108,11 +133,16 @@ def measure_in_memory(programs):
         rounds = [[serve_and_recover(program, folder, inputs) for program in programs] for _ in range(ROUNDS)]
     total = STREAMS * MESSAGES
     print(f"{total} messages, {sum(map(len, inputs))} bytes in, {rounds[0][0][2]} bytes of reports out, journal in {streams.MEMORY_FOLDER}")
-    for program, measured in zip(programs, zip(*rounds)):
+    by_program = list(zip(*rounds))
+    for number, (program, measured) in enumerate(zip(programs, by_program)):
         if len(programs) > 1:
             print(program)
-        print(f"messages a second, served: {rates(total, [served for served, _, _ in measured])}")
-        print(f"messages a second, recovered: {rates(total, [recovered for _, recovered, _ in measured])}")
+        for part, what in enumerate(("served", "recovered")):
+            print(f"messages a second, {what}: {rates(total, [each[part].clock for each in measured])}")
+            print(f"messages a second of processor time, {what}: {rates(total, [each[part].processor for each in measured])}")
+            if number > 0:
+                times = [first[part].processor / each[part].processor for first, each in zip(by_program[0], measured)]
+                print(f"times the speed of the first program, {what}, by processor time: {statistics.median(times):.2f} in the middle")
 
 
 def run_from_file(program, folder, input_file, microseconds):
