@@ -7,7 +7,7 @@ use Rattle.price_level.specs.Inner.Kept.{rows_seen, IsKept}
 use Rattle.price_level.specs.Inner.Sides.{row_in, side_number, rows_of}
 use Rattle.price_level.proofs.RowLists.{each-row}
 use Rattle.price_level.proofs.Seen.{side_in, has_queue, row_is}
-use Rattle.price_level.proofs.Kept.{IsBelow}
+use Rattle.price_level.proofs.Kept.{IsBelow, kept_below}
 
 module _ {capacity instruments : ℕ} {table : List LevelRow} {all : List (List Step)} {side_capacity : ℕ} {unused : List ℕ} {free_capacity : ℕ} (kept : IsKept capacity instruments table all side_capacity unused free_capacity) (t : Rows) (view : rows_seen capacity instruments table all ≡ t)
     (q : ℕ) (has : HasQueue q t.rows) where
@@ -24,7 +24,7 @@ module _ {capacity instruments : ℕ} {table : List LevelRow} {all : List (List 
   held_is = row_is kept (rows_seen capacity instruments table all) refl q held_here
 
   pub held_listed : held.instrument < instruments
-  held_listed = subst (λ (r : LevelRow). r.instrument < instruments) (sym held_is) (each-row (IsBelow capacity instruments) q (rows_of table all) kept.rows.below held_here).0.1
+  held_listed = subst (λ (r : LevelRow). r.instrument < instruments) (sym held_is) (each-row (IsBelow (length table) instruments) q (rows_of table all) (kept_below kept) held_here).0.1
 
   pub held_in : held_number < length all
   held_in = side_in kept held.instrument held.side held_listed

@@ -14,7 +14,7 @@ use Rattle.price_level.proofs.Asked.{side-steps, sides-set, rows-without}
 use Rattle.price_level.proofs.Unused.{apart-push}
 use Rattle.price_level.proofs.Seen.{queue_in}
 use Rattle.price_level.proofs.ByQueue.{held_here, held_is, held_in}
-use Rattle.price_level.proofs.Kept.{IsBelow, kept_from}
+use Rattle.price_level.proofs.Kept.{IsBelow, kept_below, kept_from}
 
 module _ {capacity instruments : ℕ} {table : List LevelRow} {all : List (List Step)} {side_capacity : ℕ} {unused : List ℕ} {free_capacity : ℕ} (kept : IsKept capacity instruments table all side_capacity unused free_capacity) (t : Rows) (view : rows_seen capacity instruments table all ≡ t) where
   abbrev rows : List LevelRow
@@ -42,20 +42,20 @@ module _ {capacity instruments : ℕ} {table : List LevelRow} {all : List (List 
     count_less = without-count q rows kept.rows.apart (held_here kept t view q has)
 
     pub free_below : length unused < capacity
-    free_below = let a = count_less in omega (arith, kept.count)
+    free_below = let a = count_less in omega (arith, kept.count, kept.mark)
 
     pub kept_closed : (free_capacity' : ℕ) → free_capacity' ≡ capacity → IsKept capacity instruments table less_all side_capacity (unused ++ q ∷ []) free_capacity'
     kept_closed free_capacity' fits =
         kept_from capacity instruments table less_all side_capacity (unused ++ q ∷ []) free_capacity' (without_row q rows) rows_less
         (pairs-filter AreRowsApart _ rows kept.rows.apart)
-        (all-filter (IsBelow capacity instruments) _ rows kept.rows.below)
-        kept.long (length-set all going_number (without_step going.price (list_at all going_number)) ∙ kept.sides)
+        (all-filter (IsBelow (length table) instruments) _ rows (kept_below kept))
+        kept.mark (length-set all going_number (without_step going.price (list_at all going_number)) ∙ kept.sides)
         (sides-set table all kept.steps going.instrument going.side going_in (without_step going.price (list_at all going_number)) (all-filter (IsStep table going_number) _ (list_at all going_number) (side-steps table all kept.steps going.instrument going.side going_in)))
         kept.room
-        (all-append (λ (x : ℕ). (x < capacity) × (HasQueue x (without_row q rows) → ⊥)) unused (q ∷ [])
-        (all-with (λ (x : ℕ). (x < capacity) × (HasQueue x rows → ⊥)) (λ (x : ℕ). (x < capacity) × (HasQueue x (without_row q rows) → ⊥)) (λ x h. (h.0, λ k. h.1 (queue-filter _ x rows k))) unused kept.free)
-        ((let lt = queue_in kept t view q has in omega (arith, kept.long), without-lacks q rows), tt))
-        (apart-push unused q kept.free_apart (all-with (λ (x : ℕ). (x < capacity) × (HasQueue x rows → ⊥)) (λ x. q ≢ x) (λ x h e. h.1 (subst (λ (y : ℕ). HasQueue y rows) e (held_here kept t view q has))) unused kept.free))
+        (all-append (λ (x : ℕ). (x < length table) × (HasQueue x (without_row q rows) → ⊥)) unused (q ∷ [])
+        (all-with (λ (x : ℕ). (x < length table) × (HasQueue x rows → ⊥)) (λ (x : ℕ). (x < length table) × (HasQueue x (without_row q rows) → ⊥)) (λ x h. (h.0, λ k. h.1 (queue-filter _ x rows k))) unused kept.free)
+        ((queue_in kept t view q has, without-lacks q rows), tt))
+        (apart-push unused q kept.free_apart (all-with (λ (x : ℕ). (x < length table) × (HasQueue x rows → ⊥)) (λ x. q ≢ x) (λ x h e. h.1 (subst (λ (y : ℕ). HasQueue y rows) e (held_here kept t view q has))) unused kept.free))
         fits
         (let a = count_less in omega (arith, length_push unused q, kept.count))
 

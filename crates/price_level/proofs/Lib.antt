@@ -3,6 +3,7 @@ mod Order
 mod SideRows
 mod Parts
 mod Tables
+mod Table
 mod Asked
 mod RowLists
 mod Placed

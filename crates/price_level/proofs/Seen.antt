@@ -1,6 +1,5 @@
 -- What calls that only read are answered from the fields.
-use Rattle.std.proofs.Common.{◌≡◌, ℕ, ◌*◌, ◌<◌, ◌^◌, List, get_or, length, filter, sym, ap, subst, ◌∙◌, arith}
-use Rattle.std.proofs.lemmas.List.{get_or_read}
+use Rattle.std.proofs.Common.{◌≡◌, ℕ, ◌*◌, ◌<◌, ◌^◌, List, length, filter, sym, ap, subst, ◌∙◌, arith}
 use Rattle.std.specs.List.{sum_by}
 use Rattle.gx_base.specs.declared.price.Price.{Price}
 use Rattle.gx_base.specs.declared.order.Side.{Side}
@@ -8,7 +7,7 @@ use Rattle.gx_base.specs.declared.order.Side.TheVariants.{Buy, Sell}
 use Rattle.book_order.specs.Levels.{level}
 use Rattle.price_level.specs.declared.row.LevelRow.{LevelRow}
 use Rattle.price_chunks.specs.declared.place.Step.{Step}
-use Rattle.price_level.specs.Rows.{Rows, no_row, best_row, worse_row, worst_row, better_row, queue_at, open_rows, HasQueue, row_of}
+use Rattle.price_level.specs.Rows.{Rows, best_row, worse_row, worst_row, better_row, queue_at, open_rows, HasQueue, row_of}
 use Rattle.price_level.specs.Inner.Kept.{rows_seen, IsKept}
 use Rattle.price_chunks.specs.Steps.{is_worse_step, is_better_step, is_step_at, is_open_step, price_of_first, price_of_last, queue_of_last, AreWorstFirst, list_at, open_at}
 use Rattle.price_level.specs.Inner.Sides.{row_in, side_number, rows_of}
@@ -32,14 +31,8 @@ module _ {capacity instruments : ℕ} {table : List LevelRow} {all : List (List 
 
     pub queue_in : (q : ℕ) → HasQueue q t.rows → q < length table
     queue_in q h =
-        let r = each-row (λ (r : LevelRow). (r.queue < capacity) × (r.instrument < instruments)) q (rows_of table all) kept.rows.below (has_queue q h) in
-        let e : (row_of q (rows_of table all)).queue ≡ q = r.1 in
-        let lt : (row_of q (rows_of table all)).queue < capacity = r.0.0 in
-        omega (arith, kept.long)
-
-    -- the row of a queue, once it is read
-    pub row_read : (q : ℕ) → HasQueue q t.rows → (r : LevelRow) → r ≡ get_or table q r → r ≡ row_in table q
-    row_read q h r is = get_or_read table q r (queue_in q h) is no_row
+        let r = each-row (λ (r : LevelRow). r.queue < length table) q (rows_of table all) kept.below (has_queue q h) in
+        subst (λ (x : ℕ). x < length table) r.1 r.0
 
     pub row_is : (q : ℕ) → HasQueue q t.rows → row_in table q ≡ row_of q t.rows
     row_is q h =

@@ -20,7 +20,7 @@ use Rattle.price_level.proofs.Closed.{same-row, same-part, summed-apart, summed-
 use Rattle.price_level.proofs.Tables.{all-becomes}
 use Rattle.price_level.proofs.Seen.{queue_in}
 use Rattle.price_level.proofs.ByQueue.{held_here, held_is, held_in}
-use Rattle.price_level.proofs.Kept.{IsBelow, kept_from}
+use Rattle.price_level.proofs.Kept.{IsBelow, kept_below, kept_from}
 
 module _ {capacity instruments : ℕ} {table : List LevelRow} {all : List (List Step)} {side_capacity : ℕ} {unused : List ℕ} {free_capacity : ℕ} (kept : IsKept capacity instruments table all side_capacity unused free_capacity) (t : Rows) (view : rows_seen capacity instruments table all ≡ t) where
   abbrev rows : List LevelRow
@@ -120,15 +120,18 @@ module _ {capacity instruments : ℕ} {table : List LevelRow} {all : List (List 
         let is = one-side 0 number all (omega arith) (held_in kept t view q has) kept.steps named-rows in
         (ap (rows_of new_table) (sym is) ∙ r.0, subst (AreSides new_table 0) is r.1)
 
+    same-mark : length table ≡ length new_table
+    same-mark = sym (length-set table q (summed (row_in table q)))
+
     pub kept_summed : IsKept capacity instruments new_table new_all side_capacity unused free_capacity
     kept_summed =
         kept_from capacity instruments new_table new_all side_capacity unused free_capacity (with_sums q count shown leaves rows) sums_all.0
         (summed-apart q count shown leaves rows kept.rows.apart)
-        (all-map (IsBelow capacity instruments) (IsBelow capacity instruments) (resummed q count shown leaves) (λ r h.
-        (subst (λ (x : ℕ). x < capacity) (sym (same-part q count shown leaves (λ (y : LevelRow). y.queue) (λ y. refl) r)) h.0, subst (λ (x : ℕ). x < instruments) (sym (same-part q count shown leaves (λ (y : LevelRow). y.instrument) (λ y. refl) r)) h.1)) rows kept.rows.below)
-        (length-set table q (summed (row_in table q)) ∙ kept.long) (length-set all number (with_open going.price leaves (list_at all number)) ∙ kept.sides) sums_all.1 kept.room
-        (all-with (λ (x : ℕ). (x < capacity) × (HasQueue x rows → ⊥)) (λ (x : ℕ). (x < capacity) × (HasQueue x (with_sums q count shown leaves rows) → ⊥)) (λ x h. (h.0, λ k. h.1 (summed-queue q count shown leaves x rows k))) unused kept.free)
-        kept.free_apart kept.free_room (ap {B = ℕ} (λ (x : ℕ). x + length unused) (length-map rows (resummed q count shown leaves)) ∙ kept.count)
+        (all-map (IsBelow (length table) instruments) (IsBelow (length new_table) instruments) (resummed q count shown leaves) (λ r h.
+        (subst (λ (x : ℕ × ℕ). x.0 < x.1) (λ i. (sym (same-part q count shown leaves (λ (y : LevelRow). y.queue) (λ y. refl) r) i, same-mark i)) h.0, subst (λ (x : ℕ). x < instruments) (sym (same-part q count shown leaves (λ (y : LevelRow). y.instrument) (λ y. refl) r)) h.1)) rows (kept_below kept))
+        (omega (arith, same-mark, kept.mark)) (length-set all number (with_open going.price leaves (list_at all number)) ∙ kept.sides) sums_all.1 kept.room
+        (all-with (λ (x : ℕ). (x < length table) × (HasQueue x rows → ⊥)) (λ (x : ℕ). (x < length new_table) × (HasQueue x (with_sums q count shown leaves rows) → ⊥)) (λ x h. (subst (λ (n : ℕ). x < n) same-mark h.0, λ k. h.1 (summed-queue q count shown leaves x rows k))) unused kept.free)
+        kept.free_apart kept.free_room (ap {B = ℕ} (λ (x : ℕ). x + length unused) (length-map rows (resummed q count shown leaves)) ∙ kept.count ∙ same-mark)
 
     pub seen_summed : rows_seen capacity instruments new_table new_all ≡ record t { rows = with_sums q count shown leaves t.rows }
     seen_summed =

@@ -4,10 +4,10 @@ ghost use Rattle.book_order.specs.Levels.{level};
 ghost use Rattle.price_level.specs.Inner.Sides.{side_number};
 ghost use Rattle.price_level.specs.Rows.{no_rows, AreRows, best_row, worse_row, worst_row, better_row, queue_at, HasQueue, row_of, with_sums, new_row, placed_row, without_row, open_rows};
 
-use crate::queues::{all_queues, give_back};
-use crate::row::{LevelRow, blank_rows, blank_spots};
+use crate::queues::{give_back, take_queue};
+use crate::row::{Held, LevelRow, hold};
 use gx_base::{Price, Side};
-use price_chunks::{Sides, Spot, Step};
+use price_chunks::{Sides, Step};
 use std::alloc::{AllocError, Global};
 use std::marker::Model;
 
@@ -18,16 +18,15 @@ use std::marker::Model;
 /// the best level of a side first, and then halves its chunks, guesses a place in one of them, and halves that too where the guess
 /// is wrong. A level that changes or goes is looked for where it stood when it last changed, and searched by its price where it
 /// stands there no more. A level that comes or goes moves the better levels of its chunk alone, but where a chunk is split or two are
-/// joined. `new` takes all the memory, and no part ever grows.
+/// joined. `new` takes all the memory, and no part ever grows. The row of a queue is written when the queue is first in use, so room
+/// for levels that never come is taken and not touched.
 #[derive(Drop)]
 pub struct Levels {
-    /// The row of each queue. That of a free queue means nothing.
-    rows: Vec<LevelRow>,
-    /// Where the level of each queue stood when it last changed. That of a free queue means nothing.
-    spots: Vec<Spot>,
+    /// What is kept of each queue that was ever in use: so the queues are those below its length.
+    held: Vec<Held>,
     /// The levels of buy and of sell of the first instrument, then those of the next.
     sides: Sides,
-    /// The queues of no level.
+    /// The queues that were in use and have no level.
     free: Vec<u32>,
     capacity: u32,
     instruments: u8,
@@ -35,17 +34,16 @@ pub struct Levels {
 
 impl Model for Levels {
     ghost use Rattle.price_level.specs.Rows.{Rows};
+    ghost use Rattle.price_level.specs.Inner.Table.{rows_held};
     ghost use Rattle.price_level.specs.Inner.Kept.{rows_seen, IsKept};
-    ghost use Rattle.std.specs.Prelude.{◌≡◌, length, vec_capacity};
+    ghost use Rattle.std.specs.Prelude.{◌≡◌, vec_capacity};
 
     ghost Value = { Rows };
 
-    ghost view = { λ l. rows_seen l.capacity l.instruments l.rows.items l.sides.lists };
+    ghost view = { λ l. rows_seen l.capacity l.instruments (rows_held l.held.items) l.sides.lists };
 
-    ghost invariant = { λ l. IsKept l.capacity l.instruments l.rows.items l.sides.lists l.sides.capacity l.free.items (vec_capacity l.free)
-        × (vec_capacity l.rows ≡ l.capacity)
-        × (length l.spots.items ≡ l.capacity)
-        × (vec_capacity l.spots ≡ l.capacity) };
+    ghost invariant = { λ l. IsKept l.capacity l.instruments (rows_held l.held.items) l.sides.lists l.sides.capacity l.free.items (vec_capacity l.free)
+        × (vec_capacity l.held ≡ l.capacity) };
 }
 
 /// The number of a side among all sides.
@@ -68,10 +66,9 @@ impl Levels {
         ensures { IfOk result (λ l. l ≡ no_rows capacity instruments) }
     {
         Ok(Levels {
-            rows: blank_rows(alloc, capacity)?,
-            spots: blank_spots(alloc, capacity)?,
+            held: Vec::with_capacity(alloc, capacity as usize)?,
             sides: Sides::new(alloc, 2 * instruments as usize, capacity)?,
-            free: all_queues(alloc, capacity)?,
+            free: Vec::with_capacity(alloc, capacity as usize)?,
             capacity,
             instruments,
         })
@@ -81,7 +78,7 @@ impl Levels {
     pub fn rules(&self)
         ensures { AreRows self.now }
     {
-        let _ = &self.rows;
+        let _ = &self.held;
     }
 
     /// The best price of a side. `None` exactly where the side has no level.
@@ -130,7 +127,7 @@ impl Levels {
         requires { HasQueue queue self.now.rows }
         ensures { result ≡ row_of queue self.now.rows }
     {
-        self.rows[queue as usize]
+        self.held[queue as usize].row
     }
 
     /// Sets the sums of the level with a queue.
@@ -138,13 +135,15 @@ impl Levels {
         requires { HasQueue queue self.old.rows }
         ensures { self.new ≡ record self.old { rows = with_sums queue count shown leaves self.old.rows } }
     {
-        let row = &mut self.rows[queue as usize];
+        let held = &mut self.held[queue as usize];
+        let row = &mut held.row;
         row.count = count;
         row.shown = shown;
         row.leaves = leaves;
         let at = side_number(row.instrument, row.side);
-        let spot = &mut self.spots[queue as usize];
-        *spot = self.sides.set_lots(at, row.side, row.price, leaves, *spot);
+        held.spot = self
+            .sides
+            .set_lots(at, row.side, row.price, leaves, held.spot);
     }
 
     /// Adds a level that is not here, with sums of 0. Returns its queue, which no level had.
@@ -160,10 +159,8 @@ impl Levels {
         ensures row { row_of result self.new.rows ≡ new_row instrument side price result }
         ensures count { length self.new.rows ≡ length self.old.rows + 1 }
     {
-        let Some(queue) = self.free.pop() else {
-            unreachable!()
-        };
-        self.rows[queue as usize] = LevelRow {
+        let queue = take_queue(&mut self.free, self.held.len() as u32);
+        let row = LevelRow {
             instrument,
             side,
             price,
@@ -177,7 +174,8 @@ impl Levels {
             leaves: 0,
             queue,
         };
-        self.spots[queue as usize] = self.sides.put(side_number(instrument, side), side, step);
+        let spot = self.sides.put(side_number(instrument, side), side, step);
+        hold(&mut self.held, queue, row, spot);
         queue
     }
 
@@ -188,10 +186,9 @@ impl Levels {
         ensures rows { self.new ≡ record self.old { rows = without_row queue self.old.rows } }
         ensures count { length self.new.rows + 1 ≡ length self.old.rows }
     {
-        let row = self.rows[queue as usize];
+        let Held { row, spot } = self.held[queue as usize];
         let at = side_number(row.instrument, row.side);
-        self.sides
-            .take_out(at, row.side, row.price, self.spots[queue as usize]);
+        self.sides.take_out(at, row.side, row.price, spot);
         give_back(&mut self.free, queue);
     }
 

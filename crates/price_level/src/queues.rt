@@ -1,18 +1,16 @@
 //! The queues of no level.
-ghost use Rattle.std.specs.Prelude.{◌≡◌, ◌<◌, [], ◌∷◌, ◌++◌, IfOk, vec_len, vec_capacity};
-ghost use Rattle.price_level.specs.Inner.Kept.{AreAll};
+ghost use Rattle.std.specs.Prelude.{◌≡◌, ◌<◌, [], ◌∷◌, ◌++◌, vec_len, vec_capacity};
+ghost use Rattle.price_level.specs.Inner.Table.{Takes};
 
-use std::alloc::{AllocError, Global};
-
-/// All queues below a number, with room for no more.
-pub(crate) fn all_queues(alloc: Global, count: u32) -> Result<Vec<u32>, AllocError>
-    ensures { IfOk result (λ queues. AreAll count queues.items × (vec_capacity queues ≡ count)) }
+/// A queue for a new level: the one that was freed last, or else the next one, which never was in use.
+pub(crate) fn take_queue(free: &mut Vec<u32>, next: u32) -> u32
+    ensures takes { Takes next free.old.items free.new.items result }
+    ensures capacity { vec_capacity free.new ≡ vec_capacity free.old }
 {
-    let mut queues = Vec::with_capacity(alloc, count as usize)?;
-    for queue in 0..count {
-        queues.push_reserved(queue);
+    match free.pop() {
+        Some(queue) => queue,
+        None => next,
     }
-    Ok(queues)
 }
 
 /// A queue is free again.

@@ -1,9 +1,9 @@
 //! A price level.
-ghost use Rattle.std.specs.Prelude.{◌≡◌, length, IfOk, vec_capacity};
+ghost use Rattle.std.specs.Prelude.{◌≡◌, ◌<◌, ◌≤◌, vec_len, vec_capacity};
+ghost use Rattle.price_level.specs.Inner.Table.{rows_held, with_row};
 
 use gx_base::{Price, Side};
 use price_chunks::Spot;
-use std::alloc::{AllocError, Global};
 
 /// A price level with the sums of its orders.
 #[derive(Clone, Copy, Debug, PartialEq, Eq)]
@@ -21,34 +21,24 @@ pub struct LevelRow {
     pub leaves: u64,
 }
 
-/// So many rows of no level, with room for no more.
-pub(crate) fn blank_rows(alloc: Global, count: u32) -> Result<Vec<LevelRow>, AllocError>
-    ensures many { IfOk result (λ rows. length rows.items ≡ count) }
-    ensures room { IfOk result (λ rows. vec_capacity rows ≡ count) }
-{
-    let mut rows = Vec::with_capacity(alloc, count as usize)?;
-    for _ in 0..count {
-        rows.push_reserved(LevelRow {
-            instrument: 0,
-            side: Side::Buy,
-            price: Price(0),
-            queue: 0,
-            count: 0,
-            shown: 0,
-            leaves: 0,
-        });
-    }
-    Ok(rows)
+/// What is kept of a queue: the row of its level, and where the level stood when it last changed. That of a free queue means nothing.
+#[derive(Clone, Copy)]
+pub(crate) struct Held {
+    pub(crate) row: LevelRow,
+    pub(crate) spot: Spot,
 }
 
-/// So many spots of no level, with room for no more.
-pub(crate) fn blank_spots(alloc: Global, count: u32) -> Result<Vec<Spot>, AllocError>
-    ensures many { IfOk result (λ spots. length spots.items ≡ count) }
-    ensures room { IfOk result (λ spots. vec_capacity spots ≡ count) }
+/// What is kept of a queue that was used before, or of the next one, which comes to the end.
+pub(crate) fn hold(all: &mut Vec<Held>, queue: u32, row: LevelRow, spot: Spot)
+    requires used { queue ≤ vec_len all.old }
+    requires room { queue < vec_capacity all.old }
+    ensures rows { rows_held all.new.items ≡ with_row (rows_held all.old.items) queue row }
+    ensures capacity { vec_capacity all.new ≡ vec_capacity all.old }
 {
-    let mut spots = Vec::with_capacity(alloc, count as usize)?;
-    for _ in 0..count {
-        spots.push_reserved(Spot { chunk: 0, place: 0 });
+    let held = Held { row, spot };
+    if (queue as usize) < all.len() {
+        all[queue as usize] = held;
+        return;
     }
-    Ok(spots)
+    all.push_reserved(held);
 }
