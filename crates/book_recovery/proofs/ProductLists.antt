@@ -1,6 +1,6 @@
 -- The products of a journal, each of which may follow the one before: which of them comes next, and what all of them have in common.
 use Rattle.std.proofs.Common.{◌≡◌, ℕ, ◌+◌, ◌≤◌, zero, suc, List, [], ◌∷◌, ◌++◌, drop, length, get_or, None, Ok, replicate, refl, sym, subst, ◌∙◌, ap, ap₂, arith}
-use Rattle.std.specs.Box.{boxed_slice_len}
+use Rattle.std.specs.Vec.{vec_capacity}
 use Rattle.std.proofs.lemmas.List.{get_or-drop, drop-drop}
 use Rattle.gx_base.specs.declared.trading.Trading.TheVariants.{Open}
 use Rattle.product_file.specs.Products.{ProductLists}
@@ -48,8 +48,8 @@ alike-empty a b alike =
 
 pub alike-room : (a b : ProductLists) (scratch : Scratch) → AreAlike a b → HasRoomFor a scratch → HasRoomFor b scratch
 alike-room a b scratch alike room =
-    subst (λ (instruments : ℕ). 4 + MOST_TEXT + image_len instruments b.max_orders ≤ boxed_slice_len scratch.payload) alike.instruments
-    (subst (λ (orders : ℕ). 4 + MOST_TEXT + image_len (length a.names.instruments) orders ≤ boxed_slice_len scratch.payload) alike.orders room)
+    subst (λ (instruments : ℕ). 4 + MOST_TEXT + image_len instruments b.max_orders ≤ vec_capacity scratch.payload) alike.instruments
+    (subst (λ (orders : ℕ). 4 + MOST_TEXT + image_len (length a.names.instruments) orders ≤ vec_capacity scratch.payload) alike.orders room)
 
 -- ---- of products that follow each other, any one and the last
 

@@ -1,6 +1,5 @@
 -- What recovery does and answers.
-use Rattle.std.specs.Prelude.{◌≡◌, ℕ, ◌+◌, ◌*◌, ◌≤◌, List, [], length, flat_map, Option, Some, None, Result, Ok, Err}
-use Rattle.std.specs.Box.{boxed_slice_len}
+use Rattle.std.specs.Prelude.{◌≡◌, ℕ, ◌+◌, ◌*◌, ◌≤◌, List, [], length, flat_map, Option, Some, None, Result, Ok, Err, vec_capacity}
 use Rattle.product_file.specs.Products.{ProductLists}
 use Rattle.product_file.specs.ProductTexts.{product_of}
 use Rattle.order_kinds.specs.State.{State, state_numbered}
@@ -21,7 +20,7 @@ use Rattle.book_recovery.specs.declared.scratch.Scratch.{Scratch}
 
 -- there is room for the payload of an amendment: the longest text, its length, and each right book image of a product
 abbrev pub HasRoomFor : ProductLists → Scratch → Type 0
-HasRoomFor product scratch = 4 + MOST_TEXT + image_len (length product.names.instruments) product.max_orders ≤ boxed_slice_len scratch.payload
+HasRoomFor product scratch = 4 + MOST_TEXT + image_len (length product.names.instruments) product.max_orders ≤ vec_capacity scratch.payload
 
 -- the state is that of the engine after a history, but for the slots of the orders, and order numbers differ
 pub record IsStateAfter (history : History) (state : State) : Type 0 where

@@ -19,7 +19,7 @@ ghost use Rattle.book_recovery.specs.Inner.Replays.{payload_at, ReadsImage};
 ghost use Rattle.book_recovery.specs.Inner.Contents.{CountsBehind, FindsImage, FindsText, ReadsFrames, ReadsContent};
 
 use crate::recovery::RecoverFault;
-use crate::scratch::{Scratch, TEXT_SIZE};
+use crate::scratch::{Scratch, TEXT_SIZE, open_to};
 use book_image::read_image;
 use fix_frame::{Framer, Next};
 use gx_station::Station;
@@ -215,9 +215,10 @@ pub(crate) fn read_record<S: Station, B: Book>(
         → GivesAs product.now met.entry.kind (payload_at image met.entry) → ReadsContent product.now met.count met.entry.kind (payload_at image met.entry) met.entry.at scratch.new.framer.given core.new result }
 {
     let length = met.entry.length as usize;
-    if length > scratch.payload.len() {
+    if length > scratch.payload.capacity() {
         return Err(RecoverFault::Bad(met.entry.at));
     }
+    open_to(&mut scratch.payload, length);
     let payload = &mut scratch.payload.as_mut_slice()[0..length];
     if journal.read_entry(station, &met.entry, payload).is_err() {
         return Err(RecoverFault::Store);
@@ -257,10 +258,11 @@ pub(crate) fn read_record_ahead<S: Station, B: Book>(
         → GivesAs product.now met.entry.kind (payload_at image met.entry) → ReadsContent product.now met.count met.entry.kind (payload_at image met.entry) met.entry.at scratch.new.framer.given core.new result }
 {
     let length = met.entry.length as usize;
-    if length > scratch.payload.len() {
+    if length > scratch.payload.capacity() {
         return Err(RecoverFault::Bad(met.entry.at));
     }
     let place = met.entry.at + HEAD as u64;
+    open_to(&mut scratch.payload, length);
     let payload = &mut scratch.payload.as_mut_slice()[0..length];
     if scratch.ahead.take(station, place, end, payload).is_err() {
         return Err(RecoverFault::Store);

@@ -1,14 +1,15 @@
 //! The image of a state, in the memory of a recovery.
 ghost use Rattle.std.specs.Prelude.{◌≡◌, ◌+◌, ◌≤◌, ◌++◌, length, take};
 ghost use Rattle.std.specs.Int.{w32, to_be_bytes};
+ghost use Rattle.plain_book.specs.Book.{live_orders};
 ghost use Rattle.order_kinds.specs.State.{state_numbered};
 ghost use Rattle.order_kinds.specs.Cores.{FitsProduct};
 ghost use Rattle.book_image.specs.Image.{image_of, image_len};
 ghost use Rattle.match_journal.specs.declared.limits.TheConstants.{MOST_TEXT};
 ghost use Rattle.book_recovery.specs.Records.{amendment_of};
 
-use crate::scratch::{Scratch, TEXT_SIZE};
-use book_image::write_image;
+use crate::scratch::{Scratch, TEXT_SIZE, open_to};
+use book_image::{image_len, write_image};
 use order_kinds::Core;
 use plain_book::Book;
 use product_file::Product;
@@ -31,15 +32,29 @@ fn write_text(text: &[u8], into: &mut [u8]) -> usize
 fn write_payload<B: Book>(core: &Core<B>, product: &Product, text: &[u8], into: &mut [u8]) -> usize
     requires fits { FitsProduct product.now core.now }
     requires short { length text.now ≤ MOST_TEXT }
-    requires room { 4 + MOST_TEXT + image_len (length product.now.names.instruments) product.now.max_orders ≤ length into.old }
+    requires room { 4 + length text.now + image_len core.now.book.instruments (length (live_orders core.now.book)) ≤ length into.old }
     ensures payload { take result into.new ≡ amendment_of text.now (image_of (state_numbered core.now)) }
     ensures few { result ≤ 4 + MOST_TEXT + image_len (length product.now.names.instruments) product.now.max_orders }
+    ensures within { result ≤ length into.new }
     ensures size { length into.new ≡ length into.old }
 {
     core.book().rules();
     let front = write_text(text, into);
     let count = write_image(core, product, &mut into[front..]);
     front + count
+}
+
+/// How many bytes the book image of a core's state takes.
+fn image_room<B: Book>(core: &Core<B>, product: &Product) -> usize
+    requires fits { FitsProduct product.now core.now }
+    ensures room { result ≡ image_len core.now.book.instruments (length (live_orders core.now.book)) }
+    ensures few { result ≤ image_len (length product.now.names.instruments) product.now.max_orders }
+{
+    core.book().rules();
+    image_len(
+        product.names().instrument_count() as u32,
+        core.book().live(),
+    )
 }
 
 impl Scratch {
@@ -53,6 +68,7 @@ impl Scratch {
         ensures few { length result.now ≤ image_len (length product.now.names.instruments) product.now.max_orders }
     {
         core.book().rules();
+        open_to(&mut self.payload, image_room(core, product));
         let count = write_image(core, product, self.payload.as_mut_slice());
         &self.payload.as_slice()[..count]
     }
@@ -71,6 +87,8 @@ impl Scratch {
         ensures few { length result.now ≤ 4 + MOST_TEXT + image_len (length product.now.names.instruments) product.now.max_orders }
     {
         core.book().rules();
+        let front = TEXT_SIZE + text.len();
+        open_to(&mut self.payload, front + image_room(core, product));
         let count = write_payload(core, product, text, self.payload.as_mut_slice());
         &self.payload.as_slice()[..count]
     }

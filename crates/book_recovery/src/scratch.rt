@@ -1,6 +1,5 @@
 //! The memory of a recovery.
-ghost use Rattle.std.specs.Prelude.{◌≤◌, IfOk};
-ghost use Rattle.std.specs.Box.{boxed_slice_len};
+ghost use Rattle.std.specs.Prelude.{◌≡◌, ◌≤◌, IfOk, vec_len, vec_capacity};
 ghost use Rattle.match_journal.specs.declared.limits.TheConstants.{MOST_PAYLOAD};
 
 use crate::read_ahead::ReadAhead;
@@ -9,18 +8,32 @@ use fix_frame::Framer;
 use match_journal::MOST_TEXT;
 use product_file::Product;
 use std::alloc::{AllocError, Global};
-use std::boxed::BoxedSlice;
 
 /// How many bytes the length of an amendment's text has.
 pub(crate) const TEXT_SIZE: usize = 4;
 
 /// Room for the payload of one record, a framer for its messages, and a block to read ahead. None can grow.
+///
+/// Nothing is written to the room of a payload before a record needs it: the longest payload of a product with many orders has
+/// megabytes, and most records have some hundred bytes.
 #[derive(Drop)]
 pub struct Scratch {
-    pub(crate) payload: BoxedSlice<u8>,
+    /// As many bytes as the longest payload so far has. There is room for the longest one that may come.
+    pub(crate) payload: Vec<u8>,
     pub framer: Framer,
     pub(crate) ahead: ReadAhead,
-    ghost room: { MOST_PAYLOAD ≤ boxed_slice_len payload },
+    ghost room: { MOST_PAYLOAD ≤ vec_capacity payload },
+}
+
+/// There are at least so many bytes. Those that no payload needed before are zero.
+pub(crate) fn open_to(payload: &mut Vec<u8>, count: usize)
+    requires { count ≤ vec_capacity payload.old }
+    ensures opened { count ≤ vec_len payload.new }
+    ensures room { vec_capacity payload.new ≡ vec_capacity payload.old }
+{
+    for _ in payload.len()..count {
+        payload.push_reserved(0);
+    }
 }
 
 impl Scratch {
@@ -35,7 +48,7 @@ impl Scratch {
         let instruments = product.names().instrument_count();
         let image = image_len(instruments as u32, product.max_orders());
         Ok(Scratch {
-            payload: vec![in alloc; 0; TEXT_SIZE + MOST_TEXT + image]?.into_boxed_slice(),
+            payload: Vec::with_capacity(alloc, TEXT_SIZE + MOST_TEXT + image)?,
             framer: Framer::new(alloc)?,
             ahead: ReadAhead::new(alloc)?,
         })

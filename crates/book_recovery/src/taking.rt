@@ -18,7 +18,7 @@ use crate::contents::text_in;
 use crate::products::{NoProducts, Products};
 use crate::records::is_amendment;
 use crate::recovery::{RecoverFault, read_heads};
-use crate::scratch::{Scratch, TEXT_SIZE};
+use crate::scratch::{Scratch, TEXT_SIZE, open_to};
 use gx_station::Station;
 use match_journal::{Entry, Journal, MOST_TEXT, WalkFault};
 use product_file::{Product, ProductFault, may_follow, read_product};
@@ -242,6 +242,7 @@ pub fn read_products<'a, S: Station>(
         → TakesProducts head journal.old.limit image result }
 {
     let mut earlier = Vec::new(alloc);
+    open_to(&mut scratch.payload, TEXT_SIZE + MOST_TEXT);
     let taken = read_earlier(
         alloc,
         station,

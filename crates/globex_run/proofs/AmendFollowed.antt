@@ -17,7 +17,7 @@ use Rattle.match_journal.specs.declared.limits.TheConstants.{MOST_LIMIT, LEAST_L
 use Rattle.match_journal.specs.declared.standing.Standing.{Standing}
 use Rattle.match_journal.specs.declared.version.Version.{Version}
 use Rattle.match_journal.specs.declared.version.Version.TheVariants.{First, Second}
-use Rattle.std.specs.Box.{boxed_slice_len}
+use Rattle.std.specs.Vec.{vec_capacity}
 use Rattle.std.specs.Option.{unwrap_or}
 use Rattle.gx_base.specs.declared.trading.Trading.TheVariants.{Open}
 use Rattle.plain_book.specs.Book.{empty_book}
@@ -118,13 +118,13 @@ module _ (before after : ProductLists) (may : may_follow before after ≡ Ok tt)
 
   pub room-before : (scratch : Scratch) → HasRoomFor after scratch → HasRoomFor before scratch
   room-before scratch room =
-      subst (λ n. 4 + MOST_TEXT + image_len n before.max_orders ≤ boxed_slice_len scratch.payload) (sym instruments-stay)
-      (subst (λ n. 4 + MOST_TEXT + image_len (length after.names.instruments) n ≤ boxed_slice_len scratch.payload) (sym orders-stay) room)
+      subst (λ n. 4 + MOST_TEXT + image_len n before.max_orders ≤ vec_capacity scratch.payload) (sym instruments-stay)
+      (subst (λ n. 4 + MOST_TEXT + image_len (length after.names.instruments) n ≤ vec_capacity scratch.payload) (sym orders-stay) room)
 
   pub room-after : (scratch : Scratch) → HasRoomFor before scratch → HasRoomFor after scratch
   room-after scratch room =
-      subst (λ n. 4 + MOST_TEXT + image_len n after.max_orders ≤ boxed_slice_len scratch.payload) instruments-stay
-      (subst (λ n. 4 + MOST_TEXT + image_len (length before.names.instruments) n ≤ boxed_slice_len scratch.payload) orders-stay room)
+      subst (λ n. 4 + MOST_TEXT + image_len n after.max_orders ≤ vec_capacity scratch.payload) instruments-stay
+      (subst (λ n. 4 + MOST_TEXT + image_len (length before.names.instruments) n ≤ vec_capacity scratch.payload) orders-stay room)
 
 -- ---- the pass over the heads
 

@@ -7,14 +7,14 @@ use Rattle.book_recovery.proofs.RecordContents.{longer_bad, content_of}
 use Rattle.book_recovery.proofs.Ahead.{goes_none}
 use Rattle.book_recovery.proofs.contents.read_record_ahead.Goals as goal
 
-pub returns-then-length-len-clause-goes : goal.returns-then-length-len-clause-goes
-returns-then-length-len-clause-goes g c = goes_none g.S.Station.meanings c.args.station.now c.args.scratch.now.ahead c.args.end c.requires.ahead.ends
+pub returns-then-length-capacity-clause-goes : goal.returns-then-length-capacity-clause-goes
+returns-then-length-capacity-clause-goes g c = goes_none g.S.Station.meanings c.args.station.now c.args.scratch.now.ahead c.args.end c.requires.ahead.ends
 
-pub returns-then-length-len-clause-reads : goal.returns-then-length-len-clause-reads
-returns-then-length-len-clause-reads g c = λ image read long gives.
+pub returns-then-length-capacity-clause-reads : goal.returns-then-length-capacity-clause-reads
+returns-then-length-capacity-clause-reads g c = λ image read long gives.
     let entry = c.args.met.entry in
     let size = payload-inside image entry c.args.end c.requires.inside long in
-    (λ good. longer_bad c.args.product.now c.args.met.count entry.kind (payload_at image entry) c.len.result (omega (arith, size, c.requires.length)) (omega (arith, c.len.ensures)) (omega (arith, c.requires.room, c.len.ensures)) (omega (arith, size, c.if-length-len.true, c.len.ensures)) good, refl)
+    (λ good. longer_bad c.args.product.now c.args.met.count entry.kind (payload_at image entry) c.capacity.result (omega (arith, size, c.requires.length)) (omega (arith, c.capacity.ensures)) (omega (arith, c.requires.room, c.capacity.ensures)) (omega (arith, size, c.if-length-capacity.true, c.capacity.ensures)) good, refl)
 
 pub returns-clause-reads : goal.returns-clause-reads
 returns-clause-reads g c = λ image read long gives.

@@ -1,4 +1,4 @@
-use Rattle.std.proofs.Common.{◌≡◌, [], Option, Ok, sym, subst, ◌∙◌, ap, arith}
+use Rattle.std.proofs.Common.{◌≡◌, [], Option, Ok, sym, subst, ◌∙◌, arith}
 use Rattle.gx_station.specs.AnswerLaws.{on_ok}
 use Rattle.match_journal.specs.Walking.{InOrder}
 use Rattle.match_journal.specs.declared.entry.Entry.{Entry}

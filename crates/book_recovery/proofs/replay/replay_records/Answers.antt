@@ -1,8 +1,8 @@
-use Rattle.std.proofs.Common.{◌≡◌, ◌+◌, ◌-◌, ◌++◌, length, false, arith, refl, sym, ◌∙◌, ap, subst}
+use Rattle.std.proofs.Common.{◌≡◌, ◌+◌, ◌-◌, ◌++◌, length, arith, refl, sym, ◌∙◌, ap, subst}
 use Rattle.std.proofs.lemmas.Result.{err_from_is_err_and}
 use Rattle.match_journal.specs.Journal.{IsJournal, journal_front}
 use Rattle.match_journal.specs.LookLaws.{looks_more}
-use Rattle.match_journal.specs.Standing.{Fits, moved}
+use Rattle.match_journal.specs.Standing.{Fits}
 use Rattle.match_journal.specs.declared.standing.Standing.{Standing}
 use Rattle.match_journal.specs.declared.entry.Entry.{Entry}
 use Rattle.book_recovery.specs.BadPlaces.{HasBadPayloadAt}
@@ -13,7 +13,7 @@ use Rattle.book_recovery.specs.Inner.Starting.{CanBegin, begins_from}
 use Rattle.book_recovery.proofs.Ahead.{looks_itself, goes_then, looks_ahead, looks_to_end, begun_ahead}
 use Rattle.book_recovery.proofs.Starting.{none_begun, can_begin, begins_at, first_next, none_replayed}
 use Rattle.book_recovery.proofs.Standings.{stands_moved, moved_itself, moved_then, some_moved, none_moved, entry_found}
-use Rattle.book_recovery.proofs.Replaying.{IsReplaying, replaying_first, journal_left, last_left, next_gives, replaying_more, replaying_done, next_found, none_found, none_bad}
+use Rattle.book_recovery.proofs.Replaying.{replaying_first, journal_left, last_left, next_gives, replaying_more, replaying_done, next_found, none_found, none_bad}
 use Rattle.book_recovery.proofs.Passes.{stopped_one}
 use Rattle.book_recovery.proofs.replay.replay_records.Goals as goal
 
