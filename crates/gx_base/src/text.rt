@@ -6,11 +6,11 @@ ghost use Rattle.gx_base.specs.Texts.{is_name_byte};
 use crate::bytes::append_few;
 use std::marker::Model;
 
-/// At most `N` bytes. Contracts see it as these bytes.
+/// At most `N` bytes, and `N` is below 256, so that one byte holds how many they are. Contracts see it as these bytes.
 #[derive(Clone, Copy, Debug, PartialEq, Eq)]
 pub struct Text<const N: usize> {
     bytes: [u8; N],
-    len: usize,
+    len: u8,
 }
 
 impl<const N: usize> Model for Text<N> {
@@ -31,14 +31,15 @@ impl<const N: usize> Text<N> {
     /// A copy of these bytes, of which there are at most `N`.
     #[inline]
     pub fn new(bytes: &[u8]) -> Text<N>
-        requires { length bytes.now ≤ N }
+        requires room { N ≤ 255 }
+        requires short { length bytes.now ≤ N }
         ensures { result ≡ bytes.now }
     {
         let mut room = [0; N];
         room[..bytes.len()].copy_from_slice(bytes);
         Text {
             bytes: room,
-            len: bytes.len(),
+            len: bytes.len() as u8,
         }
     }
 
@@ -46,7 +47,8 @@ impl<const N: usize> Text<N> {
     /// printable ASCII.
     #[inline]
     pub(crate) fn new_if_printable(bytes: &[u8]) -> Option<Text<N>>
-        requires { length bytes.now ≤ N }
+        requires room { N ≤ 255 }
+        requires short { length bytes.now ≤ N }
         ensures { SomeIff result (IsTrue (list_all is_name_byte bytes.now)) bytes.now }
     {
         let mut room = [0; N];
@@ -58,7 +60,7 @@ impl<const N: usize> Text<N> {
         }
         Some(Text {
             bytes: room,
-            len: bytes.len(),
+            len: bytes.len() as u8,
         })
     }
 
@@ -67,7 +69,7 @@ impl<const N: usize> Text<N> {
     pub fn bytes(&self) -> &[u8]
         ensures { result.now ≡ self.now }
     {
-        &self.bytes[..self.len]
+        &self.bytes[..self.len as usize]
     }
 
     /// Writes the bytes after the first `at` of `into`, and answers where they end. All `N` bytes of its room are copied, a
@@ -81,7 +83,7 @@ impl<const N: usize> Text<N> {
     {
         let room = self.bytes;
         append_few(into, at, &room);
-        at + self.len
+        at + self.len as usize
     }
 }
 

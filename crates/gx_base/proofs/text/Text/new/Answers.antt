@@ -16,4 +16,4 @@ filled xs n fits = (
 )
 
 pub invariant_of-result : goal.invariant_of-result
-invariant_of-result g c = rw c.copy_from_slice.ensures.after (filled c.args.bytes.now g.row.N c.requires)
+invariant_of-result g c = rw c.copy_from_slice.ensures.after (filled c.args.bytes.now g.row.N c.requires.short)

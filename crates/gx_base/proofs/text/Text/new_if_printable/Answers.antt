@@ -21,6 +21,6 @@ pub loop-k-preserved : goal.loop-k-preserved
 loop-k-preserved g c =
     let bytes : List ℕ = c.args.bytes.now in
     let k = c.loop-k.k in (
-      ap (λ (room : List ℕ). slice_set room k (get_or bytes k 0)) c.loop-k.invariant.0 ∙ one_byte_more bytes g.row.N k (omega arith) c.requires,
+      ap (λ (room : List ℕ). slice_set room k (get_or bytes k 0)) c.loop-k.invariant.0 ∙ one_byte_more bytes g.row.N k (omega arith) c.requires.short,
       list_all_more is_name_byte bytes k 0 (omega arith) ∙ and_from _ _ c.loop-k.invariant.1 (sym c.is_printable.ensures ∙ c.if-not-is_printable.false),
     )
