@@ -6,3 +6,4 @@ pub mod PricesAgain
 pub mod Tests
 pub mod Written
 pub mod Marks
+mod Times

@@ -10,3 +10,4 @@ pub mod KnownBytes
 pub mod Emits
 pub mod EmitLaws
 pub mod NullEmits
+pub mod Inner

@@ -1,13 +1,21 @@
 //! Times as messages write them.
-ghost use Rattle.std.specs.Prelude.{◌≡◌, ◌+◌, ◌≤◌, ◌++◌, SomeIff, IsTrue, length, take, codes};
-ghost use Rattle.gx_base.specs.Texts.{is_time_text, is_time_of_seconds, has_two_digits, is_stamp};
+ghost use Rattle.std.specs.Prelude.{◌≡◌, ◌+◌, ◌*◌, ◌≤◌, ◌++◌, SomeIff, IsTrue, length, take, codes};
+ghost use Rattle.gx_base.specs.Texts.{is_time_text, is_time_of_seconds, part_of, is_stamp};
+ghost use Rattle.gx_base.specs.Inner.Times.{has_form, has_ranges, is_between};
 
 use crate::digits::are_digits;
 use crate::text::Text;
 use std::marker::Model;
+use std::simd::prelude::*;
 
 /// How many bytes a time has at most.
 pub const LONGEST_STAMP: usize = 21;
+
+/// The least byte at each of the first sixteen places of a time.
+const LEAST: [u8; 16] = *b"00000000-00:00:0";
+
+/// The greatest one.
+const GREATEST: [u8; 16] = *b"99991939-29:59:6";
 
 /// A time of a message, as its text: `YYYYMMDD-HH:MM:SS`, with or without `.` and three digits (the UTC timestamp of
 /// FIX 4.2), or `00000000-00:00:00` for none. Contracts see it as this text.
@@ -99,32 +107,55 @@ fn is_time_text(text: &[u8]) -> bool
 }
 
 /// Whether a text begins with `YYYYMMDD-HH:MM:SS`.
+#[tactic(auto, using(crate::proofs::Times::spread))]
 #[inline]
 fn is_time_of_seconds(text: &[u8]) -> bool
     requires { 17 ≤ length text.now }
     ensures { result ≡ is_time_of_seconds text.now }
 {
-    are_digits(&text[..4])
-        && has_two_digits(text, 4, 1, 12)
-        && has_two_digits(text, 6, 1, 31)
-        && text[8] == b'-'
-        && has_two_digits(text, 9, 0, 23)
-        && text[11] == b':'
-        && has_two_digits(text, 12, 0, 59)
-        && text[14] == b':'
-        && has_two_digits(text, 15, 0, 60)
+    // The pairs first: after the block they would be taken out of it, which takes more than to read them.
+    has_ranges(text) && text[16].is_ascii_digit() && has_form(text)
 }
 
-/// Whether the two bytes from `start` on are digits of a number from `low` to `high`.
+/// Whether each of the first sixteen bytes lies between those of `LEAST` and of `GREATEST`. All are compared at once.
 #[inline]
-fn has_two_digits(text: &[u8], start: usize, low: u32, high: u32) -> bool
-    requires { start + 2 ≤ length text.now }
-    ensures { result ≡ has_two_digits text.now start low high }
+fn has_form(text: &[u8]) -> bool
+    requires { 17 ≤ length text.now }
+    ensures { result ≡ has_form text.now }
 {
-    let (tens, ones) = (text[start], text[start + 1]);
-    if !tens.is_ascii_digit() || !ones.is_ascii_digit() {
-        return false;
-    }
-    let value = u32::from(tens - b'0') * 10 + u32::from(ones - b'0');
-    low <= value && value <= high
+    let block = u8x16::from_slice(text);
+    let within = block.simd_ge(u8x16::from_array(LEAST))
+        & block.simd_le(u8x16::from_array(GREATEST));
+    within.to_bitmask() == 0xffff
+}
+
+/// Whether month, day, hour and second lie in their ranges, if they are digits. The form leaves nothing to try of the minute.
+#[inline]
+fn has_ranges(text: &[u8]) -> bool
+    requires { 17 ≤ length text.now }
+    ensures { result ≡ has_ranges text.now }
+{
+    is_between(text, 4, b"01", b"12")
+        && is_between(text, 6, b"01", b"31")
+        && is_between(text, 9, b"00", b"23")
+        && is_between(text, 15, b"00", b"60")
+}
+
+/// Whether the two bytes from `start` on come no earlier than `low` in the order of texts, and no later than `high`. Digits have the
+/// order of their numbers.
+#[inline]
+fn is_between(text: &[u8], start: usize, low: &[u8; 2], high: &[u8; 2]) -> bool
+    requires { start + 2 ≤ length text.now }
+    ensures { result ≡ is_between (part_of text.now start 2) low.now high.now }
+{
+    let written = pair(text[start], text[start + 1]);
+    pair(low[0], low[1]) <= written && written <= pair(high[0], high[1])
+}
+
+/// Two bytes as a number, which has the order of their texts.
+#[inline]
+fn pair(first: u8, second: u8) -> u32
+    ensures { result ≡ first * 256 + second }
+{
+    u32::from(first) * 256 + u32::from(second)
 }

@@ -1,0 +1,2 @@
+-- What inner functions compute. Contracts of public functions do not need it.
+pub mod Times
