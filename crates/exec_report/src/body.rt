@@ -13,7 +13,7 @@ use gx_base::{
     Cause, ChangeFault, Event, Head, Kind, LONGEST_VALUE, MOST_DECIMALS, Names, NewFault,
     NewRefused, Order, Price, ShortId, StepName,
 };
-use line_parts::fields::{LONGEST_FIELD, field, name, number, price, time, word};
+use line_parts::fields::{LONGEST_FIELD, counter, field, name, number, price, time, word};
 use line_parts::side_text;
 
 /// What a report tells of the change of an order.
@@ -59,7 +59,7 @@ pub(crate) fn write_body(into: &mut [u8], at: usize, event: &Event, names: &Name
             let at = trade_fields(into, at, *lots, *price, decimals);
             let at = state_fields(into, at, head, order);
             let at = step_field(into, at, *step);
-            let at = number(into, at, b"9002=", *trade);
+            let at = counter(into, at, b"9002=", *trade);
             word(into, at, b"9003=", b"0")
         }
         Event::Cancelled {
@@ -137,7 +137,7 @@ fn line_head(into: &mut [u8], at: usize, names: &Names, message_type: &[u8], hea
     ensures short { result ≤ at + 5 * LONGEST_FIELD }
 {
     let at = field(into, at, b"35=", message_type);
-    let at = number(into, at, b"34=", head.line);
+    let at = counter(into, at, b"34=", head.line);
     let at = name(into, at, b"49=", names.exchange());
     let at = time(into, at, b"52=", &head.time);
     addressee_field(into, at, names, head.firm)
@@ -231,7 +231,7 @@ fn id_fields(
     ensures fields { take result into.new ≡ take at into.old ++ id_fields order_number id.now (option_copied old.entry) }
     ensures short { result ≤ at + 3 * LONGEST_FIELD }
 {
-    let at = number(into, at, b"37=", order_number);
+    let at = counter(into, at, b"37=", order_number);
     let at = name(into, at, b"11=", id);
     old_field(into, at, old)
 }
@@ -254,7 +254,7 @@ fn report_fields(into: &mut [u8], at: usize, head: &Head, status: u8) -> usize
     ensures fields { take result into.new ≡ take at into.old ++ report_fields head.now (status ∷ []) }
     ensures short { result ≤ at + 4 * LONGEST_FIELD }
 {
-    let at = number(into, at, b"17=", head.report);
+    let at = counter(into, at, b"17=", head.report);
     let at = word(into, at, b"20=", b"0");
     let at = word(into, at, b"150=", &[status]);
     word(into, at, b"39=", &[status])

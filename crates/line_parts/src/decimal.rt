@@ -12,8 +12,41 @@ pub(crate) const MOST_NUMBER_DIGITS: usize = 20;
 static PAIRS: [u8; 200] =
     *b"00010203040506070809101112131415161718192021222324252627282930313233343536373839404142434445464748495051525354555657585960616263646566676869707172737475767778798081828384858687888990919293949596979899";
 
-/// Writes the digits of a number after the first `at` bytes of `into`, and answers where they end.
+/// Writes the digits of a number after the first `at` bytes of `into`, and answers where they end. One or two digits, which most
+/// quantities have, are written in place, and more of them by a call.
+#[inline(always)]
 pub(crate) fn append_number(into: &mut [u8], at: usize, n: u64) -> usize
+    requires { at + MOST_NUMBER_DIGITS ≤ length into.old }
+    ensures digits { take result into.new ≡ take at into.old ++ decimal n }
+    ensures behind { drop result into.new ≡ drop result into.old }
+    ensures end { result ≡ at + length (decimal n) }
+    ensures short { result ≤ at + MOST_NUMBER_DIGITS }
+{
+    if n < 100 {
+        return append_first(into, at, n);
+    }
+    append_any(into, at, n)
+}
+
+/// Writes the digits of a counter, as `append_number` does. Five or six digits, which it has for most of a day, are written in place.
+#[inline(always)]
+pub(crate) fn append_counter(into: &mut [u8], at: usize, n: u64) -> usize
+    requires { at + MOST_NUMBER_DIGITS ≤ length into.old }
+    ensures digits { take result into.new ≡ take at into.old ++ decimal n }
+    ensures behind { drop result into.new ≡ drop result into.old }
+    ensures end { result ≡ at + length (decimal n) }
+    ensures short { result ≤ at + MOST_NUMBER_DIGITS }
+{
+    if n < 10_000 || n >= 1_000_000 {
+        return append_any(into, at, n);
+    }
+    let end = append_first(into, at, n / 10_000);
+    append_four(into, end, n % 10_000)
+}
+
+/// Writes the digits of any number, as `append_number` does.
+#[inline(never)]
+fn append_any(into: &mut [u8], at: usize, n: u64) -> usize
     requires { at + MOST_NUMBER_DIGITS ≤ length into.old }
     ensures digits { take result into.new ≡ take at into.old ++ decimal n }
     ensures behind { drop result into.new ≡ drop result into.old }
@@ -31,8 +64,8 @@ pub(crate) fn append_number(into: &mut [u8], at: usize, n: u64) -> usize
 }
 
 /// Writes the digits of a number of at most four, as `append_number` does.
-#[inline]
-fn append_short(into: &mut [u8], at: usize, n: u64) -> usize
+#[inline(always)]
+pub(crate) fn append_short(into: &mut [u8], at: usize, n: u64) -> usize
     requires { (n < 10000) × (at + 4 ≤ length into.old) }
     ensures digits { take result into.new ≡ take at into.old ++ decimal n }
     ensures behind { drop result into.new ≡ drop result into.old }
@@ -48,7 +81,7 @@ fn append_short(into: &mut [u8], at: usize, n: u64) -> usize
 }
 
 /// Writes all four digits of a number below 10,000, the first of which may be 0.
-#[inline]
+#[inline(always)]
 fn append_four(into: &mut [u8], at: usize, n: u64) -> usize
     requires { (n < 10000) × (at + 4 ≤ length into.old) }
     ensures digits { take result into.new ≡ take at into.old ++ (48 + n / 100 / 10) ∷ (48 + n / 100 % 10) ∷ (48 + n % 100 / 10) ∷ (48 + n % 10) ∷ [] }
@@ -70,7 +103,7 @@ fn hundredth(n: u64) -> u64
 }
 
 /// Writes the digits of a number of one or two, as `append_number` does.
-#[inline]
+#[inline(always)]
 fn append_first(into: &mut [u8], at: usize, n: u64) -> usize
     requires { (n < 100) × (at + 2 ≤ length into.old) }
     ensures digits { take result into.new ≡ take at into.old ++ decimal n }

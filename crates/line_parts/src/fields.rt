@@ -4,7 +4,7 @@ ghost use Rattle.std.specs.Prelude.{◌≡◌, ◌+◌, ◌-◌, ◌<◌, ◌≤
 ghost use Rattle.gx_base.specs.Frames.{head_of, checksum_of, trailer_of, frame_of};
 ghost use Rattle.gx_base.specs.Numbers.{price_text};
 
-use crate::decimal::append_number;
+use crate::decimal::{append_counter, append_number};
 use crate::price::append_price;
 use crate::trailer::{checksum, trailer_with};
 use gx_base::{
@@ -51,6 +51,19 @@ pub fn number(into: &mut [u8], at: usize, tag: &[u8], n: u64) -> usize
 {
     let end = append_few(into, at, tag);
     let end = append_number(into, end, n);
+    append_few(into, end, &[SOH])
+}
+
+/// Writes a field whose value is a counter, which mostly has five or six digits, as `field` does.
+#[inline]
+pub fn counter(into: &mut [u8], at: usize, tag: &[u8], n: u64) -> usize
+    requires room { at + LONGEST_FIELD ≤ length into.old }
+    requires tag { length tag.now ≤ LONGEST_TAG }
+    ensures field { take result into.new ≡ take at into.old ++ (tag.now ++ decimal n ++ SOH ∷ []) }
+    ensures short { result ≤ at + LONGEST_FIELD }
+{
+    let end = append_few(into, at, tag);
+    let end = append_counter(into, end, n);
     append_few(into, end, &[SOH])
 }
 

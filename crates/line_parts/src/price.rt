@@ -1,9 +1,9 @@
 //! Prices as reports write them, after other bytes.
-ghost use Rattle.std.specs.Prelude.{◌≡◌, ◌+◌, ◌^◌, ◌≤◌, ◌++◌, length, take};
+ghost use Rattle.std.specs.Prelude.{◌≡◌, ◌+◌, ◌*◌, ◌/◌, ◌^◌, ◌<◌, ◌≤◌, ◌++◌, length, take, decimal};
 ghost use Rattle.gx_base.specs.Numbers.{fraction_text, price_text};
 
-use crate::decimal::{append_number, append_pair, write_fixed_digits};
-use gx_base::{LONGEST_VALUE, MOST_DECIMALS, Price, append};
+use crate::decimal::{append_number, append_pair, append_short, write_fixed_digits};
+use gx_base::{LONGEST_VALUE, MOST_DECIMALS, Price, append, append_few};
 
 /// 10 to the power of each number of decimals, which a price is divided by in each report.
 static POWERS_OF_TEN: [u64; MOST_DECIMALS as usize + 1] = [
@@ -30,8 +30,39 @@ pub fn write_price(price: Price, decimals: u8, into: &mut [u8; LONGEST_VALUE]) -
     append_price(into, 0, price, decimals)
 }
 
-/// Writes a price as `write_price` does, but after the first `at` bytes of `into`, and answers where it ends.
+/// Writes a price as `write_price` does, but after the first `at` bytes of `into`, and answers where it ends. Most prices have two
+/// decimals and at most four digits before the point: these are written in place, without a quotient by a power that is read.
+#[inline(always)]
 pub(crate) fn append_price(into: &mut [u8], at: usize, price: Price, decimals: u8) -> usize
+    requires few { decimals ≤ MOST_DECIMALS }
+    requires room { at + LONGEST_VALUE ≤ length into.old }
+    ensures text { take result into.new ≡ take at into.old ++ price_text price decimals }
+    ensures end { result ≡ at + length (price_text price decimals) }
+    ensures short { result ≤ at + LONGEST_VALUE }
+{
+    if decimals == 2 && price.0 >= 0 && price.0 < 1_000_000 {
+        return append_hundredths(into, at, price.0 as u64);
+    }
+    append_any_price(into, at, price, decimals)
+}
+
+/// Writes a price of two decimals that is not negative, and below 10,000.
+#[inline(always)]
+fn append_hundredths(into: &mut [u8], at: usize, units: u64) -> usize
+    requires { (units < 1000000) × (at + 7 ≤ length into.old) }
+    ensures text { take result into.new ≡ take at into.old ++ (decimal (units / 100) ++ fraction_text 2 units) }
+    ensures end { result ≡ at + length (decimal (units / 100)) + 3 }
+    ensures short { result ≤ at + 7 }
+{
+    let whole = units / 100;
+    let end = append_short(into, at, whole);
+    let end = append_few(into, end, b".");
+    append_pair(into, end, units - whole * 100)
+}
+
+/// Writes any price, as `append_price` does.
+#[inline(never)]
+fn append_any_price(into: &mut [u8], at: usize, price: Price, decimals: u8) -> usize
     requires few { decimals ≤ MOST_DECIMALS }
     requires room { at + LONGEST_VALUE ≤ length into.old }
     ensures text { take result into.new ≡ take at into.old ++ price_text price decimals }

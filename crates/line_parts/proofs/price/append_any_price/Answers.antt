@@ -2,8 +2,8 @@ use Rattle.std.proofs.Common.{◌/◌, ◌^◌, ◌<◌, ◌≤◌, length, deci
 use Rattle.std.proofs.Math.Nat.{one-le-pow}
 use Rattle.gx_base.proofs.PricesAgain.{length-fraction_text}
 use Rattle.line_parts.proofs.PriceTexts.{length-whole}
-use Rattle.line_parts.proofs.price.append_price.Goals as goal
-use Rattle.line_parts.proofs.price.append_price.Goals.{then-price-lt0, else-price-lt0}
+use Rattle.line_parts.proofs.price.append_any_price.Goals as goal
+use Rattle.line_parts.proofs.price.append_any_price.Goals.{then-price-lt0, else-price-lt0}
 
 pub nonzero_div-units : goal.nonzero_div-units
 nonzero_div-units c = omega (arith, c.power_of_ten.ensures, one-le-pow c.args.decimals 10 (omega arith))
