@@ -7,11 +7,11 @@ use Rattle.gx_base.specs.Frames.{frame_of}
 use Rattle.gx_base.proofs.Written.{same_further}
 use Rattle.line_parts.specs.declared.fields.TheConstants.{GAP}
 
--- the length of a body has at most three digits
-pub few_digits : (n : ℕ) → n < 1000 → length (decimal n) ≤ 3
+-- the length of a body of fewer than 100 bytes has at most two digits
+pub few_digits : (n : ℕ) → n < 100 → length (decimal n) ≤ 2
 few_digits n few =
     let fits : n < 2 ^ 64 = omega arith in
-    length-decimal-le 3 n (omega arith) few fits
+    length-decimal-le 2 n (omega arith) few fits
 
 -- the body after the gap
 body_behind : (old : List ℕ) (end : ℕ) → GAP ≤ end → take (end - GAP) (drop GAP old) ≡ drop GAP (take end old)

@@ -80,6 +80,20 @@ pub(crate) fn append_short(into: &mut [u8], at: usize, n: u64) -> usize
     append_pair(into, end, n - hundreds * 100)
 }
 
+/// Writes the digits of a number of just three.
+#[inline]
+pub(crate) fn append_three(into: &mut [u8], at: usize, n: u64) -> usize
+    requires three { (100 ≤ n) × (n < 1000) }
+    requires room { at + 3 ≤ length into.old }
+    ensures digits { take result into.new ≡ take at into.old ++ decimal n }
+    ensures behind { drop result into.new ≡ drop result into.old }
+    ensures end { result ≡ at + 3 }
+{
+    let hundreds = hundredth(n);
+    let end = append_few(into, at, &[b'0' + hundreds as u8]);
+    append_pair(into, end, n - hundreds * 100)
+}
+
 /// Writes all four digits of a number below 10,000, the first of which may be 0.
 #[inline(always)]
 fn append_four(into: &mut [u8], at: usize, n: u64) -> usize

@@ -4,7 +4,7 @@ ghost use Rattle.std.specs.Prelude.{◌≡◌, ◌+◌, ◌-◌, ◌<◌, ◌≤
 ghost use Rattle.gx_base.specs.Frames.{head_of, checksum_of, trailer_of, frame_of};
 ghost use Rattle.gx_base.specs.Numbers.{price_text};
 
-use crate::decimal::{append_counter, append_number};
+use crate::decimal::{append_counter, append_number, append_three};
 use crate::price::append_price;
 use crate::trailer::{checksum, trailer_with};
 use gx_base::{
@@ -136,8 +136,9 @@ pub fn put_frame(into: &mut [u8], end: usize) -> usize
     put_trailer(into, end)
 }
 
-/// Puts the head of a body, which stands after the gap and ends at `end`, right before it at the front, and answers
-/// where the two end. The body is moved where its length has less than three digits.
+/// Puts the head of a body, which stands after the gap and ends at `end`, right before it at the front, and answers where the two
+/// end. Most bodies have 100 bytes or more: their head fills the gap, and nothing moves.
+#[inline]
 fn put_head(into: &mut [u8], end: usize) -> usize
     requires gap { GAP ≤ end }
     requires short { end + LONGEST_FIELD ≤ 1000 }
@@ -146,10 +147,38 @@ fn put_head(into: &mut [u8], end: usize) -> usize
     ensures end { result ≤ end }
 {
     let count = end - GAP;
-    let at = head_fields(into, count);
-    if at < GAP {
-        move_body(into, end, at);
+    if count < 100 {
+        return put_short_head(into, end);
     }
+    fill_gap(into, count);
+    end
+}
+
+/// Writes the head of a body of 100 to 999 bytes, which fills the gap.
+#[inline]
+fn fill_gap(into: &mut [u8], count: usize)
+    requires count { (100 ≤ count) × (count < 1000) }
+    requires room { LONGEST_LINE ≤ length into.old }
+    ensures head { take GAP into.new ≡ head_of (decimal count) }
+    ensures behind { drop GAP into.new ≡ drop GAP into.old }
+{
+    let at = append_few(into, 0, b"8=FIX.4.2\x019=");
+    let at = append_three(into, at, count as u64);
+    append_few(into, at, &[SOH]);
+}
+
+/// Puts the head of a body of fewer than 100 bytes as `put_head` does: it is shorter than the gap, so the body is moved.
+#[cold]
+#[inline(never)]
+fn put_short_head(into: &mut [u8], end: usize) -> usize
+    requires gap { (GAP ≤ end) × (end - GAP < 100) }
+    requires room { LONGEST_LINE ≤ length into.old }
+    ensures head { take result into.new ≡ head_of (decimal (end - GAP)) ++ drop GAP (take end into.old) }
+    ensures end { result ≤ end }
+{
+    let count = end - GAP;
+    let at = head_fields(into, count);
+    move_body(into, end, at);
     at + count
 }
 
@@ -169,14 +198,14 @@ fn move_body(into: &mut [u8], end: usize, to: usize)
     }
 }
 
-/// Writes the head of a body of so many bytes into the gap.
+/// Writes the head of a body of so few bytes into the gap.
 #[tactic(auto, using(crate::proofs::Framing::few_digits))]
 fn head_fields(into: &mut [u8], count: usize) -> usize
-    requires few { count < 1000 }
+    requires few { count < 100 }
     requires room { LONGEST_LINE ≤ length into.old }
     ensures fields { take result into.new ≡ head_of (decimal count) }
     ensures behind { drop result into.new ≡ drop result into.old }
-    ensures short { result ≤ GAP }
+    ensures short { result < GAP }
 {
     let at = word(into, 0, b"8=", b"FIX.4.2");
     number(into, at, b"9=", count as u64)
