@@ -130,6 +130,7 @@ pub(crate) fn write_body(into: &mut [u8], at: usize, event: &Event, names: &Name
 }
 
 /// Message type, line, sender, time and addressee.
+#[inline(always)]
 fn line_head(into: &mut [u8], at: usize, names: &Names, message_type: &[u8], head: &Head) -> usize
     requires room { at + 5 * LONGEST_FIELD ≤ length into.old }
     requires short_type { length message_type.now ≤ LONGEST_VALUE }
@@ -144,6 +145,7 @@ fn line_head(into: &mut [u8], at: usize, names: &Names, message_type: &[u8], hea
 }
 
 /// The name of the addressee, `UNKNOWN` where it is not known or not listed.
+#[inline(always)]
 fn addressee_field(into: &mut [u8], at: usize, names: &Names, firm: Option<u8>) -> usize
     requires { at + LONGEST_FIELD ≤ length into.old }
     ensures field { take result into.new ≡ take at into.old ++ field "56" (addressee names.now firm) }
@@ -158,6 +160,7 @@ fn addressee_field(into: &mut [u8], at: usize, names: &Names, firm: Option<u8>) 
 }
 
 /// The name of an instrument, `UNKNOWN` where it is not listed.
+#[inline(always)]
 fn instrument_field(into: &mut [u8], at: usize, names: &Names, instrument: u8) -> usize
     requires { at + LONGEST_FIELD ≤ length into.old }
     ensures field { take result into.new ≡ take at into.old ++ field "55" (instrument_name names.now instrument) }
@@ -171,6 +174,7 @@ fn instrument_field(into: &mut [u8], at: usize, names: &Names, instrument: u8) -
 }
 
 /// An execution report of an order up to what was ordered.
+#[inline(always)]
 fn order_front(
     into: &mut [u8],
     at: usize,
@@ -191,6 +195,7 @@ fn order_front(
 }
 
 /// The update of an order under its own id.
+#[inline(always)]
 fn own_update(order: &Order, status: u8) -> OrderUpdate<'_>
     ensures id { result.id.now ≡ order.now.id }
     ensures old { result.old ≡ None }
@@ -204,6 +209,7 @@ fn own_update(order: &Order, status: u8) -> OrderUpdate<'_>
 }
 
 /// The update of an order that is cancelled, under the id of the cancel if one asked for it.
+#[inline(always)]
 fn cancel_update<'a>(order: &'a Order, by: Option<&'a ShortId>) -> OrderUpdate<'a>
     ensures id { result.id.now ≡ cancel_id order.now (option_copied by.entry) }
     ensures old { option_copied result.old ≡ cancelled_id order.now (option_copied by.entry) }
@@ -220,6 +226,7 @@ fn cancel_update<'a>(order: &'a Order, by: Option<&'a ShortId>) -> OrderUpdate<'
 }
 
 /// Which order, under which id, and in the place of which id.
+#[inline(always)]
 fn id_fields(
     into: &mut [u8],
     at: usize,
@@ -237,6 +244,7 @@ fn id_fields(
 }
 
 /// The id in whose place this one stands, if there is one.
+#[inline(always)]
 fn old_field(into: &mut [u8], at: usize, old: Option<&ShortId>) -> usize
     requires { at + LONGEST_FIELD ≤ length into.old }
     ensures fields { take result into.new ≡ take at into.old ++ field_if "41" (option_copied old.entry) }
@@ -249,6 +257,7 @@ fn old_field(into: &mut [u8], at: usize, old: Option<&ShortId>) -> usize
 }
 
 /// Which execution report, and what it tells.
+#[inline(always)]
 fn report_fields(into: &mut [u8], at: usize, head: &Head, status: u8) -> usize
     requires { at + 4 * LONGEST_FIELD ≤ length into.old }
     ensures fields { take result into.new ≡ take at into.old ++ report_fields head.now (status ∷ []) }
@@ -261,6 +270,7 @@ fn report_fields(into: &mut [u8], at: usize, head: &Head, status: u8) -> usize
 }
 
 /// What was ordered.
+#[inline(always)]
 fn order_fields(into: &mut [u8], at: usize, names: &Names, order: &Order) -> usize
     requires { at + 7 * LONGEST_FIELD ≤ length into.old }
     ensures fields { take result into.new ≡ take at into.old ++ order_fields names.now order.now }
@@ -275,6 +285,7 @@ fn order_fields(into: &mut [u8], at: usize, names: &Names, order: &Order) -> usi
 }
 
 /// The price and the stop price, as far as the kind of the order has them.
+#[inline(always)]
 fn price_fields(into: &mut [u8], at: usize, order: &Order, decimals: u8) -> usize
     requires room { at + 2 * LONGEST_FIELD ≤ length into.old }
     requires decimals { decimals ≤ MOST_DECIMALS }
@@ -292,6 +303,7 @@ fn price_fields(into: &mut [u8], at: usize, order: &Order, decimals: u8) -> usiz
 }
 
 /// A trade: how much, and at which price.
+#[inline(always)]
 fn trade_fields(into: &mut [u8], at: usize, lots: u32, trade_price: Price, decimals: u8) -> usize
     requires room { at + 2 * LONGEST_FIELD ≤ length into.old }
     requires decimals { decimals ≤ MOST_DECIMALS }
@@ -303,6 +315,7 @@ fn trade_fields(into: &mut [u8], at: usize, lots: u32, trade_price: Price, decim
 }
 
 /// What is open and filled of an order now.
+#[inline(always)]
 fn state_fields(into: &mut [u8], at: usize, head: &Head, order: &Order) -> usize
     requires { at + 4 * LONGEST_FIELD ≤ length into.old }
     ensures fields { take result into.new ≡ take at into.old ++ state_fields head.now order.now }
@@ -315,6 +328,7 @@ fn state_fields(into: &mut [u8], at: usize, head: &Head, order: &Order) -> usize
 }
 
 /// The step that gave a fill. Each is a constant here, which takes a few stores and no copy of unknown length.
+#[inline(always)]
 fn step_field(into: &mut [u8], at: usize, step: StepName) -> usize
     requires { at + LONGEST_FIELD ≤ length into.old }
     ensures field { take result into.new ≡ take at into.old ++ field "9001" (step_text step) }
@@ -331,6 +345,7 @@ fn step_field(into: &mut [u8], at: usize, step: StepName) -> usize
 }
 
 /// Why an order is cancelled, in our own words, where the client did not ask for it.
+#[inline(always)]
 fn cause_field(into: &mut [u8], at: usize, cause: Cause) -> usize
     requires { at + LONGEST_FIELD ≤ length into.old }
     ensures fields { take result into.new ≡ take at into.old ++ field_if "58" (cause_text cause) }
