@@ -55,20 +55,19 @@ pub(crate) fn refuse_new<E: Emit>(desk: &mut Desk, new: &NewOrder, fault: NewFau
 pub(crate) fn bring_in<B: Book, E: Emit>(
     state: &mut EngineState<B>,
     instrument: &Instrument<'_>,
-    taker: Taker,
+    taker: &mut Taker,
     out: &mut E,
 )
-    requires can { CanComeIn state.old.book state.old.desk taker }
+    requires can { CanComeIn state.old.book state.old.desk taker.old }
     requires priced { instrument.now.number < length state.old.last }
-    ensures takes { let on = listed_instrument instrument.now in Takes E.meanings (BroughtApart on taker) (λ naming. brought_in naming on taker) state.old
+    ensures takes { let on = listed_instrument instrument.now in Takes E.meanings (BroughtApart on taker.old) (λ naming. brought_in naming on taker.old) state.old
         state.new out.old out.new }
-    ensures rose { CountsRose (most_reports taker state.old.book) state.old.desk state.new.desk }
+    ensures rose { CountsRose (most_reports taker.old state.old.book) state.old.desk state.new.desk }
 {
-    let mut taker = taker;
     let last = come_in(
         &mut state.book,
         &mut state.desk,
-        &mut taker,
+        taker,
         &instrument.rule.steps,
         out,
     );
@@ -90,7 +89,7 @@ fn accept_new<B: Book, E: Emit>(
     ensures rose { CountsRose (2 ^ 38) (record state.old.desk { orders = state.old.desk.orders + 1 }) state.new.desk }
 {
     state.desk.orders += 1;
-    let taker = Taker {
+    let mut taker = Taker {
         order: terms.order(new, state.desk.orders),
         time: new.sender.time,
         range: None,
@@ -100,7 +99,7 @@ fn accept_new<B: Book, E: Emit>(
         head,
         order: taker.order,
     });
-    bring_in(state, &terms.instrument, taker, out);
+    bring_in(state, &terms.instrument, &mut taker, out);
 }
 
 /// A new order is refused by the first rule that holds, or else accepted.

@@ -179,7 +179,7 @@ fn replace_anew<B: Book, E: Emit>(
 {
     state.book.rules();
     let order = state.book.remove(slot);
-    let taker = Taker {
+    let mut taker = Taker {
         order: replaced_order(request, &order),
         time: request.sender.time,
         range: None,
@@ -191,7 +191,7 @@ fn replace_anew<B: Book, E: Emit>(
         old: order.id,
         old_quantity: order.quantity,
     });
-    bring_in(state, instrument, taker, out);
+    bring_in(state, instrument, &mut taker, out);
 }
 
 /// What is said of a refused replace of an order with this number, of which so much is filled.
