@@ -209,3 +209,21 @@ row_of-summed q a b d (r ∷ rs) h =
           ∙ ap (λ (c : Bool). (cond c r (row_of q (with_sums q a b d rs))).count) t.0
           ∙ row_of-summed q a b d rs (elim h [ inl e ↦ absurd (t.1 e) | inr e ↦ e ])
     ]
+
+-- the sums of a level that goes do not matter
+pub without-summed : (q a b d : ℕ) (rs : List LevelRow) → without_row q (with_sums q a b d rs) ≡ without_row q rs
+without-summed q a b d [] = refl
+without-summed q a b d (r ∷ rs) =
+    let new : LevelRow = record r { count = a; shown = b; leaves = d } in
+    elim (eqb_tells r.queue q) [
+      | inl t ↦
+          ap (λ (c : Bool). without_row q (cond c new r ∷ with_sums q a b d rs)) t.0
+          ∙ ap (λ (c : Bool). cond (not c) (new ∷ without_row q (with_sums q a b d rs)) (without_row q (with_sums q a b d rs))) t.0
+          ∙ without-summed q a b d rs
+          ∙ sym (ap (λ (c : Bool). cond (not c) (r ∷ without_row q rs) (without_row q rs)) t.0)
+      | inr t ↦
+          ap (λ (c : Bool). without_row q (cond c new r ∷ with_sums q a b d rs)) t.0
+          ∙ ap (λ (c : Bool). cond (not c) (r ∷ without_row q (with_sums q a b d rs)) (without_row q (with_sums q a b d rs))) t.0
+          ∙ ap (λ (l : List LevelRow). r ∷ l) (without-summed q a b d rs)
+          ∙ sym (ap (λ (c : Bool). cond (not c) (r ∷ without_row q rs) (without_row q rs)) t.0)
+    ]

@@ -51,15 +51,16 @@ pub(crate) fn leave_level(levels: &mut Levels, queue: u32, order: &Order)
     ensures { levels.new ≡ record levels.old { rows = rows_left queue order.now levels.old.rows } }
 {
     let row = levels.row(queue);
+    if row.count == 1 {
+        levels.remove_level(queue);
+        return;
+    }
     levels.set_sums(
         queue,
         row.count - 1,
         row.shown - u64::from(order.shown),
         row.leaves - u64::from(order.leaves),
     );
-    if row.count == 1 {
-        levels.close_level(queue);
-    }
 }
 
 /// The order with some lots of it traded.

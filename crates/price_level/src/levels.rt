@@ -186,6 +186,15 @@ impl Levels {
         ensures rows { self.new ≡ record self.old { rows = without_row queue self.old.rows } }
         ensures count { length self.new.rows + 1 ≡ length self.old.rows }
     {
+        self.remove_level(queue);
+    }
+
+    /// Takes out the level with a queue, whatever its sums are. So they need not be set before, where its last order leaves.
+    pub fn remove_level(&mut self, queue: u32)
+        requires { HasQueue queue self.old.rows }
+        ensures rows { self.new ≡ record self.old { rows = without_row queue self.old.rows } }
+        ensures count { length self.new.rows + 1 ≡ length self.old.rows }
+    {
         let Held { row, spot } = self.held[queue as usize];
         let at = side_number(row.instrument, row.side);
         self.sides.take_out(at, row.side, row.price, spot);

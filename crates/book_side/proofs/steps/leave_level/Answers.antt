@@ -1,15 +1,15 @@
-use Rattle.std.proofs.Common.{◌≡◌, ◌-◌, sym, ap, subst, ◌∙◌, arith}
-use Rattle.price_level.specs.Rows.{Rows, HasQueue, row_of}
-use Rattle.book_side.proofs.Placing.{has-summed}
-use Rattle.book_side.proofs.Flat.{row_of-summed}
+use Rattle.std.proofs.Common.{◌≡◌, ℕ, List, ◌==◌, if◌then◌else◌, sym, ap, ◌∙◌}
+use Rattle.price_level.specs.declared.row.LevelRow.{LevelRow}
+use Rattle.price_level.specs.Rows.{row_of, without_row}
+use Rattle.book_side.specs.Inner.Steps.{lowered}
+use Rattle.book_side.proofs.Flat.{without-summed}
 use Rattle.book_side.proofs.steps.leave_level.Goals as goal
 
-pub close_level-requires-clause-has : goal.close_level-requires-clause-has
-close_level-requires-clause-has c =
-    subst (λ (y : Rows). HasQueue c.args.queue y.rows) (sym c.set_sums.ensures) (has-summed c.args.queue _ _ _ c.args.queue c.args.levels.now.rows c.requires.has)
-
-pub close_level-requires-clause-empty : goal.close_level-requires-clause-empty
-close_level-requires-clause-empty c =
-    let a = c.row-row.result.count - 1 in
-    let e : (row_of c.args.queue c.set_sums.new.self.rows).count ≡ a = ap (λ (y : Rows). (row_of c.args.queue y.rows).count) c.set_sums.ensures ∙ row_of-summed c.args.queue _ _ _ c.args.levels.now.rows c.requires.has in
-    omega (arith, e)
+pub returns-then-row-eq1 : goal.returns-then-row-eq1
+returns-then-row-eq1 c =
+    let lv = c.args.levels.now in
+    let q = c.args.queue in
+    let low = lowered q c.args.order.now lv.rows in
+    let one : (row_of q lv.rows).count ≡ 1 = sym (ap (λ (r : LevelRow). r.count) c.row-row.ensures) ∙ c.if-row-eq1.true in
+    c.remove_level.ensures.rows
+    ∙ sym (ap (λ (l : List LevelRow). record lv { rows = l }) (ap (λ (n : ℕ). if n == 1 then without_row q low else low) one ∙ without-summed q _ _ _ lv.rows))
