@@ -67,7 +67,7 @@ one_more front text i number low digit so_far = record {
 }
 
 -- zeros after a number
-value_zeros : (n k : ℕ) → digits_value_after 10 n (replicate k 48) ≡ n * 10 ^ k
+pub value_zeros : (n k : ℕ) → digits_value_after 10 n (replicate k 48) ≡ n * 10 ^ k
 value_zeros n zero = omega arith
 value_zeros n (suc k) =
     let same : n * 10 + digit_value 48 ≡ n * 10 = omega arith in
@@ -82,7 +82,7 @@ one_zero_more top n i k e =
 pub capped_zeros : (top n k m : ℕ) → m ≡ min top (n * 10 ^ k) → m ≡ min top (digits_value_after 10 n (replicate k 48))
 capped_zeros top n k m e = e ∙ ap (min top) (sym (value_zeros n k))
 
-value_append : (n : ℕ) (ds es : List ℕ) → digits_value_after 10 n (ds ++ es) ≡ digits_value_after 10 (digits_value_after 10 n ds) es
+pub value_append : (n : ℕ) (ds es : List ℕ) → digits_value_after 10 n (ds ++ es) ≡ digits_value_after 10 (digits_value_after 10 n ds) es
 value_append n [] es = refl
 value_append n (d ∷ ds) es = value_append (n * 10 + digit_value d) ds es
 

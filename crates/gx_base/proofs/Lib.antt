@@ -7,3 +7,4 @@ pub mod Tests
 pub mod Written
 pub mod Marks
 mod Times
+mod ShortPrices

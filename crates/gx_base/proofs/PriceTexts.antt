@@ -17,7 +17,7 @@ digits_in_two : (n : ℕ) (ds : List ℕ) → are_digits ds ≡ (are_digits (tak
 digits_in_two n ds = ap are_digits (sym (take-append-drop n ds)) ∙ list_all-append is_ascii_digit (take n ds) (drop n ds)
 
 -- as a slice is that ends where the whole ends
-slice_behind : (n : ℕ) (ds : List ℕ) → take (length ds - n) (drop n ds) ≡ drop n ds
+pub slice_behind : (n : ℕ) (ds : List ℕ) → take (length ds - n) (drop n ds) ≡ drop n ds
 slice_behind n ds = take_all (length ds - n) (drop n ds) (omega (arith, length-drop n ds))
 
 pub digits_from_two : (n : ℕ) (ds : List ℕ) → are_digits (take n ds) ≡ true → are_digits (take (length ds - n) (drop n ds)) ≡ true → are_digits ds ≡ true
@@ -30,7 +30,7 @@ pub none_behind : (n : ℕ) (ds : List ℕ) → are_digits (take (length ds - n)
 none_behind n ds h = digits_in_two n ds ∙ ap (λ b. are_digits (take n ds) && b) (ap are_digits (sym (slice_behind n ds)) ∙ h) ∙ and_false (are_digits (take n ds))
 
 -- digits filled up with zeros
-filled_up : (decimals kept : ℕ) (ds : List ℕ) → kept ≡ min (length ds) decimals → take decimals (ds ++ replicate decimals 48) ≡ take kept ds ++ replicate (decimals - kept) 48
+pub filled_up : (decimals kept : ℕ) (ds : List ℕ) → kept ≡ min (length ds) decimals → take decimals (ds ++ replicate decimals 48) ≡ take kept ds ++ replicate (decimals - kept) 48
 filled_up decimals kept ds e = same_lists _ _ (search (rules, places)) (λ k d h. grind (arith, places))
 
 -- what is read in two parts and filled up

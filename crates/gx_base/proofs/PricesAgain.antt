@@ -54,13 +54,13 @@ fixed-value (suc width) n whole e =
 no-point : (c : ℕ) → is_ascii_digit c ≡ true → is_point c ≡ false
 no-point c d = grind (arith, nat_tests)
 
-at-end : (ds : List ℕ) → are_digits ds ≡ true → position_or_len is_point ds ≡ length ds
+pub at-end : (ds : List ℕ) → are_digits ds ≡ true → position_or_len is_point ds ≡ length ds
 at-end [] h = refl
 at-end (c ∷ ds) h =
     let both = and_parts (is_ascii_digit c) (are_digits ds) h in
     ap (λ (b : Bool). cond (not b) (1 + position_or_len is_point ds) 0) (no-point c both.0) ∙ omega (arith, at-end ds both.1)
 
-at-point : (ds es : List ℕ) → are_digits ds ≡ true → position_or_len is_point (ds ++ 46 ∷ es) ≡ length ds
+pub at-point : (ds es : List ℕ) → are_digits ds ≡ true → position_or_len is_point (ds ++ 46 ∷ es) ≡ length ds
 at-point [] es h = refl
 at-point (c ∷ ds) es h =
     let both = and_parts (is_ascii_digit c) (are_digits ds) h in
@@ -92,7 +92,7 @@ plain decimals n = decimal (n / 10 ^ decimals) ++ fraction_text decimals n
 text-is : (price : Price) (decimals : ℕ) → price_text price decimals ≡ cond (is_negative price.0) (codes "-") [] ++ plain decimals (unsigned_abs price.0)
 text-is price decimals = append_assoc (cond (is_negative price.0) (codes "-") []) (decimal (unsigned_abs price.0 / 10 ^ decimals)) (fraction_text decimals (unsigned_abs price.0))
 
-no-sign : (ds es : List ℕ) → 0 < length ds → are_digits ds ≡ true → has_minus (ds ++ es) ≡ false
+pub no-sign : (ds es : List ℕ) → 0 < length ds → are_digits ds ≡ true → has_minus (ds ++ es) ≡ false
 no-sign [] es some h = absurd (omega arith)
 no-sign (c ∷ ds) es some h = let digit = (and_parts (is_ascii_digit c) (are_digits ds) h).0 in grind (arith, nat_tests)
 

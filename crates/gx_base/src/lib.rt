@@ -12,6 +12,7 @@ mod names;
 mod order;
 mod price;
 mod quantity;
+mod short_price;
 mod stamp;
 mod text;
 mod trading;

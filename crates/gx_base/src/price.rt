@@ -6,6 +6,7 @@ ghost use Rattle.gx_base.specs.Numbers.{are_digits, are_zeros, has_minus, signed
 use crate::bytes::split_at_byte;
 use crate::digits::{CEILING, are_digits, are_zeros, read_if_digits};
 use crate::limits::{MOST_DECIMALS, MOST_PRICE_UNITS};
+use crate::short_price::read_short_price;
 use std::cmp;
 use thiserror::Error;
 
@@ -34,6 +35,18 @@ pub enum PriceFault {
 /// `MOST_DECIMALS`; or the
 /// first fault in the order of `PriceFault`. Our own rule, within the float format of FIX 4.2.
 pub fn read_price(text: &[u8], decimals: u8) -> Result<Price, PriceFault>
+    requires { decimals ≤ MOST_DECIMALS }
+    ensures { result ≡ price_of text.now decimals }
+{
+    match read_short_price(text, decimals) {
+        Some(price) => Ok(price),
+        None => read_any_price(text, decimals),
+    }
+}
+
+/// The same, of a text of any length.
+#[inline(never)]
+fn read_any_price(text: &[u8], decimals: u8) -> Result<Price, PriceFault>
     requires { decimals ≤ MOST_DECIMALS }
     ensures { result ≡ price_of text.now decimals }
 {
