@@ -17,13 +17,13 @@ use std::marker::Model;
 #[derive(Drop)]
 pub struct WaitingStops {
     queues: Vec<StopQueue>,
-    /// For each slot the place at which its stop was put: a guess, which is looked at first.
+    /// For each slot that was needed so far the place at which its stop was put: a guess, which is looked at first.
     spots: Vec<u32>,
     capacity: u32,
 }
 
 impl Model for WaitingStops {
-    ghost use Rattle.std.specs.Prelude.{◌≡◌, length, vec_len, vec_capacity};
+    ghost use Rattle.std.specs.Prelude.{◌≡◌, length, vec_capacity};
     ghost use Rattle.waiting_stops.specs.Waits.{StopLists};
     ghost use Rattle.waiting_stops.specs.Inner.Kept.{lists_of, AreKept};
 
@@ -31,7 +31,7 @@ impl Model for WaitingStops {
 
     ghost view = { λ s. record { capacity = s.capacity; lists = lists_of s.queues.items } };
 
-    ghost invariant = { λ s. AreKept s.capacity s.queues.items × (vec_capacity s.queues ≡ length s.queues.items) × (vec_len s.spots ≡ s.capacity) × (vec_capacity s.spots ≡ s.capacity) };
+    ghost invariant = { λ s. AreKept s.capacity s.queues.items × (vec_capacity s.queues ≡ length s.queues.items) × (vec_capacity s.spots ≡ s.capacity) };
 }
 
 /// How many places there are for so many stops.
@@ -54,16 +54,23 @@ fn empty_queues(alloc: Global, capacity: u32, count: u8) -> Result<Vec<StopQueue
     Ok(queues)
 }
 
-/// So many zeros, with room for no more.
-fn zeros(alloc: Global, count: usize) -> Result<Vec<u32>, AllocError>
-    ensures long { IfOk result (λ v. vec_len v ≡ count) }
-    ensures room { IfOk result (λ v. vec_capacity v ≡ count) }
+/// There is a spot for a slot. Those that no stop needed before are 0.
+fn reach(spots: &mut Vec<u32>, slot: Slot)
+    requires { slot.0 < vec_capacity spots.old }
+    ensures reached { slot.0 < vec_len spots.new }
+    ensures room { vec_capacity spots.new ≡ vec_capacity spots.old }
 {
-    let mut zeros = Vec::with_capacity(alloc, count)?;
-    for _ in 0..count {
-        zeros.push_reserved(0);
+    for _ in spots.len()..slot.0 as usize + 1 {
+        spots.push_reserved(0);
     }
-    Ok(zeros)
+}
+
+/// The spot of a slot, or 0 if no stop needed one yet.
+fn spot_of(spots: &[u32], slot: Slot) -> u32 {
+    match spots.get(slot.0 as usize) {
+        Some(spot) => *spot,
+        None => 0,
+    }
 }
 
 impl WaitingStops {
@@ -74,7 +81,7 @@ impl WaitingStops {
     {
         Ok(WaitingStops {
             queues: empty_queues(alloc, capacity, instruments)?,
-            spots: zeros(alloc, capacity as usize)?,
+            spots: Vec::with_capacity(alloc, capacity as usize)?,
             capacity,
         })
     }
@@ -86,6 +93,7 @@ impl WaitingStops {
         requires room { length (list_at self.old.lists instrument) < self.old.capacity }
         ensures { self.new ≡ record self.old { lists = set self.old.lists instrument (with_wait wait (list_at self.old.lists instrument)) } }
     {
+        reach(&mut self.spots, wait.slot);
         self.queues[instrument as usize].put(wait, &mut self.spots);
     }
 
@@ -96,7 +104,7 @@ impl WaitingStops {
         requires differ { SlotsDiffer (list_at self.old.lists instrument) }
         ensures { self.new ≡ record self.old { lists = set self.old.lists instrument (without_slot slot.0 (list_at self.old.lists instrument)) } }
     {
-        let spot = self.spots[slot.0 as usize];
+        let spot = spot_of(&self.spots, slot);
         self.queues[instrument as usize].take_out(slot, spot);
     }
 
