@@ -1,20 +1,22 @@
-//! The bodies of report lines, field by field. As in `fields`, each call writes after the first `at` bytes, and answers
-//! where what it wrote ends. A field takes at most `LONGEST_FIELD` bytes.
-ghost use Rattle.std.specs.Prelude.{◌≡◌, ◌+◌, ◌*◌, ◌≤◌, [], ◌∷◌, ◌++◌, ◌==◌, if◌then◌else◌, Some, None, codes, decimal, length, take};
+//! The bodies of report lines, field by field. As in `rows`, each call writes after the first `at` bytes and begins with the byte that
+//! ends the field before, and answers where the last value ends. A field takes at most `LONGEST_FIELD` bytes.
+ghost use Rattle.std.specs.Prelude.{◌≡◌, ◌+◌, ◌*◌, ◌<◌, ◌≤◌, [], ◌∷◌, ◌++◌, ◌==◌, if◌then◌else◌, Some, None, codes, decimal, length, take};
 ghost use Rattle.std.specs.Option.{option_copied};
 ghost use Rattle.gx_base.specs.Frames.{field};
-ghost use Rattle.gx_base.specs.Line.{field_if, addressee, instrument_name, step_text, cause_text, number_text, cancel_id, cancelled_id, line_head, id_fields, report_fields, price_fields, order_fields, order_front, state_fields, trade_fields, refused_fields, wanted_fields, nothing_fields, fault_fields, request_fields, change_fields, session_fields, body_of};
+ghost use Rattle.line_parts.specs.Rows.{ended};
+ghost use Rattle.exec_report.specs.Inner.{term_fields};
+ghost use Rattle.gx_base.specs.Line.{field_if, addressee, kind_text, step_text, cause_text, number_text, cancel_id, cancelled_id, line_head, id_fields, report_fields, price_fields, order_fields, order_front, state_fields, trade_fields, refused_fields, wanted_fields, nothing_fields, fault_fields, request_fields, change_fields, session_fields, body_of};
 
 use crate::values::{
     change_reason, change_status, change_text, decimals_of, fault_text, fill_status, kind_text,
-    life_text, reject_reason, response_text, rule_text,
+    life_digit, reject_reason, response_text, rule_text, side_digit,
 };
 use gx_base::{
     Cause, ChangeFault, Event, Head, Kind, LONGEST_VALUE, MOST_DECIMALS, Names, NewFault,
     NewRefused, Order, Price, ShortId, StepName,
 };
-use line_parts::fields::{LONGEST_FIELD, counter, field, name, number, price, time, word};
-use line_parts::side_text;
+use line_parts::fields::LONGEST_FIELD;
+use line_parts::rows::{counter, end_row, field, letter, name, number, price, text, time};
 
 /// What a report tells of the change of an order.
 #[derive(Clone, Copy)]
@@ -27,23 +29,29 @@ struct OrderUpdate<'a> {
     status: u8,
 }
 
-/// Writes the body of an event: at most 28 fields.
+/// Writes the body of an event: at most 28 fields, and the bytes that end the one before it and its last.
+#[inline(always)]
 pub(crate) fn write_body(into: &mut [u8], at: usize, event: &Event, names: &Names) -> usize
+    requires { at + 28 * LONGEST_FIELD < length into.old }
+    ensures body { take result into.new ≡ ended at into.old ++ body_of names.now event.now }
+    ensures short { result ≤ at + 28 * LONGEST_FIELD + 1 }
+{
+    let at = event_fields(into, at, event, names);
+    end_row(into, at)
+}
+
+/// The fields of an event. Those of the three common kinds are written in place.
+#[inline(always)]
+fn event_fields(into: &mut [u8], at: usize, event: &Event, names: &Names) -> usize
     requires { at + 28 * LONGEST_FIELD ≤ length into.old }
-    ensures body { take result into.new ≡ take at into.old ++ body_of names.now event.now }
+    ensures fields { ended result into.new ≡ ended at into.old ++ body_of names.now event.now }
     ensures short { result ≤ at + 28 * LONGEST_FIELD }
 {
     match event {
         Event::Accepted { head, order } => {
             let at = order_front(into, at, names, head, order, &own_update(order, b'0'));
             let at = state_fields(into, at, head, order);
-            word(into, at, b"9003=", b"0")
-        }
-        Event::Triggered { head, order } => {
-            let at = order_front(into, at, names, head, order, &own_update(order, b'0'));
-            let at = state_fields(into, at, head, order);
-            let at = word(into, at, b"58=", b"TRIGGERED");
-            word(into, at, b"9003=", b"0")
+            text(into, at, b"\x019003=0")
         }
         Event::Fill {
             head,
@@ -59,8 +67,8 @@ pub(crate) fn write_body(into: &mut [u8], at: usize, event: &Event, names: &Name
             let at = trade_fields(into, at, *lots, *price, decimals);
             let at = state_fields(into, at, head, order);
             let at = step_field(into, at, *step);
-            let at = counter(into, at, b"9002=", *trade);
-            word(into, at, b"9003=", b"0")
+            let at = counter(into, at, b"\x019002=", *trade);
+            text(into, at, b"\x019003=0")
         }
         Event::Cancelled {
             head,
@@ -73,35 +81,20 @@ pub(crate) fn write_body(into: &mut [u8], at: usize, event: &Event, names: &Name
             let at = order_front(into, at, names, head, order, &update);
             let at = state_fields(into, at, head, order);
             let at = cause_field(into, at, *cause);
-            number(into, at, b"9003=", u64::from(*gone))
+            number(into, at, b"\x019003=", u64::from(*gone))
         }
+        Event::Triggered { head, order } => triggered_fields(into, at, names, head, order),
         Event::Expired { head, order, gone } => {
-            let at = order_front(into, at, names, head, order, &own_update(order, b'C'));
-            let at = state_fields(into, at, head, order);
-            let at = word(into, at, b"58=", b"EXPIRED");
-            number(into, at, b"9003=", u64::from(*gone))
+            expired_fields(into, at, names, head, order, *gone)
         }
         Event::Replaced {
             head,
             order,
             old,
             ..
-        } => {
-            let update = OrderUpdate {
-                id: &order.id,
-                old: Some(old),
-                status: b'5',
-            };
-            let at = order_front(into, at, names, head, order, &update);
-            let at = state_fields(into, at, head, order);
-            word(into, at, b"9003=", b"0")
-        }
+        } => replaced_fields(into, at, names, head, order, old),
         Event::RefusedNew { head, order, fault } => {
-            let at = line_head(into, at, names, b"8", head);
-            let at = refused_fields(into, at, head, order, *fault);
-            let at = wanted_fields(into, at, order);
-            let at = nothing_fields(into, at, head);
-            fault_fields(into, at, order, *fault)
+            refused_new_fields(into, at, names, head, order, *fault)
         }
         Event::RefusedChange {
             head,
@@ -112,7 +105,7 @@ pub(crate) fn write_body(into: &mut [u8], at: usize, event: &Event, names: &Name
             replace,
             fault,
         } => {
-            let at = line_head(into, at, names, b"9", head);
+            let at = line_head(into, at, names, b'9', head);
             let at = request_fields(into, at, *number, id, old);
             change_fields(into, at, head, *filled, *replace, *fault)
         }
@@ -123,24 +116,109 @@ pub(crate) fn write_body(into: &mut [u8], at: usize, event: &Event, names: &Name
             reason,
             rule,
         } => {
-            let at = line_head(into, at, names, b"3", head);
+            let at = line_head(into, at, names, b'3', head);
             session_fields(into, at, *seq, *tag, *reason, *rule)
         }
     }
 }
 
+/// A stop that became a limit order.
+#[inline(never)]
+fn triggered_fields(into: &mut [u8], at: usize, names: &Names, head: &Head, order: &Order) -> usize
+    requires { at + 25 * LONGEST_FIELD ≤ length into.old }
+    ensures fields { ended result into.new ≡ ended at into.old
+        ++ (order_front names.now head.now order.now order.now.id None (codes "0") ++ state_fields head.now order.now
+        ++ field "58" (codes "TRIGGERED") ++ field "9003" (codes "0")) }
+    ensures short { result ≤ at + 25 * LONGEST_FIELD }
+{
+    let at = order_front(into, at, names, head, order, &own_update(order, b'0'));
+    let at = state_fields(into, at, head, order);
+    let at = text(into, at, b"\x0158=TRIGGERED");
+    text(into, at, b"\x019003=0")
+}
+
+/// An order that expired.
+#[inline(never)]
+fn expired_fields(
+    into: &mut [u8],
+    at: usize,
+    names: &Names,
+    head: &Head,
+    order: &Order,
+    gone: u32,
+) -> usize
+    requires { at + 25 * LONGEST_FIELD ≤ length into.old }
+    ensures fields { ended result into.new ≡ ended at into.old
+        ++ (order_front names.now head.now order.now order.now.id None (codes "C") ++ state_fields head.now order.now
+        ++ field "58" (codes "EXPIRED") ++ field "9003" (decimal gone)) }
+    ensures short { result ≤ at + 25 * LONGEST_FIELD }
+{
+    let at = order_front(into, at, names, head, order, &own_update(order, b'C'));
+    let at = state_fields(into, at, head, order);
+    let at = text(into, at, b"\x0158=EXPIRED");
+    number(into, at, b"\x019003=", u64::from(gone))
+}
+
+/// An order that replaced another.
+#[inline(never)]
+fn replaced_fields(
+    into: &mut [u8],
+    at: usize,
+    names: &Names,
+    head: &Head,
+    order: &Order,
+    old: &ShortId,
+) -> usize
+    requires { at + 24 * LONGEST_FIELD ≤ length into.old }
+    ensures fields { ended result into.new ≡ ended at into.old
+        ++ (order_front names.now head.now order.now order.now.id (Some old.now) (codes "5") ++ state_fields head.now order.now
+        ++ field "9003" (codes "0")) }
+    ensures short { result ≤ at + 24 * LONGEST_FIELD }
+{
+    let update = OrderUpdate {
+        id: &order.id,
+        old: Some(old),
+        status: b'5',
+    };
+    let at = order_front(into, at, names, head, order, &update);
+    let at = state_fields(into, at, head, order);
+    text(into, at, b"\x019003=0")
+}
+
+/// A new order that is refused.
+#[inline(never)]
+fn refused_new_fields(
+    into: &mut [u8],
+    at: usize,
+    names: &Names,
+    head: &Head,
+    order: &NewRefused,
+    fault: NewFault,
+) -> usize
+    requires { at + 24 * LONGEST_FIELD ≤ length into.old }
+    ensures fields { ended result into.new ≡ ended at into.old
+        ++ (line_head names.now (codes "8") head.now ++ refused_fields head.now order.now fault ++ wanted_fields order.now
+        ++ nothing_fields head.now ++ fault_fields order.now fault) }
+    ensures short { result ≤ at + 24 * LONGEST_FIELD }
+{
+    let at = line_head(into, at, names, b'8', head);
+    let at = refused_fields(into, at, head, order, fault);
+    let at = wanted_fields(into, at, order);
+    let at = nothing_fields(into, at, head);
+    fault_fields(into, at, order, fault)
+}
+
 /// Message type, line, sender, time and addressee.
 #[inline(always)]
-fn line_head(into: &mut [u8], at: usize, names: &Names, message_type: &[u8], head: &Head) -> usize
-    requires room { at + 5 * LONGEST_FIELD ≤ length into.old }
-    requires short_type { length message_type.now ≤ LONGEST_VALUE }
-    ensures fields { take result into.new ≡ take at into.old ++ line_head names.now message_type.now head.now }
+fn line_head(into: &mut [u8], at: usize, names: &Names, message_type: u8, head: &Head) -> usize
+    requires { at + 5 * LONGEST_FIELD ≤ length into.old }
+    ensures fields { ended result into.new ≡ ended at into.old ++ line_head names.now (message_type ∷ []) head.now }
     ensures short { result ≤ at + 5 * LONGEST_FIELD }
 {
-    let at = field(into, at, b"35=", message_type);
-    let at = counter(into, at, b"34=", head.line);
-    let at = name(into, at, b"49=", names.exchange());
-    let at = time(into, at, b"52=", &head.time);
+    let at = letter(into, at, b"\x0135=", message_type);
+    let at = counter(into, at, b"\x0134=", head.line);
+    let at = name(into, at, b"\x0149=", names.exchange());
+    let at = time(into, at, b"\x0152=", &head.time);
     addressee_field(into, at, names, head.firm)
 }
 
@@ -148,28 +226,14 @@ fn line_head(into: &mut [u8], at: usize, names: &Names, message_type: &[u8], hea
 #[inline(always)]
 fn addressee_field(into: &mut [u8], at: usize, names: &Names, firm: Option<u8>) -> usize
     requires { at + LONGEST_FIELD ≤ length into.old }
-    ensures field { take result into.new ≡ take at into.old ++ field "56" (addressee names.now firm) }
+    ensures field { ended result into.new ≡ ended at into.old ++ field "56" (addressee names.now firm) }
     ensures short { result ≤ at + LONGEST_FIELD }
 {
     match firm {
         Some(firm) if (firm as usize) < names.firm_count() => {
-            name(into, at, b"56=", names.firm(firm))
+            name(into, at, b"\x0156=", names.firm(firm))
         }
-        _ => word(into, at, b"56=", b"UNKNOWN"),
-    }
-}
-
-/// The name of an instrument, `UNKNOWN` where it is not listed.
-#[inline(always)]
-fn instrument_field(into: &mut [u8], at: usize, names: &Names, instrument: u8) -> usize
-    requires { at + LONGEST_FIELD ≤ length into.old }
-    ensures field { take result into.new ≡ take at into.old ++ field "55" (instrument_name names.now instrument) }
-    ensures short { result ≤ at + LONGEST_FIELD }
-{
-    if (instrument as usize) < names.instrument_count() {
-        name(into, at, b"55=", &names.listed(instrument).name)
-    } else {
-        word(into, at, b"55=", b"UNKNOWN")
+        _ => text(into, at, b"\x0156=UNKNOWN"),
     }
 }
 
@@ -184,11 +248,11 @@ fn order_front(
     update: &OrderUpdate<'_>,
 ) -> usize
     requires { at + 19 * LONGEST_FIELD ≤ length into.old }
-    ensures fields { take result into.new ≡ take at into.old
+    ensures fields { ended result into.new ≡ ended at into.old
         ++ order_front names.now head.now order.now update.now.id.now (option_copied update.now.old) (update.now.status ∷ []) }
     ensures short { result ≤ at + 19 * LONGEST_FIELD }
 {
-    let at = line_head(into, at, names, b"8", head);
+    let at = line_head(into, at, names, b'8', head);
     let at = id_fields(into, at, order.number, update.id, update.old);
     let at = report_fields(into, at, head, update.status);
     order_fields(into, at, names, order)
@@ -235,11 +299,11 @@ fn id_fields(
     old: Option<&ShortId>,
 ) -> usize
     requires { at + 3 * LONGEST_FIELD ≤ length into.old }
-    ensures fields { take result into.new ≡ take at into.old ++ id_fields order_number id.now (option_copied old.entry) }
+    ensures fields { ended result into.new ≡ ended at into.old ++ id_fields order_number id.now (option_copied old.entry) }
     ensures short { result ≤ at + 3 * LONGEST_FIELD }
 {
-    let at = counter(into, at, b"37=", order_number);
-    let at = name(into, at, b"11=", id);
+    let at = counter(into, at, b"\x0137=", order_number);
+    let at = name(into, at, b"\x0111=", id);
     old_field(into, at, old)
 }
 
@@ -247,11 +311,11 @@ fn id_fields(
 #[inline(always)]
 fn old_field(into: &mut [u8], at: usize, old: Option<&ShortId>) -> usize
     requires { at + LONGEST_FIELD ≤ length into.old }
-    ensures fields { take result into.new ≡ take at into.old ++ field_if "41" (option_copied old.entry) }
+    ensures fields { ended result into.new ≡ ended at into.old ++ field_if "41" (option_copied old.entry) }
     ensures short { result ≤ at + LONGEST_FIELD }
 {
     match old {
-        Some(old) => name(into, at, b"41=", old),
+        Some(old) => name(into, at, b"\x0141=", old),
         None => at,
     }
 }
@@ -260,44 +324,70 @@ fn old_field(into: &mut [u8], at: usize, old: Option<&ShortId>) -> usize
 #[inline(always)]
 fn report_fields(into: &mut [u8], at: usize, head: &Head, status: u8) -> usize
     requires { at + 4 * LONGEST_FIELD ≤ length into.old }
-    ensures fields { take result into.new ≡ take at into.old ++ report_fields head.now (status ∷ []) }
+    ensures fields { ended result into.new ≡ ended at into.old ++ report_fields head.now (status ∷ []) }
     ensures short { result ≤ at + 4 * LONGEST_FIELD }
 {
-    let at = counter(into, at, b"17=", head.report);
-    let at = word(into, at, b"20=", b"0");
-    let at = word(into, at, b"150=", &[status]);
-    word(into, at, b"39=", &[status])
+    let at = counter(into, at, b"\x0117=", head.report);
+    let at = letter(into, at, b"\x0120=0\x01150=", status);
+    letter(into, at, b"\x0139=", status)
 }
 
-/// What was ordered.
+/// What was ordered. An instrument that is not listed is written as `UNKNOWN`, and its prices have no decimals.
 #[inline(always)]
 fn order_fields(into: &mut [u8], at: usize, names: &Names, order: &Order) -> usize
     requires { at + 7 * LONGEST_FIELD ≤ length into.old }
-    ensures fields { take result into.new ≡ take at into.old ++ order_fields names.now order.now }
+    ensures fields { ended result into.new ≡ ended at into.old ++ order_fields names.now order.now }
     ensures short { result ≤ at + 7 * LONGEST_FIELD }
 {
-    let at = instrument_field(into, at, names, order.instrument);
-    let at = field(into, at, b"54=", side_text(order.side));
-    let at = number(into, at, b"38=", u64::from(order.quantity));
-    let at = field(into, at, b"40=", kind_text(order.kind));
-    let at = price_fields(into, at, order, decimals_of(names, order.instrument));
-    field(into, at, b"59=", life_text(order.life))
+    if (order.instrument as usize) < names.instrument_count() {
+        let listed = names.listed(order.instrument);
+        let at = name(into, at, b"\x0155=", &listed.name);
+        return term_fields(into, at, order, listed.decimals);
+    }
+    unlisted_fields(into, at, order)
 }
 
-/// The price and the stop price, as far as the kind of the order has them.
+/// What was ordered of an instrument that is not listed.
+#[cold]
+#[inline(never)]
+fn unlisted_fields(into: &mut [u8], at: usize, order: &Order) -> usize
+    requires { at + 7 * LONGEST_FIELD ≤ length into.old }
+    ensures fields { ended result into.new ≡ ended at into.old ++ (field "55" (codes "UNKNOWN") ++ term_fields order.now 0) }
+    ensures short { result ≤ at + 7 * LONGEST_FIELD }
+{
+    let at = text(into, at, b"\x0155=UNKNOWN");
+    term_fields(into, at, order, 0)
+}
+
+/// What was ordered after the instrument, whose prices have so many decimals.
 #[inline(always)]
-fn price_fields(into: &mut [u8], at: usize, order: &Order, decimals: u8) -> usize
-    requires room { at + 2 * LONGEST_FIELD ≤ length into.old }
+fn term_fields(into: &mut [u8], at: usize, order: &Order, decimals: u8) -> usize
+    requires room { at + 6 * LONGEST_FIELD ≤ length into.old }
     requires decimals { decimals ≤ MOST_DECIMALS }
-    ensures fields { take result into.new ≡ take at into.old ++ price_fields order.now.kind order.now.price order.now.trigger decimals }
-    ensures short { result ≤ at + 2 * LONGEST_FIELD }
+    ensures fields { ended result into.new ≡ ended at into.old ++ term_fields order.now decimals }
+    ensures short { result ≤ at + 6 * LONGEST_FIELD }
+{
+    let at = letter(into, at, b"\x0154=", side_digit(order.side));
+    let at = number(into, at, b"\x0138=", u64::from(order.quantity));
+    let at = kind_fields(into, at, order, decimals);
+    letter(into, at, b"\x0159=", life_digit(order.life))
+}
+
+/// The kind of an order, and the price and the stop price as far as that kind has them.
+#[inline(always)]
+fn kind_fields(into: &mut [u8], at: usize, order: &Order, decimals: u8) -> usize
+    requires room { at + 3 * LONGEST_FIELD ≤ length into.old }
+    requires decimals { decimals ≤ MOST_DECIMALS }
+    ensures fields { ended result into.new ≡ ended at into.old
+        ++ (field "40" (kind_text order.now.kind) ++ price_fields order.now.kind order.now.price order.now.trigger decimals) }
+    ensures short { result ≤ at + 3 * LONGEST_FIELD }
 {
     match order.kind {
-        Kind::Market => at,
-        Kind::Limit => price(into, at, b"44=", order.price, decimals),
+        Kind::Market => text(into, at, b"\x0140=1"),
+        Kind::Limit => price(into, at, b"\x0140=2\x0144=", order.price, decimals),
         Kind::StopLimit => {
-            let at = price(into, at, b"44=", order.price, decimals);
-            price(into, at, b"99=", order.trigger, decimals)
+            let at = price(into, at, b"\x0140=4\x0144=", order.price, decimals);
+            price(into, at, b"\x0199=", order.trigger, decimals)
         }
     }
 }
@@ -307,40 +397,52 @@ fn price_fields(into: &mut [u8], at: usize, order: &Order, decimals: u8) -> usiz
 fn trade_fields(into: &mut [u8], at: usize, lots: u32, trade_price: Price, decimals: u8) -> usize
     requires room { at + 2 * LONGEST_FIELD ≤ length into.old }
     requires decimals { decimals ≤ MOST_DECIMALS }
-    ensures fields { take result into.new ≡ take at into.old ++ trade_fields lots trade_price decimals }
+    ensures fields { ended result into.new ≡ ended at into.old ++ trade_fields lots trade_price decimals }
     ensures short { result ≤ at + 2 * LONGEST_FIELD }
 {
-    let at = number(into, at, b"32=", u64::from(lots));
-    price(into, at, b"31=", trade_price, decimals)
+    let at = number(into, at, b"\x0132=", u64::from(lots));
+    price(into, at, b"\x0131=", trade_price, decimals)
 }
 
 /// What is open and filled of an order now.
 #[inline(always)]
 fn state_fields(into: &mut [u8], at: usize, head: &Head, order: &Order) -> usize
     requires { at + 4 * LONGEST_FIELD ≤ length into.old }
-    ensures fields { take result into.new ≡ take at into.old ++ state_fields head.now order.now }
+    ensures fields { ended result into.new ≡ ended at into.old ++ state_fields head.now order.now }
     ensures short { result ≤ at + 4 * LONGEST_FIELD }
 {
-    let at = number(into, at, b"151=", u64::from(order.leaves));
-    let at = number(into, at, b"14=", u64::from(order.filled));
-    let at = word(into, at, b"6=", b"0");
-    time(into, at, b"60=", &head.time)
+    let at = number(into, at, b"\x01151=", u64::from(order.leaves));
+    let at = number(into, at, b"\x0114=", u64::from(order.filled));
+    time(into, at, b"\x016=0\x0160=", &head.time)
 }
 
-/// The step that gave a fill. Each is a constant here, which takes a few stores and no copy of unknown length.
+/// The step that gave a fill. Most fills are by priority.
 #[inline(always)]
 fn step_field(into: &mut [u8], at: usize, step: StepName) -> usize
     requires { at + LONGEST_FIELD ≤ length into.old }
-    ensures field { take result into.new ≡ take at into.old ++ field "9001" (step_text step) }
+    ensures field { ended result into.new ≡ ended at into.old ++ field "9001" (step_text step) }
+    ensures short { result ≤ at + LONGEST_FIELD }
+{
+    if step == StepName::Fifo {
+        return text(into, at, b"\x019001=FIFO");
+    }
+    any_step_field(into, at, step)
+}
+
+/// The same of any step. Each is a constant here, which takes a few stores and no copy of unknown length.
+#[inline(never)]
+fn any_step_field(into: &mut [u8], at: usize, step: StepName) -> usize
+    requires { at + LONGEST_FIELD ≤ length into.old }
+    ensures field { ended result into.new ≡ ended at into.old ++ field "9001" (step_text step) }
     ensures short { result ≤ at + LONGEST_FIELD }
 {
     match step {
-        StepName::Top => word(into, at, b"9001=", b"TOP"),
-        StepName::Lmm => word(into, at, b"9001=", b"LMM"),
-        StepName::Split => word(into, at, b"9001=", b"SPLIT"),
-        StepName::ProRata => word(into, at, b"9001=", b"PRORATA"),
-        StepName::Leveling => word(into, at, b"9001=", b"LEVELING"),
-        StepName::Fifo => word(into, at, b"9001=", b"FIFO"),
+        StepName::Top => text(into, at, b"\x019001=TOP"),
+        StepName::Lmm => text(into, at, b"\x019001=LMM"),
+        StepName::Split => text(into, at, b"\x019001=SPLIT"),
+        StepName::ProRata => text(into, at, b"\x019001=PRORATA"),
+        StepName::Leveling => text(into, at, b"\x019001=LEVELING"),
+        StepName::Fifo => text(into, at, b"\x019001=FIFO"),
     }
 }
 
@@ -348,13 +450,13 @@ fn step_field(into: &mut [u8], at: usize, step: StepName) -> usize
 #[inline(always)]
 fn cause_field(into: &mut [u8], at: usize, cause: Cause) -> usize
     requires { at + LONGEST_FIELD ≤ length into.old }
-    ensures fields { take result into.new ≡ take at into.old ++ field_if "58" (cause_text cause) }
+    ensures fields { ended result into.new ≡ ended at into.old ++ field_if "58" (cause_text cause) }
     ensures short { result ≤ at + LONGEST_FIELD }
 {
     match cause {
         Cause::Asked => at,
-        Cause::Fak => word(into, at, b"58=", b"FAK"),
-        Cause::MinQty => word(into, at, b"58=", b"MINQTY NOT MET"),
+        Cause::Fak => text(into, at, b"\x0158=FAK"),
+        Cause::MinQty => text(into, at, b"\x0158=MINQTY NOT MET"),
     }
 }
 
@@ -367,47 +469,44 @@ fn refused_fields(
     fault: NewFault,
 ) -> usize
     requires { at + 8 * LONGEST_FIELD ≤ length into.old }
-    ensures fields { take result into.new ≡ take at into.old ++ refused_fields head.now order.now fault }
+    ensures fields { ended result into.new ≡ ended at into.old ++ refused_fields head.now order.now fault }
     ensures short { result ≤ at + 8 * LONGEST_FIELD }
 {
     let at = id_fields(into, at, 0, &order.id, None);
     let at = report_fields(into, at, head, b'8');
-    field(into, at, b"103=", reject_reason(fault))
+    field(into, at, b"\x01103=", reject_reason(fault))
 }
 
 /// What a refused new order wanted, without its prices.
 fn wanted_fields(into: &mut [u8], at: usize, order: &NewRefused) -> usize
     requires { at + 5 * LONGEST_FIELD ≤ length into.old }
-    ensures fields { take result into.new ≡ take at into.old ++ wanted_fields order.now }
+    ensures fields { ended result into.new ≡ ended at into.old ++ wanted_fields order.now }
     ensures short { result ≤ at + 5 * LONGEST_FIELD }
 {
-    let at = name(into, at, b"55=", &order.symbol);
-    let at = field(into, at, b"54=", side_text(order.side));
-    let at = number(into, at, b"38=", u64::from(order.quantity));
-    let at = field(into, at, b"40=", kind_text(order.kind));
-    field(into, at, b"59=", life_text(order.life))
+    let at = name(into, at, b"\x0155=", &order.symbol);
+    let at = letter(into, at, b"\x0154=", side_digit(order.side));
+    let at = number(into, at, b"\x0138=", u64::from(order.quantity));
+    let at = field(into, at, b"\x0140=", kind_text(order.kind));
+    letter(into, at, b"\x0159=", life_digit(order.life))
 }
 
 /// Nothing is open or filled.
 fn nothing_fields(into: &mut [u8], at: usize, head: &Head) -> usize
     requires { at + 4 * LONGEST_FIELD ≤ length into.old }
-    ensures fields { take result into.new ≡ take at into.old ++ nothing_fields head.now }
+    ensures fields { ended result into.new ≡ ended at into.old ++ nothing_fields head.now }
     ensures short { result ≤ at + 4 * LONGEST_FIELD }
 {
-    let at = word(into, at, b"151=", b"0");
-    let at = word(into, at, b"14=", b"0");
-    let at = word(into, at, b"6=", b"0");
-    time(into, at, b"60=", &head.time)
+    time(into, at, b"\x01151=0\x0114=0\x016=0\x0160=", &head.time)
 }
 
 /// Why a new order is refused, and how much of it ends with that.
 fn fault_fields(into: &mut [u8], at: usize, order: &NewRefused, fault: NewFault) -> usize
     requires { at + 2 * LONGEST_FIELD ≤ length into.old }
-    ensures fields { take result into.new ≡ take at into.old ++ fault_fields order.now fault }
+    ensures fields { ended result into.new ≡ ended at into.old ++ fault_fields order.now fault }
     ensures short { result ≤ at + 2 * LONGEST_FIELD }
 {
-    let at = field(into, at, b"58=", fault_text(fault));
-    number(into, at, b"9003=", u64::from(order.quantity))
+    let at = field(into, at, b"\x0158=", fault_text(fault));
+    number(into, at, b"\x019003=", u64::from(order.quantity))
 }
 
 /// Which order a cancel or a replace was to change.
@@ -419,24 +518,24 @@ fn request_fields(
     old: &ShortId,
 ) -> usize
     requires { at + 3 * LONGEST_FIELD ≤ length into.old }
-    ensures fields { take result into.new ≡ take at into.old ++ request_fields order_number id.now old.now }
+    ensures fields { ended result into.new ≡ ended at into.old ++ request_fields order_number id.now old.now }
     ensures short { result ≤ at + 3 * LONGEST_FIELD }
 {
     let at = number_field(into, at, order_number);
-    let at = name(into, at, b"11=", id);
-    name(into, at, b"41=", old)
+    let at = name(into, at, b"\x0111=", id);
+    name(into, at, b"\x0141=", old)
 }
 
 /// The number of an order, or `NONE` where there is none.
 fn number_field(into: &mut [u8], at: usize, order_number: u64) -> usize
     requires { at + LONGEST_FIELD ≤ length into.old }
-    ensures field { take result into.new ≡ take at into.old ++ field "37" (number_text order_number) }
+    ensures field { ended result into.new ≡ ended at into.old ++ field "37" (number_text order_number) }
     ensures short { result ≤ at + LONGEST_FIELD }
 {
     if order_number == 0 {
-        word(into, at, b"37=", b"NONE")
+        text(into, at, b"\x0137=NONE")
     } else {
-        number(into, at, b"37=", order_number)
+        number(into, at, b"\x0137=", order_number)
     }
 }
 
@@ -450,37 +549,37 @@ fn change_fields(
     fault: ChangeFault,
 ) -> usize
     requires { at + 5 * LONGEST_FIELD ≤ length into.old }
-    ensures fields { take result into.new ≡ take at into.old ++ change_fields head.now filled replace fault }
+    ensures fields { ended result into.new ≡ ended at into.old ++ change_fields head.now filled replace fault }
     ensures short { result ≤ at + 5 * LONGEST_FIELD }
 {
-    let at = field(into, at, b"39=", change_status(fault, filled));
-    let at = field(into, at, b"434=", response_text(replace));
-    let at = field(into, at, b"102=", change_reason(fault));
-    let at = field(into, at, b"58=", change_text(fault));
-    time(into, at, b"60=", &head.time)
+    let at = field(into, at, b"\x0139=", change_status(fault, filled));
+    let at = field(into, at, b"\x01434=", response_text(replace));
+    let at = field(into, at, b"\x01102=", change_reason(fault));
+    let at = field(into, at, b"\x0158=", change_text(fault));
+    time(into, at, b"\x0160=", &head.time)
 }
 
 /// Which message is rejected, at which tag where it is one, and why.
 fn session_fields(into: &mut [u8], at: usize, seq: u32, tag: u32, reason: u8, rule: u8) -> usize
     requires { at + 4 * LONGEST_FIELD ≤ length into.old }
-    ensures fields { take result into.new ≡ take at into.old ++ session_fields seq tag reason rule }
+    ensures fields { ended result into.new ≡ ended at into.old ++ session_fields seq tag reason rule }
     ensures short { result ≤ at + 4 * LONGEST_FIELD }
 {
-    let at = number(into, at, b"45=", u64::from(seq));
+    let at = number(into, at, b"\x0145=", u64::from(seq));
     let at = tag_field(into, at, tag);
-    let at = number(into, at, b"373=", u64::from(reason));
-    field(into, at, b"58=", rule_text(rule))
+    let at = number(into, at, b"\x01373=", u64::from(reason));
+    field(into, at, b"\x0158=", rule_text(rule))
 }
 
 /// The tag that breaks a session rule, if it is one.
 fn tag_field(into: &mut [u8], at: usize, tag: u32) -> usize
     requires { at + LONGEST_FIELD ≤ length into.old }
-    ensures field { take result into.new ≡ take at into.old ++ field_if "371" (if tag == 0 then None else Some (decimal tag)) }
+    ensures field { ended result into.new ≡ ended at into.old ++ field_if "371" (if tag == 0 then None else Some (decimal tag)) }
     ensures short { result ≤ at + LONGEST_FIELD }
 {
     if tag == 0 {
         at
     } else {
-        number(into, at, b"371=", u64::from(tag))
+        number(into, at, b"\x01371=", u64::from(tag))
     }
 }

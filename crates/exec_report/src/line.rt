@@ -17,13 +17,15 @@ pub fn write_line(event: &Event, names: &Names, into: &mut [u8; LONGEST_LINE]) -
     write_line_into(event, names, into)
 }
 
-/// Writes the line of an event as `write_line` does, into the front of longer room.
+/// Writes the line of an event as `write_line` does, into the front of longer room. The head of a line, which comes later, ends with
+/// the byte that the body begins to write with.
+#[inline(never)]
 pub(crate) fn write_line_into(event: &Event, names: &Names, into: &mut [u8]) -> usize
     requires { LONGEST_LINE ≤ length into.old }
     ensures line { take result into.new ≡ line_of names.now event.now }
     ensures count { result ≡ length (line_of names.now event.now) }
     ensures short { result ≤ LONGEST_LINE }
 {
-    let end = write_body(into, GAP, event, names);
+    let end = write_body(into, GAP - 1, event, names);
     put_frame(into, end)
 }

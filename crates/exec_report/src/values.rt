@@ -1,8 +1,10 @@
 //! What the fields of reports say: the codes of FIX 4.2, and our own words.
 ghost use Rattle.std.specs.Prelude.{◌≡◌, ◌≤◌, [], ◌∷◌, ◌==◌, if◌then◌else◌, codes, length};
-ghost use Rattle.gx_base.specs.Line.{decimals_of, kind_text, life_text, step_text, fill_status, fault_text, reject_reason, change_text, change_reason, change_status, response_text, rule_text};
+ghost use Rattle.gx_base.specs.Line.{decimals_of, side_text, kind_text, life_text, step_text, fill_status, fault_text, reject_reason, change_text, change_reason, change_status, response_text, rule_text};
 
-use gx_base::{ChangeFault, Kind, LONGEST_VALUE, Life, MOST_DECIMALS, Names, NewFault, StepName};
+use gx_base::{
+    ChangeFault, Kind, LONGEST_VALUE, Life, MOST_DECIMALS, Names, NewFault, Side, StepName,
+};
 
 /// How many decimals the prices of an instrument have, 0 where it is not listed.
 pub(crate) fn decimals_of(names: &Names, instrument: u8) -> u8
@@ -28,16 +30,27 @@ pub(crate) fn kind_text(kind: Kind) -> &'static [u8]
     }
 }
 
-/// The value of tag 59 in FIX 4.2.
-pub(crate) fn life_text(life: Life) -> &'static [u8]
-    ensures text { result.now ≡ life_text life }
-    ensures short { length result.now ≤ LONGEST_VALUE }
+/// The digit of tag 54 in FIX 4.2.
+#[inline(always)]
+pub(crate) fn side_digit(side: Side) -> u8
+    ensures { result ∷ [] ≡ side_text side }
+{
+    match side {
+        Side::Buy => b'1',
+        Side::Sell => b'2',
+    }
+}
+
+/// The digit of tag 59 in FIX 4.2.
+#[inline(always)]
+pub(crate) fn life_digit(life: Life) -> u8
+    ensures { result ∷ [] ≡ life_text life }
 {
     match life {
-        Life::Day => b"0",
-        Life::Gtc => b"1",
-        Life::Fak => b"3",
-        Life::Fok => b"4",
+        Life::Day => b'0',
+        Life::Gtc => b'1',
+        Life::Fak => b'3',
+        Life::Fok => b'4',
     }
 }
 

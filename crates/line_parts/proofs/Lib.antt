@@ -1,3 +1,4 @@
 mod Decimals
 pub mod Framing
 mod PriceTexts
+pub mod RowLaws

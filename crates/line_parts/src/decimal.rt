@@ -40,8 +40,11 @@ pub(crate) fn append_counter(into: &mut [u8], at: usize, n: u64) -> usize
     if n < 10_000 || n >= 1_000_000 {
         return append_any(into, at, n);
     }
-    let end = append_first(into, at, n / 10_000);
-    append_four(into, end, n % 10_000)
+    let hundreds = n / 100;
+    let first = hundredth(hundreds);
+    let end = append_first(into, at, first);
+    let end = append_pair(into, end, hundreds - first * 100);
+    append_pair(into, end, n - hundreds * 100)
 }
 
 /// Writes the digits of any number, as `append_number` does.
@@ -109,7 +112,7 @@ fn append_four(into: &mut [u8], at: usize, n: u64) -> usize
 
 /// A hundredth of a number below 10,000: a product and a shift, which take less than a quotient.
 #[inline]
-fn hundredth(n: u64) -> u64
+pub(crate) fn hundredth(n: u64) -> u64
     requires { n < 10000 }
     ensures { result ≡ n / 100 }
 {

@@ -1,12 +1,12 @@
 //! Fields in a row, and the frame round them. Each call writes after the first `at` bytes of the room that it is lent,
 //! and answers where what it wrote ends.
 ghost use Rattle.std.specs.Prelude.{◌≡◌, ◌+◌, ◌-◌, ◌<◌, ◌≤◌, [], ◌∷◌, ◌++◌, length, take, drop, decimal};
-ghost use Rattle.gx_base.specs.Frames.{head_of, checksum_of, trailer_of, frame_of};
+ghost use Rattle.gx_base.specs.Frames.{head_of, checksum_of, trailer_of, trailer_with, frame_of};
 ghost use Rattle.gx_base.specs.Numbers.{price_text};
 
-use crate::decimal::{append_counter, append_number, append_three};
+use crate::decimal::{append_number, append_pair, append_three, hundredth};
 use crate::price::append_price;
-use crate::trailer::{checksum, trailer_with};
+use crate::trailer::{TRAILER_LENGTH, checksum};
 use gx_base::{
     LONGEST_LINE, LONGEST_VALUE, MOST_DECIMALS, Price, SOH, ShortId, Stamp, append, append_few,
 };
@@ -51,19 +51,6 @@ pub fn number(into: &mut [u8], at: usize, tag: &[u8], n: u64) -> usize
 {
     let end = append_few(into, at, tag);
     let end = append_number(into, end, n);
-    append_few(into, end, &[SOH])
-}
-
-/// Writes a field whose value is a counter, which mostly has five or six digits, as `field` does.
-#[inline]
-pub fn counter(into: &mut [u8], at: usize, tag: &[u8], n: u64) -> usize
-    requires room { at + LONGEST_FIELD ≤ length into.old }
-    requires tag { length tag.now ≤ LONGEST_TAG }
-    ensures field { take result into.new ≡ take at into.old ++ (tag.now ++ decimal n ++ SOH ∷ []) }
-    ensures short { result ≤ at + LONGEST_FIELD }
-{
-    let end = append_few(into, at, tag);
-    let end = append_counter(into, end, n);
     append_few(into, end, &[SOH])
 }
 
@@ -217,8 +204,22 @@ fn put_trailer(into: &mut [u8], end: usize) -> usize
     ensures trailer { take result into.new ≡ take end into.old ++ trailer_of (take end into.old) }
     ensures short { result ≤ end + LONGEST_FIELD }
 {
-    let trailer = trailer_with(checksum_before(into, end));
-    append_few(into, end, &trailer)
+    let sum = checksum_before(into, end);
+    append_trailer(into, end, sum)
+}
+
+/// Writes the trailer with this checksum after the first `at` bytes.
+#[inline]
+fn append_trailer(into: &mut [u8], at: usize, sum: u8) -> usize
+    requires { at + TRAILER_LENGTH ≤ length into.old }
+    ensures trailer { take result into.new ≡ take at into.old ++ trailer_with sum }
+    ensures end { result ≡ at + TRAILER_LENGTH }
+{
+    let hundreds = hundredth(u64::from(sum));
+    let end = append_few(into, at, b"10=");
+    let end = append_few(into, end, &[b'0' + hundreds as u8]);
+    let end = append_pair(into, end, u64::from(sum) - hundreds * 100);
+    append_few(into, end, &[SOH])
 }
 
 /// The checksum of the first `end` bytes. The block after them is filled with zeros, so that whole blocks are summed.

@@ -6,6 +6,7 @@ pub mod fields;
 pub mod pieces;
 mod price;
 mod room;
+pub mod rows;
 mod sides;
 mod trailer;
 

@@ -1,4 +1,4 @@
-use Rattle.std.proofs.Common.{◌≡◌, ℕ, List, drop, sym, ap, ◌∙◌, arith}
+use Rattle.std.proofs.Common.{◌≡◌, drop, sym, ap, ◌∙◌, arith}
 use Rattle.gx_base.proofs.Written.{same_further}
 use Rattle.line_parts.specs.declared.fields.TheConstants.{GAP}
 use Rattle.line_parts.proofs.fields.fill_gap.Goals as goal

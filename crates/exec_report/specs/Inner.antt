@@ -1,0 +1,14 @@
+-- What the inner functions write. Nothing of this need be believed: `write_line` promises `line_of`.
+use Rattle.std.specs.Prelude.{ℕ, List, ◌++◌, decimal}
+use Rattle.gx_base.specs.Frames.{field}
+use Rattle.gx_base.specs.Line.{side_text, kind_text, life_text, price_fields}
+use Rattle.gx_base.specs.declared.order.Order.{Order}
+
+-- what was ordered after the instrument, whose prices have so many decimals
+abbrev pub term_fields : Order → ℕ → List ℕ
+term_fields order decimals =
+    field "54" (side_text order.side)
+    ++ field "38" (decimal order.quantity)
+    ++ field "40" (kind_text order.kind)
+    ++ price_fields order.kind order.price order.trigger decimals
+    ++ field "59" (life_text order.life)
