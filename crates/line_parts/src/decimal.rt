@@ -12,7 +12,7 @@ pub(crate) const MOST_NUMBER_DIGITS: usize = 20;
 static PAIRS: [u8; 200] =
     *b"00010203040506070809101112131415161718192021222324252627282930313233343536373839404142434445464748495051525354555657585960616263646566676869707172737475767778798081828384858687888990919293949596979899";
 
-/// Writes the digits of a number after the first `at` bytes of `into`, and answers where they end. One or two digits, which most
+/// Writes the digits of a number after the first `at` bytes of `into`, and answers where they end. Up to four digits, which most
 /// quantities have, are written in place, and more of them by a call.
 #[inline(always)]
 pub(crate) fn append_number(into: &mut [u8], at: usize, n: u64) -> usize
@@ -25,7 +25,10 @@ pub(crate) fn append_number(into: &mut [u8], at: usize, n: u64) -> usize
     if n < 100 {
         return append_first(into, at, n);
     }
-    append_any(into, at, n)
+    if n >= 10_000 {
+        return append_any(into, at, n);
+    }
+    append_hundreds(into, at, n)
 }
 
 /// Writes the digits of a counter, as `append_number` does. Five or six digits, which it has for most of a day, are written in place.
@@ -78,6 +81,18 @@ pub(crate) fn append_short(into: &mut [u8], at: usize, n: u64) -> usize
     if n < 100 {
         return append_first(into, at, n);
     }
+    append_hundreds(into, at, n)
+}
+
+/// Writes the digits of a number of three or four, as `append_number` does.
+#[inline(always)]
+fn append_hundreds(into: &mut [u8], at: usize, n: u64) -> usize
+    requires { (100 ≤ n) × (n < 10000) × (at + 4 ≤ length into.old) }
+    ensures digits { take result into.new ≡ take at into.old ++ decimal n }
+    ensures behind { drop result into.new ≡ drop result into.old }
+    ensures end { result ≡ at + length (decimal n) }
+    ensures short { result ≤ at + 4 }
+{
     let hundreds = hundredth(n);
     let end = append_first(into, at, hundreds);
     append_pair(into, end, n - hundreds * 100)

@@ -1,7 +1,7 @@
 use Rattle.std.proofs.Common.{◌≡◌, ◌/◌, ◌%◌, ◌-◌, ◌*◌, ◌+◌, ◌++◌, ℕ, List, decimal, length, take, sym, ap, ◌∙◌, append_assoc, arith}
 use Rattle.itoa.proofs.Decimal.{pair, decimal_pair, length_pair}
 use Rattle.gx_base.proofs.Written.{same_further}
-use Rattle.line_parts.proofs.decimal.append_short.Goals as goal
+use Rattle.line_parts.proofs.decimal.append_hundreds.Goals as goal
 
 pub returns-clause-digits : goal.returns-clause-digits
 returns-clause-digits c =
