@@ -8,4 +8,3 @@ mod Framings
 mod GivenEnds
 mod Bodies
 mod AtHand
-mod Sums

@@ -4,9 +4,8 @@ ghost use Rattle.fix_frame.specs.Grammar.{IsFrame};
 ghost use Rattle.fix_frame.specs.Scans.{IsLengthText};
 
 use crate::place::BEGIN;
-use crate::sum::block_checksum;
 use gx_base::SOH;
-use line_parts::{TRAILER_LENGTH, trailer_with};
+use line_parts::{TRAILER_LENGTH, block_checksum, trailer_with};
 
 /// How many bytes a body has at least that is read in one pass. With its head it is a block then, of which the sum is made.
 const SHORTEST_BODY: usize = 17;

@@ -2,3 +2,4 @@ mod Decimals
 pub mod Framing
 mod PriceTexts
 pub mod RowLaws
+mod Sums

@@ -6,7 +6,8 @@ ghost use Rattle.gx_base.specs.Numbers.{price_text};
 
 use crate::decimal::{append_number, append_pair, append_three, hundredth};
 use crate::price::append_price;
-use crate::trailer::{TRAILER_LENGTH, checksum};
+use crate::sum::{BLOCK, checksum_of_blocks};
+use crate::trailer::TRAILER_LENGTH;
 use gx_base::{
     LONGEST_LINE, LONGEST_VALUE, MOST_DECIMALS, Price, SOH, ShortId, Stamp, append, append_few,
 };
@@ -19,9 +20,6 @@ pub const LONGEST_FIELD: usize = LONGEST_TAG + LONGEST_VALUE + 1;
 
 /// Room before a body for its head, whose length has at most three digits.
 pub const GAP: usize = 16;
-
-/// How many bytes of a line are summed or moved at a time.
-const BLOCK: usize = 32;
 
 /// Writes a field: its tag and `=`, its value, and SOH. Answers where it ends, at most `LONGEST_FIELD` bytes further.
 #[inline]
@@ -230,5 +228,5 @@ fn checksum_before(into: &mut [u8], end: usize) -> u8
 {
     append_few(into, end, &[0; BLOCK]);
     let whole = (end + BLOCK - 1) / BLOCK * BLOCK;
-    checksum(&into[..whole])
+    checksum_of_blocks(&into[..whole])
 }

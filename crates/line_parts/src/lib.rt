@@ -8,9 +8,11 @@ mod price;
 mod room;
 pub mod rows;
 mod sides;
+mod sum;
 mod trailer;
 
 pub use price::write_price;
 pub use room::zeros;
 pub use sides::{side_letter, side_text};
+pub use sum::block_checksum;
 pub use trailer::{TRAILER_LENGTH, checksum, trailer_with};

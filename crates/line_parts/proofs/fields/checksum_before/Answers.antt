@@ -2,7 +2,7 @@ use Rattle.std.proofs.Common.{◌≡◌, ℕ, zero, suc, ◌+◌, ◌-◌, ◌*�
 use Rattle.std.proofs.lemmas.List.{length-take-le, take-take, take-replicate, take_at}
 use Rattle.std.proofs.lemmas.List.Sums.{fold-append}
 use Rattle.gx_base.specs.Frames.{checksum_of}
-use Rattle.line_parts.specs.declared.fields.TheConstants.{BLOCK}
+use Rattle.line_parts.specs.declared.sum.TheConstants.{BLOCK}
 use Rattle.gx_base.proofs.Written.{front_of}
 use Rattle.line_parts.proofs.fields.checksum_before.Goals as goal
 
@@ -35,7 +35,7 @@ pub returns-clause-sum : goal.returns-clause-sum
 returns-clause-sum c =
     let end = c.args.end in
     let new = c.append_few.new.into in
-    c.checksum.ensures
+    c.checksum_of_blocks.ensures
     ∙ summed end ((end + BLOCK - 1) / BLOCK * BLOCK) c.args.into.now new (omega arith) (omega arith) (omega arith) (ap (λ n. take n new) (sym c.append_few.ensures.end) ∙ c.append_few.ensures.bytes)
 
 pub returns-clause-before : goal.returns-clause-before

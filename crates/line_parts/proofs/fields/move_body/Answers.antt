@@ -1,5 +1,6 @@
 use Rattle.std.proofs.Common.{rules, ◌≡◌, ℕ, ◌+◌, ◌-◌, ◌++◌, List, take, drop, ap, ap₂, ◌∙◌, append_assoc, arith}
-use Rattle.line_parts.specs.declared.fields.TheConstants.{BLOCK, GAP}
+use Rattle.line_parts.specs.declared.fields.TheConstants.{GAP}
+use Rattle.line_parts.specs.declared.sum.TheConstants.{BLOCK}
 use Rattle.gx_base.proofs.Written.{front_of, same_further}
 use Rattle.line_parts.proofs.Framing.{body_front, body_longer}
 use Rattle.line_parts.proofs.fields.move_body.Goals as goal

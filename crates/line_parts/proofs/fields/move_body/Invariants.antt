@@ -1,5 +1,6 @@
 use Rattle.std.proofs.Common.{◌≡◌, ◌+◌, ◌-◌, ◌<◌, ◌≤◌, ◌++◌, length, take, drop}
-use Rattle.line_parts.specs.declared.fields.TheConstants.{BLOCK, GAP}
+use Rattle.line_parts.specs.declared.fields.TheConstants.{GAP}
+use Rattle.line_parts.specs.declared.sum.TheConstants.{BLOCK}
 use Rattle.line_parts.proofs.fields.move_body.Given as goal
 
 abbrev pub invariant-loop-from : goal.invariant-loop-from

@@ -30,6 +30,25 @@ pub fn block_checksum(bytes: &[u8]) -> u8
     total(added(sums, last_of(last, bytes.len() - at)))
 }
 
+/// As `checksum` does, of whole blocks, two at a time.
+#[inline]
+pub(crate) fn checksum_of_blocks(bytes: &[u8]) -> u8
+    requires { length bytes.now % BLOCK ≡ 0 }
+    ensures { result ≡ checksum_of bytes.now }
+{
+    let mut sums = u8x32::splat(0);
+    let mut at = 0;
+    while bytes.len() - at > BLOCK {
+        let first = added(sums, u8x32::from_slice(&bytes[at..]));
+        sums = added(first, u8x32::from_slice(&bytes[at + BLOCK..]));
+        at += 2 * BLOCK;
+    }
+    if at < bytes.len() {
+        sums = added(sums, u8x32::from_slice(&bytes[at..]));
+    }
+    total(sums)
+}
+
 /// The sums of two blocks, place by place.
 #[inline]
 fn added(a: u8x32, b: u8x32) -> u8x32

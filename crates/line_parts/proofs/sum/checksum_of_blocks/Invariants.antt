@@ -1,8 +1,8 @@
 use Rattle.std.proofs.Common.{◌≡◌, ◌-◌, ◌%◌, ◌≤◌, length, take, sum}
-use Rattle.fix_frame.proofs.sum.block_checksum.Given as goal
+use Rattle.line_parts.proofs.sum.checksum_of_blocks.Given as goal
 
 abbrev pub invariant-loop-at : goal.invariant-loop-at
-invariant-loop-at l = (l.at ≤ length l.bytes) × (sum l.sums % 256 ≡ sum (take l.at l.bytes) % 256)
+invariant-loop-at l = (l.at ≤ length l.bytes) × ((length l.bytes - l.at) % 32 ≡ 0) × (sum l.sums % 256 ≡ sum (take l.at l.bytes) % 256)
 
 abbrev pub decreases-loop-at : goal.decreases-loop-at
 decreases-loop-at l = length l.bytes - l.at

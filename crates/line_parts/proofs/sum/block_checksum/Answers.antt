@@ -1,6 +1,6 @@
 use Rattle.std.proofs.Common.{arith}
-use Rattle.fix_frame.proofs.Sums.{sum-more, sum-rest}
-use Rattle.fix_frame.proofs.sum.block_checksum.Goals as goal
+use Rattle.line_parts.proofs.Sums.{sum-more, sum-rest}
+use Rattle.line_parts.proofs.sum.block_checksum.Goals as goal
 
 pub loop-at-preserved : goal.loop-at-preserved
 loop-at-preserved c =

@@ -3,8 +3,8 @@ use Rattle.std.proofs.Math.Dec.{leb}
 use Rattle.std.proofs.lemmas.Simd.{tops_compared, zip2_splat}
 use Rattle.std.specs.List.{range_with_len}
 use Rattle.std.specs.Simd.Lanes.{sel_l}
-use Rattle.fix_frame.proofs.Sums.{sum-kept}
-use Rattle.fix_frame.proofs.sum.last_of.Goals as goal
+use Rattle.line_parts.proofs.Sums.{sum-kept}
+use Rattle.line_parts.proofs.sum.last_of.Goals as goal
 
 pub returns : goal.returns
 returns c =
