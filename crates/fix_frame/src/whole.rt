@@ -3,7 +3,7 @@ ghost use Rattle.std.specs.Prelude.{◌≤◌, length, take, IfSome};
 ghost use Rattle.fix_frame.specs.Grammar.{IsFrame};
 ghost use Rattle.fix_frame.specs.Scans.{IsLengthText};
 
-use crate::place::BEGIN;
+use crate::words::{begin_with_trailer, begins_frame};
 use gx_base::SOH;
 use line_parts::{TRAILER_LENGTH, block_checksum, trailer_with};
 
@@ -16,7 +16,7 @@ const SHORTEST_BODY: usize = 17;
 pub fn whole_frame(held: &[u8]) -> Option<usize>
     ensures { IfSome result (λ n. (n ≤ length held.now) × IsFrame (take n held.now)) }
 {
-    if held.len() < 16 || !held.starts_with(BEGIN) {
+    if held.len() < 16 || !begins_frame(held) {
         return None;
     }
     // The digits of the length follow the begin string, two or three.
@@ -33,7 +33,7 @@ pub fn whole_frame(held: &[u8]) -> Option<usize>
         return None;
     }
     let trailer = trailer_with(block_checksum(&held[..end]));
-    if !held[end..].starts_with(&trailer) {
+    if !begin_with_trailer(&held[end..], &trailer) {
         return None;
     }
     Some(end + TRAILER_LENGTH)
