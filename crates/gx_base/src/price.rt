@@ -34,6 +34,7 @@ pub enum PriceFault {
 /// The price that a text writes, in units of 10 to the power of minus `decimals`, of which there are at most
 /// `MOST_DECIMALS`; or the
 /// first fault in the order of `PriceFault`. Our own rule, within the float format of FIX 4.2.
+#[inline(never)] // Else what reads the prices of a message grows too large to be put into its caller.
 pub fn read_price(text: &[u8], decimals: u8) -> Result<Price, PriceFault>
     requires { decimals ≤ MOST_DECIMALS }
     ensures { result ≡ price_of text.now decimals }
