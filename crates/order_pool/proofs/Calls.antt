@@ -1,156 +1,271 @@
 -- What each call of a pool makes of it.
-use Rattle.std.proofs.Common.{◌≡◌, ℕ, ◌+◌, ◌-◌, ◌<◌, ◌≤◌, List, length, map, sym, ap, subst, ◌∙◌, arith, slice_set, get_or, Some, None}
+use Rattle.std.proofs.Common.{◌≡◌, ◌≢◌, ℕ, ◌+◌, ◌-◌, ◌<◌, ◌≤◌, ◌^◌, List, [], ◌∷◌, ◌++◌, length, map, refl, sym, ap, subst, ◌∙◌, arith, slice_set, get_or, Some, None}
+use Rattle.std.proofs.lemmas.List.{get_or-set_same}
 use Rattle.gx_base.specs.declared.order.Order.{Order}
-use Rattle.order_pool.specs.Inner.Block.{Cell, with_order, detached, attached}
-use Rattle.order_pool.specs.Inner.Lent.{Lent}
-use Rattle.order_pool.specs.Inner.Rings.{queue_at, next_at, IsPool, cells_moved, moved, queues_of, rings_of, free_of, IsLast, HasFree}
+use Rattle.order_pool.specs.Inner.Block.{Cell, Cells, cell_at, no_cell, with_order, with_queue, detached, attached}
+use Rattle.order_pool.specs.Inner.Rings.{order_at, queue_at, next_at, AreWholeRings, IsOut, IsPool, ring_at, rings_of, without, queues_with, queues_in, HasTaken, HasPut}
 use Rattle.order_pool.specs.Queues.{Queues, IsIn, IsLive, entries_at, first_slot, next_slot, order_of, appended, removed, with_entry, live_of}
-use Rattle.order_pool.proofs.Pools.{Seen, seen, with-rings, pool-back, view-back, view-out}
-use Rattle.order_pool.proofs.PoolCalls.{below, newest_is_free, not_live, live_some, live_is, first_is_in, first_is_some, first_is_none, next_is_in, next_is_some, next_is_none, IsPool-pushed, view-pushed, IsPool-unlinked}
+use Rattle.order_pool.proofs.CellsAt.{kept}
+use Rattle.order_pool.proofs.Paths.{each-in}
+use Rattle.order_pool.proofs.RingMoves.{detached_order}
+use Rattle.order_pool.proofs.WholeRings.{rings_of-is, member, IsOut-detached, IsOut-set, AreWholeRings-freed, AreWholeRings-came}
+use Rattle.order_pool.proofs.Views.{entries-out, entries-kept, entries-came}
+use Rattle.order_pool.proofs.Pools.{Seen, seen, order_of-seen, with-rings, live_is, count_some, counts-out, counts-back, counts-came, count_fits}
+use Rattle.order_pool.proofs.PoolCalls.{below, first_is_in, first_is_some, first_is_none, next_is_in, next_is_some, next_is_none}
 use Rattle.order_pool.proofs.PoolFacts.{IsIn-appended}
 use Rattle.order_pool.proofs.Shown.{IsPool-ordered, view-ordered}
 
--- the cells once a slot has moved
-pub cells-relocated : (old new : Lent) (capacity i r : ℕ) → old.slots ≡ capacity → new ≡ record old { cells = attached (detached old.cells i) i (old.slots + r) r } → new.cells ≡ cells_moved old.cells capacity i r
-cells-relocated old new capacity i r same e = ap (λ (b : Lent). b.cells) e ∙ ap (λ (n : ℕ). attached (detached old.cells i) i (n + r) r) same
+module _ (b : Cells) (free : List ℕ) (pool : IsPool b free) (now : Queues) (shown : queues_in b ≡ now) where
+  abbrev cs : List Cell
+  cs = b.cells
 
--- a free slot is there, and contracts see no change
-pub record IsReady (new : Lent) (capacity queues live i : ℕ) (counts : List ℕ) (b : Queues) : Type 0 where
-  pub slots : new.slots ≡ capacity
-  pub heads : new.heads ≡ queues + 1
-  pub pool : IsPool new.cells capacity queues new.lent live counts
-  pub shown : queues_of new.cells capacity queues ≡ b
-  pub last : IsLast i (free_of new.cells capacity queues)
-  pub lent : i < new.lent
+  abbrev slots : ℕ
+  slots = b.slots
 
-pub ready : (old new : Lent) (capacity queues live i : ℕ) (counts : List ℕ) (b : Queues) → old.slots ≡ capacity → old.heads ≡ queues + 1 → IsPool old.cells capacity queues old.lent live counts → queues_of old.cells capacity queues ≡ b
-    → HasFree old new queues live i → IsReady new capacity queues live i counts b
-ready old new capacity queues live i counts b same heads pool shown free =
-    let after : IsPool new.cells capacity queues new.lent live counts =
-    subst (λ (n : ℕ). IsPool new.cells n queues new.lent live counts) same (free.kept counts (subst (λ (n : ℕ). IsPool old.cells n queues old.lent live counts) (sym same) pool)) in
-    let last = subst (λ (n : ℕ). IsLast i (free_of new.cells n queues)) same free.last in
-    record {
-      slots = free.slots ∙ same;
-      heads = free.heads ∙ heads;
-      pool = after;
-      shown = subst (λ (n : ℕ). queues_of new.cells n queues ≡ queues_of old.cells n queues) same free.seen ∙ shown;
-      last = last;
-      lent = (newest_is_free new.cells capacity queues live counts (rings_of new.cells capacity queues) after i last).slot;
-    }
+  abbrev queues : ℕ
+  queues = b.queues
 
-module _ {cs : List Cell} {slots queues lent live : ℕ} {counts : List ℕ} (pool : IsPool cs slots queues lent live counts) {b : Queues} (shown : queues_of cs slots queues ≡ b) where
   abbrev L : List (List ℕ)
   L = rings_of cs slots queues
 
-  pub was : live_of b ≡ live
-  was = sym (ap live_of shown) ∙ live_is cs slots queues live counts L pool
+  abbrev whole : AreWholeRings cs slots queues b.lent free L
+  whole = pool.whole
+
+  pub live : live_of now + length free ≡ b.lent
+  live = let l = live_is cs slots queues L in let e = ap live_of shown in omega (arith, l, e, whole.total)
+
+  pub capacity : slots ≡ now.capacity
+  capacity = ap (λ (x : Queues). x.capacity) shown
 
   -- ---- what is read
 
   -- a slot in queue q, as the fields have it
-  pub in_queue : (i q : ℕ) → IsIn b i q → Seen cs slots queues lent L i q
-  in_queue i q h = seen cs slots queues L pool.whole b i q shown h
+  pub in_queue : (i q : ℕ) → IsIn now i q → Seen cs slots queues b.lent L i q
+  in_queue i q h = seen cs slots queues L whole now i q shown h
 
-  pub is_queue : (q : ℕ) → q < length b.queues → q < queues
-  is_queue q h = below cs slots queues L pool.whole b shown q h
+  pub is_queue : (q : ℕ) → q < length now.queues → q < queues
+  is_queue q h = below cs slots queues L whole now shown q h
 
-  pub first_some : (q n : ℕ) → q < length b.queues → n ≡ next_at cs (slots + q) → n < slots → (Some n ≡ first_slot (entries_at b.queues q)) × IsIn b n q
+  pub first_some : (q n : ℕ) → q < length now.queues → n ≡ next_at cs (slots + q) → n < slots → (Some n ≡ first_slot (entries_at now.queues q)) × IsIn now n q
   first_some q n h e lt =
       let at : next_at cs (slots + q) < slots = omega (arith, e) in
-      subst (λ (k : ℕ). (Some k ≡ first_slot (entries_at b.queues q)) × IsIn b k q) (sym e)
-      (sym (first_is_some cs slots queues L pool.whole b shown q (is_queue q h) at), first_is_in cs slots queues L pool.whole b shown q (is_queue q h) at)
+      subst (λ (k : ℕ). (Some k ≡ first_slot (entries_at now.queues q)) × IsIn now k q) (sym e)
+      (sym (first_is_some cs slots queues L whole now shown q (is_queue q h) at), first_is_in cs slots queues L whole now shown q (is_queue q h) at)
 
-  pub first_none : (q n : ℕ) → q < length b.queues → n ≡ next_at cs (slots + q) → slots ≤ n → None ≡ first_slot (entries_at b.queues q)
-  first_none q n h e le = sym (first_is_none cs slots queues L pool.whole b shown q (is_queue q h) (omega (arith, e)))
+  pub first_none : (q n : ℕ) → q < length now.queues → n ≡ next_at cs (slots + q) → slots ≤ n → None ≡ first_slot (entries_at now.queues q)
+  first_none q n h e le = sym (first_is_none cs slots queues L whole now shown q (is_queue q h) (omega (arith, e)))
 
-  pub next_some : (i q n : ℕ) → IsIn b i q → n ≡ next_at cs i → n < slots → (Some n ≡ next_slot i (entries_at b.queues q)) × IsIn b n q
+  pub next_some : (i q n : ℕ) → IsIn now i q → n ≡ next_at cs i → n < slots → (Some n ≡ next_slot i (entries_at now.queues q)) × IsIn now n q
   next_some i q n h e lt =
       let at : next_at cs i < slots = omega (arith, e) in
-      subst (λ (k : ℕ). (Some k ≡ next_slot i (entries_at b.queues q)) × IsIn b k q) (sym e)
-      (sym (next_is_some cs slots queues L pool.whole b shown i q h at), next_is_in cs slots queues L pool.whole b shown i q h at)
+      subst (λ (k : ℕ). (Some k ≡ next_slot i (entries_at now.queues q)) × IsIn now k q) (sym e)
+      (sym (next_is_some cs slots queues L whole now shown i q h at), next_is_in cs slots queues L whole now shown i q h at)
 
-  pub next_none : (i q n : ℕ) → IsIn b i q → n ≡ next_at cs i → slots ≤ n → None ≡ next_slot i (entries_at b.queues q)
-  next_none i q n h e le = sym (next_is_none cs slots queues L pool.whole b shown i q h (omega (arith, e)))
+  pub next_none : (i q n : ℕ) → IsIn now i q → n ≡ next_at cs i → slots ≤ n → None ≡ next_slot i (entries_at now.queues q)
+  next_none i q n h e le = sym (next_is_none cs slots queues L whole now shown i q h (omega (arith, e)))
 
   -- ---- an order comes
 
-  pub record Pushed (i q : ℕ) (o : Order) (new : List Cell) (counts' : List ℕ) : Type 0 where
-    pub kept : IsPool new slots queues lent (live + 1) counts'
-    pub fresh : IsLive b i → ⊥
-    pub is : queues_of new slots queues ≡ record b { queues = appended q (i, o) b.queues }
-    pub more : live_of (queues_of new slots queues) ≡ live_of b + 1
-    pub placed : IsIn (queues_of new slots queues) i q
+  -- the fields once slot i has come to queue q, with as many slots lent and heads in memory
+  abbrev pub with_came : List Cell → ℕ → ℕ → ℕ → ℕ → Cells
+  with_came ds lent used i q = record { slots = slots; queues = queues; lent = lent; used = used; cells = attached ds i (slots + q) q; counts = slice_set b.counts q (get_or b.counts q 0 + 1) }
 
-  pub pushed : (i q : ℕ) (o : Order) (new : List Cell) (counts' : List ℕ) → IsLast i (free_of cs slots queues) → q < length b.queues
-      → new ≡ cells_moved (with_order cs i o) slots i q → counts' ≡ slice_set counts q (get_or counts q 0 + 1) → Pushed i q o new counts'
-  pushed i q o new counts' last h e ec =
-      let free = newest_is_free cs slots queues live counts L pool i last in
-      let lq = is_queue q h in
-      let after = IsPool-pushed cs slots queues live counts L pool i q o free lq new counts' e ec in
-      let is = view-pushed cs slots queues live counts L pool i q o free lq new e b shown in
-      record {
-        kept = after;
-        fresh = not_live cs slots queues live counts L pool b shown i free;
-        is = is;
-        more = live_is new slots queues (live + 1) counts' _ after ∙ ap (λ (n : ℕ). n + 1) (sym was);
-        placed = subst (λ (c : Queues). IsIn c i q) (sym is) (IsIn-appended b q i o h);
-      }
+  pub record Pushed (i q : ℕ) (o : Order) (new : Cells) (free' : List ℕ) : Type 0 where
+    pub kept : IsPool new free'
+    pub fresh : IsLive now i → ⊥
+    pub is : queues_in new ≡ record now { queues = appended q (i, o) now.queues }
+    pub more : live_of (queues_in new) ≡ live_of now + 1
+    pub placed : IsIn (queues_in new) i q
+
+  module _ (i : ℕ) (o : Order) (old : Cells) (free' : List ℕ) (taken : HasTaken b old free' i o) where
+    out : IsOut old.cells slots queues old.lent free' L i
+    out = taken.out
+
+    pub fits_count : (q : ℕ) → q < queues → get_or b.counts q 0 + 1 < 2 ^ 32
+    fits_count q lq = omega (arith, count_fits old.cells slots queues b.counts L i out pool.counted q lq, pool.fits)
+
+    module _ (q used : ℕ) (h : q < length now.queues) where
+      abbrev M : List (List ℕ)
+      M = slice_set L q (ring_at L q ++ i ∷ [])
+
+      abbrev target : Cells
+      target = with_came old.cells old.lent used i q
+
+      lq : q < queues
+      lq = is_queue q h
+
+      whole' : AreWholeRings target.cells slots queues old.lent free' M
+      whole' = AreWholeRings-came old.cells slots queues L i out q lq
+
+      kept' : IsPool target free'
+      kept' = with-rings target.cells slots queues M (record { whole = whole'; fits = pool.fits; counted = counts-came old.cells slots queues b.counts L i out pool.counted q lq _ refl })
+
+      is' : queues_in target ≡ record now { queues = appended q (i, o) now.queues }
+      is' =
+          subst (λ (x : Queues). queues_in target ≡ record x { queues = appended q (i, o) x.queues }) shown
+          (ap (queues_with target.cells slots queues) (rings_of-is target.cells slots queues M whole')
+          ∙ (λ j. record { capacity = slots; queues = entries-came old.cells slots queues L i out q lq j })
+          ∙ (λ j. record { capacity = slots; queues = appended q (i, taken.order j) (entries-kept old.cells slots queues L i out cs taken.others j) }))
+
+      pub pushed : (new : Cells) → new ≡ target → Pushed i q o new free'
+      pushed new e =
+          subst (λ (x : Cells). Pushed i q o x free') (sym e)
+          (record {
+            kept = kept';
+            fresh = λ l. let s = in_queue i l.0 l.1 in each-in (λ k. k ≢ i) i (ring_at L l.0) s.ring (out.gone l.0 s.queue) refl;
+            is = is';
+            more = let a = live_is target.cells slots queues M in let r = ap (λ (X : List (List ℕ)). live_of (queues_with target.cells slots queues X)) (rings_of-is target.cells slots queues M whole') in omega (arith, a, r, whole'.total, out.total, live_is cs slots queues L, ap live_of shown);
+            placed = subst (λ (x : Queues). IsIn x i q) (sym is') (IsIn-appended now q i o h);
+          })
+
+  pub put_pushed : (i q : ℕ) (o : Order) (new : Cells) (free' : List ℕ) → HasPut b new free' q o i → q < length now.queues → Pushed i q o new free'
+  put_pushed i q o new free' put h =
+      let mid = put.0 in
+      let t = put.1 in
+      pushed i o mid free' t q mid.used h new
+      (put.2 ∙ (λ j. record {
+        slots = t.slots j;
+        queues = t.queues j;
+        lent = mid.lent;
+        used = mid.used;
+        cells = attached mid.cells i (t.slots j + q) q;
+        counts = slice_set (t.counts j) q (get_or (t.counts j) q 0 + 1);
+      }))
 
   -- ---- an order leaves
 
-  pub record Unlinked (i : ℕ) (new : List Cell) (counts' : List ℕ) : Type 0 where
-    pub kept : IsPool new slots queues lent (live - 1) counts'
-    pub is : queues_of new slots queues ≡ record b { queues = removed i b.queues }
-    pub fewer : live_of (queues_of new slots queues) + 1 ≡ live_of b
-    pub room : live_of (queues_of new slots queues) < slots
+  pub record Unlinked (i : ℕ) (new : Cells) : Type 0 where
+    pub kept : IsPool new (free ++ i ∷ [])
+    pub is : queues_in new ≡ record now { queues = removed i now.queues }
+    pub fewer : live_of (queues_in new) + 1 ≡ live_of now
+    pub room : live_of (queues_in new) < slots
 
-  pub unlinked : (i q r : ℕ) (new : List Cell) (counts' : List ℕ) → IsIn b i q → r ≡ queue_at cs i
-      → new ≡ cells_moved cs slots i queues → counts' ≡ slice_set counts r (get_or counts r 0 - 1) → Unlinked i new counts'
-  unlinked i q r new counts' h er e ec =
-      let s = in_queue i q h in
-      let after = IsPool-unlinked cs slots queues live counts L pool i q s new counts' r er e ec in
-      let some = live_some cs slots queues live counts L pool i q s in
-      let left = live_is new slots queues (live - 1) counts' _ after in
-      record {
-        kept = after;
-        is = view-out cs slots queues L pool.whole i s.slot new e b shown;
-        fewer = omega (arith, some, was, left);
-        room = omega (arith, some, left, pool.free, pool.whole.room);
-      }
+  module _ (i q : ℕ) (h : IsIn now i q) where
+    s : Seen cs slots queues b.lent L i q
+    s = in_queue i q h
 
-  -- ---- an order goes to the end of its queue
+    abbrev r : ℕ
+    r = queue_at cs i
 
-  pub record SentBack (i : ℕ) (new : List Cell) : Type 0 where
-    pub kept : IsPool new slots queues lent live counts
-    pub is : (q : ℕ) → IsIn b i q → queues_of new slots queues ≡ record b { queues = appended q (i, order_of i (entries_at b.queues q)) (removed i b.queues) }
-    pub same : live_of (queues_of new slots queues) ≡ live_of b
+    lr : r < queues
+    lr = omega (arith, s.tag, s.queue)
 
-  pub sent_back : (i q r : ℕ) (new : List Cell) → IsIn b i q → r ≡ queue_at cs i → new ≡ cells_moved cs slots i r → SentBack i new
-  sent_back i q r new h er e =
-      let s = in_queue i q h in
-      let low : r < queues = omega (arith, er, s.tag, s.queue) in
-      let after : IsPool new slots queues lent live counts =
-      subst (λ (ds : List Cell). IsPool ds slots queues lent live counts) (sym e)
-      (with-rings (cells_moved cs slots i r) slots queues live counts (moved L i r) (pool-back cs slots queues live counts L pool i r s.slot (omega arith) low (sym er))) in
-      record {
-        kept = after;
-        is = view-back cs slots queues L pool.whole i s.slot r low (sym er) new e b shown;
-        same = live_is new slots queues live counts _ after ∙ sym was;
-      }
+    abbrev L₁ : List (List ℕ)
+    L₁ = map (without i) L
 
-  -- ---- an order is set
+    abbrev gone : List Cell
+    gone = detached cs i
 
-  pub record Reset (i : ℕ) (o : Order) (new : List Cell) : Type 0 where
-    pub kept : IsPool new slots queues lent live counts
-    pub is : queues_of new slots queues ≡ record b { queues = map (with_entry i o) b.queues }
-    pub same : live_of (queues_of new slots queues) ≡ live_of b
+    out₁ : IsOut gone slots queues b.lent free L₁ i
+    out₁ = IsOut-detached cs slots queues L whole i s.slot lr
 
-  pub reset : (i q : ℕ) (o : Order) (new : List Cell) → IsIn b i q → new ≡ with_order cs i o → Reset i o new
-  reset i q o new h e =
-      let s = in_queue i q h in
-      let after = IsPool-ordered cs slots queues live counts L pool i o s.slot new e in
-      record {
-        kept = after;
-        is = view-ordered cs slots queues live counts L pool i o s.slot new e b shown;
-        same = live_is new slots queues live counts _ after ∙ sym was;
-      }
+    pub some_live : length free < b.lent
+    some_live = omega (arith, out₁.total)
+
+    pub some_count : 0 < get_or b.counts r 0
+    some_count = count_some cs slots queues b.counts L whole pool.counted i s.slot lr
+
+    abbrev left : List Cell
+    left = with_queue gone i queues
+
+    abbrev c₁ : Cell
+    c₁ = record (cell_at gone i) { queue = queues }
+
+    in_cells : i < length gone
+    in_cells = let l = out₁.are.cells in let lo = s.slot in let rm = whole.room in omega arith
+
+    left_tag : queue_at left i ≡ queues
+    left_tag = ap (λ (c : Cell). c.queue) (get_or-set_same gone i c₁ no_cell in_cells)
+
+    left_order : (k : ℕ) → order_at left k ≡ order_at gone k
+    left_order = kept (λ c. c.order) gone i c₁ in_cells refl
+
+    out₂ : IsOut left slots queues b.lent free L₁ i
+    out₂ = IsOut-set gone slots queues L₁ i out₁ c₁
+
+    abbrev pub fields_out : Cells
+    fields_out = record b { cells = left; counts = slice_set b.counts r (get_or b.counts r 0 - 1) }
+
+    whole₂ : AreWholeRings left slots queues b.lent (free ++ i ∷ []) L₁
+    whole₂ = AreWholeRings-freed left slots queues L₁ i out₂ left_tag
+
+    is₂ : queues_in fields_out ≡ record now { queues = removed i now.queues }
+    is₂ =
+        subst (λ (x : Queues). queues_in fields_out ≡ record x { queues = removed i x.queues }) shown
+        (ap (queues_with left slots queues) (rings_of-is left slots queues L₁ whole₂)
+        ∙ (λ j. record { capacity = slots; queues = entries-kept left slots queues L₁ i out₂ gone (λ k ne. left_order k) j })
+        ∙ (λ j. record { capacity = slots; queues = entries-out cs slots queues L whole i s.slot lr j }))
+
+    pub unlinked : (new : Cells) → new ≡ fields_out → Unlinked i new
+    unlinked new e =
+        subst (Unlinked i) (sym e)
+        (let a = live_is left slots queues L₁ in
+        let x = ap (λ (X : List (List ℕ)). live_of (queues_with left slots queues X)) (rings_of-is left slots queues L₁ whole₂) in
+        let l = ap live_of shown in
+        record {
+          kept = with-rings left slots queues L₁ (record {
+            whole = whole₂;
+            fits = pool.fits;
+            counted = counts-out cs slots queues b.counts L whole pool.counted i s.slot lr _ (let p = some_count in omega arith);
+          });
+          is = is₂;
+          fewer = omega (arith, a, x, l, live_is cs slots queues L, out₁.total, whole.total);
+          room = omega (arith, a, x, out₁.total, whole.room);
+        })
+
+    -- ---- an order goes to the end of its queue
+
+    pub record SentBack (new : Cells) : Type 0 where
+      pub kept : IsPool new free
+      pub is : (t : ℕ) → IsIn now i t → queues_in new ≡ record now { queues = appended t (i, order_of i (entries_at now.queues t)) (removed i now.queues) }
+      pub same : live_of (queues_in new) ≡ live_of now
+
+    abbrev pub fields_back : Cells
+    fields_back = record b { cells = attached gone i (slots + r) r }
+
+    abbrev M₁ : List (List ℕ)
+    M₁ = slice_set L₁ r (ring_at L₁ r ++ i ∷ [])
+
+    whole₃ : AreWholeRings fields_back.cells slots queues b.lent free M₁
+    whole₃ = AreWholeRings-came gone slots queues L₁ i out₁ r lr
+
+    gone_order : (k : ℕ) → order_at gone k ≡ order_at cs k
+    gone_order = detached_order cs slots queues L whole.are r i lr (member cs slots queues L whole i s.slot lr)
+
+    is₃ : (t : ℕ) → IsIn now i t → queues_in fields_back ≡ record now { queues = appended t (i, order_of i (entries_at now.queues t)) (removed i now.queues) }
+    is₃ t ht =
+        let s' = in_queue i t ht in
+        let o : order_at gone i ≡ order_of i (entries_at now.queues t) = gone_order i ∙ sym (order_of-seen cs slots queues L whole now i t shown s') in
+        ap (queues_with fields_back.cells slots queues) (rings_of-is fields_back.cells slots queues M₁ whole₃)
+        ∙ (λ j. record { capacity = slots; queues = entries-came gone slots queues L₁ i out₁ r lr j })
+        ∙ (λ j. record { capacity = slots; queues = appended (s'.tag j) (i, o j) (entries-out cs slots queues L whole i s.slot lr j) })
+        ∙ (λ j. record { capacity = capacity j; queues = appended t (i, order_of i (entries_at now.queues t)) (removed i (shown j).queues) })
+
+    pub sent_back : (new : Cells) → new ≡ fields_back → SentBack new
+    sent_back new e =
+        subst SentBack (sym e)
+        (let a = live_is fields_back.cells slots queues M₁ in
+        let x = ap (λ (X : List (List ℕ)). live_of (queues_with fields_back.cells slots queues X)) (rings_of-is fields_back.cells slots queues M₁ whole₃) in
+        record {
+          kept = with-rings fields_back.cells slots queues M₁ (record { whole = whole₃; fits = pool.fits; counted = counts-back cs slots queues b.counts L whole pool.counted i s.slot lr });
+          is = is₃;
+          same = omega (arith, a, x, whole₃.total, live);
+        })
+
+    -- ---- an order is set
+
+    pub record Reset (o : Order) (new : Cells) : Type 0 where
+      pub kept : IsPool new free
+      pub is : queues_in new ≡ record now { queues = map (with_entry i o) now.queues }
+      pub same : live_of (queues_in new) ≡ live_of now
+
+    pub reset : (o : Order) (new : Cells) → new ≡ record b { cells = with_order cs i o } → Reset o new
+    reset o new e =
+        subst (Reset o) (sym e)
+        (let after = IsPool-ordered cs slots queues b.counts L pool i o s.slot in
+        let ds = with_order cs i o in
+        record {
+          kept = after;
+          is = view-ordered cs slots queues b.counts L pool i o s.slot now shown;
+          same = let a = live_is ds slots queues (rings_of ds slots queues) in omega (arith, a, after.whole.total, live);
+        })

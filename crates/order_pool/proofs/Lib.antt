@@ -1,19 +1,14 @@
 -- Offered to the crates above: what they may cite.
 pub mod PoolFacts
 -- What the proofs of this crate alone cite.
-mod Blocks
-mod Calls
 mod Cells
-mod Numbers
 mod CellsAt
-mod Lent
-mod Ordered
 mod Paths
-mod Places
-mod PoolCalls
-mod Pools
 mod RingMoves
-mod Shown
-mod Starts
-mod Views
 mod WholeRings
+mod Views
+mod Pools
+mod PoolCalls
+mod Shown
+mod Calls
+mod Starts

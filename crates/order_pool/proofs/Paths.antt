@@ -1,8 +1,8 @@
 -- Paths along two links, when one node leaves and when one comes.
-use Rattle.std.proofs.Common.{◌≡◌, ◌≢◌, ℕ, ◌+◌, ◌<◌, ◌≤◌, Bool, not, cond, List, [], ◌∷◌, ◌++◌, length, refl, sym, ap, subst, ◌∙◌, arith, inl, inr}
+use Rattle.std.proofs.Common.{◌≡◌, ◌≢◌, ℕ, ◌+◌, ◌≤◌, Bool, not, cond, List, [], ◌∷◌, ◌++◌, length, refl, sym, ap, subst, ◌∙◌, arith, inl, inr}
 use Rattle.std.proofs.lemmas.Bool.Decides.{eqb_tells}
 use Prim.Native.Nat.{zero, suc}
-use Rattle.order_pool.specs.Inner.Rings.{Each, AllDiffer, Path, cells_along, without, In, IsLast}
+use Rattle.order_pool.specs.Inner.Rings.{Each, AllDiffer, Path, cells_along, without, In}
 
 pub each-from : (S T : ℕ → Type 0) → ((k : ℕ) → S k → T k) → (ks : List ℕ) → Each S ks → Each T ks
 each-from S T f [] h = tt
@@ -33,6 +33,17 @@ each-push T (k ∷ ks) i h t = (h.0, each-push T ks i h.1 t)
 pub differ-push : (ks : List ℕ) (i : ℕ) → AllDiffer ks → Each (λ k. k ≢ i) ks → AllDiffer (ks ++ i ∷ [])
 differ-push [] i d h = (tt, tt)
 differ-push (k ∷ ks) i d h = (each-push (λ j. j ≢ k) ks i d.0 (λ e. h.0 (sym e)), differ-push ks i d.1 h.1)
+
+pub each-pop : (T : ℕ → Type 0) (ks : List ℕ) (i : ℕ) → Each T (ks ++ i ∷ []) → Each T ks × T i
+each-pop T [] i h = (tt, h.0)
+each-pop T (k ∷ ks) i h = let rest = each-pop T ks i h.1 in ((h.0, rest.0), rest.1)
+
+pub differ-pop : (ks : List ℕ) (i : ℕ) → AllDiffer (ks ++ i ∷ []) → AllDiffer ks × Each (λ k. k ≢ i) ks
+differ-pop [] i d = (tt, tt)
+differ-pop (k ∷ ks) i d =
+    let here = each-pop (λ j. j ≢ k) ks i d.0 in
+    let rest = differ-pop ks i d.1 in
+    ((here.0, rest.0), (λ e. here.1 (sym e), rest.1))
 
 -- ---- `without`
 
@@ -197,15 +208,3 @@ module _ (N P N' P' : ℕ → ℕ) where
     attached-path a [] h ai ni nz = (ap N' (sym h.1) ∙ n₁, p₁ ∙ h.1, (n₃, p₃))
     attached-path a (k ∷ ks) h ai ni nz =
         (n₂ a (λ q. nz.0 (sym h.0 ∙ ap N q ∙ back)) ai ∙ h.0, p₂ k ni.0 nz.0 ∙ h.1, attached-path k ks h.2 ni.0 ni.1 nz.1)
-
--- the last of a path
-last-from : (N P : ℕ → ℕ) (k : ℕ) (ks : List ℕ) (z : ℕ) → Path N P k ks z → IsLast (P z) (k ∷ ks)
-last-from N P k [] z h = ([], ap (λ (j : ℕ). j ∷ []) (sym h.1))
-last-from N P k (m ∷ ms) z h = let l = last-from N P m ms z h.2 in (k ∷ l.0, ap (λ (js : List ℕ). k ∷ js) l.1)
-
-pub path-end : (N P : ℕ → ℕ) (a : ℕ) (ks : List ℕ) (z : ℕ) → Path N P a ks z → 0 < length ks → IsLast (P z) ks
-path-end N P a [] z h pos = let p : 0 < 0 = pos in absurd (omega arith)
-path-end N P a (k ∷ ks) z h pos = last-from N P k ks z h.2
-
-pub in-last : (i : ℕ) (ks : List ℕ) → IsLast i ks → In i ks
-in-last i ks h = subst (In i) (sym h.1) (in-push i h.0)

@@ -18,26 +18,26 @@ module _ (cs : List Cell) (slots queues : ℕ) (L : List (List ℕ)) (are : AreR
   abbrev bound : ℕ → Type 0
   bound k = k < length cs
 
-  pub within : (q : ℕ) → q < queues + 1 → Each bound (ring_at L q)
+  pub within : (q : ℕ) → q < queues → Each bound (ring_at L q)
   within q lq = each-from (λ k. k < slots) bound (λ k h. omega (arith, are.cells)) (ring_at L q) (are.each q lq).slot
 
-  pub head_within : (q : ℕ) → q < queues + 1 → slots + q < length cs
+  pub head_within : (q : ℕ) → q < queues → slots + q < length cs
   head_within q lq = omega (arith, are.cells)
 
-  pub prev_within : (q i : ℕ) → q < queues + 1 → In i (ring_at L q) → P i < length cs
+  pub prev_within : (q i : ℕ) → q < queues → In i (ring_at L q) → P i < length cs
   prev_within q i lq m = prev-is N P bound i (slots + q) (ring_at L q) (slots + q) (are.each q lq).path (within q lq) (head_within q lq) m
 
-  pub next_within : (q i : ℕ) → q < queues + 1 → In i (ring_at L q) → N i < length cs
+  pub next_within : (q i : ℕ) → q < queues → In i (ring_at L q) → N i < length cs
   next_within q i lq m = next-is N P bound i (slots + q) (ring_at L q) (slots + q) (are.each q lq).path (within q lq) (head_within q lq) m
 
-  pub last_within : (q : ℕ) → q < queues + 1 → P (slots + q) < length cs
+  pub last_within : (q : ℕ) → q < queues → P (slots + q) < length cs
   last_within q lq = last-is N P bound (slots + q) (ring_at L q) (slots + q) (are.each q lq).path (within q lq) (head_within q lq)
 
   -- no slot is a head
-  not_head : (q : ℕ) → q < queues + 1 → Each (λ k. k ≢ slots + q) (ring_at L q)
+  not_head : (q : ℕ) → q < queues → Each (λ k. k ≢ slots + q) (ring_at L q)
   not_head q lq = each-from (λ k. k < slots) (λ k. k ≢ slots + q) (λ k h e. omega arith) (ring_at L q) (are.each q lq).slot
 
-  module _ (q i : ℕ) (lq : q < queues + 1) (m : In i (ring_at L q)) where
+  module _ (q i : ℕ) (lq : q < queues) (m : In i (ring_at L q)) where
     tag : queue_at cs i ≡ q
     tag = each-in (λ k. queue_at cs k ≡ q) i (ring_at L q) m (are.each q lq).tag
 
@@ -57,10 +57,10 @@ module _ (cs : List Cell) (slots queues : ℕ) (L : List (List ℕ)) (are : AreR
     forth = path-forth N P i (slots + q) (ring_at L q) (slots + q) (are.each q lq).path m
 
     -- i is in no other ring
-    pub elsewhere : (r : ℕ) → r < queues + 1 → r ≢ q → Each (λ k. k ≢ i) (ring_at L r)
+    pub elsewhere : (r : ℕ) → r < queues → r ≢ q → Each (λ k. k ≢ i) (ring_at L r)
     elsewhere r lr ne = each-from (λ k. queue_at cs k ≡ r) (λ k. k ≢ i) (λ k t e. ne (sym t ∙ ap (queue_at cs) e ∙ tag)) (ring_at L r) (are.each r lr).tag
 
-    other : (r : ℕ) → r < queues + 1 → r ≢ q → Path (next_at cs') (prev_at cs') (slots + r) (ring_at L r) (slots + r)
+    other : (r : ℕ) → r < queues → r ≢ q → Path (next_at cs') (prev_at cs') (slots + r) (ring_at L r) (slots + r)
     other r lr ne =
         let ring = are.each r lr in
         let ks = ring_at L r in
@@ -81,7 +81,7 @@ module _ (cs : List Cell) (slots queues : ℕ) (L : List (List ℕ)) (are : AreR
         detached-path N P (next_at cs') (prev_at cs') i (detached-next cs i lp ln) (detached-next_other cs i lp ln) (detached-prev cs i lp ln) (detached-prev_other cs i lp ln) back forth
         (slots + q) (ring_at L q) (slots + q) ring.path m (not_head q lq) (not_head q lq) ring.differ
 
-    left_path : (r : ℕ) → r < queues + 1 → Path (next_at cs') (prev_at cs') (slots + r) (without i (ring_at L r)) (slots + r)
+    left_path : (r : ℕ) → r < queues → Path (next_at cs') (prev_at cs') (slots + r) (without i (ring_at L r)) (slots + r)
     left_path r lr =
         elim (cases_eq r q) [
           | inl e ↦ subst (λ (k : ℕ). Path (next_at cs') (prev_at cs') (slots + k) (without i (ring_at L k)) (slots + k)) (sym e) own
@@ -111,7 +111,7 @@ module _ (cs : List Cell) (slots queues : ℕ) (L : List (List ℕ)) (are : AreR
     }
 
   -- i is in no ring, and comes to the end of ring r
-  module _ (r i : ℕ) (lr : r < queues + 1) (li : i < slots) (gone : (q : ℕ) → q < queues + 1 → Each (λ k. k ≢ i) (ring_at L q)) where
+  module _ (r i : ℕ) (lr : r < queues) (li : i < slots) (gone : (q : ℕ) → q < queues → Each (λ k. k ≢ i) (ring_at L q)) where
     abbrev s : ℕ
     s = slots + r
 
@@ -144,7 +144,7 @@ module _ (cs : List Cell) (slots queues : ℕ) (L : List (List ℕ)) (are : AreR
         (attached-prev_mine cs i s r ll wi ws nl nj) (attached-prev_other cs i s r ll wi ws nl nj) (attached-prev_head cs i s r ll wi ws nl nj)
         (path-last N P s (ring_at L r) s ring.path) s (ring_at L r) ring.path nj (gone r lr) (not_head r lr)
 
-    stayed : (q : ℕ) → q < queues + 1 → q ≢ r → Path (next_at cs⁺) (prev_at cs⁺) (slots + q) (ring_at L q) (slots + q)
+    stayed : (q : ℕ) → q < queues → q ≢ r → Path (next_at cs⁺) (prev_at cs⁺) (slots + q) (ring_at L q) (slots + q)
     stayed q lq ne =
         let ring = are.each q lq in
         let ks = ring_at L q in
@@ -172,7 +172,7 @@ module _ (cs : List Cell) (slots queues : ℕ) (L : List (List ℕ)) (are : AreR
           differ = differ-push (ring_at L r) i ring.differ (gone r lr);
         }
 
-    same : (q : ℕ) → q < queues + 1 → q ≢ r → IsRing cs⁺ slots q (ring_at L q)
+    same : (q : ℕ) → q < queues → q ≢ r → IsRing cs⁺ slots q (ring_at L q)
     same q lq ne =
         let ring = are.each q lq in
         record { path = stayed q lq ne; slot = ring.slot; tag = tags q (ring_at L q) (gone q lq) ring.tag; differ = ring.differ }

@@ -1,18 +1,46 @@
 -- What a contract sees when an order changes, and which slots it sees.
-use Rattle.std.proofs.Common.{◌≡◌, ◌≢◌, ℕ, ◌<◌, ◌≤◌, cond, eqb, List, [], ◌∷◌, length, map, refl, sym, ap, subst, ◌∙◌, arith, take, inl, inr, nat_lt}
+use Rattle.std.proofs.Common.{◌≡◌, ◌≢◌, ℕ, ◌+◌, ◌<◌, ◌≤◌, cond, eqb, List, [], ◌∷◌, length, map, refl, sym, ap, subst, ◌∙◌, arith, inl, inr, nat_lt}
 use Rattle.std.specs.Prelude.{IsTrue}
 use Rattle.std.proofs.lemmas.Bool.{ltb-true, lt-ltb}
-use Rattle.std.proofs.lemmas.List.{get_or-set_same, get_or-set_other}
+use Rattle.std.proofs.lemmas.List.{length-set, get_or-set_same, get_or-set_other}
 use Rattle.std.proofs.lemmas.Bool.Decides.{eqb_tells}
 use Rattle.gx_base.specs.declared.order.Order.{Order}
 use Rattle.order_pool.specs.Inner.Block.{Cell, cell_at, no_cell, with_order}
-use Rattle.order_pool.specs.Inner.Rings.{order_at, queue_at, AreWholeRings, IsPoolWith, IsPool, ring_at, entry, queues_with, queues_of, AllDiffer}
+use Rattle.order_pool.specs.Inner.Rings.{order_at, queue_at, next_at, prev_at, Each, In, Path, AreWholeRings, IsPoolWith, ring_at, rings_of, entry, queues_with, queues_of, AllDiffer}
 use Rattle.order_pool.specs.Queues.{Queues, with_entry, HasSlot, IsLive, NoRepeat, SlotsDiffer}
+use Rattle.order_pool.proofs.CellsAt.{kept}
 use Rattle.order_pool.proofs.WholeRings.{rings_of-is}
 use Rattle.order_pool.proofs.Views.{in-entries, has_slot-entries, entries_at-qs, length-qs}
 use Rattle.order_pool.proofs.Paths.{each-in}
 use Rattle.order_pool.proofs.Pools.{seen, with-rings}
-use Rattle.order_pool.proofs.Ordered.{AreWholeRings-ordered}
+
+-- only the links and the tags count
+AreWholeRings-same : (cs ds : List Cell) (slots queues : ℕ) {lent : ℕ} {free : List ℕ} (L : List (List ℕ)) → length ds ≡ length cs → next_at ds ≡ next_at cs → prev_at ds ≡ prev_at cs → queue_at ds ≡ queue_at cs
+    → AreWholeRings cs slots queues lent free L → AreWholeRings ds slots queues lent free L
+AreWholeRings-same cs ds slots queues {free = free} L len nx pv tg whole = record {
+  are = record {
+    cells = len ∙ whole.are.cells;
+    count = whole.are.count;
+    each = λ q lq.
+        let ring = whole.are.each q lq in
+        let ks = ring_at L q in
+        let s = slots + q in
+        record {
+          path = subst (λ (f : ℕ → ℕ). Path f (prev_at ds) s ks s) (sym nx) (subst (λ (f : ℕ → ℕ). Path (next_at cs) f s ks s) (sym pv) ring.path);
+          slot = ring.slot;
+          tag = subst (λ (f : ℕ → ℕ). Each (λ k. f k ≡ q) ks) (sym tg) ring.tag;
+          differ = ring.differ;
+        };
+    heads = λ q lq. ap (λ (f : ℕ → ℕ). f (slots + q)) tg ∙ whole.are.heads q lq;
+  };
+  room = whole.room;
+  covers = λ k lk. subst (λ (f : ℕ → ℕ). f k < queues → In k (ring_at L (f k))) (sym tg) (whole.covers k lk);
+  unlent = λ k le lk. ap (λ (f : ℕ → ℕ). f k) tg ∙ whole.unlent k le lk;
+  within = whole.within;
+  tags = subst (λ (f : ℕ → ℕ). Each (λ k. f k ≡ queues) free) (sym tg) whole.tags;
+  differ = whole.differ;
+  total = whole.total;
+}
 
 module _ (cs : List Cell) (i : ℕ) (o : Order) (wi : i < length cs) where
   abbrev ds : List Cell
@@ -40,29 +68,35 @@ module _ (cs : List Cell) (i : ℕ) (o : Order) (wi : i < length cs) where
   changed_rings [] = refl
   changed_rings (ks ∷ X) = λ j. changed_all ks j ∷ changed_rings X j
 
-module _ (cs : List Cell) (slots queues live : ℕ) {lent : ℕ} (counts : List ℕ) (L : List (List ℕ)) (pool : IsPoolWith cs slots queues lent live counts L) (i : ℕ) (o : Order) (li : i < lent) where
-  whole₀ : AreWholeRings (with_order cs i o) slots queues lent L
-  whole₀ = AreWholeRings-ordered cs slots queues L pool.whole i o li
+module _ (cs : List Cell) (slots queues : ℕ) {lent : ℕ} {free : List ℕ} (counts : List ℕ) (L : List (List ℕ)) (pool : IsPoolWith cs slots queues lent free counts L) (i : ℕ) (o : Order) (li : i < lent) where
+  abbrev es : List Cell
+  es = with_order cs i o
 
-  pub IsPool-ordered : (new : List Cell) → new ≡ with_order cs i o → IsPool new slots queues lent live counts
-  IsPool-ordered new e =
-      subst (λ (es : List Cell). IsPool es slots queues lent live counts) (sym e)
-      (with-rings (with_order cs i o) slots queues live counts L (record { whole = whole₀; fits = pool.fits; free = pool.free; many = pool.many; counted = pool.counted }))
+  wi : i < length cs
+  wi = omega (arith, pool.whole.are.cells, pool.whole.room)
 
-  pub view-ordered : (new : List Cell) → new ≡ with_order cs i o → (b : Queues) → queues_with cs slots queues L ≡ b → queues_of new slots queues ≡ record b { queues = map (with_entry i o) b.queues }
-  view-ordered new e b shown =
-      subst (λ (c : Queues). queues_of new slots queues ≡ record c { queues = map (with_entry i o) c.queues }) shown
-      (ap (λ (es : List Cell). queues_of es slots queues) e ∙ ap (queues_with (with_order cs i o) slots queues) (rings_of-is (with_order cs i o) slots queues L whole₀)
-      ∙ (λ j. record { capacity = slots; queues = changed_rings cs i o (omega (arith, pool.whole.are.cells, pool.whole.room)) (take queues L) j }))
+  whole₀ : AreWholeRings es slots queues lent free L
+  whole₀ =
+      let c : Cell = record (cell_at cs i) { order = o } in
+      AreWholeRings-same cs es slots queues L (length-set cs i c) (λ j y. kept (λ c. c.next) cs i c wi refl y j) (λ j y. kept (λ c. c.prev) cs i c wi refl y j) (λ j y. kept (λ c. c.queue) cs i c wi refl y j) pool.whole
 
-module _ (cs : List Cell) (slots queues : ℕ) {lent : ℕ} (L : List (List ℕ)) (whole : AreWholeRings cs slots queues lent L) (b : Queues) (shown : queues_with cs slots queues L ≡ b) (i : ℕ) where
+  pub IsPool-ordered : IsPoolWith es slots queues lent free counts (rings_of es slots queues)
+  IsPool-ordered = with-rings es slots queues L (record { whole = whole₀; fits = pool.fits; counted = pool.counted })
+
+  pub view-ordered : (b : Queues) → queues_with cs slots queues L ≡ b → queues_of es slots queues ≡ record b { queues = map (with_entry i o) b.queues }
+  view-ordered b shown =
+      subst (λ (c : Queues). queues_of es slots queues ≡ record c { queues = map (with_entry i o) c.queues }) shown
+      (ap (queues_with es slots queues) (rings_of-is es slots queues L whole₀)
+      ∙ (λ j. record { capacity = slots; queues = changed_rings cs i o wi L j }))
+
+module _ (cs : List Cell) (slots queues : ℕ) {lent : ℕ} {free : List ℕ} (L : List (List ℕ)) (whole : AreWholeRings cs slots queues lent free L) (b : Queues) (shown : queues_with cs slots queues L ≡ b) (i : ℕ) where
   pub is_live : i < lent → queue_at cs i < queues → IsLive b i
   is_live li lq =
       subst (λ (c : Queues). IsLive c i) shown (
         queue_at cs i,
         (
           omega (arith, length-qs cs slots queues L whole),
-          subst (HasSlot i) (sym (entries_at-qs cs slots queues L whole (queue_at cs i) lq)) (has_slot-entries cs i (ring_at L (queue_at cs i)) (whole.covers i li).1),
+          subst (HasSlot i) (sym (entries_at-qs cs slots queues L whole (queue_at cs i) lq)) (has_slot-entries cs i (ring_at L (queue_at cs i)) (whole.covers i li lq)),
         ),
       )
 
@@ -83,7 +117,7 @@ no_repeat : (cs : List Cell) (ks : List ℕ) → AllDiffer ks → NoRepeat (map 
 no_repeat cs [] d = tt
 no_repeat cs (k ∷ ks) d = (λ h. each-in (λ j. j ≢ k) k ks (in-entries cs k ks h) d.0 refl, no_repeat cs ks d.1)
 
-pub rules : (cs : List Cell) (slots queues : ℕ) {lent : ℕ} (L : List (List ℕ)) (whole : AreWholeRings cs slots queues lent L) (b : Queues) → queues_with cs slots queues L ≡ b → SlotsDiffer b
+pub rules : (cs : List Cell) (slots queues : ℕ) {lent : ℕ} {free : List ℕ} (L : List (List ℕ)) (whole : AreWholeRings cs slots queues lent free L) (b : Queues) → queues_with cs slots queues L ≡ b → SlotsDiffer b
 rules cs slots queues L whole b shown =
     subst SlotsDiffer shown
     (record {

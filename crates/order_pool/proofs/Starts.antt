@@ -1,16 +1,15 @@
--- The rings of a new pool, and a slot that is lent.
-use Rattle.std.proofs.Common.{◌≡◌, ◌≢◌, ℕ, ◌+◌, ◌<◌, ◌^◌, List, [], ◌∷◌, ◌++◌, length, map, refl, sym, ap, subst, ◌∙◌, add-one, arith, take, slice_set, replicate, length-append, get_or}
+-- A new pool, and a slot that is taken for a new order.
+use Rattle.std.proofs.Common.{◌≡◌, ℕ, ◌+◌, ◌*◌, ◌<◌, ◌≤◌, ◌^◌, List, [], ◌∷◌, ◌++◌, length, map, refl, sym, ap, subst, ◌∙◌, arith, replicate, slice_set}
 use Prim.Native.Nat.{zero, suc}
-use Rattle.std.proofs.lemmas.List.{get_or-replicate, length-replicate, take-set-le}
+use Rattle.std.proofs.lemmas.List.{length-replicate, get_or-set_same, get_or-set_other}
 use Rattle.std.proofs.lemmas.List.Sums.{sum_by-cons}
 use Rattle.std.specs.Prelude.{sum_by}
-use Rattle.order_pool.specs.Inner.Block.{Cell, attached}
-use Rattle.order_pool.specs.Inner.Lent.{Lent, IsNew}
-use Rattle.order_pool.specs.Inner.Rings.{prev_at, next_at, IsLast, IsRing, AreWholeRings, IsPool, HasFree, ring_at, rings_of, free_of, entry, queues_of, queues_with}
-use Rattle.order_pool.specs.Queues.{Entry}
-use Rattle.order_pool.proofs.Paths.{path-end}
-use Rattle.order_pool.proofs.WholeRings.{rings_of-is, AreWholeRings-lent, lent_order, ring-lent, ring-lent_other}
-use Rattle.order_pool.proofs.Views.{entry-same}
+use Rattle.gx_base.specs.declared.order.Order.{Order}
+use Rattle.order_pool.specs.Inner.Block.{Cell, Cells, cell_at, no_cell, number, blank_link, head_cell, new_block, with_order, HasOpened}
+use Rattle.order_pool.specs.Inner.Rings.{order_at, IsRing, AreWholeRings, IsOut, IsPool, ring_at, rings_of, entry, queues_with, queues_in, HasTaken}
+use Rattle.order_pool.specs.Queues.{Entry, empty_queues}
+use Rattle.order_pool.proofs.Cells.{shown-length, counts-length, slot-shown, head-shown, count-shown, number-head, even, odd}
+use Rattle.order_pool.proofs.WholeRings.{rings_of-is, IsOut-lent, IsOut-popped, IsOut-set}
 use Rattle.order_pool.proofs.Pools.{with-rings}
 
 abbrev none : ℕ → List (List ℕ)
@@ -25,116 +24,88 @@ none-sum : (n : ℕ) → sum_by length (none n) ≡ 0
 none-sum zero = refl
 none-sum (suc n) = let e = sum_by-cons length [] (none n) in let r = none-sum n in let z : length {A = ℕ} [] ≡ 0 = refl in omega (arith, e, z, r)
 
-empties : (cs : List Cell) (n : ℕ) → map (map (entry cs)) (take n (none (suc n))) ≡ replicate n []
+empties : (cs : List Cell) (n : ℕ) → map (map (entry cs)) (none n) ≡ replicate n []
 empties cs zero = refl
 empties cs (suc n) = ap (λ (xs : List (List Entry)). [] ∷ xs) (empties cs n)
 
-module _ (slots queues : ℕ) (b : Lent) (new : IsNew slots (queues + 1) b) where
-  whole : AreWholeRings b.cells slots queues 0 (none (queues + 1))
+module _ (slots queues : ℕ) where
+  abbrev b : Cells
+  b = new_block slots queues
+
+  head : (q : ℕ) → q < queues → cell_at b.cells (slots + q) ≡ head_cell slots q (blank_link queues (2 * q + 1))
+  head q lq = head-shown slots queues [] [] q lq
+
+  own : (q : ℕ) → number slots (2 * q + 1) ≡ slots + q
+  own q = number-head slots (2 * q + 1) q refl
+
+  whole : AreWholeRings b.cells slots queues 0 [] (none queues)
   whole = record {
     are = record {
-      cells = new.many;
-      count = length-replicate (queues + 1) [];
+      cells = shown-length slots queues [] [];
+      count = length-replicate queues [];
       each = λ q lq.
-          let c = new.each_head q lq in
-          subst (λ (ks : List ℕ). IsRing b.cells slots q ks) (sym (none-at (queues + 1) q))
-          (record { path = (ap (λ (d : Cell). d.next) c, ap (λ (d : Cell). d.prev) c); slot = tt; tag = tt; differ = tt });
-      heads = λ q lq. ap (λ (d : Cell). d.queue) (new.each_head q lq);
+          let c = head q lq in
+          subst (λ (ks : List ℕ). IsRing b.cells slots q ks) (sym (none-at queues q))
+          (record { path = (ap (λ (d : Cell). d.next) c ∙ own q, ap (λ (d : Cell). d.prev) c ∙ own q); slot = tt; tag = tt; differ = tt });
+      heads = λ q lq. ap (λ (d : Cell). d.queue) (head q lq);
     };
     room = omega arith;
     covers = λ k lk. absurd (omega arith);
-    unlent = λ k le lk. ap (λ (d : Cell). d.queue) (new.each k lk);
-    total = none-sum (queues + 1);
+    unlent = λ k le lk. ap (λ (d : Cell). d.queue) (slot-shown slots queues [] [] k lk) ∙ even (2 * k) queues 0 (omega arith);
+    within = tt;
+    tags = tt;
+    differ = tt;
+    total = let e = none-sum queues in let z : length {A = ℕ} [] ≡ 0 = refl in omega (arith, e, z);
   }
 
-  pub IsPool-new : (counts : List ℕ) → slots + queues + 1 < 2 ^ 32 → counts ≡ replicate queues 0 → IsPool b.cells slots queues b.lent 0 counts
-  IsPool-new counts fits e =
-      subst (λ (n : ℕ). IsPool b.cells slots queues n 0 counts) (sym new.lent)
-      (with-rings b.cells slots queues 0 counts (none (queues + 1))
+  pub IsPool-new : slots + queues < 2 ^ 32 → IsPool b []
+  IsPool-new fits =
+      with-rings b.cells slots queues (none queues)
       (record {
         whole = whole;
         fits = fits;
-        free = let l = ap {B = ℕ} length (none-at (queues + 1) queues) in let z : length {A = ℕ} [] ≡ 0 = refl in omega arith;
-        many = ap length e ∙ length-replicate queues 0;
-        counted = λ q lq. ap (λ (ns : List ℕ). get_or ns q 0) e ∙ get_or-replicate queues q 0 0 lq ∙ ap length (sym (none-at (queues + 1) q));
-      }))
+        counted = record {
+          many = counts-length slots queues [];
+          each = λ q lq. count-shown slots queues [] q 0 lq ∙ odd (2 * q + 1) queues 0 (omega arith) ∙ sym (ap {B = ℕ} length (none-at queues q));
+        };
+      })
 
-  pub view-new : queues_of b.cells slots queues ≡ record { capacity = slots; queues = replicate queues [] }
+  pub view-new : queues_in b ≡ empty_queues slots queues
   view-new =
-      ap (queues_with b.cells slots queues) (rings_of-is b.cells slots queues (none (queues + 1)) whole)
-      ∙ ap (λ (n : ℕ). queues_with b.cells slots queues (none n)) (add-one queues) ∙ (λ j. record { capacity = slots; queues = empties b.cells queues j })
+      ap (queues_with b.cells slots queues) (rings_of-is b.cells slots queues (none queues) whole)
+      ∙ (λ j. record { capacity = slots; queues = empties b.cells queues j })
 
--- ---- a slot is free
+-- ---- a slot is taken
 
-module _ (old : Lent) (queues live : ℕ) (whole : AreWholeRings old.cells old.slots queues old.lent (rings_of old.cells old.slots queues)) (free : live + length (free_of old.cells old.slots queues) ≡ old.lent) where
+module _ (old new : Cells) (free : List ℕ) (whole' : AreWholeRings old.cells old.slots old.queues old.lent free (rings_of old.cells old.slots old.queues)) (i : ℕ) (o : Order) where
+  abbrev cs : List Cell
+  cs = old.cells
+
   abbrev L : List (List ℕ)
-  L = rings_of old.cells old.slots queues
+  L = rings_of cs old.slots old.queues
 
-  -- one that became free
-  pub again : (i : ℕ) → live ≢ old.lent → i ≡ prev_at old.cells (old.slots + queues) → HasFree old old queues live i
-  again i ne e = record {
-    slots = refl;
-    heads = refl;
-    last =
-        let some : 0 < length (ring_at L queues) = omega arith in
-        subst (λ (k : ℕ). IsLast k (ring_at L queues)) (sym e)
-        (path-end (next_at old.cells) (prev_at old.cells) (old.slots + queues) (ring_at L queues) (old.slots + queues) (whole.are.each queues (omega arith)).path some);
-    kept = λ counts h. h;
-    seen = refl;
-  }
+  -- the order of slot i, which is out, is set
+  came-in : {rest : List ℕ} (lent used : ℕ) → IsOut cs old.slots old.queues lent rest L i → old.used ≤ used → new ≡ record old { lent = lent; used = used; cells = with_order cs i o } → HasTaken old new rest i o
+  came-in {rest = rest} lent used out more e =
+      let c : Cell = record (cell_at cs i) { order = o } in
+      let cells : new.cells ≡ slice_set cs i c = ap (λ (x : Cells). x.cells) e in
+      let now_used = ap {B = ℕ} (λ (x : Cells). x.used) e in
+      let low : i < length cs = omega (arith, out.are.cells, out.slot, out.room) in
+      record {
+        slots = ap (λ (x : Cells). x.slots) e;
+        queues = ap (λ (x : Cells). x.queues) e;
+        more = omega arith;
+        counts = ap (λ (x : Cells). x.counts) e;
+        out = subst (λ (x : Cells). IsOut x.cells old.slots old.queues x.lent rest L i) (sym e) (IsOut-set cs old.slots old.queues L i out c);
+        order = ap (λ (xs : List Cell). order_at xs i) cells ∙ ap (λ (d : Cell). d.order) (get_or-set_same cs i c no_cell low);
+        others = λ k ne. ap (λ (xs : List Cell). order_at xs k) cells ∙ ap (λ (d : Cell). d.order) (get_or-set_other cs i k c no_cell ne);
+      }
 
-  -- one that is lent
-  module _ (new : Lent) (some : old.lent < old.slots) (is : new ≡ record old { lent = old.lent + 1; cells = attached old.cells old.lent (old.slots + queues) queues }) where
-    abbrev longer : List ℕ
-    longer = ring_at L queues ++ old.lent ∷ []
+  pub taken_again : (rest : List ℕ) → free ≡ rest ++ i ∷ [] → new ≡ record old { cells = with_order cs i o } → HasTaken old new rest i o
+  taken_again rest was e = came-in old.lent old.used (IsOut-popped cs old.slots old.queues L whole' rest i was) (omega arith) e
 
-    abbrev M : List (List ℕ)
-    M = slice_set L queues longer
-
-    abbrev cs : List Cell
-    cs = attached old.cells old.lent (old.slots + queues) queues
-
-    whole' : AreWholeRings cs old.slots queues (old.lent + 1) M
-    whole' = AreWholeRings-lent old.cells old.slots queues L whole queues some (omega arith)
-
-    own : ring_at M queues ≡ longer
-    own = ring-lent old.cells old.slots queues L whole queues some (omega arith)
-
-    rings : rings_of cs old.slots queues ≡ M
-    rings = rings_of-is cs old.slots queues M whole'
-
-    kept' : (counts : List ℕ) → IsPool old.cells old.slots queues old.lent live counts → IsPool cs old.slots queues (old.lent + 1) live counts
-    kept' counts h =
-        with-rings cs old.slots queues live counts M
-        (record {
-          whole = whole';
-          fits = h.fits;
-          free = let l = ap length own in let a = length-append (ring_at L queues) (old.lent ∷ []) in let o : length (old.lent ∷ []) ≡ 1 = refl in omega arith;
-          many = h.many;
-          counted = λ q lq. h.counted q lq ∙ ap length (sym (ring-lent_other old.cells old.slots queues L whole queues some (omega arith) q (λ e. omega arith)));
-        })
-
-    seen' : queues_of cs old.slots queues ≡ queues_of old.cells old.slots queues
-    seen' =
-        ap (queues_with cs old.slots queues) rings
-        ∙ (λ j. record {
-          capacity = old.slots;
-          queues = map (map (entry-same old.cells cs (lent_order old.cells old.slots queues L whole queues some (omega arith)) j)) (take-set-le queues L queues longer (omega arith) j);
-        })
-
-    pub anew : (i : ℕ) → i ≡ prev_at new.cells (new.slots + queues) → HasFree old new queues live i
-    anew i e =
-        let heads = ap (λ (b : Lent). b.heads) is in
-        let cells : new.cells ≡ cs = ap (λ (b : Lent). b.cells) is in
-        let lent : new.lent ≡ old.lent + 1 = ap (λ (b : Lent). b.lent) is in
-        let slots : new.slots ≡ old.slots = ap (λ (b : Lent). b.slots) is in
-        let last : i ≡ prev_at cs (old.slots + queues) = e ∙ (λ t. prev_at (cells t) (slots t + queues)) in
-        let some' : 0 < length (ring_at M queues) = let l = ap length own in let a = length-append (ring_at L queues) (old.lent ∷ []) in let o : length (old.lent ∷ []) ≡ 1 = refl in omega arith in
-        let ends = path-end (next_at cs) (prev_at cs) (old.slots + queues) (ring_at M queues) (old.slots + queues) (whole'.are.each queues (omega arith)).path some' in
-        record {
-          slots = slots;
-          heads = heads;
-          last = subst (λ (c : List Cell). IsLast i (free_of c old.slots queues)) (sym cells) (subst (λ (R : List (List ℕ)). IsLast i (ring_at R queues)) (sym rings) (subst (λ (k : ℕ). IsLast k (ring_at M queues)) (sym last) ends));
-          kept = λ counts h. subst (λ (c : List Cell). IsPool c old.slots queues new.lent live counts) (sym cells) (subst (λ (n : ℕ). IsPool cs old.slots queues n live counts) (sym lent) (kept' counts h));
-          seen = ap (λ (c : List Cell). queues_of c old.slots queues) cells ∙ seen';
-        }
+  pub taken_anew : (mid : Cells) → HasOpened old mid old.lent → old.lent < old.slots → i ≡ mid.lent → new ≡ record mid { lent = mid.lent + 1; cells = with_order mid.cells mid.lent o } → HasTaken old new free i o
+  taken_anew mid h some is e =
+      let lent : mid.lent ≡ old.lent = ap (λ (x : Cells). x.lent) h.same in
+      came-in (old.lent + 1) mid.used (subst (IsOut cs old.slots old.queues (old.lent + 1) free L) (sym (is ∙ lent)) (IsOut-lent cs old.slots old.queues L whole' some)) h.more
+      (e ∙ ap (λ (x : Cells). record x { lent = x.lent + 1; cells = with_order x.cells x.lent o }) h.same ∙ (λ j. record old { lent = old.lent + 1; used = mid.used; cells = with_order cs (sym (is ∙ lent) j) o }))

@@ -1,64 +1,98 @@
-//! One block of nodes, whose links are raw pointers. A contract sees a list of cells, whose links are indices.
-ghost use Rattle.std.specs.Prelude.{◌≡◌, ◌+◌, ◌<◌, ◌^◌, IfOk};
-ghost use Rattle.order_pool.specs.Inner.Block.{cell_at, with_order, detached, attached};
-ghost use Rattle.order_pool.specs.Inner.Lent.{IsNew};
+//! The orders of the slots and the links. A contract sees one list of cells, whose links are numbers.
+ghost use Rattle.std.specs.Prelude.{◌≡◌, ◌≢◌, ℕ, ◌+◌, ◌-◌, ◌*◌, ◌<◌, ◌≤◌, ◌^◌, slice_index, slice_set, vec_len, vec_capacity, IfOk, IsTrue, MatchOption, max};
+ghost use Rattle.order_pool.specs.Inner.Block.{number, cell_at, new_block, with_order, with_next, with_prev, with_queue, relinked, detached, attached, IsPlace, IsUsed, HasOpened, IsLead};
 
-use crate::node::{Node, attach, detach, push_alone};
-use crate::pointer::follow;
+use crate::link::{Link, write_links};
 use gx_base::Order;
 use std::alloc::{AllocError, Global};
+use std::cmp::max;
 use std::marker::Model;
 
-/// Nodes in rings. Each ring has a head, which is a node too, so no link is null. The heads come first, and then the slots that were
-/// ever lent: so a slot takes no memory before its first order. Contracts see a cell for each slot, lent or not, and then the heads.
+/// The orders of all queues, as rings: each queue begins and ends at its head, so no link is null. A slot takes no memory before its
+/// first order, nor do its links and those of the queues up to its number, and a queue takes none before its first order. Contracts see
+/// a cell for each slot and then one for each queue, used or not.
 #[derive(Drop)]
 pub(crate) struct Block {
-    nodes: Vec<Node>,
+    orders: Vec<Order>,
+    links: Vec<Link>,
     slots: u32,
-    heads: u32,
+    queues: u32,
 }
 
 impl Model for Block {
-    ghost use Rattle.std.specs.Prelude.{◌-◌, length};
-    ghost use Rattle.order_pool.specs.Inner.Block.{cells_in};
-    ghost use Rattle.order_pool.specs.Inner.Lent.{Lent, shown, IsBlock};
+    ghost use Rattle.order_pool.specs.Inner.Block.{Cells, cells_in, IsBlock};
 
-    ghost Value = { Lent };
+    ghost Value = { Cells };
 
-    ghost view = { λ b. record { slots = b.slots; heads = b.heads; lent = length b.nodes.items - b.heads; cells = shown b.slots b.heads (cells_in b.nodes) } };
+    ghost view = { λ b. cells_in b.slots b.queues b.orders b.links };
 
-    ghost invariant = { λ b. IsBlock b.slots b.heads b.nodes };
+    ghost invariant = { λ b. IsBlock b.slots b.queues b.orders b.links };
 }
 
+/// What is read.
 impl Block {
-    /// Heads in rings of their own, each with its number as its tag, and no slot lent, but room for so many.
-    pub(crate) fn new(alloc: Global, slots: u32, heads: u32) -> Result<Block, AllocError>
-        requires { slots + heads < 2 ^ 32 }
-        ensures { IfOk result (λ b. IsNew slots heads b) }
+    /// No slot is lent, and each queue is empty. The memory of all is taken, and none is written.
+    pub(crate) fn new(alloc: Global, slots: u32, queues: u32) -> Result<Block, AllocError>
+        requires slots { 2 * slots < 2 ^ 32 }
+        requires queues { 2 * queues < 2 ^ 32 }
+        ensures { IfOk result (λ b. b ≡ new_block slots queues) }
     {
-        let mut nodes = Vec::with_capacity(alloc, (slots + heads) as usize)?;
-        for head in 0..heads {
-            push_alone(&mut nodes, slots + head, head);
-        }
         Ok(Block {
-            nodes,
+            orders: Vec::with_capacity(alloc, slots as usize)?,
+            links: Vec::with_capacity(alloc, 2 * max(slots, queues) as usize)?,
             slots,
-            heads,
+            queues,
         })
+    }
+
+    /// How many slots there are.
+    pub(crate) fn slots(&self) -> u32
+        ensures { result ≡ self.now.slots }
+    {
+        self.slots
+    }
+
+    /// How many queues there are.
+    pub(crate) fn queues(&self) -> u32
+        ensures { result ≡ self.now.queues }
+    {
+        self.queues
     }
 
     /// How many slots were ever lent. They are those below this number.
     pub(crate) fn lent(&self) -> u32
         ensures { result ≡ self.now.lent }
     {
-        self.nodes.len() as u32 - self.heads
+        self.orders.len() as u32
     }
 
-    /// Where the node of a slot is.
-    fn at(&self, slot: u32) -> usize
-        ensures { result ≡ self.now.heads + slot }
+    /// The place of a slot. The read of a field opens what is kept of them all: places fit into four bytes.
+    #[inline(always)]
+    fn slot_place(&self, slot: u32) -> u32
+        requires { slot < self.now.lent }
+        ensures { result ≡ 2 * slot }
     {
-        self.heads as usize + slot as usize
+        let _slots = self.slots;
+        2 * slot
+    }
+
+    /// The place of the head of a queue.
+    #[inline(always)]
+    fn head_place(&self, queue: u32) -> u32
+        requires { queue < self.now.queues }
+        ensures { result ≡ 2 * queue + 1 }
+    {
+        let _queues = self.queues;
+        2 * queue + 1
+    }
+
+    /// Whether the head of a queue is written.
+    #[inline(always)]
+    pub(crate) fn is_open(&self, queue: u32) -> bool
+        requires { queue < self.now.queues }
+        ensures { IsTrue result → 2 * queue + 1 < self.now.used }
+    {
+        2 * (queue as usize) + 1 < self.links.len()
     }
 
     /// The order of a slot.
@@ -66,55 +100,129 @@ impl Block {
         requires { slot < self.now.lent }
         ensures { result.now ≡ (cell_at self.now.cells slot).order }
     {
-        &self.nodes[self.at(slot)].order
+        &self.orders[slot as usize]
     }
 
-    /// The tag of a slot: the number of its ring.
+    /// The queue of a slot.
     pub(crate) fn queue(&self, slot: u32) -> u32
         requires { slot < self.now.lent }
         ensures { result ≡ (cell_at self.now.cells slot).queue }
     {
-        self.nodes[self.at(slot)].queue
+        self.links[self.slot_place(slot) as usize].tag
     }
 
-    /// The number of the node that `next` of a slot leads to.
-    pub(crate) fn next(&self, slot: u32) -> u32
+    /// The slot behind another one. `None` where the next is the head.
+    pub(crate) fn next(&self, slot: u32) -> Option<u32>
         requires { slot < self.now.lent }
-        ensures { result ≡ (cell_at self.now.cells slot).next }
+        ensures { IsLead self.now.slots result (cell_at self.now.cells slot).next }
     {
-        follow(&self.nodes, self.nodes[self.at(slot)].next).slot
+        slot_at(self.links[self.slot_place(slot) as usize].next)
     }
 
-    /// The number of the first node of a ring.
-    pub(crate) fn first(&self, queue: u32) -> u32
-        requires { queue < self.now.heads }
-        ensures { result ≡ (cell_at self.now.cells (self.now.slots + queue)).next }
+    /// The first slot of a queue. `None` where the queue is empty.
+    pub(crate) fn first(&self, queue: u32) -> Option<u32>
+        requires { queue < self.now.queues }
+        ensures { IsLead self.now.slots result (cell_at self.now.cells (self.now.slots + queue)).next }
     {
-        follow(&self.nodes, self.nodes[queue as usize].next).slot
+        let head = self.head_place(queue) as usize;
+        if head < self.links.len() {
+            slot_at(self.links[head].next)
+        } else {
+            None
+        }
     }
 
-    /// The number of the last node of a ring.
-    pub(crate) fn last(&self, queue: u32) -> u32
-        requires { queue < self.now.heads }
-        ensures { result ≡ (cell_at self.now.cells (self.now.slots + queue)).prev }
+    /// How many orders a queue has.
+    pub(crate) fn count(&self, queue: u32) -> u32
+        requires { queue < self.now.queues }
+        ensures { result ≡ slice_index self.now.counts queue }
     {
-        follow(&self.nodes, self.nodes[queue as usize].prev).slot
+        let head = self.head_place(queue) as usize;
+        if head < self.links.len() {
+            self.links[head].tag
+        } else {
+            0
+        }
     }
 }
 
+/// The slot at a place. `None` where a head is.
+#[inline(always)]
+fn slot_at(place: u32) -> Option<u32>
+    ensures { MatchOption result ((k : ℕ) → place ≢ 2 * k) (λ k. place ≡ 2 * k) }
+{
+    if place % 2 == 0 {
+        Some(place / 2)
+    } else {
+        None
+    }
+}
+
+/// What is changed.
 impl Block {
-    /// Lends a slot that never was, the next one, and puts it at the end of a ring.
-    #[cold]
-    #[inline(never)]
-    pub(crate) fn lend(&mut self, queue: u32)
-        requires some { self.old.lent < self.old.slots }
-        requires queue_in { queue < self.old.heads }
-        ensures { self.new ≡ record self.old { lent = self.old.lent + 1; cells = attached self.old.cells self.old.lent (self.old.slots + queue) queue } }
+    /// Sets the link behind a place.
+    fn set_next(&mut self, at: u32, next: u32)
+        requires at_in { IsPlace self.old at }
+        requires next_in { IsPlace self.old next }
+        ensures { self.new ≡ record self.old { cells = with_next self.old.cells (number self.old.slots at) (number self.old.slots next) } }
     {
-        let slot = self.lent();
-        let at = self.nodes.len();
-        push_alone(&mut self.nodes, slot, self.heads);
-        attach(&mut self.nodes, at, queue as usize, queue);
+        self.links[at as usize].next = next;
+    }
+
+    /// Sets the link before a place.
+    fn set_prev(&mut self, at: u32, prev: u32)
+        requires at_in { IsPlace self.old at }
+        requires prev_in { IsPlace self.old prev }
+        ensures { self.new ≡ record self.old { cells = with_prev self.old.cells (number self.old.slots at) (number self.old.slots prev) } }
+    {
+        self.links[at as usize].prev = prev;
+    }
+
+    /// Sets both links and the queue of a slot.
+    fn relink(&mut self, slot: u32, prev: u32, next: u32, queue: u32)
+        requires slot_in { slot < self.old.lent }
+        requires prev_in { IsPlace self.old prev }
+        requires next_in { IsPlace self.old next }
+        ensures { self.new ≡ record self.old { cells = relinked self.old.cells slot (number self.old.slots prev) (number self.old.slots next) queue } }
+    {
+        let at = self.slot_place(slot) as usize;
+        self.links[at] = Link {
+            prev,
+            next,
+            tag: queue,
+        };
+    }
+
+    /// Joins the neighbours of a slot, whose own links stay.
+    pub(crate) fn detach(&mut self, slot: u32)
+        requires { slot < self.old.lent }
+        ensures { self.new ≡ record self.old { cells = detached self.old.cells slot } }
+    {
+        let link = self.links[self.slot_place(slot) as usize];
+        self.set_next(link.prev, link.next);
+        self.set_prev(link.next, link.prev);
+    }
+
+    /// Puts a slot at the end of a queue.
+    pub(crate) fn attach(&mut self, slot: u32, queue: u32)
+        requires slot_in { slot < self.old.lent }
+        requires queue_in { IsUsed self.old queue }
+        ensures { self.new ≡ record self.old { cells = attached self.old.cells slot (self.old.slots + queue) queue } }
+    {
+        let (here, head) = (self.slot_place(slot), self.head_place(queue));
+        let last = self.links[head as usize].prev;
+        self.set_next(last, here);
+        self.relink(slot, last, head, queue);
+        self.set_prev(head, here);
+    }
+
+    /// Marks that a slot is in no queue.
+    pub(crate) fn leave(&mut self, slot: u32)
+        requires { slot < self.old.lent }
+        ensures { self.new ≡ record self.old { cells = with_queue self.old.cells slot self.old.queues } }
+    {
+        let at = self.slot_place(slot) as usize;
+        self.links[at].tag = self.queues;
     }
 
     /// Sets the order of a slot.
@@ -122,18 +230,49 @@ impl Block {
         requires { slot < self.old.lent }
         ensures { self.new ≡ record self.old { cells = with_order self.old.cells slot order.now } }
     {
-        let at = self.at(slot);
-        self.nodes[at].order = *order;
+        self.orders[slot as usize] = *order;
     }
 
-    /// Takes a slot out of its ring, and puts it at the end of another.
-    pub(crate) fn relocate(&mut self, slot: u32, queue: u32)
-        requires slot_in { slot < self.old.lent }
-        requires queue_in { queue < self.old.heads }
-        ensures { self.new ≡ record self.old { cells = attached (detached self.old.cells slot) slot (self.old.slots + queue) queue } }
+    /// One order more in a queue.
+    pub(crate) fn raise(&mut self, queue: u32)
+        requires queue_in { IsUsed self.old queue }
+        requires fits { slice_index self.old.counts queue + 1 < 2 ^ 32 }
+        ensures { self.new ≡ record self.old { counts = slice_set self.old.counts queue (slice_index self.old.counts queue + 1) } }
     {
-        let at = self.at(slot);
-        detach(&mut self.nodes, at);
-        attach(&mut self.nodes, at, queue as usize, queue);
+        let at = self.head_place(queue) as usize;
+        self.links[at].tag += 1;
+    }
+
+    /// One order less in a queue.
+    pub(crate) fn lower(&mut self, queue: u32)
+        requires queue_in { queue < self.old.queues }
+        requires some { 0 < slice_index self.old.counts queue }
+        ensures { self.new ≡ record self.old { counts = slice_set self.old.counts queue (slice_index self.old.counts queue - 1) } }
+    {
+        let at = self.head_place(queue) as usize;
+        self.links[at].tag -= 1;
+    }
+
+    /// Sees to it that the links of a slot and of the head beside it are written.
+    #[inline(always)]
+    pub(crate) fn open(&mut self, pair: u32)
+        requires { pair < max self.old.slots self.old.queues }
+        ensures { HasOpened self.old self.new pair }
+    {
+        if self.links.len() <= 2 * pair as usize + 1 {
+            write_links(&mut self.links, self.queues, 2 * pair + 2);
+        }
+    }
+
+    /// Gives the next slot that was never lent an order. It is in no queue.
+    pub(crate) fn lend(&mut self, order: &Order) -> u32
+        requires some { self.old.lent < self.old.slots }
+        requires written { 2 * self.old.lent + 1 < self.old.used }
+        ensures slot { result ≡ self.old.lent }
+        ensures block { self.new ≡ record self.old { lent = self.old.lent + 1; cells = with_order self.old.cells self.old.lent order.now } }
+    {
+        let slot = self.lent();
+        self.orders.push_reserved(*order);
+        slot
     }
 }

@@ -1,7 +1,7 @@
 //! The pool: queues of orders, as rings in one block.
-ghost use Rattle.std.specs.Prelude.{◌≡◌, ℕ, ◌+◌, ◌-◌, ◌^◌, ◌<◌, length, option_map, vec_len, vec_capacity, replicate, slice_index, slice_set, IfOk, IfSome, IsTrue, ◌↔◌, map};
+ghost use Rattle.std.specs.Prelude.{◌≡◌, ℕ, ◌+◌, ◌*◌, ◌<◌, length, option_map, vec_capacity, IfSome, IfOk, IsTrue, ◌↔◌, map};
 ghost use Rattle.order_pool.specs.Queues.{slot_number, empty_queues, order_of, first_slot, next_slot, IsIn, IsLive, entries_at, removed, appended, live_of, with_entry, SlotsDiffer};
-ghost use Rattle.order_pool.specs.Inner.Rings.{AreWholeRings, rings_of, free_of, HasFree};
+ghost use Rattle.order_pool.specs.Inner.Rings.{AreWholeRings, IsPool, rings_of, HasTaken, HasPut, IsNewest};
 
 use crate::block::Block;
 use gx_base::{Order, Slot};
@@ -10,47 +10,40 @@ use std::marker::Model;
 
 /// A number of queues, with room for a number of orders in all of them together; both are fixed at the start. Contracts see
 /// each queue as a list of slots with their orders. A slot is the name of an order from its `push_back` to its `unlink`.
-/// Each call but `new` takes constant time, and no call changes how much its block and its counts have room for.
+/// Each call takes constant time, but for a `push_back` to a queue above all that ever had an order, which writes the links between.
+/// No call changes how much its block and its list of free slots have room for.
 #[derive(Drop)]
 pub struct Pool {
     block: Block,
-    capacity: u32,
-    queues: u32,
-    live: u32,
-    counts: Vec<u32>,
+    /// The slots that had an order and have none now, the one that became free last at the end.
+    free: Vec<u32>,
 }
 
 impl Model for Pool {
     ghost use Rattle.std.specs.Prelude.{◌≡◌, vec_capacity};
     ghost use Rattle.order_pool.specs.Queues.{Queues};
-    ghost use Rattle.std.specs.Prelude.{◌+◌};
-    ghost use Rattle.order_pool.specs.Inner.Rings.{queues_of, IsPool};
+    ghost use Rattle.order_pool.specs.Inner.Rings.{queues_in, IsPool};
 
     ghost Value = { Queues };
 
-    ghost view = { λ p. queues_of p.block.cells p.capacity p.queues };
+    ghost view = { λ p. queues_in p.block };
 
-    ghost invariant = { λ p. IsPool p.block.cells p.capacity p.queues p.block.lent p.live p.counts.items × (p.block.slots ≡ p.capacity) × (p.block.heads ≡ p.queues + 1) × (vec_capacity p.counts ≡ p.queues) };
+    ghost invariant = { λ p. IsPool p.block p.free.items × (vec_capacity p.free ≡ p.block.slots) };
 }
 
 impl Pool {
-    /// Empty queues, so many, with room for so many orders. An `Err` is want of memory, also where nodes, queues and one more
-    /// are together 2 to the power of 32 or more. It takes all the memory: a node for each order, for each queue and for the
-    /// free slots, and four bytes for each queue. The nodes of orders are written when orders first come to them.
+    /// Empty queues, so many, with room for so many orders. An `Err` is want of memory, also where there are 2 to the power of 31
+    /// nodes or queues, or more. It takes all the memory, and writes none of it: for each order the bytes of an `Order` and 4 more,
+    /// and 24 for each order or each queue, whichever are more. It is written as orders come and as queues have their first.
     pub fn new(alloc: Global, nodes: u32, queues: u32) -> Result<Pool, AllocError>
         ensures { IfOk result (λ p. p ≡ empty_queues nodes queues) }
     {
-        if u64::from(nodes) + u64::from(queues) + 1 > u64::from(u32::MAX) {
+        if nodes >= 1 << 31 || queues >= 1 << 31 {
             return Err(AllocError);
         }
-        let block = Block::new(alloc, nodes, queues + 1)?;
-        let counts = zeros(alloc, queues as usize)?;
         Ok(Pool {
-            block,
-            capacity: nodes,
-            queues,
-            live: 0,
-            counts,
+            block: Block::new(alloc, nodes, queues)?,
+            free: Vec::with_capacity(alloc, nodes as usize)?,
         })
     }
 
@@ -58,14 +51,14 @@ impl Pool {
     pub fn capacity(&self) -> u32
         ensures { result ≡ self.now.capacity }
     {
-        self.capacity
+        self.block.slots()
     }
 
     /// How many queues there are.
     pub fn queues(&self) -> u32
         ensures { result ≡ length self.now.queues }
     {
-        self.queues
+        self.block.queues()
     }
 
     /// Does nothing. Its clause is what is true of every pool at every moment: no slot is in two places.
@@ -84,8 +77,7 @@ impl Pool {
         ensures value { option_map slot_number result ≡ first_slot (entries_at self.now.queues queue) }
         ensures live { IfSome result (λ s. IsIn self.now (slot_number s) queue) }
     {
-        let first = self.block.first(queue);
-        if first < self.capacity {
+        if let Some(first) = self.block.first(queue) {
             Some(Slot(first))
         } else {
             None
@@ -99,8 +91,7 @@ impl Pool {
             → option_map slot_number result ≡ next_slot (slot_number slot) (entries_at self.now.queues q) }
         ensures live { (q : ℕ) → IsIn self.now (slot_number slot) q → IfSome result (λ s. IsIn self.now (slot_number s) q) }
     {
-        let next = self.block.next(slot.0);
-        if next < self.capacity {
+        if let Some(next) = self.block.next(slot.0) {
             Some(Slot(next))
         } else {
             None
@@ -128,21 +119,21 @@ impl Pool {
         requires { queue < length self.now.queues }
         ensures { result ≡ length (entries_at self.now.queues queue) }
     {
-        self.counts[queue as usize]
+        self.block.count(queue)
     }
 
     /// How many orders all queues have together.
     pub fn live(&self) -> u32
         ensures { result ≡ live_of self.now }
     {
-        self.live
+        self.block.lent() - self.free.len() as u32
     }
 
     /// Whether the slot is in a queue.
     pub fn is_live(&self, slot: Slot) -> bool
         ensures { IsTrue result ↔ IsLive self.now (slot_number slot) }
     {
-        slot.0 < self.block.lent() && self.block.queue(slot.0) < self.queues
+        slot.0 < self.block.lent() && self.block.queue(slot.0) < self.block.queues()
     }
 }
 
@@ -157,12 +148,11 @@ impl Pool {
         ensures live { live_of self.new ≡ live_of self.old + 1 }
         ensures placed { IsIn self.new (slot_number result) queue }
     {
-        let slot = free_slot(&mut self.block, self.queues, self.live);
-        self.block.set_order(slot, order);
-        self.block.relocate(slot, queue);
-        raise(&mut self.counts, queue);
-        self.live += 1;
-        Slot(slot)
+        if is_ready(&self.block, &self.free, queue) {
+            Slot(put(&mut self.block, &mut self.free, queue, order))
+        } else {
+            Slot(open_and_put(&mut self.block, &mut self.free, queue, order))
+        }
     }
 
     /// Takes an order out of its queue. From then on its slot is in none.
@@ -173,9 +163,10 @@ impl Pool {
         ensures room { live_of self.new < self.new.capacity }
     {
         let queue = self.block.queue(slot.0);
-        self.block.relocate(slot.0, self.queues);
-        lower(&mut self.counts, queue);
-        self.live -= 1;
+        self.block.detach(slot.0);
+        self.block.leave(slot.0);
+        self.block.lower(queue);
+        self.free.push_reserved(slot.0);
     }
 
     /// Puts an order at the end of its queue. It keeps its slot.
@@ -189,7 +180,8 @@ impl Pool {
         ensures live { live_of self.new ≡ live_of self.old }
     {
         let queue = self.block.queue(slot.0);
-        self.block.relocate(slot.0, queue);
+        self.block.detach(slot.0);
+        self.block.attach(slot.0, queue);
     }
 
     /// Gives a slot another order. It keeps its place.
@@ -202,46 +194,59 @@ impl Pool {
     }
 }
 
-/// So many zeros, with room for no more.
-fn zeros(alloc: Global, count: usize) -> Result<Vec<u32>, AllocError>
-    ensures items { IfOk result (λ v. v.items ≡ replicate count 0) }
-    ensures room { IfOk result (λ v. vec_capacity v ≡ count) }
+/// Gives an order the free slot that became free last, or else one that was never lent. One of these there has to be.
+#[inline(always)]
+fn take_slot(block: &mut Block, free: &mut Vec<u32>, order: &Order) -> u32
+    requires whole { AreWholeRings block.old.cells block.old.slots block.old.queues block.old.lent free.old.items (rings_of block.old.cells block.old.slots block.old.queues) }
+    requires some { block.old.lent < block.old.slots + length free.old.items }
+    ensures taken { HasTaken block.old block.new free.new.items result order.now }
+    ensures newest { IsNewest result free.old.items free.new.items }
+    ensures room { vec_capacity free.new ≡ vec_capacity free.old }
 {
-    let mut counts = Vec::with_capacity(alloc, count)?;
-    for _ in 0..count {
-        counts.push_reserved(0);
+    if let Some(slot) = free.pop() {
+        block.set_order(slot, order);
+        slot
+    } else {
+        block.open(block.lent());
+        block.lend(order)
     }
-    Ok(counts)
 }
 
-fn lower(counts: &mut Vec<u32>, q: u32)
-    requires in_range { q < vec_len counts.old }
-    requires some { 0 < slice_index counts.old.items q }
-    ensures items { counts.new.items ≡ slice_set counts.old.items q (slice_index counts.old.items q - 1) }
-    ensures room { vec_capacity counts.new ≡ vec_capacity counts.old }
+/// Whether an order can come to a queue without more memory than was ever used.
+#[inline(always)]
+fn is_ready(block: &Block, free: &Vec<u32>, queue: u32) -> bool
+    requires { queue < block.now.queues }
+    ensures { IsTrue result → 2 * queue + 1 < block.now.used }
 {
-    counts[q as usize] -= 1;
+    !free.is_empty() && block.is_open(queue)
 }
 
-fn raise(counts: &mut Vec<u32>, q: u32)
-    requires in_range { q < vec_len counts.old }
-    requires fits { slice_index counts.old.items q + 1 < 2 ^ 32 }
-    ensures items { counts.new.items ≡ slice_set counts.old.items q (slice_index counts.old.items q + 1) }
-    ensures room { vec_capacity counts.new ≡ vec_capacity counts.old }
+/// Puts an order at the end of a queue whose head is written.
+#[inline(always)]
+fn put(block: &mut Block, free: &mut Vec<u32>, queue: u32, order: &Order) -> u32
+    requires pool { IsPool block.old free.old.items }
+    requires some { block.old.lent < block.old.slots + length free.old.items }
+    requires queue_in { queue < block.old.queues }
+    requires opened { 2 * queue + 1 < block.old.used }
+    ensures put { HasPut block.old block.new free.new.items queue order.now result }
+    ensures room { vec_capacity free.new ≡ vec_capacity free.old }
 {
-    counts[q as usize] += 1;
+    let slot = take_slot(block, free, order);
+    block.attach(slot, queue);
+    block.raise(queue);
+    slot
 }
 
-/// The free slot that became free last, or else one that was never lent. One of these there has to be.
-fn free_slot(block: &mut Block, queues: u32, live: u32) -> u32
-    requires heads { block.old.heads ≡ queues + 1 }
-    requires whole { AreWholeRings block.old.cells block.old.slots queues block.old.lent (rings_of block.old.cells block.old.slots queues) }
-    requires free { live + length (free_of block.old.cells block.old.slots queues) ≡ block.old.lent }
-    requires some { live < block.old.slots }
-    ensures { HasFree block.old block.new queues live result }
+/// Puts an order at the end of a queue. A function of its own, so that `push_back` has to keep nothing across a call.
+#[cold]
+#[inline(never)]
+fn open_and_put(block: &mut Block, free: &mut Vec<u32>, queue: u32, order: &Order) -> u32
+    requires pool { IsPool block.old free.old.items }
+    requires some { block.old.lent < block.old.slots + length free.old.items }
+    requires queue_in { queue < block.old.queues }
+    ensures put { HasPut block.old block.new free.new.items queue order.now result }
+    ensures room { vec_capacity free.new ≡ vec_capacity free.old }
 {
-    if block.lent() == live {
-        block.lend(queues);
-    }
-    block.last(queues)
+    block.open(queue);
+    put(block, free, queue, order)
 }

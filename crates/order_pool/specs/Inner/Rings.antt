@@ -1,11 +1,10 @@
--- The queues of a pool, as rings of cells. Cell slots + q is where ring q begins and ends, and the last ring has the free slots.
-use Rattle.std.specs.Prelude.{◌≡◌, ◌≢◌, ℕ, ◌+◌, ◌^◌, ◌<◌, ◌≤◌, ◌==◌, not, if◌then◌else◌, List, [], ◌∷◌, ◌++◌, length, map, filter, take, sum_by, slice_index_or, slice_set, ◌⊎◌}
+-- The queues of a pool, as rings of cells. Cell slots + q is where ring q begins and ends.
+use Rattle.std.specs.Prelude.{◌≡◌, ◌≢◌, ℕ, ◌+◌, ◌^◌, ◌<◌, ◌≤◌, ◌==◌, not, if◌then◌else◌, List, [], ◌∷◌, ◌++◌, length, map, filter, sum_by, slice_index_or, slice_set, ◌⊎◌}
 use Rattle.std.specs.List.{range_with_len}
 use Prim.Native.Nat.{zero, suc}
 use Rattle.gx_base.specs.declared.order.Order.{Order}
 use Rattle.order_pool.specs.Queues.{Entry, Queues}
-use Rattle.order_pool.specs.Inner.Block.{Cell, cell_at, detached, attached}
-use Rattle.order_pool.specs.Inner.Lent.{Lent}
+use Rattle.order_pool.specs.Inner.Block.{Cell, Cells, cell_at, attached}
 
 abbrev pub order_at : List Cell → ℕ → Order
 order_at cs k = (cell_at cs k).order
@@ -26,13 +25,13 @@ cells_along next (suc n) stop at = if next at == stop then [] else (next at ∷ 
 
 -- the slots of each ring, in order
 unfoldable pub rings_of : List Cell → ℕ → ℕ → List (List ℕ)
-rings_of cs slots queues = map (λ q. cells_along (next_at cs) slots (slots + q) (slots + q)) (range_with_len 0 (queues + 1))
+rings_of cs slots queues = map (λ q. cells_along (next_at cs) slots (slots + q) (slots + q)) (range_with_len 0 queues)
 
 abbrev pub entry : List Cell → ℕ → Entry
 entry cs k = (k, order_at cs k)
 
 abbrev pub queues_with : List Cell → ℕ → ℕ → List (List ℕ) → Queues
-queues_with cs slots queues rings = record { capacity = slots; queues = map (map (entry cs)) (take queues rings) }
+queues_with cs slots queues rings = record { capacity = slots; queues = map (map (entry cs)) rings }
 
 abbrev pub queues_of : List Cell → ℕ → ℕ → Queues
 queues_of cs slots queues = queues_with cs slots queues (rings_of cs slots queues)
@@ -64,58 +63,76 @@ pub record IsRing (cs : List Cell) (slots q : ℕ) (ks : List ℕ) : Type 0 wher
 
 -- the rings of the cells are these, wherever a slot is
 pub record AreRings (cs : List Cell) (slots queues : ℕ) (rings : List (List ℕ)) : Type 0 where
-  pub cells : length cs ≡ slots + (queues + 1)
-  pub count : length rings ≡ queues + 1
-  pub each : (q : ℕ) → q < queues + 1 → IsRing cs slots q (ring_at rings q)
-  pub heads : (q : ℕ) → q < queues + 1 → queue_at cs (slots + q) ≡ q
-
--- the free slots: each comes to the end once it is free
-abbrev pub free_of : List Cell → ℕ → ℕ → List ℕ
-free_of cs slots queues = ring_at (rings_of cs slots queues) queues
-
-abbrev pub IsLast : ℕ → List ℕ → Type 0
-IsLast i ks = (js : List ℕ) × (ks ≡ js ++ i ∷ [])
+  pub cells : length cs ≡ slots + queues
+  pub count : length rings ≡ queues
+  pub each : (q : ℕ) → q < queues → IsRing cs slots q (ring_at rings q)
+  pub heads : (q : ℕ) → q < queues → queue_at cs (slots + q) ≡ q
 
 -- ks without i
 abbrev pub without : ℕ → List ℕ → List ℕ
 without i ks = filter (λ k. not (k == i)) ks
-
--- i moves to the end of ring r
-abbrev pub moved : List (List ℕ) → ℕ → ℕ → List (List ℕ)
-moved rings i r = let rest = map (without i) rings in slice_set rest r (ring_at rest r ++ i ∷ [])
 
 -- i is among ks
 abbrev pub In : ℕ → List ℕ → Type 0
 In i [] = ⊥
 In i (k ∷ ks) = (i ≡ k) ⊎ In i ks
 
--- the rings of the cells are these, and each slot that was ever lent is in the one that its tag says
-pub record AreWholeRings (cs : List Cell) (slots queues lent : ℕ) (rings : List (List ℕ)) : Type 0 where
+-- the rings of the cells are these, and each slot that was ever lent is in the one that its tag says, or free
+pub record AreWholeRings (cs : List Cell) (slots queues lent : ℕ) (free : List ℕ) (rings : List (List ℕ)) : Type 0 where
   pub are : AreRings cs slots queues rings
   pub room : lent ≤ slots
-  pub covers : (k : ℕ) → k < lent → (queue_at cs k < queues + 1) × In k (ring_at rings (queue_at cs k))
-  pub unlent : (k : ℕ) → lent ≤ k → k < slots → queue_at cs k ≡ queues + 1
-  pub total : sum_by length rings ≡ lent
+  pub covers : (k : ℕ) → k < lent → queue_at cs k < queues → In k (ring_at rings (queue_at cs k))
+  pub unlent : (k : ℕ) → lent ≤ k → k < slots → queue_at cs k ≡ queues
+  pub within : Each (λ k. k < lent) free
+  pub tags : Each (λ k. queue_at cs k ≡ queues) free
+  pub differ : AllDiffer free
+  pub total : sum_by length rings + length free ≡ lent
 
--- the cells once i has moved to the end of ring r
-abbrev pub cells_moved : List Cell → ℕ → ℕ → ℕ → List Cell
-cells_moved cs slots i r = attached (detached cs i) i (slots + r) r
+-- the same, but that slot i, which was lent, is in no ring and not free
+pub record IsOut (cs : List Cell) (slots queues lent : ℕ) (free : List ℕ) (rings : List (List ℕ)) (i : ℕ) : Type 0 where
+  pub are : AreRings cs slots queues rings
+  pub room : lent ≤ slots
+  pub slot : i < lent
+  pub gone : (q : ℕ) → q < queues → Each (λ k. k ≢ i) (ring_at rings q)
+  pub covers : (k : ℕ) → k < lent → k ≢ i → queue_at cs k < queues → In k (ring_at rings (queue_at cs k))
+  pub unlent : (k : ℕ) → lent ≤ k → k < slots → queue_at cs k ≡ queues
+  pub within : Each (λ k. k < lent) free
+  pub tags : Each (λ k. queue_at cs k ≡ queues) free
+  pub others : Each (λ k. k ≢ i) free
+  pub differ : AllDiffer free
+  pub total : sum_by length rings + length free + 1 ≡ lent
+
+-- the counts are as long as the rings
+pub record AreCounts (queues : ℕ) (counts : List ℕ) (rings : List (List ℕ)) : Type 0 where
+  pub many : length counts ≡ queues
+  pub each : (q : ℕ) → q < queues → slice_index_or counts q 0 ≡ length (ring_at rings q)
 
 -- what is true of a pool's fields, if its rings are these
-pub record IsPoolWith (cs : List Cell) (slots queues lent live : ℕ) (counts : List ℕ) (rings : List (List ℕ)) : Type 0 where
-  pub whole : AreWholeRings cs slots queues lent rings
-  pub fits : slots + queues + 1 < 2 ^ 32
-  pub free : live + length (ring_at rings queues) ≡ lent
-  pub many : length counts ≡ queues
-  pub counted : (q : ℕ) → q < queues → slice_index_or counts q 0 ≡ length (ring_at rings q)
+pub record IsPoolWith (cs : List Cell) (slots queues lent : ℕ) (free counts : List ℕ) (rings : List (List ℕ)) : Type 0 where
+  pub whole : AreWholeRings cs slots queues lent free rings
+  pub fits : slots + queues < 2 ^ 32
+  pub counted : AreCounts queues counts rings
 
-abbrev pub IsPool : List Cell → ℕ → ℕ → ℕ → ℕ → List ℕ → Type 0
-IsPool cs slots queues lent live counts = IsPoolWith cs slots queues lent live counts (rings_of cs slots queues)
+abbrev pub IsPool : Cells → List ℕ → Type 0
+IsPool b free = IsPoolWith b.cells b.slots b.queues b.lent free b.counts (rings_of b.cells b.slots b.queues)
 
--- slot i became free last, or was lent now and never before; nothing else changed
-pub record HasFree (old new : Lent) (queues live i : ℕ) : Type 0 where
+abbrev pub queues_in : Cells → Queues
+queues_in b = queues_of b.cells b.slots b.queues
+
+-- slot i was taken for a new order: it was free, or was never lent. No queue changed
+pub record HasTaken (old new : Cells) (free : List ℕ) (i : ℕ) (o : Order) : Type 0 where
   pub slots : new.slots ≡ old.slots
-  pub heads : new.heads ≡ old.heads
-  pub last : IsLast i (free_of new.cells old.slots queues)
-  pub kept : (counts : List ℕ) → IsPool old.cells old.slots queues old.lent live counts → IsPool new.cells old.slots queues new.lent live counts
-  pub seen : queues_of new.cells old.slots queues ≡ queues_of old.cells old.slots queues
+  pub queues : new.queues ≡ old.queues
+  pub more : old.used ≤ new.used
+  pub counts : new.counts ≡ old.counts
+  pub out : IsOut new.cells old.slots old.queues new.lent free (rings_of old.cells old.slots old.queues) i
+  pub order : order_at new.cells i ≡ o
+  pub others : (k : ℕ) → k ≢ i → order_at new.cells k ≡ order_at old.cells k
+
+-- slot i was the last of the free ones, if there were any
+abbrev pub IsNewest : ℕ → List ℕ → List ℕ → Type 0
+IsNewest i free rest = 0 < length free → free ≡ rest ++ i ∷ []
+
+-- an order has come to the end of queue q, in slot i
+abbrev pub HasPut : Cells → Cells → List ℕ → ℕ → Order → ℕ → Type 0
+HasPut old new free q o i = (mid : Cells) × HasTaken old mid free i o × (new ≡ record mid { cells = attached mid.cells i (mid.slots + q) q; counts = slice_set mid.counts q (slice_index_or mid.counts q 0 + 1) })

@@ -1,26 +1,19 @@
-use Rattle.std.proofs.Common.{◌≡◌, ◌+◌, ℕ, ◌++◌, ◌∷◌, [], length, ap, ◌∙◌, arith}
-use Rattle.order_pool.specs.Inner.Block.{cells_in, alone}
-use Rattle.order_pool.specs.Inner.Lent.{Lent}
-use Rattle.order_pool.proofs.Blocks.{lent, IsBlock-lent}
+use Rattle.std.proofs.Common.{ℕ, ap, arith}
+use Rattle.order_pool.specs.Inner.Block.{Cells}
+use Rattle.order_pool.proofs.Cells.{lent-is, IsBlock-lent}
 use Rattle.order_pool.proofs.block.Block.lend.Goals as goal
-
-pub returns : goal.returns
-returns c =
-    let b = c.self.inside in
-    let v = b.nodes in
-    let h = c.self.invariant in
-    let is = c.self.view_is in
-    let e = ap {B = ℕ} (λ (x : Lent). x.lent) is in
-    let slot_is : c.lent-slot.result + b.heads ≡ length v.items = omega (arith, c.lent-slot.ensures, h.headed) in
-    lent b.slots b.heads v h is c.push_alone.new.nodes c.attach.new.nodes c.lent-slot.result c.args.queue slot_is c.requires.queue_in c.push_alone.ensures.came c.attach.ensures.kept
-    c.len-at.result (c.len-at.ensures ∙ v.ok.0) c.requires.some (c.push_alone.ensures.cells ∙ ap (λ (k : ℕ). cells_in v ++ alone k b.heads ∷ []) v.ok.0) c.attach.ensures.cells
 
 pub invariant_of-self : goal.invariant_of-self
 invariant_of-self c =
     let b = c.self.inside in
-    let v = b.nodes in
-    let h = c.self.invariant in
-    let is = c.self.view_is in
-    let e = ap {B = ℕ} (λ (x : Lent). x.lent) is in
-    let slot_is : c.lent-slot.result + b.heads ≡ length v.items = omega (arith, c.lent-slot.ensures, h.headed) in
-    IsBlock-lent b.slots b.heads v h is c.push_alone.new.nodes c.attach.new.nodes c.lent-slot.result c.args.queue slot_is c.requires.queue_in c.push_alone.ensures.came c.attach.ensures.kept
+    let e = ap {B = ℕ} (λ (x : Cells). x.lent) c.self.view_is in
+    let s = ap {B = ℕ} (λ (x : Cells). x.slots) c.self.view_is in
+    let u = ap {B = ℕ} (λ (x : Cells). x.used) c.self.view_is in
+    IsBlock-lent b.slots b.queues b.orders b.links c.self.invariant c.self.view_is c.push_reserved.new.self c.args.order.now c.push_reserved.ensures.items (omega (arith, c.requires.some)) c.push_reserved.ensures.capacity (omega (arith, c.requires.written))
+
+pub returns-clause-block : goal.returns-clause-block
+returns-clause-block c =
+    let b = c.self.inside in
+    let e = ap {B = ℕ} (λ (x : Cells). x.lent) c.self.view_is in
+    let s = ap {B = ℕ} (λ (x : Cells). x.slots) c.self.view_is in
+    lent-is b.slots b.queues b.orders b.links c.self.invariant c.self.view_is c.push_reserved.new.self c.args.order.now c.push_reserved.ensures.items (omega (arith, c.requires.some))

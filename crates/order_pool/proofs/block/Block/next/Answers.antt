@@ -1,18 +1,15 @@
-use Rattle.std.proofs.Common.{◌<◌, length, sym, ap, ◌∙◌, arith}
-use Rattle.order_pool.specs.Inner.Block.{Cell}
-use Rattle.order_pool.specs.Inner.Lent.{Lent}
-use Rattle.order_pool.proofs.Blocks.{read-slot, lent-in, links-of, followed}
+use Rattle.std.proofs.Common.{◌≡◌, sym, ap, subst, ◌∙◌}
+use Rattle.order_pool.specs.Inner.Block.{Cell, Cells, cell_at, number, IsPlace, IsLead}
+use Rattle.order_pool.proofs.Cells.{slot_is_place, links-is, slot-now, lead}
 use Rattle.order_pool.proofs.block.Block.next.Goals as goal
 
 pub returns : goal.returns
 returns c =
     let b = c.self.inside in
-    let v = b.nodes in
-    let n = c.index.result.now in
-    let h = c.self.invariant in
-    let is = c.self.view_is in
-    let e = ap (λ (x : Lent). x.heads) is in
-    let lt : c.at.result < length v.items = omega (arith, c.at.ensures, lent-in b.slots b.heads v h is c.args.slot c.requires) in
-    let linked = links-of b.slots b.heads v h is c.at.result n lt c.index.ensures in
-    followed b.slots b.heads v h is c.at.result n.next c.follow.result.now lt linked.next c.follow.ensures
-    ∙ sym (ap (λ (x : Cell). x.next) (read-slot b.slots b.heads v h is c.args.slot c.at.result n c.requires c.at.ensures c.index.ensures))
+    let now = c.args.self.now in
+    let l = c.index.result.now in
+    let at : IsPlace now c.slot_place.result = subst (IsPlace now) (sym c.slot_place.ensures) (slot_is_place b.slots b.queues b.orders b.links c.self.invariant c.self.view_is c.args.slot c.requires) in
+    let links = links-is b.slots b.queues b.orders b.links c.self.invariant c.self.view_is c.slot_place.result l at c.index.ensures in
+    let is : number now.slots l.next ≡ (cell_at now.cells c.args.slot).next =
+    ap (λ (x : Cells). number x.slots l.next) (sym c.self.view_is) ∙ sym (ap (λ (x : Cell). x.next) (slot-now b.slots b.queues b.orders b.links c.self.invariant c.self.view_is c.args.slot c.slot_place.result l c.requires c.slot_place.ensures c.index.ensures)) in
+    subst (IsLead now.slots c.slot_at.result) is (lead now.slots now.queues now.used l.next c.slot_at.result links.1 c.slot_at.ensures)

@@ -1,17 +1,13 @@
-use Rattle.std.proofs.Common.{◌+◌, ℕ, ap, ◌∙◌}
-use Rattle.order_pool.specs.Inner.Rings.{next_at}
+use Rattle.std.proofs.Common.{refl}
 use Rattle.order_pool.proofs.Calls.{first_some, first_none}
 use Rattle.order_pool.proofs.pool.Pool.first.Goals as goal
 
-pub returns-then-first-self : goal.returns-then-first-self
-returns-then-first-self c =
+pub returns-in-Some : goal.returns-in-Some
+returns-in-Some c =
     let p = c.self.inside in
-    let e = c.first-first.ensures ∙ ap (λ (n : ℕ). next_at p.block.cells (n + c.args.queue)) c.self.invariant.1 in
-    let first = first_some c.self.invariant.0 c.self.view_is c.args.queue c.first-first.result c.requires e c.if-first-self.true in
+    let n = c.in-Some.first in
+    let first = first_some p.block p.free.items c.self.invariant.0 c.args.self.now c.self.view_is c.args.queue n c.requires c.in-Some.ensures.0 c.in-Some.ensures.1 in
     record { value = first.0; live = first.1 }
 
-pub returns-else-first-self-clause-value : goal.returns-else-first-self-clause-value
-returns-else-first-self-clause-value c =
-    let p = c.self.inside in
-    let e = c.first-first.ensures ∙ ap (λ (n : ℕ). next_at p.block.cells (n + c.args.queue)) c.self.invariant.1 in
-    first_none c.self.invariant.0 c.self.view_is c.args.queue c.first-first.result c.requires e c.if-first-self.false
+pub returns-in_default-clause-value : goal.returns-in_default-clause-value
+returns-in_default-clause-value c = let p = c.self.inside in first_none p.block p.free.items c.self.invariant.0 c.args.self.now c.self.view_is c.args.queue _ c.requires refl c.in_default.ensures

@@ -6,13 +6,16 @@ use Rattle.order_pool.proofs.pool.Pool.is_live.Goals as goal
 
 pub returns-then-slot-lent : goal.returns-then-slot-lent
 returns-then-slot-lent c =
-    let p = c.self.inside in
-    is_live_tested p.block.cells p.capacity p.queues _ c.self.invariant.0.whole c.args.self.now c.self.view_is c.args.slot.0 c.queue.result c.queue.ensures (omega (arith, c.lent.ensures, c.if-slot-lent.true))
+    let b = c.self.inside.block in
+    let now = c.args.self.now in
+    let i = c.args.slot.0 in
+    subst (λ (n : ℕ). (IsTrue (nat_lt c.queue.result n) → IsLive now i) × (IsLive now i → IsTrue (nat_lt c.queue.result n))) (sym c.queues.ensures)
+    (is_live_tested b.cells b.slots b.queues _ c.self.invariant.0.whole now c.self.view_is i c.queue.result c.queue.ensures (omega (arith, c.lent.ensures, c.if-slot-lent.true)))
 
 pub returns-else-slot-lent : goal.returns-else-slot-lent
 returns-else-slot-lent c =
-    let p = c.self.inside in
+    let b = c.self.inside.block in
     let i = c.args.slot.0 in
     let now = c.args.self.now in
     subst (λ (n : ℕ). (IsTrue (nat_lt i n) → IsLive now i) × (IsLive now i → IsTrue (nat_lt i n))) (sym c.lent.ensures)
-    (not_lent p.block.cells p.capacity p.queues _ c.self.invariant.0.whole now c.self.view_is i (omega (arith, c.lent.ensures, c.if-slot-lent.false)))
+    (not_lent b.cells b.slots b.queues _ c.self.invariant.0.whole now c.self.view_is i (omega (arith, c.lent.ensures, c.if-slot-lent.false)))

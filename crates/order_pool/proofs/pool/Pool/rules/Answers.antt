@@ -3,5 +3,5 @@ use Rattle.order_pool.proofs.pool.Pool.rules.Goals as goal
 
 pub returns : goal.returns
 returns c =
-    let p = c.self.inside in
-    rules p.block.cells p.capacity p.queues _ c.self.invariant.0.whole c.args.self.now c.self.view_is
+    let b = c.self.inside.block in
+    rules b.cells b.slots b.queues _ c.self.invariant.0.whole c.args.self.now c.self.view_is

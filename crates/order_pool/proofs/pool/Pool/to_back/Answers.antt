@@ -1,35 +1,42 @@
-use Rattle.std.proofs.Common.{ℕ, ap, subst, sym, ◌∙◌, arith}
-use Rattle.order_pool.specs.Inner.Lent.{Lent}
-use Rattle.order_pool.specs.Inner.Rings.{IsPool}
-use Rattle.order_pool.proofs.Calls.{in_queue, cells-relocated, sent_back}
+use Rattle.std.proofs.Common.{◌+◌, ◌<◌, ℕ, get_or, ap, subst, sym, ◌∙◌, arith, inr}
+use Rattle.order_pool.specs.Inner.Block.{Cells, detached, attached, IsUsed}
+use Rattle.order_pool.proofs.Calls.{in_queue, some_count, sent_back}
 use Rattle.order_pool.proofs.pool.Pool.to_back.Goals as goal
 
 pub queue-queue-requires : goal.queue-queue-requires
-queue-queue-requires c = (in_queue c.self.invariant.0 c.self.view_is c.args.slot.0 c.requires.0 c.requires.1).slot
+queue-queue-requires c = let p = c.self.inside in (in_queue p.block p.free.items c.self.invariant.0 c.args.self.now c.self.view_is c.args.slot.0 c.requires.0 c.requires.1).slot
 
-pub relocate-requires : goal.relocate-requires
-relocate-requires c =
-    let s = in_queue c.self.invariant.0 c.self.view_is c.args.slot.0 c.requires.0 c.requires.1 in
-    record { slot_in = s.slot; queue_in = omega (arith, c.self.invariant.2, c.queue-queue.ensures, s.tag, s.queue) }
+pub detach-requires : goal.detach-requires
+detach-requires c = let p = c.self.inside in (in_queue p.block p.free.items c.self.invariant.0 c.args.self.now c.self.view_is c.args.slot.0 c.requires.0 c.requires.1).slot
+
+pub attach-requires : goal.attach-requires
+attach-requires c =
+    let p = c.self.inside in
+    let s = in_queue p.block p.free.items c.self.invariant.0 c.args.self.now c.self.view_is c.args.slot.0 c.requires.0 c.requires.1 in
+    let e = sym c.detach.ensures in
+    let used : IsUsed p.block c.queue-queue.result = (
+      omega (arith, c.queue-queue.ensures, s.tag, s.queue),
+      inr (subst (λ (q : ℕ). 0 < get_or p.block.counts q 0) (sym c.queue-queue.ensures) (some_count p.block p.free.items c.self.invariant.0 c.args.self.now c.self.view_is c.args.slot.0 c.requires.0 c.requires.1)),
+    ) in
+    record {
+      slot_in = subst (λ (x : Cells). c.args.slot.0 < x.lent) e s.slot;
+      queue_in = subst (λ (x : Cells). IsUsed x c.queue-queue.result) e used;
+    }
 
 pub invariant_of-self : goal.invariant_of-self
 invariant_of-self c =
     let p = c.self.inside in
-    let e = c.relocate.ensures in
-    let new = c.relocate.new.self in
-    let r = c.queue-queue.result in
     let i = c.args.slot.0 in
-    let after = sent_back c.self.invariant.0 c.self.view_is i c.requires.0 r new.cells c.requires.1 c.queue-queue.ensures (cells-relocated p.block new p.capacity i r c.self.invariant.1 e) in (
-      subst (λ (n : ℕ). IsPool new.cells p.capacity p.queues n p.live p.counts.items) (sym (ap (λ (b : Lent). b.lent) e)) after.kept,
-      ap (λ (b : Lent). b.slots) e ∙ c.self.invariant.1,
-      ap (λ (b : Lent). b.heads) e ∙ c.self.invariant.2,
-      c.self.invariant.3,
-    )
+    let e = c.attach.ensures ∙ ap (λ (x : Cells). record x { cells = attached x.cells i (x.slots + c.queue-queue.result) c.queue-queue.result }) c.detach.ensures
+    ∙ ap (λ (q : ℕ). record p.block { cells = attached (detached p.block.cells i) i (p.block.slots + q) q }) c.queue-queue.ensures in
+    let after = sent_back p.block p.free.items c.self.invariant.0 c.args.self.now c.self.view_is i c.requires.0 c.requires.1 c.attach.new.self e in
+    (after.kept, c.self.invariant.1 ∙ sym (ap (λ (x : Cells). x.slots) e))
 
 pub returns : goal.returns
 returns c =
     let p = c.self.inside in
-    let r = c.queue-queue.result in
     let i = c.args.slot.0 in
-    let new = sent_back c.self.invariant.0 c.self.view_is i c.requires.0 r c.relocate.new.self.cells c.requires.1 c.queue-queue.ensures (cells-relocated p.block c.relocate.new.self p.capacity i r c.self.invariant.1 c.relocate.ensures) in
-    record { queues = new.is; live = new.same }
+    let e = c.attach.ensures ∙ ap (λ (x : Cells). record x { cells = attached x.cells i (x.slots + c.queue-queue.result) c.queue-queue.result }) c.detach.ensures
+    ∙ ap (λ (q : ℕ). record p.block { cells = attached (detached p.block.cells i) i (p.block.slots + q) q }) c.queue-queue.ensures in
+    let after = sent_back p.block p.free.items c.self.invariant.0 c.args.self.now c.self.view_is i c.requires.0 c.requires.1 c.attach.new.self e in
+    record { queues = after.is; live = after.same }
