@@ -30,7 +30,7 @@ pub use limits::{
 };
 pub use names::{Listed, Names};
 pub use order::{Desk, Kind, Life, LmmShare, Order, Side, Slot, Taker, TopRule};
-pub use price::{Price, PriceFault, read_price};
+pub use price::{Price, PriceFault, power_of_ten, read_price};
 pub use quantity::read_quantity;
 pub use stamp::{LONGEST_STAMP, Stamp};
 pub use trading::Trading;

@@ -13,6 +13,28 @@ use thiserror::Error;
 /// How many bytes a price has at most in a message (our own rule, within the float format of FIX 4.2).
 const LONGEST_PRICE: usize = 32;
 
+const POWERS_OF_TEN: [u64; MOST_DECIMALS as usize + 1] = [
+    1,
+    10,
+    100,
+    1_000,
+    10_000,
+    100_000,
+    1_000_000,
+    10_000_000,
+    100_000_000,
+];
+
+/// How many units there are in one, if prices have so many decimals.
+#[inline]
+pub fn power_of_ten(decimals: u8) -> u64
+    requires { decimals ≤ MOST_DECIMALS }
+    ensures value { result ≡ 10 ^ decimals }
+    ensures low { result ≤ 10 ^ MOST_DECIMALS }
+{
+    POWERS_OF_TEN[decimals as usize]
+}
+
 /// A price in units, which are 10 to the power of minus the instrument's decimals.
 #[derive(Clone, Copy, Debug, PartialEq, Eq)]
 pub struct Price(pub i64);

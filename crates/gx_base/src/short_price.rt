@@ -5,22 +5,10 @@ ghost use Rattle.gx_base.specs.Numbers.{are_digits, price_of};
 ghost use Rattle.gx_base.specs.Inner.ShortPrices.{HasUnits};
 
 use crate::limits::{MOST_DECIMALS, MOST_PRICE_UNITS};
-use crate::price::Price;
+use crate::price::{Price, power_of_ten};
 
 /// How many bytes such a price has at most: so many digits and `MOST_DECIMALS` zeros after them fit `u64`.
 const LONGEST: usize = 11;
-
-const POWERS_OF_TEN: [u64; MOST_DECIMALS as usize + 1] = [
-    1,
-    10,
-    100,
-    1_000,
-    10_000,
-    100_000,
-    1_000_000,
-    10_000_000,
-    100_000_000,
-];
 
 /// The price that a text writes, if it has few bytes, begins with a digit, and has no more decimals than these. `None` says nothing
 /// of the text.
@@ -81,13 +69,4 @@ fn read_run(text: &[u8], front: u64) -> (usize, u64)
         number = number * 10 + digit;
     }
     (text.len(), number)
-}
-
-#[inline]
-fn power_of_ten(exponent: u8) -> u64
-    requires { exponent ≤ MOST_DECIMALS }
-    ensures value { result ≡ 10 ^ exponent }
-    ensures low { result ≤ 10 ^ MOST_DECIMALS }
-{
-    POWERS_OF_TEN[exponent as usize]
 }

@@ -1,9 +1,7 @@
 -- Numbers as digits, two at a time.
-use Rattle.std.proofs.Common.{◌≡◌, ℕ, zero, suc, ◌+◌, ◌-◌, ◌*◌, ◌/◌, ◌%◌, ◌^◌, ◌<◌, ◌≤◌, Bool, true, ◌&&◌, T, eqb, get_or, inl, inr, arith, eq-zero-or-pos, eqb→eq}
+use Rattle.std.proofs.Common.{◌≡◌, ℕ, zero, suc, ◌+◌, ◌-◌, ◌*◌, ◌/◌, ◌%◌, ◌<◌, Bool, true, ◌&&◌, T, eqb, get_or, inl, inr, arith, eq-zero-or-pos, eqb→eq}
 use lib.Ieee.Fits.{and_l, and_r}
 use Rattle.line_parts.specs.declared.decimal.TheConstants.{PAIRS}
-use Rattle.gx_base.specs.declared.limits.TheConstants.{MOST_DECIMALS}
-use Rattle.line_parts.specs.declared.price.TheConstants.{POWERS_OF_TEN}
 
 abbrev are_pairs : ℕ → Bool
 are_pairs zero = true
@@ -20,19 +18,3 @@ below (suc n) p t h =
 -- the table has the two digits of each number below 100
 pub digits_at : (p : ℕ) → p < 100 → (get_or PAIRS (p * 2) 0 ≡ 48 + p / 10) × (get_or PAIRS (p * 2 + 1) 0 ≡ 48 + p % 10)
 digits_at p h = below 100 p tt h
-
-abbrev are_powers : ℕ → Bool
-are_powers zero = true
-are_powers (suc p) = eqb (get_or POWERS_OF_TEN p 0) (10 ^ p) && are_powers p
-
-powers_below : (n p : ℕ) → T (are_powers n) → p < n → get_or POWERS_OF_TEN p 0 ≡ 10 ^ p
-powers_below zero p t h = absurd (omega arith)
-powers_below (suc n) p t h =
-    elim (eq-zero-or-pos (n - p)) [
-      | inl z ↦ let e : p ≡ n = omega arith in rw e (eqb→eq _ _ (and_l _ (are_powers n) t))
-      | inr g ↦ powers_below n p (and_r _ (are_powers n) t) (omega arith)
-    ]
-
--- the table has the powers of ten
-pub power_at : (p : ℕ) → p ≤ MOST_DECIMALS → get_or POWERS_OF_TEN p 0 ≡ 10 ^ p
-power_at p h = powers_below 9 p tt (omega arith)

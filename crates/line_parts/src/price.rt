@@ -3,20 +3,7 @@ ghost use Rattle.std.specs.Prelude.{◌≡◌, ◌+◌, ◌*◌, ◌/◌, ◌^�
 ghost use Rattle.gx_base.specs.Numbers.{fraction_text, price_text};
 
 use crate::decimal::{append_number, append_pair, append_short, write_fixed_digits};
-use gx_base::{LONGEST_VALUE, MOST_DECIMALS, Price, append, append_few};
-
-/// 10 to the power of each number of decimals, which a price is divided by in each report.
-static POWERS_OF_TEN: [u64; MOST_DECIMALS as usize + 1] = [
-    1,
-    10,
-    100,
-    1_000,
-    10_000,
-    100_000,
-    1_000_000,
-    10_000_000,
-    100_000_000,
-];
+use gx_base::{LONGEST_VALUE, MOST_DECIMALS, Price, append, append_few, power_of_ten};
 
 /// Writes a price with exactly `decimals` digits after the point, at most `MOST_DECIMALS`, into the front of `into`, and
 /// answers how many bytes that takes; what stands after them is left open. There is at least one digit before the point,
@@ -74,15 +61,6 @@ fn append_any_price(into: &mut [u8], at: usize, price: Price, decimals: u8) -> u
     let end = append(into, at, sign);
     let end = append_number(into, end, units / power_of_ten(decimals));
     append_fraction(into, end, units, decimals)
-}
-
-/// How many units there are in one, with so many decimals.
-#[inline]
-fn power_of_ten(decimals: u8) -> u64
-    requires { decimals ≤ MOST_DECIMALS }
-    ensures { result ≡ 10 ^ decimals }
-{
-    POWERS_OF_TEN[decimals as usize]
 }
 
 /// Writes a point and the last `decimals` digits of a number after the first `end` bytes of `into`, or nothing where
