@@ -12,7 +12,7 @@ use std::alloc::{AllocError, Global};
 /// How many bytes the length of an amendment's text has.
 pub(crate) const TEXT_SIZE: usize = 4;
 
-/// Room for the payload of one record, a framer for its messages, and a block to read ahead. None can grow.
+/// Room for the payload of one record, a framer for its messages, and a block to read ahead. No call makes one grow.
 ///
 /// Nothing is written to the room of a payload before a record needs it: the longest payload of a product with many orders has
 /// megabytes, and most records have some hundred bytes.
