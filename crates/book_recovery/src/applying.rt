@@ -8,7 +8,7 @@ ghost use Rattle.order_kinds.specs.Step.{state_after, events_from};
 ghost use Rattle.book_recovery.specs.Passed.{ArePassed};
 
 use fix_frame::Framer;
-use fix_request::read_request;
+use fix_request::{no_request, read_request_into};
 use gx_base::Emit;
 use order_kinds::Core;
 use plain_book::Book;
@@ -33,8 +33,10 @@ pub fn apply_given<B: Book, E: Emit>(
     ensures state { AreNumbered core.old → state_numbered core.new ≡ state_after product.now (state_numbered core.old) framer.now.given }
     ensures emits { AreNumbered core.old → Emits E.meanings out.old out.new (events_from product.now (state_numbered core.old) framer.now.given) }
 {
+    // Lent from message to message: a request is large.
+    let mut request = no_request();
     for number in 0..framer.given_count() {
-        let request = read_request(framer.given(number), product);
+        read_request_into(framer.given(number), product, &mut request);
         core.apply(product, &request, out);
     }
 }

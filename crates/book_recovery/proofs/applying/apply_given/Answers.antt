@@ -28,12 +28,12 @@ loop-number-preserved g c =
     let given = c.args.framer.now.given in
     let k = c.loop-number.number in
     let frame = c.given.result.now in
-    let request = c.read_request-request.result in
+    let request = c.read_request_into.new.request in
     let before = c.loop-number.invariant in
     let within : k < length given = omega arith in
     let puts = c.apply.ensures.puts in
     let s = state_numbered c.loop-number.core in
-    let asked = c.read_request-request.ensures.request in
+    let asked = c.read_request_into.ensures.request in
     let earlier = events_from product start (take k given) in
     let here = (request_step product request (with_message s)).1 in
     record {
