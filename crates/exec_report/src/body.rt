@@ -5,11 +5,11 @@ ghost use Rattle.std.specs.Option.{option_copied};
 ghost use Rattle.gx_base.specs.Frames.{field};
 ghost use Rattle.line_parts.specs.Rows.{ended};
 ghost use Rattle.exec_report.specs.Inner.{term_fields};
-ghost use Rattle.gx_base.specs.Line.{field_if, addressee, kind_text, step_text, cause_text, number_text, cancel_id, cancelled_id, line_head, id_fields, report_fields, price_fields, order_fields, order_front, state_fields, trade_fields, refused_fields, wanted_fields, nothing_fields, fault_fields, request_fields, change_fields, session_fields, body_of};
+ghost use Rattle.gx_base.specs.Line.{field_if, addressee, decimals_of, kind_text, step_text, cause_text, number_text, cancel_id, cancelled_id, line_head, id_fields, report_fields, price_fields, order_fields, order_front, state_fields, trade_fields, refused_fields, wanted_fields, nothing_fields, fault_fields, request_fields, change_fields, session_fields, body_of};
 
 use crate::values::{
-    change_reason, change_status, change_text, decimals_of, fault_text, fill_status, kind_text,
-    life_digit, reject_reason, response_text, rule_text, side_digit,
+    change_reason, change_status, change_text, fault_text, fill_status, kind_text, life_digit,
+    reject_reason, response_text, rule_text, side_digit,
 };
 use gx_base::{
     Cause, ChangeFault, Event, Head, Kind, LONGEST_VALUE, MOST_DECIMALS, Names, NewFault,
@@ -27,6 +27,15 @@ struct OrderUpdate<'a> {
     old: Option<&'a ShortId>,
     /// The letter or digit of tags 150 and 39.
     status: u8,
+}
+
+/// What was written of an order.
+#[derive(Clone, Copy)]
+struct Ordered {
+    /// Where its fields end.
+    end: usize,
+    /// How many decimals its prices have.
+    decimals: u8,
 }
 
 /// Writes the body of an event: at most 28 fields, and the bytes that end the one before it and its last.
@@ -49,8 +58,8 @@ fn event_fields(into: &mut [u8], at: usize, event: &Event, names: &Names) -> usi
 {
     match event {
         Event::Accepted { head, order } => {
-            let at = order_front(into, at, names, head, order, &own_update(order, b'0'));
-            let at = state_fields(into, at, head, order);
+            let front = order_front(into, at, names, head, order, &own_update(order, b'0'));
+            let at = state_fields(into, front.end, head, order);
             text(into, at, b"\x019003=0")
         }
         Event::Fill {
@@ -62,9 +71,8 @@ fn event_fields(into: &mut [u8], at: usize, event: &Event, names: &Names) -> usi
             trade,
         } => {
             let update = own_update(order, fill_status(order.leaves));
-            let at = order_front(into, at, names, head, order, &update);
-            let decimals = decimals_of(names, order.instrument);
-            let at = trade_fields(into, at, *lots, *price, decimals);
+            let front = order_front(into, at, names, head, order, &update);
+            let at = trade_fields(into, front.end, *lots, *price, front.decimals);
             let at = state_fields(into, at, head, order);
             let at = step_field(into, at, *step);
             let at = counter(into, at, b"\x019002=", *trade);
@@ -78,8 +86,8 @@ fn event_fields(into: &mut [u8], at: usize, event: &Event, names: &Names) -> usi
             cause,
         } => {
             let update = cancel_update(order, by.as_ref());
-            let at = order_front(into, at, names, head, order, &update);
-            let at = state_fields(into, at, head, order);
+            let front = order_front(into, at, names, head, order, &update);
+            let at = state_fields(into, front.end, head, order);
             let at = cause_field(into, at, *cause);
             number(into, at, b"\x019003=", u64::from(*gone))
         }
@@ -131,8 +139,8 @@ fn triggered_fields(into: &mut [u8], at: usize, names: &Names, head: &Head, orde
         ++ field "58" (codes "TRIGGERED") ++ field "9003" (codes "0")) }
     ensures short { result ≤ at + 25 * LONGEST_FIELD }
 {
-    let at = order_front(into, at, names, head, order, &own_update(order, b'0'));
-    let at = state_fields(into, at, head, order);
+    let front = order_front(into, at, names, head, order, &own_update(order, b'0'));
+    let at = state_fields(into, front.end, head, order);
     let at = text(into, at, b"\x0158=TRIGGERED");
     text(into, at, b"\x019003=0")
 }
@@ -153,8 +161,8 @@ fn expired_fields(
         ++ field "58" (codes "EXPIRED") ++ field "9003" (decimal gone)) }
     ensures short { result ≤ at + 25 * LONGEST_FIELD }
 {
-    let at = order_front(into, at, names, head, order, &own_update(order, b'C'));
-    let at = state_fields(into, at, head, order);
+    let front = order_front(into, at, names, head, order, &own_update(order, b'C'));
+    let at = state_fields(into, front.end, head, order);
     let at = text(into, at, b"\x0158=EXPIRED");
     number(into, at, b"\x019003=", u64::from(gone))
 }
@@ -180,8 +188,8 @@ fn replaced_fields(
         old: Some(old),
         status: b'5',
     };
-    let at = order_front(into, at, names, head, order, &update);
-    let at = state_fields(into, at, head, order);
+    let front = order_front(into, at, names, head, order, &update);
+    let at = state_fields(into, front.end, head, order);
     text(into, at, b"\x019003=0")
 }
 
@@ -246,11 +254,13 @@ fn order_front(
     head: &Head,
     order: &Order,
     update: &OrderUpdate<'_>,
-) -> usize
+) -> Ordered
     requires { at + 19 * LONGEST_FIELD ≤ length into.old }
-    ensures fields { ended result into.new ≡ ended at into.old
+    ensures fields { ended result.end into.new ≡ ended at into.old
         ++ order_front names.now head.now order.now update.now.id.now (option_copied update.now.old) (update.now.status ∷ []) }
-    ensures short { result ≤ at + 19 * LONGEST_FIELD }
+    ensures decimals { result.decimals ≡ decimals_of names.now order.now.instrument }
+    ensures few { result.decimals ≤ MOST_DECIMALS }
+    ensures short { result.end ≤ at + 19 * LONGEST_FIELD }
 {
     let at = line_head(into, at, names, b'8', head);
     let at = id_fields(into, at, order.number, update.id, update.old);
@@ -334,17 +344,25 @@ fn report_fields(into: &mut [u8], at: usize, head: &Head, status: u8) -> usize
 
 /// What was ordered. An instrument that is not listed is written as `UNKNOWN`, and its prices have no decimals.
 #[inline(always)]
-fn order_fields(into: &mut [u8], at: usize, names: &Names, order: &Order) -> usize
+fn order_fields(into: &mut [u8], at: usize, names: &Names, order: &Order) -> Ordered
     requires { at + 7 * LONGEST_FIELD ≤ length into.old }
-    ensures fields { ended result into.new ≡ ended at into.old ++ order_fields names.now order.now }
-    ensures short { result ≤ at + 7 * LONGEST_FIELD }
+    ensures fields { ended result.end into.new ≡ ended at into.old ++ order_fields names.now order.now }
+    ensures decimals { result.decimals ≡ decimals_of names.now order.now.instrument }
+    ensures few { result.decimals ≤ MOST_DECIMALS }
+    ensures short { result.end ≤ at + 7 * LONGEST_FIELD }
 {
     if (order.instrument as usize) < names.instrument_count() {
         let listed = names.listed(order.instrument);
         let at = name(into, at, b"\x0155=", &listed.name);
-        return term_fields(into, at, order, listed.decimals);
+        return Ordered {
+            end: term_fields(into, at, order, listed.decimals),
+            decimals: listed.decimals,
+        };
     }
-    unlisted_fields(into, at, order)
+    Ordered {
+        end: unlisted_fields(into, at, order),
+        decimals: 0,
+    }
 }
 
 /// What was ordered of an instrument that is not listed.

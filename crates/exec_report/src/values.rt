@@ -1,22 +1,8 @@
 //! What the fields of reports say: the codes of FIX 4.2, and our own words.
 ghost use Rattle.std.specs.Prelude.{◌≡◌, ◌≤◌, [], ◌∷◌, ◌==◌, if◌then◌else◌, codes, length};
-ghost use Rattle.gx_base.specs.Line.{decimals_of, side_text, kind_text, life_text, step_text, fill_status, fault_text, reject_reason, change_text, change_reason, change_status, response_text, rule_text};
+ghost use Rattle.gx_base.specs.Line.{side_text, kind_text, life_text, step_text, fill_status, fault_text, reject_reason, change_text, change_reason, change_status, response_text, rule_text};
 
-use gx_base::{
-    ChangeFault, Kind, LONGEST_VALUE, Life, MOST_DECIMALS, Names, NewFault, Side, StepName,
-};
-
-/// How many decimals the prices of an instrument have, 0 where it is not listed.
-pub(crate) fn decimals_of(names: &Names, instrument: u8) -> u8
-    ensures decimals { result ≡ decimals_of names.now instrument }
-    ensures few { result ≤ MOST_DECIMALS }
-{
-    if (instrument as usize) < names.instrument_count() {
-        names.listed(instrument).decimals
-    } else {
-        0
-    }
-}
+use gx_base::{ChangeFault, Kind, LONGEST_VALUE, Life, NewFault, Side, StepName};
 
 /// The value of tag 40 in FIX 4.2.
 pub(crate) fn kind_text(kind: Kind) -> &'static [u8]

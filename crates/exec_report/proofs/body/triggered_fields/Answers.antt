@@ -14,7 +14,7 @@ returns-clause-fields c =
     let update = c.own_update.result in
     let front = λ (id : List ℕ) (by : Option (List ℕ)) (status : ℕ). order_front c.args.names.now head order id by (status ∷ []) in
     four_in_a_row old (front order.id None 48) (state_fields head order) (field "58" (codes "TRIGGERED")) (field "9003" (codes "0")) _ _ _ _
-    (c.order_front-at.ensures.fields
+    (c.order_front-front.ensures.fields
     ∙ ap (λ (id : List ℕ). old ++ front id (option_copied update.old) update.status) c.own_update.ensures.id
     ∙ ap (λ by. old ++ front order.id (option_copied by) update.status) c.own_update.ensures.old
     ∙ ap (λ (status : ℕ). old ++ front order.id None status) c.own_update.ensures.status)
