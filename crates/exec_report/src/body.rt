@@ -16,7 +16,9 @@ use gx_base::{
     NewRefused, Order, Price, ShortId, StepName,
 };
 use line_parts::fields::LONGEST_FIELD;
-use line_parts::rows::{counter, end_row, field, letter, name, number, price, text, time};
+use line_parts::rows::{
+    counter, end_row, field, last_text, letter, name, number, price, text, time,
+};
 
 /// What a report tells of the change of an order.
 #[derive(Clone, Copy)]
@@ -38,29 +40,19 @@ struct Ordered {
     decimals: u8,
 }
 
-/// Writes the body of an event: at most 28 fields, and the bytes that end the one before it and its last.
+/// Writes the body of an event: at most 28 fields, and the byte that ends the last. Those of the three common kinds are written in
+/// place.
 #[inline(always)]
 pub(crate) fn write_body(into: &mut [u8], at: usize, event: &Event, names: &Names) -> usize
     requires { at + 28 * LONGEST_FIELD < length into.old }
     ensures body { take result into.new ≡ ended at into.old ++ body_of names.now event.now }
     ensures short { result ≤ at + 28 * LONGEST_FIELD + 1 }
 {
-    let at = event_fields(into, at, event, names);
-    end_row(into, at)
-}
-
-/// The fields of an event. Those of the three common kinds are written in place.
-#[inline(always)]
-fn event_fields(into: &mut [u8], at: usize, event: &Event, names: &Names) -> usize
-    requires { at + 28 * LONGEST_FIELD ≤ length into.old }
-    ensures fields { ended result into.new ≡ ended at into.old ++ body_of names.now event.now }
-    ensures short { result ≤ at + 28 * LONGEST_FIELD }
-{
     match event {
         Event::Accepted { head, order } => {
             let front = order_front(into, at, names, head, order, &own_update(order, b'0'));
             let at = state_fields(into, front.end, head, order);
-            text(into, at, b"\x019003=0")
+            last_text(into, at, b"\x019003=0\x01")
         }
         Event::Fill {
             head,
@@ -76,7 +68,7 @@ fn event_fields(into: &mut [u8], at: usize, event: &Event, names: &Names) -> usi
             let at = state_fields(into, at, head, order);
             let at = step_field(into, at, *step);
             let at = counter(into, at, b"\x019002=", *trade);
-            text(into, at, b"\x019003=0")
+            last_text(into, at, b"\x019003=0\x01")
         }
         Event::Cancelled {
             head,
@@ -89,20 +81,29 @@ fn event_fields(into: &mut [u8], at: usize, event: &Event, names: &Names) -> usi
             let front = order_front(into, at, names, head, order, &update);
             let at = state_fields(into, front.end, head, order);
             let at = cause_field(into, at, *cause);
-            number(into, at, b"\x019003=", u64::from(*gone))
+            let at = number(into, at, b"\x019003=", u64::from(*gone));
+            end_row(into, at)
         }
-        Event::Triggered { head, order } => triggered_fields(into, at, names, head, order),
+        Event::Triggered { head, order } => {
+            let at = triggered_fields(into, at, names, head, order);
+            end_row(into, at)
+        }
         Event::Expired { head, order, gone } => {
-            expired_fields(into, at, names, head, order, *gone)
+            let at = expired_fields(into, at, names, head, order, *gone);
+            end_row(into, at)
         }
         Event::Replaced {
             head,
             order,
             old,
             ..
-        } => replaced_fields(into, at, names, head, order, old),
+        } => {
+            let at = replaced_fields(into, at, names, head, order, old);
+            end_row(into, at)
+        }
         Event::RefusedNew { head, order, fault } => {
-            refused_new_fields(into, at, names, head, order, *fault)
+            let at = refused_new_fields(into, at, names, head, order, *fault);
+            end_row(into, at)
         }
         Event::RefusedChange {
             head,
@@ -115,7 +116,8 @@ fn event_fields(into: &mut [u8], at: usize, event: &Event, names: &Names) -> usi
         } => {
             let at = line_head(into, at, names, b'9', head);
             let at = request_fields(into, at, *number, id, old);
-            change_fields(into, at, head, *filled, *replace, *fault)
+            let at = change_fields(into, at, head, *filled, *replace, *fault);
+            end_row(into, at)
         }
         Event::RefusedSession {
             head,
@@ -125,7 +127,8 @@ fn event_fields(into: &mut [u8], at: usize, event: &Event, names: &Names) -> usi
             rule,
         } => {
             let at = line_head(into, at, names, b'3', head);
-            session_fields(into, at, *seq, *tag, *reason, *rule)
+            let at = session_fields(into, at, *seq, *tag, *reason, *rule);
+            end_row(into, at)
         }
     }
 }

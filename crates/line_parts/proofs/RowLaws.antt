@@ -14,7 +14,7 @@ front_parts : (front : List ℕ) → take 1 front ≡ soh ∷ [] → front ≡ s
 front_parts front begins = sym (take-append-drop 1 front) ∙ ap (λ (l : List ℕ). l ++ drop 1 front) begins
 
 -- the byte that ends a field and what is written after it
-ended_before : (old front : List ℕ) (at : ℕ) → take 1 front ≡ soh ∷ [] → take at old ++ front ≡ ended at old ++ drop 1 front
+pub ended_before : (old front : List ℕ) (at : ℕ) → take 1 front ≡ soh ∷ [] → take at old ++ front ≡ ended at old ++ drop 1 front
 unfolding ended
 ended_before old front at begins = ap (λ (l : List ℕ). take at old ++ l) (front_parts front begins) ∙ sym (append_assoc (take at old) (soh ∷ []) (drop 1 front))
 

@@ -105,6 +105,17 @@ pub fn time(into: &mut [u8], at: usize, front: &[u8], time: &Stamp) -> usize
     time.append_to(into, end)
 }
 
+/// Ends the field before, and writes a constant text that ends the row.
+#[inline]
+pub fn last_text(into: &mut [u8], at: usize, text: &[u8]) -> usize
+    requires room { at + length text.now ≤ length into.old }
+    requires begins { take 1 text.now ≡ SOH ∷ [] }
+    ensures row { take result into.new ≡ ended at into.old ++ drop 1 text.now }
+    ensures end { result ≡ at + length text.now }
+{
+    append_few(into, at, text)
+}
+
 /// Ends the last field of a row.
 #[inline]
 pub fn end_row(into: &mut [u8], at: usize) -> usize
