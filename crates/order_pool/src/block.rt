@@ -8,6 +8,9 @@ use std::alloc::{AllocError, Global};
 use std::cmp::max;
 use std::marker::Model;
 
+/// For how many slots and queues links are written at once, so that a slot which is lent seldom waits for it.
+const PAIRS_AT_ONCE: u32 = 64;
+
 /// The orders of all queues, as rings: each queue begins and ends at its head, so no link is null. A slot takes no memory before its
 /// first order, nor do its links and those of the queues up to its number, and a queue takes none before its first order. Contracts see
 /// a cell for each slot and then one for each queue, used or not.
@@ -158,6 +161,19 @@ fn slot_at(place: u32) -> Option<u32>
     }
 }
 
+/// How many pairs of links there are to be once this one is wanted, of so many.
+fn pairs_past(pair: u32, all: u32) -> u32
+    requires { pair < all }
+    ensures more { pair < result }
+    ensures within { result ≤ all }
+{
+    if all - pair > PAIRS_AT_ONCE {
+        pair + PAIRS_AT_ONCE
+    } else {
+        all
+    }
+}
+
 /// What is changed.
 impl Block {
     /// Sets the link behind a place.
@@ -260,7 +276,8 @@ impl Block {
         ensures { HasOpened self.old self.new pair }
     {
         if self.links.len() <= 2 * pair as usize + 1 {
-            write_links(&mut self.links, self.queues, 2 * pair + 2);
+            let pairs = pairs_past(pair, max(self.slots, self.queues));
+            write_links(&mut self.links, self.queues, 2 * pairs);
         }
     }
 
