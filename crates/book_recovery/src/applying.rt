@@ -8,7 +8,7 @@ ghost use Rattle.order_kinds.specs.Step.{state_after, events_from};
 ghost use Rattle.book_recovery.specs.Passed.{ArePassed};
 
 use fix_frame::Framer;
-use fix_request::{no_request, read_request_into};
+use fix_request::{Request, read_request_into};
 use gx_base::Emit;
 use order_kinds::Core;
 use plain_book::Book;
@@ -34,7 +34,7 @@ pub fn apply_given<B: Book, E: Emit>(
     ensures emits { AreNumbered core.old → Emits E.meanings out.old out.new (events_from product.now (state_numbered core.old) framer.now.given) }
 {
     // Lent from message to message: a request is large.
-    let mut request = no_request();
+    let mut request = Request::blank();
     for number in 0..framer.given_count() {
         read_request_into(framer.given(number), product, &mut request);
         core.apply(product, &request, out);

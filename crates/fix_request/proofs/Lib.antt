@@ -24,3 +24,4 @@ mod Prices
 mod Splits
 mod Symbols
 mod TwoDigits
+mod Times

@@ -1,11 +1,8 @@
 //! The header of a message (rules 4 to 6).
 ghost use Rattle.std.specs.Prelude.{◌≡◌};
-ghost use Rattle.fix_request.specs.Inner.Requests.{firm_of, exchange_of, target_of, sequence_of, time_of};
+ghost use Rattle.fix_request.specs.Inner.Requests.{firm_of, exchange_of, target_of, sequence_of, time_of, fault_of_time};
 ghost use Rattle.std.specs.Option.{ok_or};
-ghost use Rattle.gx_base.specs.Texts.{is_time_text};
-ghost use Rattle.fix_request.specs.Faults.{fault};
-ghost use Rattle.fix_request.specs.Inner.Rules.{where_passes};
-ghost use Rattle.fix_request.specs.Inner.Views.{values_view, if_not_empty};
+ghost use Rattle.fix_request.specs.Inner.Views.{values_view, if_not_empty, text_in};
 
 use crate::digits::read_sequence_number;
 use crate::fault::Fault;
@@ -75,25 +72,22 @@ pub fn read_sequence(values: &Values) -> Result<u32, Fault>
     }
 }
 
-/// The sending time (52).
-#[tactic(auto, unfolding(crate::specs::Inner::Requests::time_of))]
+/// The sending time (52). `None` if none is there that has its form, which is the fault that `fault_of_time` gives.
 #[inline]
-pub fn read_time(values: &Values) -> Result<Stamp, Fault>
-    ensures { result ≡ time_of (values_view values.now) }
+pub fn read_time(values: &Values) -> Option<Stamp>
+    ensures { ok_or result (fault_of_time (text_in values.now 5)) ≡ time_of (values_view values.now) }
 {
-    if values.time().is_empty() {
-        return Err(Fault::missing(6, tags::TIME));
-    }
-    read_stamp(values.time())
+    Stamp::new(values.time())
 }
 
-/// The time that a text is.
-#[inline]
-fn read_stamp(text: &[u8]) -> Result<Stamp, Fault>
-    ensures { result ≡ ok_or (where_passes is_time_text text.now) (fault 6 6 52) }
+/// What is wrong with the sending time, if none is read.
+#[cold]
+pub fn fault_of_time(values: &Values) -> Fault
+    ensures { result ≡ fault_of_time (text_in values.now 5) }
 {
-    match Stamp::new(text) {
-        Some(time) => Ok(time),
-        None => Err(Fault::ill_formed(6, tags::TIME)),
+    if values.time().is_empty() {
+        Fault::missing(6, tags::TIME)
+    } else {
+        Fault::ill_formed(6, tags::TIME)
     }
 }

@@ -21,7 +21,7 @@ mod values;
 
 pub use fault::Fault;
 pub use lookup::first_value;
-pub use read::{no_request, read_request, read_request_into, read_sender};
+pub use read::{read_request, read_request_into, read_sender};
 pub use refusal::refuse_content;
 pub use request::{
     CancelOrder, Named, NewOrder, Px, Refusal, ReplaceOrder, Request, Sender, SessionChange,

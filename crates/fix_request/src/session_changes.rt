@@ -6,7 +6,7 @@ ghost use Rattle.fix_request.specs.Inner.Views.{values_view};
 
 use crate::digits::read_number;
 use crate::fault::Fault;
-use crate::header::{check_sender, check_target, read_sequence, read_time};
+use crate::header::{check_sender, check_target, fault_of_time, read_sequence, read_time};
 use crate::lists::read_session;
 use crate::refusal::{refused_by_form, refused_without_firm};
 use crate::request::{Refusal, Request, SessionChange};
@@ -42,9 +42,8 @@ fn change_of(names: &Names, values: &Values) -> Result<SessionChange, Refusal>
         Ok(seq) => seq,
         Err(fault) => return Err(refused_by_form(fault)),
     };
-    let time = match read_time(values) {
-        Ok(time) => time,
-        Err(fault) => return Err(refused_without_firm(seq, Stamp::none(), fault)),
+    let Some(time) = read_time(values) else {
+        return Err(refused_without_firm(seq, Stamp::none(), fault_of_time(values)));
     };
     match read_status(values) {
         Ok(to) => Ok(SessionChange { seq, time, to }),
