@@ -16,15 +16,12 @@ pub(crate) fn kind_text(kind: Kind) -> &'static [u8]
     }
 }
 
-/// The digit of tag 54 in FIX 4.2.
+/// The digit of tag 54 in FIX 4.2. The sides stand in the order of their digits.
 #[inline(always)]
 pub(crate) fn side_digit(side: Side) -> u8
     ensures { result ∷ [] ≡ side_text side }
 {
-    match side {
-        Side::Buy => b'1',
-        Side::Sell => b'2',
-    }
+    b'1' + side as u8
 }
 
 /// The digit of tag 59 in FIX 4.2.

@@ -27,10 +27,24 @@ pub(crate) fn append_price(into: &mut [u8], at: usize, price: Price, decimals: u
     ensures end { result ≡ at + length (price_text price decimals) }
     ensures short { result ≤ at + LONGEST_VALUE }
 {
-    if decimals == 2 && price.0 >= 0 && price.0 < 1_000_000 {
-        return append_hundredths(into, at, price.0 as u64);
+    if decimals == 2 {
+        return append_usual_price(into, at, price);
     }
     append_any_price(into, at, price, decimals)
+}
+
+/// Writes a price of two decimals, as `append_price` does.
+#[inline(always)]
+fn append_usual_price(into: &mut [u8], at: usize, price: Price) -> usize
+    requires { at + LONGEST_VALUE ≤ length into.old }
+    ensures text { take result into.new ≡ take at into.old ++ price_text price 2 }
+    ensures end { result ≡ at + length (price_text price 2) }
+    ensures short { result ≤ at + LONGEST_VALUE }
+{
+    if price.0 >= 0 && price.0 < 1_000_000 {
+        return append_hundredths(into, at, price.0 as u64);
+    }
+    append_any_price(into, at, price, 2)
 }
 
 /// Writes a price of two decimals that is not negative, and below 10,000.
