@@ -7,6 +7,9 @@ use crate::limits::{MOST_DECIMALS, MOST_FIRMS, MOST_INSTRUMENTS};
 use arrayvec::ArrayVec;
 use std::marker::Model;
 
+/// How many bytes of a name are compared one by one: so few take less than a call of the library's comparison.
+const FEW: usize = 8;
+
 /// An instrument's name, and how many decimals its prices have.
 #[derive(Clone, Copy, Debug, Default, PartialEq, Eq)]
 pub struct Listed {
@@ -120,12 +123,32 @@ impl Names {
 fn find_name(names: &[ShortId], bytes: &[u8]) -> Option<usize>
     ensures { result ≡ position (λ name. bytes_eq name bytes.now) names.now }
 {
-    names.iter().position(|name| name.bytes() == bytes)
+    names.iter().position(|name| is_named(name, bytes))
 }
 
 /// The index of the first of these instruments whose name has these bytes.
 fn find_listed(listed: &[Listed], bytes: &[u8]) -> Option<usize>
     ensures { result ≡ position (λ l. bytes_eq l.name bytes.now) listed.now }
 {
-    listed.iter().position(|l| l.name.bytes() == bytes)
+    listed.iter().position(|l| is_named(&l.name, bytes))
+}
+
+/// Whether a name has these bytes.
+#[inline(always)]
+fn is_named(name: &ShortId, bytes: &[u8]) -> bool
+    ensures { result ≡ bytes_eq name.now bytes.now }
+{
+    let name = name.bytes();
+    if bytes.len() > FEW {
+        return name == bytes;
+    }
+    if name.len() != bytes.len() {
+        return false;
+    }
+    for k in 0..bytes.len() {
+        if name[k] != bytes[k] {
+            return false;
+        }
+    }
+    true
 }
