@@ -46,9 +46,9 @@ impl Model for LinkedBook {
 }
 
 impl LinkedBook {
-    /// An empty book for so many live orders, and so many instruments. An `Err` is want of memory, also where twice the
-    /// capacity, the instruments and one more are together 2 to the power of 32 or more. It takes all the memory, for the
-    /// stops of each instrument as if all orders were stops of it: no call changes how much a part has room for.
+    /// An empty book for so many live orders, and so many instruments. An `Err` is want of memory, also if the capacity and the
+    /// instruments are together 2 to the power of 31 or more. It takes all the memory, for the stops of each instrument as if all
+    /// orders were stops of it: no call changes how much a part has room for.
     pub fn new(alloc: Global, capacity: u32, instruments: u8) -> Result<LinkedBook, AllocError>
         ensures { IfOk result (λ b. b ≡ empty_book capacity instruments) }
     {

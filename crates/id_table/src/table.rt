@@ -38,7 +38,7 @@ impl Model for IdTable {
 }
 
 impl IdTable {
-    /// An empty table for so many ids. An `Err` is want of memory: it takes 60 bytes for each of them, and 4 more, in three
+    /// An empty table for so many ids. An `Err` is want of memory: it takes 56 bytes for each of them, and 4 more, in three
     /// pieces. That is all the memory: no call changes how much a part has room for.
     pub fn new(alloc: Global, capacity: u32) -> Result<IdTable, AllocError>
         ensures { IfOk result (λ t. t ≡ empty_ids capacity) }
