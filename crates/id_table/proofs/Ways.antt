@@ -51,7 +51,7 @@ module _ (home : List ℕ → ℕ) (link : Place → ℕ) (entry : ℕ → Entry
   pub side_none : (b : Bool) (i : ℕ) → i ≡ nowhere → link (side_of b i) ≡ nowhere
   side_none b i e = side_bare b i (subst (λ (x : ℕ). (entry x).is_live ≡ false) (sym e) none)
 
-  -- behind a link that leads nowhere all do
+  -- after a link that leads nowhere all do
   pub past_none : (k : List ℕ) (d e : ℕ) → d ≤ e → link (at k d) ≡ nowhere → link (at k e) ≡ nowhere
   past_none k d zero le n = let same : d ≡ 0 = omega (arith, le) in subst (λ (x : ℕ). link (at k x) ≡ nowhere) same n
   past_none k d (suc e) le n =

@@ -42,6 +42,23 @@ use Rattle.image_laws.proofs.NewOrders.{refused-reached, new-reached}
 use Rattle.image_laws.proofs.Closings.{nothing-reached, session-reached}
 use Rattle.image_laws.proofs.Replaces.{unchanged-reached, replace-reached}
 
+-- a state stays right when its message is counted
+pub counted-message : (product : ProductLists) (sent bound : ℕ) (state : State) → IsReached product sent bound state → IsReached product (sent + 1) bound (with_message state)
+counted-message product sent bound state h = record {
+  held = h.held;
+  uncrossed = h.uncrossed;
+  prices = h.prices;
+  lasts = h.lasts;
+  lives = h.lives;
+  counted = record {
+    messages = ap (λ (n : ℕ). n + 1) h.counted.messages;
+    orders = refl;
+    counts = record { trades = h.counted.counts.trades; reports = h.counted.counts.reports; lines = h.counted.counts.lines };
+    lines = h.counted.lines;
+  };
+  few = omega (arith, h.few);
+}
+
 module _ (product : ProductLists) (right : IsRightProduct product) where
   -- ---- cancels and refused messages
 
@@ -100,20 +117,7 @@ module _ (product : ProductLists) (right : IsRightProduct product) where
 
   pub step-reached : (sent bound : ℕ) (state : State) (frame : List ℕ) → IsReached product sent bound state → StepReaches product (sent + 1) bound (step_of product state frame)
   step-reached sent bound state frame h =
-      let counted : IsReached product (sent + 1) bound (with_message state) = record {
-        held = h.held;
-        uncrossed = h.uncrossed;
-        prices = h.prices;
-        lasts = h.lasts;
-        lives = h.lives;
-        counted = record {
-          messages = ap (λ (n : ℕ). n + 1) h.counted.messages;
-          orders = refl;
-          counts = record { trades = h.counted.counts.trades; reports = h.counted.counts.reports; lines = h.counted.counts.lines };
-          lines = h.counted.lines;
-        };
-        few = omega (arith, h.few);
-      } in request-reached (sent + 1) bound (request_of product frame) (with_message state) (request-valid product frame) (request-named product frame) counted (omega (arith, h.few))
+      request-reached (sent + 1) bound (request_of product frame) (with_message state) (request-valid product frame) (request-named product frame) (counted-message product sent bound state h) (omega (arith, h.few))
 
   -- ---- all messages
 

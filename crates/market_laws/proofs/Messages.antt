@@ -67,7 +67,7 @@ use Rattle.image_laws.proofs.Reached.{IsReached}
 use Rattle.image_laws.proofs.NewOrders as news
 use Rattle.image_laws.proofs.Replaces as replaces
 use Rattle.order_kinds.proofs.LiveOrders.{named-own}
-use Rattle.image_laws.proofs.States.{step-reached, starts}
+use Rattle.image_laws.proofs.States.{counted-message, step-reached, starts}
 use Rattle.image_laws.proofs.Histories.{history-reached}
 use Rattle.image_laws.proofs.Amended.{reached-follows}
 use Rattle.balance_laws.proofs.Closings.{live-closed}
@@ -669,22 +669,6 @@ module _ (product : ProductLists) (right : IsRightProduct product) (sent bound :
       by-session (IsRightMessage product state) by_number product request state (λ is_open. open-right request state valid name h room is_open) (λ is_closed. closed-right request state h)
 
 -- ---- every message of every history
-
-counted-message : (product : ProductLists) (sent bound : ℕ) (state : State) → IsReached product sent bound state → IsReached product (sent + 1) bound (with_message state)
-counted-message product sent bound state h = record {
-  held = h.held;
-  uncrossed = h.uncrossed;
-  prices = h.prices;
-  lasts = h.lasts;
-  lives = h.lives;
-  counted = record {
-    messages = ap (λ (n : ℕ). n + 1) h.counted.messages;
-    orders = refl;
-    counts = record { trades = h.counted.counts.trades; reports = h.counted.counts.reports; lines = h.counted.counts.lines };
-    lines = h.counted.lines;
-  };
-  few = omega (arith, h.few);
-}
 
 pub step-right : (product : ProductLists) → IsRightProduct product → (sent bound : ℕ) (state : State) (frame : List ℕ) → IsReached product sent bound state → IsRightMessage product (with_message state) (step_of product state frame)
 step-right product right sent bound state frame h =

@@ -53,7 +53,7 @@ abbrev pub first_slot : List Entry → Option ℕ
 first_slot [] = None
 first_slot (e ∷ es) = Some e.0
 
--- the slot behind slot i, if there is one
+-- the slot after slot i, if there is one
 abbrev pub next_slot : ℕ → List Entry → Option ℕ
 next_slot i [] = None
 next_slot i (e ∷ es) = if e.0 == i then first_slot es else next_slot i es

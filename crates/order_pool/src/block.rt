@@ -114,7 +114,7 @@ impl Block {
         self.links[self.slot_place(slot) as usize].tag
     }
 
-    /// The slot behind another one. `None` where the next is the head.
+    /// The slot after another one. `None` where the next is the head.
     pub(crate) fn next(&self, slot: u32) -> Option<u32>
         requires { slot < self.now.lent }
         ensures { IsLead self.now.slots result (cell_at self.now.cells slot).next }
@@ -176,7 +176,7 @@ fn pairs_past(pair: u32, all: u32) -> u32
 
 /// What is changed.
 impl Block {
-    /// Sets the link behind a place.
+    /// Sets the link after a place.
     fn set_next(&mut self, at: u32, next: u32)
         requires at_in { IsPlace self.old at }
         requires next_in { IsPlace self.old next }

@@ -84,7 +84,7 @@ impl Pool {
         }
     }
 
-    /// The slot behind this one in its queue. `None` exactly where it is the last.
+    /// The slot after this one in its queue. `None` exactly where it is the last.
     pub fn next(&self, slot: Slot) -> Option<Slot>
         requires { IsLive self.now (slot_number slot) }
         ensures value { (q : ℕ) → IsIn self.now (slot_number slot) q

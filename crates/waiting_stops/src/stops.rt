@@ -86,7 +86,7 @@ impl WaitingStops {
         })
     }
 
-    /// A stop comes, behind the stops of its instrument.
+    /// A stop comes, after the stops of its instrument.
     pub fn put(&mut self, instrument: u8, wait: Wait)
         requires listed { instrument < length self.old.lists }
         requires slot { wait.slot.0 < self.old.capacity }
