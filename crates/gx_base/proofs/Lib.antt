@@ -8,3 +8,5 @@ pub mod Written
 pub mod Marks
 mod Times
 mod ShortPrices
+mod Ends
+mod Blocks
