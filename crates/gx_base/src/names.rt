@@ -7,7 +7,7 @@ use crate::limits::{MOST_DECIMALS, MOST_FIRMS, MOST_INSTRUMENTS};
 use arrayvec::ArrayVec;
 use std::marker::Model;
 
-/// How many bytes of a name are compared one by one: so few take less than a call of the library's comparison.
+/// How many bytes of a name are compared by words: so few take less than a call of the library's comparison.
 const FEW: usize = 8;
 
 /// An instrument's name, and how many decimals its prices have.
@@ -139,16 +139,52 @@ fn is_named(name: &ShortId, bytes: &[u8]) -> bool
     ensures { result ≡ bytes_eq name.now bytes.now }
 {
     let name = name.bytes();
-    if bytes.len() > FEW {
+    let len = bytes.len();
+    if len == 0 || len > FEW {
         return name == bytes;
     }
-    if name.len() != bytes.len() {
+    if name.len() != len {
         return false;
     }
-    for k in 0..bytes.len() {
-        if name[k] != bytes[k] {
-            return false;
-        }
+    if len < 4 {
+        are_same_three(name, bytes)
+    } else {
+        are_same_ends(name, bytes)
     }
-    true
+}
+
+/// Whether 1 to 3 bytes are the same.
+#[inline(always)]
+fn are_same_three(left: &[u8], right: &[u8]) -> bool
+    requires some { 1 ≤ length left.now }
+    requires few { length left.now ≤ 3 }
+    requires as_many { length right.now ≡ length left.now }
+    ensures { result ≡ bytes_eq left.now right.now }
+{
+    let len = left.len();
+    left[0] == right[0] && left[len - 1] == right[len - 1] && left[len / 2] == right[len / 2]
+}
+
+/// Whether 4 to 8 bytes are the same: the first four and the last four, which overlap.
+#[inline(always)]
+fn are_same_ends(left: &[u8], right: &[u8]) -> bool
+    requires some { 4 ≤ length left.now }
+    requires few { length left.now ≤ 8 }
+    requires as_many { length right.now ≡ length left.now }
+    ensures { result ≡ bytes_eq left.now right.now }
+{
+    let last = left.len() - 4;
+    is_same_word(&left[..4], &right[..4]) && is_same_word(&left[last..], &right[last..])
+}
+
+/// Whether four bytes are the same.
+#[inline(always)]
+fn is_same_word(left: &[u8], right: &[u8]) -> bool
+    requires left { length left.now ≡ 4 }
+    requires right { length right.now ≡ 4 }
+    ensures { result ≡ bytes_eq left.now right.now }
+{
+    let seen = u32::from_le_bytes([right[0], right[1], right[2], right[3]]);
+    let sought = u32::from_le_bytes([left[0], left[1], left[2], left[3]]);
+    seen == sought
 }
