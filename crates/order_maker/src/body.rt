@@ -1,18 +1,19 @@
-//! The bodies of messages, field by field. Each call writes after the first `at` bytes, and answers where what it wrote
-//! ends.
-ghost use Rattle.std.specs.Prelude.{◌≡◌, ◌+◌, ◌*◌, ◌≤◌, [], ◌∷◌, ◌++◌, length, take};
-ghost use Rattle.order_maker.specs.Stream.{head_fields, tick_at, order_fields, body_of};
+//! The bodies of messages, field by field. As in `rows`, each call writes after the first `at` bytes and begins with the byte that ends
+//! the field before, and answers where the last value ends. A field takes at most `LONGEST_FIELD` bytes.
+ghost use Rattle.std.specs.Prelude.{◌≡◌, ◌+◌, ◌*◌, ◌<◌, ◌≤◌, [], ◌∷◌, ◌++◌, decimal, length, take};
+ghost use Rattle.gx_base.specs.Frames.{field};
+ghost use Rattle.gx_base.specs.Line.{side_text};
+ghost use Rattle.line_parts.specs.Rows.{ended};
+ghost use Rattle.order_maker.specs.Stream.{id_of, head_fields, tick_at, order_fields, body_of};
 
 use crate::made::{Made, firm_at, instrument_at, side_at};
-use gx_base::Price;
-use line_parts::fields::{LONGEST_FIELD, name, number, price, word};
-use line_parts::side_text;
+use gx_base::{Price, Side};
+use line_parts::fields::LONGEST_FIELD;
+use line_parts::rows::{counter, end_row, last_text, letter, name, number, price};
 use product_file::{MOST_TICK, Product};
 
-/// The time of each message.
-const TIME: &[u8] = b"20240102-00:00:00";
-
-/// Writes the body of the message with this number: at most 12 fields.
+/// Writes the body of the message with this number: at most 12 fields, and the byte that ends the last.
+#[inline(always)]
 pub(crate) fn write_body(
     into: &mut [u8],
     at: usize,
@@ -20,37 +21,37 @@ pub(crate) fn write_body(
     message: u64,
     made: &Made,
 ) -> usize
-    requires { at + 12 * LONGEST_FIELD ≤ length into.old }
-    ensures body { take result into.new ≡ take at into.old ++ body_of product.now message made.now }
-    ensures short { result ≤ at + 12 * LONGEST_FIELD }
+    requires { at + 12 * LONGEST_FIELD < length into.old }
+    ensures body { take result into.new ≡ ended at into.old ++ body_of product.now message made.now }
+    ensures short { result ≤ at + 12 * LONGEST_FIELD + 1 }
 {
     match *made {
         Made::New { lots, ticks } => {
-            let at = head_fields(into, at, product, b'D', message, message);
-            let at = number(into, at, b"11=G", message);
+            let at = front_fields(into, at, product, b'D', message, message);
             let at = order_fields(into, at, product, message, lots, ticks);
-            word(into, at, b"59=", b"0")
+            last_text(into, at, b"\x0159=0\x01")
         }
         Made::Cancel { target } => {
-            let at = head_fields(into, at, product, b'F', message, target);
-            let at = number(into, at, b"11=G", message);
-            number(into, at, b"41=G", target)
+            let at = front_fields(into, at, product, b'F', message, target);
+            let at = counter(into, at, b"\x0141=G", target);
+            end_row(into, at)
         }
         Made::Replace {
             target,
             lots,
             ticks,
         } => {
-            let at = head_fields(into, at, product, b'G', message, target);
-            let at = number(into, at, b"11=G", message);
-            let at = number(into, at, b"41=G", target);
-            order_fields(into, at, product, target, lots, ticks)
+            let at = front_fields(into, at, product, b'G', message, target);
+            let at = counter(into, at, b"\x0141=G", target);
+            let at = order_fields(into, at, product, target, lots, ticks);
+            end_row(into, at)
         }
     }
 }
 
-/// Type, sender, exchange, number and time of a message, which the firm of the message `owner` sends.
-fn head_fields(
+/// Type, sender, exchange, number, time and id of a message, which the firm of the message `owner` sends.
+#[inline(always)]
+fn front_fields(
     into: &mut [u8],
     at: usize,
     product: &Product,
@@ -58,19 +59,21 @@ fn head_fields(
     message: u64,
     owner: u64,
 ) -> usize
-    requires { at + 5 * LONGEST_FIELD ≤ length into.old }
-    ensures fields { take result into.new ≡ take at into.old ++ head_fields product.now (message_type ∷ []) message owner }
-    ensures short { result ≤ at + 5 * LONGEST_FIELD }
+    requires { at + 6 * LONGEST_FIELD ≤ length into.old }
+    ensures fields { ended result into.new ≡ ended at into.old
+        ++ (head_fields product.now (message_type ∷ []) message owner ++ field "11" (id_of message)) }
+    ensures short { result ≤ at + 6 * LONGEST_FIELD }
 {
     let names = product.names();
-    let at = word(into, at, b"35=", &[message_type]);
-    let at = name(into, at, b"49=", names.firm(firm_at(product, owner)));
-    let at = name(into, at, b"56=", names.exchange());
-    let at = number(into, at, b"34=", message);
-    word(into, at, b"52=", TIME)
+    let at = letter(into, at, b"\x0135=", message_type);
+    let at = name(into, at, b"\x0149=", names.firm(firm_at(product, owner)));
+    let at = name(into, at, b"\x0156=", names.exchange());
+    let at = counter(into, at, b"\x0134=", message);
+    counter(into, at, b"\x0152=20240102-00:00:00\x0111=G", message)
 }
 
 /// A limit order on the instrument and the side of a message.
+#[inline(always)]
 fn order_fields(
     into: &mut [u8],
     at: usize,
@@ -80,16 +83,27 @@ fn order_fields(
     ticks: u32,
 ) -> usize
     requires { at + 5 * LONGEST_FIELD ≤ length into.old }
-    ensures fields { take result into.new ≡ take at into.old ++ order_fields product.now message lots ticks }
+    ensures fields { ended result into.new ≡ ended at into.old ++ order_fields product.now message lots ticks }
     ensures short { result ≤ at + 5 * LONGEST_FIELD }
 {
     let instrument = product.names().listed(instrument_at(product, message));
     let units = u64::from(ticks) * tick_at(product, message);
-    let at = name(into, at, b"55=", &instrument.name);
-    let at = word(into, at, b"54=", side_text(side_at(product, message)));
-    let at = number(into, at, b"38=", u64::from(lots));
-    let at = word(into, at, b"40=", b"2");
-    price(into, at, b"44=", Price(units as i64), instrument.decimals)
+    let at = name(into, at, b"\x0155=", &instrument.name);
+    let at = side_fields(into, at, side_at(product, message), lots);
+    price(into, at, b"\x0140=2\x0144=", Price(units as i64), instrument.decimals)
+}
+
+/// A side, and so many lots.
+#[inline(always)]
+fn side_fields(into: &mut [u8], at: usize, side: Side, lots: u32) -> usize
+    requires { at + 2 * LONGEST_FIELD ≤ length into.old }
+    ensures fields { ended result into.new ≡ ended at into.old ++ (field "54" (side_text side) ++ field "38" (decimal lots)) }
+    ensures short { result ≤ at + 2 * LONGEST_FIELD }
+{
+    match side {
+        Side::Buy => number(into, at, b"\x0154=1\x0138=", u64::from(lots)),
+        Side::Sell => number(into, at, b"\x0154=2\x0138=", u64::from(lots)),
+    }
 }
 
 /// The tick of the message's instrument, in price units.

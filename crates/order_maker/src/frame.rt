@@ -24,13 +24,14 @@ pub(crate) fn write_message(
     at + write_frame(&mut into[at..], product, message, made)
 }
 
-/// Writes the frame of a message into the front of `into`, and answers how many bytes it has.
+/// Writes the frame of a message into the front of `into`, and answers how many bytes it has. The head of a frame, which comes later,
+/// ends with the byte that the body begins to write with.
 fn write_frame(into: &mut [u8], product: &Product, message: u64, made: &Made) -> usize
     requires { LONGEST_LINE ≤ length into.old }
     ensures frame { take result into.new ≡ frame_at product.now message made.now }
     ensures some { 0 < result }
     ensures short { result ≤ LONGEST_LINE }
 {
-    let end = write_body(into, GAP, product, message, made);
+    let end = write_body(into, GAP - 1, product, message, made);
     put_frame(into, end)
 }
