@@ -41,6 +41,3 @@ first_mark marks bytes (n, short, e) some =
       low = omega (arith, length-take n bytes);
       others = (n - (k + 1), omega arith, shr-shr marks k 1 ∙ ap (λ m. m / 2 ^ (k + 1)) e ∙ marked_after n (k + 1) bytes low);
     }
-
-pub none_marked : (bytes : List ℕ) → AreMarks 0 bytes
-none_marked bytes = (0, omega arith, refl)

@@ -217,25 +217,24 @@ fn note_fields<'a>(bytes: &'a [u8], texts: &mut [&'a [u8]; PLACES]) -> Result<()
     ensures { result_map (λ _. places_view (texts_of_places texts.exit.now)) result ≡ well_formed_values bytes.now }
 {
     let mut start = 0;
-    // Those from `start` on that are left of the last mask.
-    let mut marks = 0;
     'fields: while start < bytes.len() {
-        if marks == 0 {
-            marks = soh_marks(bytes, start);
-        }
-        if marks != 0 {
+        let first = start;
+        // Those from `start` on. Marks that are left mean that bytes are left.
+        let mut marks = soh_marks(bytes, start);
+        'marked: while marks != 0 {
             let count = marks.trailing_zeros() as usize;
             let text = &bytes[start..start + count];
-            if let Some(slot) = plain_slot(text) {
-                note_at(texts, slot, &text[3..]);
-                marks = marks >> count >> 1;
-                start += count + 1;
-                continue 'fields;
-            }
+            let Some(slot) = plain_slot(text) else {
+                break 'marked;
+            };
+            note_at(texts, slot, &text[3..]);
+            marks = marks >> count >> 1;
+            start += count + 1;
         }
-        let rest = read_other_field(&bytes[start..], texts)?;
-        start = bytes.len() - rest.len();
-        marks = 0;
+        if start == first {
+            let rest = read_other_field(&bytes[start..], texts)?;
+            start = bytes.len() - rest.len();
+        }
     }
     Ok(())
 }
