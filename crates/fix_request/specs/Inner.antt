@@ -7,3 +7,4 @@ pub mod Requests
 pub mod Noting
 pub mod Views
 pub mod Slots
+pub mod Kinds

@@ -1,6 +1,7 @@
 //! Requests: each message that a client sends is read as exactly one, or refused by the first session rule that it breaks.
 #![tactic(auto)]
 
+mod blank;
 mod digits;
 mod fault;
 mod fields;
