@@ -1,11 +1,13 @@
-//! A request is kept from one message to the next, and is mostly of the kind that the next one asks for. Then its fields are written one by
-//! one: a whole request is built in two other places first. Else it is made a blank one of that kind.
+//! Blank orders. A request is kept from one message to the next. If the next one asks for the same kind, each value is written into its field
+//! as it is read: a whole order would be built in two other places first, and copied. Else the request is made a blank of that kind.
+ghost use Rattle.std.specs.Prelude.{◌≡◌};
+ghost use Rattle.fix_request.specs.Requests.{no_time};
 ghost use Rattle.fix_request.specs.Inner.Kinds.{IsNew, IsCancel, IsReplace};
 
 use crate::request::{CancelOrder, Named, NewOrder, Px, ReplaceOrder, Request, Sender};
 use gx_base::{Kind, Life, ShortId, Side, Stamp};
 
-/// Makes a request a new order, whose fields are to be written.
+/// Makes a request a new order, whose fields are then to be written. One that is a new order already is left as it is.
 #[inline]
 pub fn become_new(request: &mut Request)
     ensures { IsNew request.new }
@@ -16,7 +18,7 @@ pub fn become_new(request: &mut Request)
     }
 }
 
-/// Makes a request a cancel, whose fields are to be written.
+/// Makes a request a cancel, whose fields are then to be written. One that is a cancel already is left as it is.
 #[inline]
 pub fn become_cancel(request: &mut Request)
     ensures { IsCancel request.new }
@@ -27,7 +29,7 @@ pub fn become_cancel(request: &mut Request)
     }
 }
 
-/// Makes a request a replace, whose fields are to be written.
+/// Makes a request a replace, whose fields are then to be written. One that is a replace already is left as it is.
 #[inline]
 pub fn become_replace(request: &mut Request)
     ensures { IsReplace request.new }
@@ -38,6 +40,7 @@ pub fn become_replace(request: &mut Request)
     }
 }
 
+/// Writes a new order that says nothing.
 #[cold]
 #[inline(never)]
 fn write_blank_new(request: &mut Request)
@@ -59,6 +62,7 @@ fn write_blank_new(request: &mut Request)
     });
 }
 
+/// Writes a cancel that says nothing.
 #[cold]
 #[inline(never)]
 fn write_blank_cancel(request: &mut Request)
@@ -71,6 +75,7 @@ fn write_blank_cancel(request: &mut Request)
     });
 }
 
+/// Writes a replace that says nothing.
 #[cold]
 #[inline(never)]
 fn write_blank_replace(request: &mut Request)
@@ -89,8 +94,10 @@ fn write_blank_replace(request: &mut Request)
     });
 }
 
-/// A sender that stands for none.
-fn nobody() -> Sender {
+/// The sender that stands for none.
+fn nobody() -> Sender
+    ensures { result ≡ record { firm = 0; seq = 0; time = no_time } }
+{
     Sender {
         firm: 0,
         seq: 0,

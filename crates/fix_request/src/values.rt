@@ -219,7 +219,7 @@ fn note_fields<'a>(bytes: &'a [u8], texts: &mut [&'a [u8]; PLACES]) -> Result<()
     let mut start = 0;
     'fields: while start < bytes.len() {
         let first = start;
-        // Those from `start` on. Marks that are left mean that bytes are left.
+        // Those from `start` on. While any are left, so are bytes: only when they are used up need that be tested.
         let mut marks = soh_marks(bytes, start);
         'marked: while marks != 0 {
             let count = marks.trailing_zeros() as usize;
