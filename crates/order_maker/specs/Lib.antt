@@ -1,3 +1,4 @@
 pub mod Draws
+pub mod Inner
 pub mod Messages
 pub mod Stream

@@ -4,35 +4,39 @@ ghost use Rattle.std.specs.Prelude.{◌≡◌, ◌+◌, ◌*◌, ◌<◌, ◌≤
 ghost use Rattle.gx_base.specs.Frames.{field};
 ghost use Rattle.gx_base.specs.Line.{side_text};
 ghost use Rattle.line_parts.specs.Rows.{ended};
+ghost use Rattle.order_maker.specs.Inner.{IsTurn};
 ghost use Rattle.order_maker.specs.Stream.{id_of, head_fields, tick_at, order_fields, body_of};
 
-use crate::made::{Made, firm_at, instrument_at, side_at};
+use crate::made::Made;
+use crate::turn::{Turn, turn_at};
 use gx_base::{Price, Side};
 use line_parts::fields::LONGEST_FIELD;
 use line_parts::rows::{counter, end_row, last_text, letter, name, number, price};
 use product_file::{MOST_TICK, Product};
 
-/// Writes the body of the message with this number: at most 12 fields, and the byte that ends the last.
+/// Writes the body of a message: at most 12 fields, and the byte that ends the last.
 #[inline(always)]
 pub(crate) fn write_body(
     into: &mut [u8],
     at: usize,
     product: &Product,
-    message: u64,
+    turn: &Turn,
     made: &Made,
 ) -> usize
-    requires { at + 12 * LONGEST_FIELD < length into.old }
-    ensures body { take result into.new ≡ ended at into.old ++ body_of product.now message made.now }
+    requires room { at + 12 * LONGEST_FIELD < length into.old }
+    requires turn { IsTurn product.now turn.now }
+    ensures body { take result into.new ≡ ended at into.old ++ body_of product.now turn.now.number made.now }
     ensures short { result ≤ at + 12 * LONGEST_FIELD + 1 }
 {
     match *made {
         Made::New { lots, ticks } => {
-            let at = front_fields(into, at, product, b'D', message, message);
-            let at = order_fields(into, at, product, message, lots, ticks);
+            let at = front_fields(into, at, product, b'D', turn.number, turn);
+            let at = order_fields(into, at, product, turn, lots, ticks);
             last_text(into, at, b"\x0159=0\x01")
         }
         Made::Cancel { target } => {
-            let at = front_fields(into, at, product, b'F', message, target);
+            let owner = turn_at(product, target);
+            let at = front_fields(into, at, product, b'F', turn.number, &owner);
             let at = counter(into, at, b"\x0141=G", target);
             end_row(into, at)
         }
@@ -41,9 +45,10 @@ pub(crate) fn write_body(
             lots,
             ticks,
         } => {
-            let at = front_fields(into, at, product, b'G', message, target);
+            let owner = turn_at(product, target);
+            let at = front_fields(into, at, product, b'G', turn.number, &owner);
             let at = counter(into, at, b"\x0141=G", target);
-            let at = order_fields(into, at, product, target, lots, ticks);
+            let at = order_fields(into, at, product, &owner, lots, ticks);
             end_row(into, at)
         }
     }
@@ -57,16 +62,17 @@ fn front_fields(
     product: &Product,
     message_type: u8,
     message: u64,
-    owner: u64,
+    owner: &Turn,
 ) -> usize
-    requires { at + 6 * LONGEST_FIELD ≤ length into.old }
+    requires room { at + 6 * LONGEST_FIELD ≤ length into.old }
+    requires owner { IsTurn product.now owner.now }
     ensures fields { ended result into.new ≡ ended at into.old
-        ++ (head_fields product.now (message_type ∷ []) message owner ++ field "11" (id_of message)) }
+        ++ (head_fields product.now (message_type ∷ []) message owner.now.number ++ field "11" (id_of message)) }
     ensures short { result ≤ at + 6 * LONGEST_FIELD }
 {
     let names = product.names();
     let at = letter(into, at, b"\x0135=", message_type);
-    let at = name(into, at, b"\x0149=", names.firm(firm_at(product, owner)));
+    let at = name(into, at, b"\x0149=", names.firm(owner.firm));
     let at = name(into, at, b"\x0156=", names.exchange());
     let at = counter(into, at, b"\x0134=", message);
     counter(into, at, b"\x0152=20240102-00:00:00\x0111=G", message)
@@ -78,19 +84,26 @@ fn order_fields(
     into: &mut [u8],
     at: usize,
     product: &Product,
-    message: u64,
+    turn: &Turn,
     lots: u32,
     ticks: u32,
 ) -> usize
-    requires { at + 5 * LONGEST_FIELD ≤ length into.old }
-    ensures fields { ended result into.new ≡ ended at into.old ++ order_fields product.now message lots ticks }
+    requires room { at + 5 * LONGEST_FIELD ≤ length into.old }
+    requires turn { IsTurn product.now turn.now }
+    ensures fields { ended result into.new ≡ ended at into.old ++ order_fields product.now turn.now.number lots ticks }
     ensures short { result ≤ at + 5 * LONGEST_FIELD }
 {
-    let instrument = product.names().listed(instrument_at(product, message));
-    let units = u64::from(ticks) * tick_at(product, message);
+    let instrument = product.names().listed(turn.instrument);
+    let units = u64::from(ticks) * tick_of(product, turn);
     let at = name(into, at, b"\x0155=", &instrument.name);
-    let at = side_fields(into, at, side_at(product, message), lots);
-    price(into, at, b"\x0140=2\x0144=", Price(units as i64), instrument.decimals)
+    let at = side_fields(into, at, turn.side, lots);
+    price(
+        into,
+        at,
+        b"\x0140=2\x0144=",
+        Price(units as i64),
+        instrument.decimals,
+    )
 }
 
 /// A side, and so many lots.
@@ -107,11 +120,13 @@ fn side_fields(into: &mut [u8], at: usize, side: Side, lots: u32) -> usize
 }
 
 /// The tick of the message's instrument, in price units.
-fn tick_at(product: &Product, message: u64) -> u64
-    ensures tick { result ≡ tick_at product.now message }
+#[inline(always)]
+fn tick_of(product: &Product, turn: &Turn) -> u64
+    requires { IsTurn product.now turn.now }
+    ensures tick { result ≡ tick_at product.now turn.now.number }
     ensures few { result ≤ MOST_TICK }
 {
     product.limits();
-    let rule = product.rule(instrument_at(product, message));
+    let rule = product.rule(turn.instrument);
     rule.tick.unsigned_abs()
 }

@@ -6,5 +6,6 @@ mod draws;
 mod frame;
 mod made;
 mod maker_source;
+mod turn;
 
 pub use maker_source::MakerSource;

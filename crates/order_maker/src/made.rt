@@ -1,9 +1,11 @@
-//! Whose each message is, what it is about, and what is drawn for it.
-ghost use Rattle.std.specs.Prelude.{◌≡◌, ◌<◌, length};
+//! What is drawn for each message.
+ghost use Rattle.std.specs.Prelude.{◌≡◌, ◌<◌};
 ghost use Rattle.order_maker.specs.Draws.{next_state, drawn};
-ghost use Rattle.order_maker.specs.Messages.{firm_at, instrument_at, side_at, lowest, target_of, new_of, cancel_of, replace_of, message_of};
+ghost use Rattle.order_maker.specs.Inner.{IsTurn};
+ghost use Rattle.order_maker.specs.Messages.{lowest, target_of, new_of, cancel_of, replace_of, message_of};
 
 use crate::draws::draw;
+use crate::turn::Turn;
 use gx_base::Side;
 use product_file::Product;
 
@@ -24,48 +26,16 @@ pub enum Made {
     Replace { target: u64, lots: u32, ticks: u32 },
 }
 
-/// The number of the firm that the message with this number is of: the firms take turns.
-pub(crate) fn firm_at(product: &Product, number: u64) -> u8
-    ensures firm { result ≡ firm_at product.now number }
-    ensures listed { result < length product.now.names.firms }
-{
-    product.limits();
-    let firms = product.names().firm_count() as u64;
-    (number.saturating_sub(1) % firms) as u8
-}
-
-/// The number of the instrument of the message with this number: the instruments take turns, too.
-pub(crate) fn instrument_at(product: &Product, number: u64) -> u8
-    ensures instrument { result ≡ instrument_at product.now number }
-    ensures listed { result < length product.now.names.instruments }
-{
-    product.limits();
-    let instruments = product.names().instrument_count() as u64;
-    (number % instruments) as u8
-}
-
-/// The side of the message with this number: a round of the firms buys, and the next one sells.
-pub(crate) fn side_at(product: &Product, number: u64) -> Side
-    ensures { result ≡ side_at product.now number }
-{
-    product.limits();
-    let firms = product.names().firm_count() as u64;
-    if number / firms % 2 == 0 {
-        Side::Buy
-    } else {
-        Side::Sell
-    }
-}
-
-/// Draws what the message with this number asks for: eight of ten are new orders, one is a cancel and one a replace.
+/// Draws what a message asks for: eight of ten are new orders, one is a cancel and one a replace.
 #[tactic(auto, unfolding(crate::specs::Messages::message_of))]
-pub(crate) fn draw_message(product: &Product, number: u64, state: &mut u32) -> Made
-    ensures { (result, state.new) ≡ message_of product.now number state.old }
+pub(crate) fn draw_message(product: &Product, turn: &Turn, state: &mut u32) -> Made
+    requires { IsTurn product.now turn.now }
+    ensures { (result, state.new) ≡ message_of product.now turn.now.number state.old }
 {
     match draw(state, 10) {
-        0..=7 => draw_new(side_at(product, number), state),
-        8 => draw_cancel(number, state),
-        _ => draw_replace(number, state),
+        0..=7 => draw_new(turn.side, state),
+        8 => draw_cancel(turn.number, state),
+        _ => draw_replace(turn.number, state),
     }
 }
 

@@ -2,19 +2,21 @@
 ghost use Rattle.std.specs.Prelude.{◌≡◌, ◌≢◌, ◌+◌, ◌^◌, ◌<◌, ◌≤◌, [], ◌++◌, ◌==◌, if◌then◌else◌, length, take, IfOk, IsOk};
 ghost use Rattle.gx_station.specs.Counts.{counted};
 ghost use Rattle.gx_station.specs.Sources.{Takes};
+ghost use Rattle.order_maker.specs.Inner.{Stands};
 ghost use Rattle.order_maker.specs.Stream.{MadeStream, generator_meanings, made_stream, frames_from};
 
 use crate::frame::write_message;
 use crate::made::draw_message;
+use crate::turn::{Turn, turn_after, turn_at};
 use gx_base::LONGEST_LINE;
 use gx_station::{Failed, LEAST_READ, Source};
 use product_file::Product;
 use std::marker::Model;
 
-/// Where a stream stands: the number of the next message, how many are left, and the state of the draws.
+/// Where a stream stands: the turn of the next message, how many are left, and the state of the draws.
 #[derive(Clone, Copy)]
 struct Stand {
-    number: u64,
+    turn: Turn,
     left: u64,
     state: u32,
 }
@@ -33,12 +35,12 @@ impl<'a> Model for MakerSource<'a> {
 
     ghost Value = { MadeStream };
 
-    ghost use Rattle.std.specs.Prelude.{◌+◌, ◌^◌, ◌≤◌};
+    ghost use Rattle.order_maker.specs.Inner.{Stands};
     ghost use Rattle.order_maker.specs.Stream.{frames_from};
 
-    ghost view = { λ s. record { left = frames_from s.product.now s.stand.state s.stand.number s.stand.left; reads = s.reads } };
+    ghost view = { λ s. record { left = frames_from s.product.now s.stand.state s.stand.turn.number s.stand.left; reads = s.reads } };
 
-    ghost invariant = { λ s. s.stand.number + s.stand.left ≤ 2 ^ 32 };
+    ghost invariant = { λ s. Stands s.product.now s.stand.turn s.stand.left };
 }
 
 impl<'a> MakerSource<'a> {
@@ -47,7 +49,7 @@ impl<'a> MakerSource<'a> {
         ensures { result ≡ record { left = made_stream product.now first count; reads = 0 } }
     {
         let stand = Stand {
-            number: 1,
+            turn: turn_at(product, 1),
             left: u64::from(count),
             state: first,
         };
@@ -90,13 +92,13 @@ fn count_read(reads: u64, placed: usize) -> u64
 /// Places frames in the front of `into` while one is left and any frame would fit, and answers where they end.
 fn place_frames(product: &Product, stand: &mut Stand, into: &mut [u8]) -> usize
     requires room { LONGEST_LINE ≤ length into.old }
-    requires few { stand.old.number + stand.old.left ≤ 2 ^ 32 }
+    requires stands { Stands product.now stand.old.turn stand.old.left }
     ensures within { result ≤ length into.new }
-    ensures frames { frames_from product.now stand.old.state stand.old.number stand.old.left
-        ≡ take result into.new ++ frames_from product.now stand.new.state stand.new.number stand.new.left }
+    ensures frames { frames_from product.now stand.old.state stand.old.turn.number stand.old.left
+        ≡ take result into.new ++ frames_from product.now stand.new.state stand.new.turn.number stand.new.left }
     ensures end { result ≡ 0 → stand.old.left ≡ 0 }
     ensures full { stand.new.left ≢ 0 → length into.new < result + LONGEST_LINE }
-    ensures few { stand.new.number + stand.new.left ≤ 2 ^ 32 }
+    ensures stands { Stands product.now stand.new.turn stand.new.left }
 {
     let mut end = 0;
     while stand.left > 0 && into.len() - end >= LONGEST_LINE {
@@ -109,17 +111,17 @@ fn place_frames(product: &Product, stand: &mut Stand, into: &mut [u8]) -> usize
 fn place_next(product: &Product, stand: &mut Stand, into: &mut [u8], at: usize) -> usize
     requires room { at + LONGEST_LINE ≤ length into.old }
     requires some { 1 ≤ stand.old.left }
-    requires few { stand.old.number + stand.old.left ≤ 2 ^ 32 }
+    requires stands { Stands product.now stand.old.turn stand.old.left }
     ensures within { result ≤ length into.new }
-    ensures frame { take at into.old ++ frames_from product.now stand.old.state stand.old.number stand.old.left
-        ≡ take result into.new ++ frames_from product.now stand.new.state stand.new.number stand.new.left }
+    ensures frame { take at into.old ++ frames_from product.now stand.old.state stand.old.turn.number stand.old.left
+        ≡ take result into.new ++ frames_from product.now stand.new.state stand.new.turn.number stand.new.left }
     ensures further { at < result }
     ensures left { stand.new.left + 1 ≡ stand.old.left }
-    ensures number { stand.new.number ≡ stand.old.number + 1 }
+    ensures stands { Stands product.now stand.new.turn stand.new.left }
 {
-    let made = draw_message(product, stand.number, &mut stand.state);
-    let end = write_message(into, at, product, stand.number, &made);
-    stand.number += 1;
+    let made = draw_message(product, &stand.turn, &mut stand.state);
+    let end = write_message(into, at, product, &stand.turn, &made);
+    stand.turn = turn_after(product, &stand.turn);
     stand.left -= 1;
     end
 }

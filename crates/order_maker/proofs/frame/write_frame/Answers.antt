@@ -10,7 +10,7 @@ pub put_frame-requires-clause-gap : goal.put_frame-requires-clause-gap
 put_frame-requires-clause-gap c =
     let old = c.args.into.now in
     let new = c.write_body-end.new.into in
-    let body = body_of c.args.product.now c.args.message c.args.made.now in
+    let body = body_of c.args.product.now c.args.turn.now.number c.args.made.now in
     ends_behind_gap (ended (GAP - 1) old) new body c.write_body-end.result (omega (arith, ended_length old (GAP - 1) (omega arith))) (omega arith)
     (after_gap old new body c.write_body-end.result (omega arith) c.write_body-end.ensures.body)
 
@@ -19,6 +19,6 @@ unfolding frame_at
 returns-clause-frame c =
     let old = c.args.into.now in
     let new = c.write_body-end.new.into in
-    let body = body_of c.args.product.now c.args.message c.args.made.now in
+    let body = body_of c.args.product.now c.args.turn.now.number c.args.made.now in
     framed (ended (GAP - 1) old) new body _ c.write_body-end.result (omega (arith, ended_length old (GAP - 1) (omega arith))) (omega arith)
     (after_gap old new body c.write_body-end.result (omega arith) c.write_body-end.ensures.body) c.put_frame.ensures.frame
