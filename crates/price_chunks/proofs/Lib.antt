@@ -2,8 +2,15 @@ mod Steps
 mod Flat
 mod Linked
 mod Changes
-mod Pool
 mod Sums
 mod Asked
 mod Best
 mod Better
+mod Row
+mod Apart
+mod Held
+mod Sided
+mod Moves
+mod Enough
+mod Come
+mod Gone

@@ -1,5 +1,5 @@
 //! A chunk: some levels of one side that stand one after the other, the worst price first.
-ghost use Rattle.std.specs.Prelude.{◌≡◌, ◌+◌, ◌-◌, ◌<◌, ◌≤◌, ◌^◌, ℕ, [], true, false, ◌∷◌, ◌++◌, take, drop, set, remove, length, IfOk, vec_len, vec_capacity};
+ghost use Rattle.std.specs.Prelude.{◌≡◌, ◌+◌, ◌-◌, ◌<◌, ◌≤◌, ◌^◌, ℕ, [], true, false, ◌∷◌, ◌++◌, take, drop, set, insert, remove, length};
 ghost use Rattle.price_chunks.specs.Steps.{AreWorstFirst, step_at, is_worse_step, is_step_at, with_step, without_step, open_at, with_open};
 ghost use Rattle.price_chunks.specs.Inner.Chunks.{room, half, IsAt};
 ghost use Rattle.price_chunks.specs.Inner.Sums.{IsMod};
@@ -7,7 +7,6 @@ ghost use Rattle.price_chunks.specs.Inner.Sums.{IsMod};
 use crate::place::{Step, place_of};
 use book_order::{is_better_price, is_same_price};
 use gx_base::{Price, Side};
-use std::alloc::{AllocError, Global};
 use std::marker::Model;
 
 /// For how many levels a chunk has room.
@@ -16,88 +15,68 @@ pub(crate) const ROOM: usize = 128;
 /// Two chunks beside each other have at least so many levels, and a full one is split into halves of so many.
 pub(crate) const HALF: usize = 64;
 
+/// What stands in a chunk after its levels.
+const BLANK: Step = Step {
+    price: Price(0),
+    leaves: 0,
+    queue: 0,
+};
+
 /// Some levels of one side, with what is open at all of them. Contracts see the list of the levels. It has room for `ROOM`
 /// levels, and never for more.
 #[derive(Drop)]
 pub(crate) struct Chunk {
-    steps: Vec<Step>,
+    /// Its levels, and after them whatever was left there.
+    steps: [Step; ROOM],
+    count: usize,
     /// How many lots are open at its levels, but for multiples of 2^64.
     lots: u64,
 }
 
 impl Model for Chunk {
-    ghost use Rattle.std.specs.Prelude.{List, vec_capacity};
+    ghost use Rattle.std.specs.Prelude.{List, take};
     ghost use Rattle.price_chunks.specs.declared.place.Step.{Step};
     ghost use Rattle.price_chunks.specs.Inner.Sums.{IsChunk};
 
     ghost Value = { List Step };
 
-    ghost view = { λ c. c.steps.items };
+    ghost view = { λ c. take c.count c.steps };
 
-    ghost invariant = { λ c. IsChunk c.steps.items (vec_capacity c.steps) c.lots };
-}
-
-/// How many lots are open at some levels, but for multiples of 2^64.
-fn sum_of(steps: &[Step]) -> u64
-    ensures { IsMod result (open_at steps.now) }
-{
-    let mut sum: u64 = 0;
-    for step in steps {
-        sum = sum.wrapping_add(step.leaves);
-    }
-    sum
-}
-
-/// Levels come after others, which have room for them.
-fn push_all(to: &mut Vec<Step>, steps: &[Step])
-    requires { vec_len to.old + length steps.now ≤ vec_capacity to.old }
-    ensures items { to.new.items ≡ to.old.items ++ steps.now }
-    ensures capacity { vec_capacity to.new ≡ vec_capacity to.old }
-{
-    for step in steps {
-        to.push_reserved(*step);
-    }
-}
-
-/// The level at this place goes. The last one goes from the end, and nothing is moved.
-fn remove_at(steps: &mut Vec<Step>, place: usize) -> Step
-    requires { place < vec_len steps.old }
-    ensures gone { result ≡ step_at steps.old.items place }
-    ensures items { steps.new.items ≡ remove steps.old.items place }
-    ensures capacity { vec_capacity steps.new ≡ vec_capacity steps.old }
-{
-    if place + 1 == steps.len() {
-        let Some(last) = steps.pop() else {
-            unreachable!()
-        };
-        return last;
-    }
-    steps.remove(place)
+    ghost invariant = { λ c. IsChunk c.steps c.count c.lots };
 }
 
 impl Chunk {
-    /// A chunk without levels. An `Err` is want of memory: it takes 3,072 bytes.
-    pub(crate) fn new(alloc: Global) -> Result<Chunk, AllocError>
-        ensures { IfOk result (λ c. c ≡ []) }
+    /// A chunk without levels.
+    pub(crate) fn new() -> Chunk
+        ensures { result ≡ [] }
     {
-        Ok(Chunk {
-            steps: Vec::with_capacity(alloc, ROOM)?,
+        Chunk {
+            steps: [BLANK; ROOM],
+            count: 0,
             lots: 0,
-        })
+        }
     }
 
     /// Its levels.
     pub(crate) fn steps(&self) -> &[Step]
         ensures { result.now ≡ self.now }
     {
-        &self.steps
+        &self.steps[..self.count]
     }
 
     /// How many levels it has.
     pub(crate) fn len(&self) -> usize
         ensures { result ≡ length self.now }
     {
-        self.steps.len()
+        self.count
+    }
+
+    /// How many lots are open at the level at this place.
+    fn leaves_at(&self, place: usize) -> u64
+        requires { place < length self.now }
+        ensures { result ≡ (step_at self.now place).leaves }
+    {
+        self.steps()[place].leaves
     }
 
     /// Whether its best level, and so each level, is worse than a price.
@@ -105,7 +84,20 @@ impl Chunk {
         requires { 0 < length self.now }
         ensures { (n : ℕ) → n + 1 ≡ length self.now → result ≡ is_worse_step side price (step_at self.now n) }
     {
-        is_better_price(side, price, self.steps[self.steps.len() - 1].price)
+        is_better_price(side, price, self.steps[self.count - 1].price)
+    }
+
+    /// A level comes to a place.
+    fn insert(&mut self, place: usize, step: Step)
+        requires within { place ≤ length self.old }
+        requires room { length self.old < room }
+        ensures { self.new ≡ insert self.old place step }
+    {
+        let count = self.count;
+        self.steps.copy_within(place..count, place + 1);
+        self.steps[place] = step;
+        self.count = count + 1;
+        self.lots = self.lots.wrapping_add(step.leaves);
     }
 
     /// A level comes to its place, which is returned.
@@ -115,11 +107,8 @@ impl Chunk {
         ensures put { self.new ≡ with_step side step self.old }
         ensures more { length self.new ≡ length self.old + 1 }
     {
-        let place = place_of(&self.steps, side, step.price);
-        if self.steps.insert(place, step).is_err() {
-            unreachable!()
-        }
-        self.lots = self.lots.wrapping_add(step.leaves);
+        let place = place_of(self.steps(), side, step.price);
+        self.insert(place, step);
         place
     }
 
@@ -128,8 +117,9 @@ impl Chunk {
         requires { length self.old < room }
         ensures { self.new ≡ self.old ++ step ∷ [] }
     {
-        let place = self.steps.len();
-        self.steps.push_reserved(step);
+        let place = self.count;
+        self.steps[place] = step;
+        self.count = place + 1;
         self.lots = self.lots.wrapping_add(step.leaves);
         place
     }
@@ -139,8 +129,10 @@ impl Chunk {
         requires { place < length self.old }
         ensures { self.new ≡ remove self.old place }
     {
-        let gone = remove_at(&mut self.steps, place);
-        self.lots = self.lots.wrapping_sub(gone.leaves);
+        let gone = self.leaves_at(place);
+        self.steps.copy_within(place + 1..self.count, place);
+        self.count -= 1;
+        self.lots = self.lots.wrapping_sub(gone);
     }
 
     /// The level at a price goes, if there is one.
@@ -150,7 +142,7 @@ impl Chunk {
         ensures less { length self.old ≤ length self.new + 1 }
         ensures below { length self.new ≤ length self.old }
     {
-        let place = place_of(&self.steps, side, price);
+        let place = place_of(self.steps(), side, price);
         if self.is_at(place, price) {
             self.take_at(place);
         }
@@ -161,14 +153,14 @@ impl Chunk {
         ensures is { result ≡ true → IsAt price self.now place }
         ensures other { result ≡ false → place < length self.now → is_step_at price (step_at self.now place) ≡ false }
     {
-        place < self.steps.len() && is_same_price(self.steps[place].price, price)
+        place < self.count && is_same_price(self.steps[place].price, price)
     }
 
     /// Whether its best level has this price.
     pub(crate) fn is_best(&self, price: Price) -> bool
         ensures { result ≡ true → IsAt price self.now (length self.now - 1) }
     {
-        let count = self.steps.len();
+        let count = self.count;
         count > 0 && is_same_price(self.steps[count - 1].price, price)
     }
 
@@ -176,7 +168,7 @@ impl Chunk {
     pub(crate) fn is_all_worse(&self, side: Side, price: Price) -> bool
         ensures { result ≡ true → 0 < length self.now → is_worse_step side price (step_at self.now (length self.now - 1)) ≡ true }
     {
-        let count = self.steps.len();
+        let count = self.count;
         count == 0 || is_better_price(side, price, self.steps[count - 1].price)
     }
 
@@ -185,7 +177,7 @@ impl Chunk {
         requires { 0 < length self.now }
         ensures { result ≡ (step_at self.now (length self.now - 1)).queue }
     {
-        self.steps[self.steps.len() - 1].queue
+        self.steps[self.count - 1].queue
     }
 
     /// So many lots are open at the level at this place now.
@@ -193,7 +185,7 @@ impl Chunk {
         requires { place < length self.old }
         ensures { self.new ≡ set self.old place (record (step_at self.old place) { leaves = leaves }) }
     {
-        let old = self.steps[place].leaves;
+        let old = self.leaves_at(place);
         self.steps[place].leaves = leaves;
         self.lots = self.lots.wrapping_sub(old).wrapping_add(leaves);
     }
@@ -204,7 +196,7 @@ impl Chunk {
         ensures set { self.new ≡ with_open price leaves self.old }
         ensures long { length self.new ≡ length self.old }
     {
-        let place = place_of(&self.steps, side, price);
+        let place = place_of(self.steps(), side, price);
         if self.is_at(place, price) {
             self.set_at(place, leaves);
         }
@@ -219,31 +211,42 @@ impl Chunk {
         self.lots
     }
 
-    /// All levels after the first half move to an empty chunk.
-    pub(crate) fn move_back(&mut self, back: &mut Chunk)
-        requires empty { back.old ≡ [] }
-        requires long { half ≤ length self.old }
-        requires fits { length self.old ≤ room }
-        ensures front { self.new ≡ take half self.old }
-        ensures back { back.new ≡ drop half self.old }
+    /// Levels come to the end.
+    fn push_all(&mut self, steps: &[Step])
+        requires { length self.old + length steps.now ≤ room }
+        ensures { self.new ≡ self.old ++ steps.now }
     {
-        let tail = &self.steps[HALF..];
-        let moved = sum_of(tail);
-        push_all(&mut back.steps, tail);
-        self.steps.truncate(HALF);
-        back.lots = moved;
-        self.lots = self.lots.wrapping_sub(moved);
+        for step in steps {
+            self.push(*step);
+        }
     }
 
-    /// All levels of the next chunk move to the end of this one.
-    pub(crate) fn append(&mut self, next: &mut Chunk)
-        requires fits { length self.old + length next.old ≤ room }
-        ensures all { self.new ≡ self.old ++ next.old }
-        ensures none { next.new ≡ [] }
+    /// How many lots are open at its levels, but for multiples of 2^64.
+    fn sum(&self) -> u64
+        ensures { IsMod result (open_at self.now) }
     {
-        push_all(&mut self.steps, &next.steps);
-        next.steps.clear();
-        self.lots = self.lots.wrapping_add(next.lots);
-        next.lots = 0;
+        self.lots
+    }
+
+    /// All levels after the first half go, and come back in a chunk of their own.
+    pub(crate) fn split_off(&mut self) -> Chunk
+        requires { half ≤ length self.old }
+        ensures front { self.new ≡ take half self.old }
+        ensures back { result ≡ drop half self.old }
+    {
+        let mut back = Chunk::new();
+        back.push_all(&self.steps()[HALF..]);
+        let moved = back.sum();
+        self.count = HALF;
+        self.lots = self.lots.wrapping_sub(moved);
+        back
+    }
+
+    /// All levels of the next chunk come to the end of this one.
+    pub(crate) fn append(&mut self, next: &Chunk)
+        requires { length self.old + length next.now ≤ room }
+        ensures { self.new ≡ self.old ++ next.now }
+    {
+        self.push_all(next.steps());
     }
 }

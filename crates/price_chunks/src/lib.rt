@@ -4,6 +4,7 @@
 
 mod chunk;
 mod place;
+mod pool;
 mod side;
 mod sides;
 

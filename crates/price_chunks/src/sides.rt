@@ -1,10 +1,9 @@
 //! The levels of all sides, in chunks from one pool, which always has a chunk to give.
-ghost use Rattle.std.specs.Prelude.{◌≡◌, ◌<◌, ◌≤◌, ◌+◌, ◌/◌, ◌^◌, filter, length, set, sum_by, vec_capacity, IfOk};
+ghost use Rattle.std.specs.Prelude.{◌≡◌, ◌<◌, ◌+◌, ◌/◌, ◌^◌, filter, length, set, sum_by, IfOk};
 ghost use Rattle.price_chunks.specs.Steps.{AreWorstFirst, is_worse_step, is_better_step, is_step_at, is_open_step, price_of_last, price_of_first, queue_of_last, with_step, without_step, open_at, with_open, list_at, no_lists};
-ghost use Rattle.price_chunks.specs.Inner.Pool.{AreSpare, AreEmptySides, chunks_of, rooms_of};
 
-use crate::chunk::Chunk;
 use crate::place::{Spot, Step};
+use crate::pool::Pool;
 use crate::side::{
     best_price, better_price, open_lots, put_in, queue_at, set_lots, take_out, worse_price,
     worst_price,
@@ -24,68 +23,36 @@ fn pool_size(sides: usize, capacity: u32) -> usize
 /// The levels of all sides. Contracts see a list for each side, the worst price first, and the greatest number of levels on all
 /// sides together.
 ///
-/// Each side has at least one chunk. There are as many chunks as the sides can ever need, whichever side the levels stand on, so
-/// `new` alone takes memory, and no part ever grows.
+/// Each side has at least one chunk. There is room for as many chunks as the sides can ever need, whichever side the levels stand on,
+/// so `new` alone takes memory, and no part ever grows.
 #[derive(Drop)]
 pub struct Sides {
-    /// The chunks of each side, the one with the worst prices first.
-    sides: Vec<Vec<Chunk>>,
-    /// The chunks of no side.
-    spare: Vec<Chunk>,
+    pool: Pool,
     capacity: u32,
 }
 
 impl Model for Sides {
-    ghost use Rattle.std.specs.Prelude.{◌≡◌, length, vec_capacity};
     ghost use Rattle.price_chunks.specs.Steps.{SideLists};
-    ghost use Rattle.price_chunks.specs.Inner.Pool.{IsKept, lists_of, chunks_of, rooms_of};
+    ghost use Rattle.price_chunks.specs.Inner.Pool.{IsKept, lists_of};
 
     ghost Value = { SideLists };
 
-    ghost view = { λ s. record { capacity = s.capacity; lists = lists_of (chunks_of s.sides.items) } };
+    ghost view = { λ s. record { capacity = s.capacity; lists = lists_of s.pool.sides } };
 
-    ghost invariant = { λ s. IsKept s.capacity (chunks_of s.sides.items) (rooms_of s.sides.items) s.spare.items (vec_capacity s.spare)
-        × (vec_capacity s.sides ≡ length s.sides.items) };
-}
-
-/// So many chunks without levels, in a list with room for so many, and for no more.
-fn spare_chunks(alloc: Global, count: usize, room: usize) -> Result<Vec<Chunk>, AllocError>
-    requires { count ≤ room }
-    ensures { IfOk result (λ chunks. AreSpare count room chunks.items (vec_capacity chunks)) }
-{
-    let mut chunks = Vec::with_capacity(alloc, room)?;
-    for _chunk in 0..count {
-        chunks.push_reserved(Chunk::new(alloc)?);
-    }
-    Ok(chunks)
-}
-
-/// So many sides of one chunk without levels, each with room for so many chunks, and for no more.
-fn empty_sides(alloc: Global, count: usize, room: usize) -> Result<Vec<Vec<Chunk>>, AllocError>
-    requires { 0 < room }
-    ensures { IfOk result (λ sides. AreEmptySides count room (chunks_of sides.items) (rooms_of sides.items) × (vec_capacity sides ≡ count)) }
-{
-    let mut sides = Vec::with_capacity(alloc, count)?;
-    for _side in 0..count {
-        let mut chunks = Vec::with_capacity(alloc, room)?;
-        chunks.push_reserved(Chunk::new(alloc)?);
-        sides.push_reserved(chunks);
-    }
-    Ok(sides)
+    ghost invariant = { λ s. IsKept s.capacity s.pool };
 }
 
 impl Sides {
-    /// So many sides without levels, with room for so many levels on all of them together. An `Err` is want of memory: there is a
-    /// chunk for each side, one for each 32 levels, and one more, and for each chunk it takes 3,104 bytes and 32 more for each
-    /// side; and it takes 24 bytes for each side.
+    /// So many sides without levels, with room for so many levels on all of them together. An `Err` is want of memory: there is room
+    /// for a chunk for each side, for one for each 32 levels, and for one more, and for each chunk it takes 3,092 bytes and 4 more for
+    /// each side; and it takes 24 bytes for each side. What it writes is a chunk for each side: the room for others is not touched
+    /// before they are in use.
     pub fn new(alloc: Global, count: usize, capacity: u32) -> Result<Sides, AllocError>
         requires { count < 65536 }
         ensures { IfOk result (λ s. s ≡ no_lists count capacity) }
     {
-        let room = pool_size(count, capacity);
         Ok(Sides {
-            sides: empty_sides(alloc, count, room)?,
-            spare: spare_chunks(alloc, room - count, room)?,
+            pool: Pool::new(alloc, count, pool_size(count, capacity))?,
             capacity,
         })
     }
@@ -97,7 +64,7 @@ impl Sides {
         requires room { sum_by length self.old.lists < self.old.capacity }
         ensures { self.new ≡ record self.old { lists = set self.old.lists at (with_step side step (list_at self.old.lists at)) } }
     {
-        put_in(&mut self.sides[at], &mut self.spare, side, step)
+        put_in(&mut self.pool, at, side, step)
     }
 
     /// The level at a price goes from its side, if there is one. It is looked for at the spot first.
@@ -106,7 +73,7 @@ impl Sides {
         requires ordered { AreWorstFirst side (list_at self.old.lists at) }
         ensures { self.new ≡ record self.old { lists = set self.old.lists at (without_step price (list_at self.old.lists at)) } }
     {
-        take_out(&mut self.sides[at], &mut self.spare, side, price, spot);
+        take_out(&mut self.pool, at, side, price, spot);
     }
 
     /// So many lots are open at a price of a side now, if it has a level there. It is looked for at the spot first. Returns the spot to
@@ -116,7 +83,7 @@ impl Sides {
         requires ordered { AreWorstFirst side (list_at self.old.lists at) }
         ensures { self.new ≡ record self.old { lists = set self.old.lists at (with_open price leaves (list_at self.old.lists at)) } }
     {
-        set_lots(&mut self.sides[at], side, price, leaves, spot)
+        set_lots(&mut self.pool, at, side, price, leaves, spot)
     }
 
     /// The best price of a side. `None` exactly where it has no level.
@@ -124,7 +91,7 @@ impl Sides {
         requires { at < length self.now.lists }
         ensures { result ≡ price_of_last (list_at self.now.lists at) }
     {
-        best_price(&self.sides[at])
+        best_price(&self.pool, at)
     }
 
     /// The best of the prices of a side that are worse than this one. `None` exactly where no price is.
@@ -133,7 +100,7 @@ impl Sides {
         requires ordered { AreWorstFirst side (list_at self.now.lists at) }
         ensures { result ≡ price_of_last (filter (is_worse_step side price) (list_at self.now.lists at)) }
     {
-        worse_price(&self.sides[at], side, price)
+        worse_price(&self.pool, at, side, price)
     }
 
     /// The worst price of a side. `None` exactly where it has no level.
@@ -141,7 +108,7 @@ impl Sides {
         requires { at < length self.now.lists }
         ensures { result ≡ price_of_first (list_at self.now.lists at) }
     {
-        worst_price(&self.sides[at])
+        worst_price(&self.pool, at)
     }
 
     /// The worst of the prices of a side that are better than this one. `None` exactly where no price is.
@@ -150,7 +117,7 @@ impl Sides {
         requires ordered { AreWorstFirst side (list_at self.now.lists at) }
         ensures { result ≡ price_of_first (filter (is_better_step side price) (list_at self.now.lists at)) }
     {
-        better_price(&self.sides[at], side, price)
+        better_price(&self.pool, at, side, price)
     }
 
     /// The queue of the level at a price. `None` exactly where there is none.
@@ -159,7 +126,7 @@ impl Sides {
         requires ordered { AreWorstFirst side (list_at self.now.lists at) }
         ensures { result ≡ queue_of_last (filter (is_step_at price) (list_at self.now.lists at)) }
     {
-        queue_at(&self.sides[at], side, price)
+        queue_at(&self.pool, at, side, price)
     }
 
     /// How many lots are open on a side at a limit and at better prices.
@@ -169,6 +136,6 @@ impl Sides {
         requires fits { open_at (list_at self.now.lists at) < 2 ^ 63 }
         ensures { result ≡ open_at (filter (is_open_step side limit) (list_at self.now.lists at)) }
     {
-        open_lots(&self.sides[at], side, limit)
+        open_lots(&self.pool, at, side, limit)
     }
 }

@@ -1,5 +1,4 @@
-use Rattle.std.proofs.Common.{inl, inr, ◌≡◌, ℕ, ◌+◌, ◌-◌, ◌/◌, ◌<◌, true, false, length, List, [], sym, ap, subst, ◌∙◌, arith}
-use Rattle.std.proofs.lemmas.List.{get_or_read}
+use Rattle.std.proofs.Common.{inl, inr, ◌≡◌, ℕ, ◌+◌, ◌-◌, ◌/◌, ◌<◌, true, false, length, List, sym, ap, subst, ◌∙◌, arith}
 use Rattle.std.proofs.lemmas.Bool.{cases_lt}
 use Rattle.price_chunks.specs.declared.place.Step.{Step}
 use Rattle.price_chunks.proofs.Flat.{before_more, after_at, after_none}
@@ -7,22 +6,23 @@ use Rattle.price_chunks.proofs.Changes.{linked_filled}
 use Rattle.price_chunks.proofs.side.chunk_by_halves.Goals as goal
 use Rattle.price_chunks.specs.Steps.{step_at, is_worse_step}
 use Rattle.price_chunks.specs.Inner.Chunks.{chunk_at}
+use Rattle.price_chunks.specs.Inner.Pool.{chunks_at}
 
 pub is_worse-requires : goal.is_worse-requires
 is_worse-requires c =
     let m = c.loop-low.low + (c.loop-low.high - c.loop-low.low) / 2 in
     let v = c.loop-low.invariant in
-    let lt : m + 1 < length c.args.chunks.now = omega arith in
-    let e = get_or_read c.args.chunks.now m c.index-chunks-middle.result (omega arith) c.index-chunks-middle.is [] in
-    subst (λ (l : List Step). 0 < length l) (sym e) (linked_filled c.args.chunks.now m c.requires.chunks.linked lt)
+    let lt : m + 1 < length (chunks_at c.args.pool.now.sides c.args.side_at) = omega arith in
+    let e = c.chunk.ensures in
+    subst (λ (l : List Step). 0 < length l) (sym e) (linked_filled (chunks_at c.args.pool.now.sides c.args.side_at) m c.requires.chunks.linked lt)
 
 pub loop-low-preserved-then-is_worse : goal.loop-low-preserved-then-is_worse
 loop-low-preserved-then-is_worse c =
     let m = c.loop-low.low + (c.loop-low.high - c.loop-low.low) / 2 in
     let v = c.loop-low.invariant in
-    let chunks = c.args.chunks.now in
+    let chunks = chunks_at c.args.pool.now.sides c.args.side_at in
     let lt : m + 1 < length chunks = omega arith in
-    let e = get_or_read chunks m c.index-chunks-middle.result (omega arith) c.index-chunks-middle.is [] in
+    let e = c.chunk.ensures in
     let p = chunk_at chunks m in
     let full = linked_filled chunks m c.requires.chunks.linked lt in
     let n : length p - 1 + 1 ≡ length p = omega arith in
@@ -38,7 +38,7 @@ loop-low-preserved-then-is_worse c =
 pub returns : goal.returns
 returns c =
     let v = c.loop-low.invariant in
-    let chunks = c.args.chunks.now in
+    let chunks = chunks_at c.args.pool.now.sides c.args.side_at in
     let j = c.loop-low.low in
     let is : c.loop-low.high ≡ j = omega arith in
     let p = chunk_at chunks j in

@@ -1,6 +1,5 @@
-use Rattle.std.proofs.Common.{◌≡◌, ℕ, ◌+◌, ◌-◌, ◌<◌, true, length, take, List, [], sym, ap, subst, ◌∙◌, arith}
+use Rattle.std.proofs.Common.{◌≡◌, ℕ, ◌+◌, ◌-◌, ◌<◌, true, length, take, List, sym, ap, subst, ◌∙◌, arith}
 use Rattle.std.specs.List.{AllByRecursion}
-use Rattle.std.proofs.lemmas.List.{get_or_read}
 use Rattle.price_chunks.specs.declared.place.Step.{Step}
 use Rattle.price_chunks.proofs.Flat.{before_more, after_none}
 use Rattle.price_chunks.proofs.Changes.{linked_filled}
@@ -8,19 +7,22 @@ use Rattle.price_chunks.proofs.side.chunk_of.Goals as goal
 use Rattle.price_chunks.proofs.side.chunk_of.Goals.{then-last-eq0-via-then-last-eq0, then-last-eq0-via-else-last-eq0+then-is_worse}
 use Rattle.price_chunks.specs.Steps.{step_at, is_worse_step}
 use Rattle.price_chunks.specs.Inner.Chunks.{flat, chunk_at}
+use Rattle.price_chunks.specs.Inner.Pool.{chunks_at}
 
 pub is_worse-requires : goal.is_worse-requires
 is_worse-requires c =
-    let chunks = c.args.chunks.now in
-    let m = length chunks - 1 - 1 in
+    let chunks = chunks_at c.args.pool.now.sides c.args.side_at in
+    let m = c.len-last.result - 1 - 1 in
+    let n = c.len-last.ensures in
     let ne = c.if-last-eq0.false in
-    let e = get_or_read chunks m c.index-chunks-last.result (omega arith) c.index-chunks-last.is [] in
+    let e = c.chunk.ensures in
     subst (λ (l : List Step). 0 < length l) (sym e) (linked_filled chunks m c.requires.chunks.linked (omega arith))
 
 pub returns-then-last-eq0 : goal.returns-then-last-eq0
 returns-then-last-eq0 c =
-    let chunks = c.args.chunks.now in
-    let j = length chunks - 1 in
+    let chunks = chunks_at c.args.pool.now.sides c.args.side_at in
+    let j = c.len-last.result - 1 in
+    let n = c.len-last.ensures in
     let some = c.requires.chunks.some in
     let W : List Step → Type 0 = AllByRecursion (λ (s : Step). is_worse_step c.args.side c.args.price s ≡ true) in
     record {
@@ -31,7 +33,7 @@ returns-then-last-eq0 c =
             let ne = w.if-last-eq0.false in
             let m = j - 1 in
             let i : m + 1 ≡ j = omega arith in
-            let e = get_or_read chunks m w.index-chunks-last.result (omega arith) w.index-chunks-last.is [] in
+            let e = w.chunk.ensures in
             let p = chunk_at chunks m in
             let full = linked_filled chunks m c.requires.chunks.linked (omega arith) in
             let n : length p - 1 + 1 ≡ length p = omega arith in

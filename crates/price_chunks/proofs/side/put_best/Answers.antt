@@ -1,64 +1,49 @@
-use Rattle.std.proofs.Common.{◌≡◌, ◌+◌, ◌-◌, ◌<◌, List, [], ◌∷◌, ◌++◌, length, set, subst, sym, ap, ◌∙◌, arith, length-append}
-use Rattle.std.proofs.lemmas.List.{get_or_read, get_or-set_same, length-set}
-use Rattle.price_chunks.specs.declared.place.Step.{Step}
+use Rattle.std.proofs.Common.{ℕ, ◌-◌, [], ◌∷◌, ◌++◌, length, ap, refl, ◌∙◌, arith, length-append}
 use Rattle.price_chunks.proofs.Best.{put_end}
-use Rattle.price_chunks.proofs.Changes.{all-chunk, put_kept, split_kept, flat_halves}
+use Rattle.price_chunks.proofs.Changes.{all-chunk}
+use Rattle.price_chunks.proofs.Come.{come_listed, come_within, come_room, come_rest, come_kept, come_flat, split_rest, split_chunks, split_flat}
 use Rattle.price_chunks.proofs.side.put_best.Goals as goal
-use Rattle.price_chunks.specs.Inner.Chunks.{room, flat, chunk_at, AreChunks}
+use Rattle.price_chunks.specs.Inner.Chunks.{chunk_at}
+use Rattle.price_chunks.specs.Inner.Pool.{chunks_at}
 
-pub push-requires : goal.push-requires
-push-requires c =
-    let chunks = c.args.chunks.now.items in
-    let j = c.len-last.result - 1 in
-    let lt : j < length chunks = omega (arith, c.requires.chunks.some, c.args.chunks.now.ok.0, c.len-last.ensures) in
-    let e = get_or_read chunks j c.index_mut.result.now lt c.index_mut.ensures.value [] in
-    subst (λ (l : List Step). length l < room) (sym e) (all-chunk chunks j c.requires.chunks.below)
+pub push-requires-clause-within : goal.push-requires-clause-within
+push-requires-clause-within c = (omega (arith, c.requires.chunks.some, c.len-last.ensures))
+
+pub push-requires-clause-room : goal.push-requires-clause-room
+push-requires-clause-room c = all-chunk (chunks_at c.args.pool.now.sides c.args.side_at) (c.len-last.result - 1) c.requires.chunks.below
+
+pub chunk-requires-clause-listed : goal.chunk-requires-clause-listed
+chunk-requires-clause-listed c = come_listed c.args.pool.now c.args.side_at c.requires.listed c.requires.chunks (c.len-last.result - 1) (omega (arith, c.requires.chunks.some, c.len-last.ensures)) ((chunk_at (chunks_at c.args.pool.now.sides c.args.side_at) (c.len-last.result - 1)) ++ c.args.step ∷ []) (length-append (chunk_at (chunks_at c.args.pool.now.sides c.args.side_at) (c.len-last.result - 1)) (c.args.step ∷ [])) c.push.new.self c.push.ensures
+
+pub chunk-requires-clause-within : goal.chunk-requires-clause-within
+chunk-requires-clause-within c = come_within c.args.pool.now c.args.side_at c.requires.listed c.requires.chunks (c.len-last.result - 1) (omega (arith, c.requires.chunks.some, c.len-last.ensures)) ((chunk_at (chunks_at c.args.pool.now.sides c.args.side_at) (c.len-last.result - 1)) ++ c.args.step ∷ []) (length-append (chunk_at (chunks_at c.args.pool.now.sides c.args.side_at) (c.len-last.result - 1)) (c.args.step ∷ [])) c.push.new.self c.push.ensures
+
+pub split-requires-clause-listed : goal.split-requires-clause-listed
+split-requires-clause-listed c = come_listed c.args.pool.now c.args.side_at c.requires.listed c.requires.chunks (c.len-last.result - 1) (omega (arith, c.requires.chunks.some, c.len-last.ensures)) ((chunk_at (chunks_at c.args.pool.now.sides c.args.side_at) (c.len-last.result - 1)) ++ c.args.step ∷ []) (length-append (chunk_at (chunks_at c.args.pool.now.sides c.args.side_at) (c.len-last.result - 1)) (c.args.step ∷ [])) c.push.new.self c.push.ensures
+
+pub split-requires-clause-within : goal.split-requires-clause-within
+split-requires-clause-within c = come_within c.args.pool.now c.args.side_at c.requires.listed c.requires.chunks (c.len-last.result - 1) (omega (arith, c.requires.chunks.some, c.len-last.ensures)) ((chunk_at (chunks_at c.args.pool.now.sides c.args.side_at) (c.len-last.result - 1)) ++ c.args.step ∷ []) (length-append (chunk_at (chunks_at c.args.pool.now.sides c.args.side_at) (c.len-last.result - 1)) (c.args.step ∷ [])) c.push.new.self c.push.ensures
+
+pub split-requires-clause-full : goal.split-requires-clause-full
+split-requires-clause-full c = omega (arith, c.len.ensures, ap {B = ℕ} length c.chunk.ensures, c.if-len-eq-ROOM.true)
+
+pub split-requires-clause-room : goal.split-requires-clause-room
+split-requires-clause-room c = come_room c.args.pool.now c.args.side_at c.requires.listed c.requires.chunks (c.len-last.result - 1) (omega (arith, c.requires.chunks.some, c.len-last.ensures)) ((chunk_at (chunks_at c.args.pool.now.sides c.args.side_at) (c.len-last.result - 1)) ++ c.args.step ∷ []) (length-append (chunk_at (chunks_at c.args.pool.now.sides c.args.side_at) (c.len-last.result - 1)) (c.args.step ∷ [])) c.push.new.self c.push.ensures c.requires.room
+
+pub returns-else-len-eq-ROOM-clause-rest : goal.returns-else-len-eq-ROOM-clause-rest
+returns-else-len-eq-ROOM-clause-rest c = come_rest c.args.pool.now c.args.side_at c.requires.listed c.requires.chunks (c.len-last.result - 1) (omega (arith, c.requires.chunks.some, c.len-last.ensures)) ((chunk_at (chunks_at c.args.pool.now.sides c.args.side_at) (c.len-last.result - 1)) ++ c.args.step ∷ []) (length-append (chunk_at (chunks_at c.args.pool.now.sides c.args.side_at) (c.len-last.result - 1)) (c.args.step ∷ [])) c.push.new.self c.push.ensures
 
 pub returns-else-len-eq-ROOM-clause-flat : goal.returns-else-len-eq-ROOM-clause-flat
-returns-else-len-eq-ROOM-clause-flat c =
-    let chunks = c.args.chunks.now.items in
-    let j = c.len-last.result - 1 in
-    let m : j + 1 ≡ length chunks = omega (arith, c.requires.chunks.some, c.args.chunks.now.ok.0, c.len-last.ensures) in
-    let lt : j < length chunks = omega arith in
-    let x = c.push.new.self in
-    let is = c.push.ensures ∙ ap (λ (l : List Step). l ++ c.args.step ∷ []) (get_or_read chunks j c.index_mut.result.now lt c.index_mut.ensures.value []) in
-    put_end c.args.side c.args.step chunks c.requires.ordered j m c.requires.worse x is
-
-pub returns-then-len-eq-ROOM-clause-flat : goal.returns-then-len-eq-ROOM-clause-flat
-returns-then-len-eq-ROOM-clause-flat c =
-    let chunks = c.args.chunks.now.items in
-    let j = c.len-last.result - 1 in
-    let m : j + 1 ≡ length chunks = omega (arith, c.requires.chunks.some, c.args.chunks.now.ok.0, c.len-last.ensures) in
-    let lt : j < length chunks = omega arith in
-    let x = c.push.new.self in
-    let is = c.push.ensures ∙ ap (λ (l : List Step). l ++ c.args.step ∷ []) (get_or_read chunks j c.index_mut.result.now lt c.index_mut.ensures.value []) in
-    ap flat c.split.ensures.chunks ∙ flat_halves (set chunks j x) j (omega (arith, length-set chunks j x)) ∙ put_end c.args.side c.args.step chunks c.requires.ordered j m c.requires.worse x is
+returns-else-len-eq-ROOM-clause-flat c = come_flat c.args.pool.now c.args.side_at c.requires.listed c.requires.chunks (c.len-last.result - 1) (omega (arith, c.requires.chunks.some, c.len-last.ensures)) ((chunk_at (chunks_at c.args.pool.now.sides c.args.side_at) (c.len-last.result - 1)) ++ c.args.step ∷ []) (length-append (chunk_at (chunks_at c.args.pool.now.sides c.args.side_at) (c.len-last.result - 1)) (c.args.step ∷ [])) c.push.new.self c.push.ensures c.args.side c.args.step (put_end c.args.side c.args.step (chunks_at c.args.pool.now.sides c.args.side_at) c.requires.ordered (c.len-last.result - 1) (omega (arith, c.requires.chunks.some, c.len-last.ensures)) c.requires.worse ((chunk_at (chunks_at c.args.pool.now.sides c.args.side_at) (c.len-last.result - 1)) ++ c.args.step ∷ []) refl)
 
 pub returns-else-len-eq-ROOM-clause-chunks : goal.returns-else-len-eq-ROOM-clause-chunks
-returns-else-len-eq-ROOM-clause-chunks c =
-    let chunks = c.args.chunks.now.items in
-    let j = c.len-last.result - 1 in
-    let m : j + 1 ≡ length chunks = omega (arith, c.requires.chunks.some, c.args.chunks.now.ok.0, c.len-last.ensures) in
-    let lt : j < length chunks = omega arith in
-    let x = c.push.new.self in
-    let is = c.push.ensures ∙ ap (λ (l : List Step). l ++ c.args.step ∷ []) (get_or_read chunks j c.index_mut.result.now lt c.index_mut.ensures.value []) in
-    let long : length x ≡ length (chunk_at chunks j) + 1 = ap length is ∙ length-append (chunk_at chunks j) (c.args.step ∷ []) in
-    let seen : length c.index.result.now ≡ length x = ap length (get_or_read (set chunks j x) j c.index.result.now (omega (arith, length-set chunks j x)) c.index.ensures [] ∙ get_or-set_same chunks j x [] lt) in
-    let len = c.len.ensures in
-    let full = c.if-len-eq-ROOM.false in
-    let a = all-chunk chunks j c.requires.chunks.below in
-    put_kept chunks j x lt c.requires.chunks (omega arith) (omega arith)
+returns-else-len-eq-ROOM-clause-chunks c = come_kept c.args.pool.now c.args.side_at c.requires.listed c.requires.chunks (c.len-last.result - 1) (omega (arith, c.requires.chunks.some, c.len-last.ensures)) ((chunk_at (chunks_at c.args.pool.now.sides c.args.side_at) (c.len-last.result - 1)) ++ c.args.step ∷ []) (length-append (chunk_at (chunks_at c.args.pool.now.sides c.args.side_at) (c.len-last.result - 1)) (c.args.step ∷ [])) c.push.new.self c.push.ensures c.len.result (c.len.ensures ∙ ap {B = ℕ} length c.chunk.ensures) c.if-len-eq-ROOM.false
+
+pub returns-then-len-eq-ROOM-clause-rest : goal.returns-then-len-eq-ROOM-clause-rest
+returns-then-len-eq-ROOM-clause-rest c = split_rest c.args.pool.now c.args.side_at c.requires.listed c.requires.chunks (c.len-last.result - 1) (omega (arith, c.requires.chunks.some, c.len-last.ensures)) ((chunk_at (chunks_at c.args.pool.now.sides c.args.side_at) (c.len-last.result - 1)) ++ c.args.step ∷ []) (length-append (chunk_at (chunks_at c.args.pool.now.sides c.args.side_at) (c.len-last.result - 1)) (c.args.step ∷ [])) c.push.new.self c.push.ensures c.len.result (c.len.ensures ∙ ap {B = ℕ} length c.chunk.ensures) c.split.new.self c.split.ensures
+
+pub returns-then-len-eq-ROOM-clause-flat : goal.returns-then-len-eq-ROOM-clause-flat
+returns-then-len-eq-ROOM-clause-flat c = split_flat c.args.pool.now c.args.side_at c.requires.listed c.requires.chunks (c.len-last.result - 1) (omega (arith, c.requires.chunks.some, c.len-last.ensures)) ((chunk_at (chunks_at c.args.pool.now.sides c.args.side_at) (c.len-last.result - 1)) ++ c.args.step ∷ []) (length-append (chunk_at (chunks_at c.args.pool.now.sides c.args.side_at) (c.len-last.result - 1)) (c.args.step ∷ [])) c.push.new.self c.push.ensures c.len.result (c.len.ensures ∙ ap {B = ℕ} length c.chunk.ensures) c.split.new.self c.split.ensures c.args.side c.args.step (put_end c.args.side c.args.step (chunks_at c.args.pool.now.sides c.args.side_at) c.requires.ordered (c.len-last.result - 1) (omega (arith, c.requires.chunks.some, c.len-last.ensures)) c.requires.worse ((chunk_at (chunks_at c.args.pool.now.sides c.args.side_at) (c.len-last.result - 1)) ++ c.args.step ∷ []) refl)
 
 pub returns-then-len-eq-ROOM-clause-chunks : goal.returns-then-len-eq-ROOM-clause-chunks
-returns-then-len-eq-ROOM-clause-chunks c =
-    let chunks = c.args.chunks.now.items in
-    let j = c.len-last.result - 1 in
-    let m : j + 1 ≡ length chunks = omega (arith, c.requires.chunks.some, c.args.chunks.now.ok.0, c.len-last.ensures) in
-    let lt : j < length chunks = omega arith in
-    let x = c.push.new.self in
-    let is = c.push.ensures ∙ ap (λ (l : List Step). l ++ c.args.step ∷ []) (get_or_read chunks j c.index_mut.result.now lt c.index_mut.ensures.value []) in
-    let long : length x ≡ length (chunk_at chunks j) + 1 = ap length is ∙ length-append (chunk_at chunks j) (c.args.step ∷ []) in
-    let seen : length c.index.result.now ≡ length x = ap length (get_or_read (set chunks j x) j c.index.result.now (omega (arith, length-set chunks j x)) c.index.ensures [] ∙ get_or-set_same chunks j x [] lt) in
-    let len = c.len.ensures in
-    let full = c.if-len-eq-ROOM.true in
-    subst AreChunks (sym c.split.ensures.chunks) (split_kept chunks j x lt c.requires.chunks (omega arith) (omega arith))
+returns-then-len-eq-ROOM-clause-chunks c = split_chunks c.args.pool.now c.args.side_at c.requires.listed c.requires.chunks (c.len-last.result - 1) (omega (arith, c.requires.chunks.some, c.len-last.ensures)) ((chunk_at (chunks_at c.args.pool.now.sides c.args.side_at) (c.len-last.result - 1)) ++ c.args.step ∷ []) (length-append (chunk_at (chunks_at c.args.pool.now.sides c.args.side_at) (c.len-last.result - 1)) (c.args.step ∷ [])) c.push.new.self c.push.ensures c.len.result (c.len.ensures ∙ ap {B = ℕ} length c.chunk.ensures) c.split.new.self c.split.ensures c.if-len-eq-ROOM.true

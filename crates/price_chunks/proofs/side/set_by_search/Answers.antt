@@ -1,35 +1,23 @@
-use Rattle.std.proofs.Common.{ℕ, List, [], length, set, subst, sym, ap, ◌∙◌, arith}
-use Rattle.std.proofs.lemmas.List.{get_or_read}
-use Rattle.price_chunks.specs.declared.place.Step.{Step}
+use Rattle.std.proofs.Common.{ap, ◌∙◌}
+use Rattle.std.proofs.lemmas.List.{length-map}
 use Rattle.price_chunks.proofs.Flat.{order-chunk, lots_chunk}
-use Rattle.price_chunks.proofs.Changes.{all-chunk, put_kept}
+use Rattle.price_chunks.proofs.Gone.{gone_seen, same_rest, same_chunks}
+use Rattle.price_chunks.specs.Steps.{with_open, opened}
+use Rattle.price_chunks.specs.Inner.Chunks.{flat, chunk_at}
+use Rattle.price_chunks.specs.Inner.Pool.{chunks_at}
 use Rattle.price_chunks.proofs.side.set_by_search.Goals as goal
-use Rattle.price_chunks.specs.Steps.{AreWorstFirst, with_open}
-use Rattle.price_chunks.specs.Inner.Chunks.{flat, IsChunkOf}
 
-pub set_lots-requires : goal.set_lots-requires
-set_lots-requires c =
-    let chunks = c.args.chunks.now.items in
-    let j = c.chunk_of-at.result in
-    let place = subst (λ (xs : List (List Step)). IsChunkOf c.args.side c.args.price xs j) c.deref.ensures.value c.chunk_of-at.ensures in
-    let e = get_or_read chunks j c.index_mut.result.now place.within c.index_mut.ensures.value [] in
-    subst (AreWorstFirst c.args.side) (sym e) (order-chunk c.args.side chunks j place.within c.requires.ordered)
+pub set_lots-requires-clause-within : goal.set_lots-requires-clause-within
+set_lots-requires-clause-within c = c.chunk_of-at.ensures.within
+
+pub set_lots-requires-clause-ordered : goal.set_lots-requires-clause-ordered
+set_lots-requires-clause-ordered c = order-chunk c.args.side (chunks_at c.args.pool.now.sides c.args.side_at) c.chunk_of-at.result c.chunk_of-at.ensures.within c.requires.ordered
+
+pub returns-clause-rest : goal.returns-clause-rest
+returns-clause-rest c = same_rest c.args.pool.now c.args.side_at c.requires.listed c.requires.chunks c.chunk_of-at.result c.chunk_of-at.ensures.within (with_open c.args.price c.args.leaves (chunk_at (chunks_at c.args.pool.now.sides c.args.side_at) c.chunk_of-at.result)) c.set_lots.new.self c.set_lots.ensures
 
 pub returns-clause-flat : goal.returns-clause-flat
-returns-clause-flat c =
-    let chunks = c.args.chunks.now.items in
-    let j = c.chunk_of-at.result in
-    let place = subst (λ (xs : List (List Step)). IsChunkOf c.args.side c.args.price xs j) c.deref.ensures.value c.chunk_of-at.ensures in
-    let e = get_or_read chunks j c.index_mut.result.now place.within c.index_mut.ensures.value [] in
-    ap (λ (l : List Step). flat (set chunks j l)) (c.set_lots.ensures.set ∙ ap (with_open c.args.price c.args.leaves) e) ∙ lots_chunk c.args.side c.args.price chunks j c.args.leaves place
+returns-clause-flat c = ap flat (gone_seen c.args.pool.now c.args.side_at c.requires.listed c.requires.chunks c.chunk_of-at.result c.chunk_of-at.ensures.within (with_open c.args.price c.args.leaves (chunk_at (chunks_at c.args.pool.now.sides c.args.side_at) c.chunk_of-at.result)) c.set_lots.new.self c.set_lots.ensures) ∙ lots_chunk c.args.side c.args.price (chunks_at c.args.pool.now.sides c.args.side_at) c.chunk_of-at.result c.args.leaves c.chunk_of-at.ensures
 
 pub returns-clause-chunks : goal.returns-clause-chunks
-returns-clause-chunks c =
-    let chunks = c.args.chunks.now.items in
-    let j = c.chunk_of-at.result in
-    let x = c.set_lots.new.self in
-    let place = subst (λ (xs : List (List Step)). IsChunkOf c.args.side c.args.price xs j) c.deref.ensures.value c.chunk_of-at.ensures in
-    let e = ap {B = ℕ} length (get_or_read chunks j c.index_mut.result.now place.within c.index_mut.ensures.value []) in
-    let long = c.set_lots.ensures.long in
-    let a = all-chunk chunks j c.requires.chunks.below in
-    put_kept chunks j x place.within c.requires.chunks (omega arith) (omega arith)
+returns-clause-chunks c = same_chunks c.args.pool.now c.args.side_at c.requires.listed c.requires.chunks c.chunk_of-at.result c.chunk_of-at.ensures.within (with_open c.args.price c.args.leaves (chunk_at (chunks_at c.args.pool.now.sides c.args.side_at) c.chunk_of-at.result)) c.set_lots.new.self c.set_lots.ensures (length-map (chunk_at (chunks_at c.args.pool.now.sides c.args.side_at) c.chunk_of-at.result) (opened c.args.price c.args.leaves))

@@ -11,5 +11,5 @@ returns-then-is_at-clause-set c =
 pub returns-else-is_at-clause-set : goal.returns-else-is_at-clause-set
 returns-else-is_at-clause-set c =
     let p = c.place_of-place.result in
-    let place = subst (λ (xs : List Step). IsPlace c.args.side c.args.price xs p) (c.deref.ensures.value ∙ c.self.view_is) c.place_of-place.ensures in
+    let place = subst (λ (xs : List Step). IsPlace c.args.side c.args.price xs p) c.steps.ensures c.place_of-place.ensures in
     none_set c.args.side c.args.price c.args.self.now c.requires p place (c.is_at.ensures.other c.if-is_at.false) c.args.leaves

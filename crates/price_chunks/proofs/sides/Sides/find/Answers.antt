@@ -1,37 +1,18 @@
-use Rattle.std.proofs.Common.{List, [], Vec, Global, subst, sym, ap, ◌∙◌, arith}
+use Rattle.std.proofs.Common.{List, subst, sym, ap, ◌∙◌}
 use Rattle.std.specs.List.{filter}
-use Rattle.std.proofs.lemmas.List.{length-map}
 use Rattle.price_chunks.specs.declared.place.Step.{Step}
-use Rattle.price_chunks.proofs.Pool.{all-get, chunks_is, list_is, listed}
-use Rattle.price_chunks.proofs.sides.Sides.find.Goals as goal
+use Rattle.price_chunks.proofs.Enough.{kept_chunks, listed, list_is}
 use Rattle.price_chunks.specs.Steps.{AreWorstFirst, is_step_at, queue_of_last}
-use Rattle.price_chunks.specs.Inner.Chunks.{flat, AreChunks}
-use Rattle.price_chunks.specs.Inner.Pool.{chunks_of}
+use Rattle.price_chunks.proofs.sides.Sides.find.Goals as goal
+
+pub queue_at-requires-clause-listed : goal.queue_at-requires-clause-listed
+queue_at-requires-clause-listed c = listed c.self.inside.capacity c.self.inside.pool c.args.self.now c.self.view_is c.args.at c.requires.listed
 
 pub queue_at-requires-clause-chunks : goal.queue_at-requires-clause-chunks
-queue_at-requires-clause-chunks c =
-    let sides = c.self.inside.sides.items in
-    let k = c.args.at in
-    let v = c.index.result.now in
-    let lt = listed sides k c.self.inside.capacity c.args.self.now c.self.view_is c.requires.listed in
-    let is = c.index.ensures in
-    let n = length-map sides (λ (x : Vec (List Step) Global). x.items) in
-    subst AreChunks (sym (c.deref.ensures.value ∙ chunks_is sides k v lt is)) (all-get AreChunks (chunks_of sides) k [] c.self.invariant.0.chunks (omega arith))
+queue_at-requires-clause-chunks c = kept_chunks c.self.inside.capacity c.self.inside.pool c.self.invariant c.args.at (listed c.self.inside.capacity c.self.inside.pool c.args.self.now c.self.view_is c.args.at c.requires.listed)
 
 pub queue_at-requires-clause-ordered : goal.queue_at-requires-clause-ordered
-queue_at-requires-clause-ordered c =
-    let sides = c.self.inside.sides.items in
-    let k = c.args.at in
-    let v = c.index.result.now in
-    let lt = listed sides k c.self.inside.capacity c.args.self.now c.self.view_is c.requires.listed in
-    let is = c.index.ensures in
-    subst (AreWorstFirst c.args.side) (sym (ap flat c.deref.ensures.value ∙ list_is sides k v lt is c.self.inside.capacity c.args.self.now c.self.view_is)) c.requires.ordered
+queue_at-requires-clause-ordered c = subst (AreWorstFirst c.args.side) (sym (list_is c.self.inside.capacity c.self.inside.pool c.args.self.now c.self.view_is c.args.at c.requires.listed)) c.requires.ordered
 
 pub returns : goal.returns
-returns c =
-    let sides = c.self.inside.sides.items in
-    let k = c.args.at in
-    let v = c.index.result.now in
-    let lt = listed sides k c.self.inside.capacity c.args.self.now c.self.view_is c.requires.listed in
-    let is = c.index.ensures in
-    c.queue_at.ensures ∙ ap (λ (l : List Step). queue_of_last (filter (is_step_at c.args.price) l)) (ap flat c.deref.ensures.value ∙ list_is sides k v lt is c.self.inside.capacity c.args.self.now c.self.view_is)
+returns c = c.queue_at.ensures ∙ ap (λ (l : List Step). queue_of_last (filter (is_step_at c.args.price) l)) (list_is c.self.inside.capacity c.self.inside.pool c.args.self.now c.self.view_is c.args.at c.requires.listed)
