@@ -1,5 +1,6 @@
 //! A chunk: some levels of one side that stand one after the other, the worst price first.
 ghost use Rattle.std.specs.Prelude.{◌≡◌, ◌+◌, ◌-◌, ◌<◌, ◌≤◌, ◌^◌, ℕ, [], true, false, ◌∷◌, ◌++◌, take, drop, set, insert, remove, length};
+ghost use Rattle.std.specs.List.{copy_within};
 ghost use Rattle.price_chunks.specs.Steps.{AreWorstFirst, step_at, is_worse_step, is_step_at, with_step, without_step, open_at, with_open};
 ghost use Rattle.price_chunks.specs.Inner.Chunks.{room, half, IsAt};
 ghost use Rattle.price_chunks.specs.Inner.Sums.{IsMod};
@@ -43,6 +44,17 @@ impl Model for Chunk {
     ghost view = { λ c. take c.count c.steps };
 
     ghost invariant = { λ c. IsChunk c.steps c.count c.lots };
+}
+
+/// The levels after a place move down to it. After the last one there are none, and nothing is moved.
+fn close_gap(steps: &mut [Step; ROOM], place: usize, count: usize)
+    requires within { place < count }
+    requires fits { count ≤ length steps.old }
+    ensures { steps.new ≡ copy_within steps.old (place + 1) count place }
+{
+    if place + 1 < count {
+        steps.copy_within(place + 1..count, place);
+    }
 }
 
 impl Chunk {
@@ -130,7 +142,7 @@ impl Chunk {
         ensures { self.new ≡ remove self.old place }
     {
         let gone = self.leaves_at(place);
-        self.steps.copy_within(place + 1..self.count, place);
+        close_gap(&mut self.steps, place, self.count);
         self.count -= 1;
         self.lots = self.lots.wrapping_sub(gone);
     }

@@ -66,10 +66,6 @@ pub record IsLevelAt (price : Price) (chunks : List (List Step)) (j p : ℕ) : T
   pub within : j < length chunks
   pub here : IsAt price (chunk_at chunks j) p
 
--- these chunks have no levels
-abbrev pub AreNone : List (List Step) → Type 0
-AreNone chunks = AllByRecursion (λ (p : List Step). p ≡ []) chunks
-
 -- a chunk and the next one fit into one chunk
 pub record IsSmall (chunks : List (List Step)) (j : ℕ) : Type 0 where
   pub within : j + 1 < length chunks

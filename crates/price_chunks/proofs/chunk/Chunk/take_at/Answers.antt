@@ -13,13 +13,13 @@ invariant_of-self c =
     let gone = c.leaves_at-gone.result in
     let lt = subst (λ (l : List Step). p < length l) (sym c.self.view_is) c.requires in
     let is = c.leaves_at-gone.ensures ∙ ap (λ (l : List Step). (step_at l p).leaves) (sym c.self.view_is) in
-    subst (λ (l : List Step). IsChunk l (i.count - 1) ((i.lots + (18446744073709551616 - gone)) % 18446744073709551616)) (sym c.copy_within.ensures.after) (remove_chunk i.steps i.count i.lots c.self.invariant p lt gone is (omega arith))
+    subst (λ (l : List Step). IsChunk l (i.count - 1) ((i.lots + (18446744073709551616 - gone)) % 18446744073709551616)) (sym c.close_gap.ensures) (remove_chunk i.steps i.count i.lots c.self.invariant p lt gone is (omega arith))
 
 pub returns : goal.returns
 returns c =
     let i = c.self.inside in
     let p = c.args.place in
     let lt = subst (λ (l : List Step). p < length l) (sym c.self.view_is) c.requires in
-    ap (take (i.count - 1)) c.copy_within.ensures.after
+    ap (take (i.count - 1)) c.close_gap.ensures
     ∙ remove_row i.steps i.count i.lots c.self.invariant p lt
     ∙ ap (λ (l : List Step). remove l p) c.self.view_is
