@@ -80,13 +80,15 @@ pub(crate) fn set_entry(nodes: &mut Vec<Node>, at: u32, entry: Entry)
     nodes[at as usize].entry = entry;
 }
 
-/// Moves the entry of a node to another, and frees the node. Where both are one, its id goes.
+/// Moves the entry of a node to another, and frees the node. If both are one, its id goes and nothing is copied.
 pub(crate) fn move_entry(nodes: &mut Vec<Node>, from: u32, to: u32)
     requires from { from < vec_len nodes.old }
     requires to { to < vec_len nodes.old }
     ensures moved { IsMoved from to nodes.old.items nodes.new.items }
     ensures room { vec_capacity nodes.new ≡ vec_capacity nodes.old }
 {
-    nodes[to as usize].entry = nodes[from as usize].entry;
+    if from != to {
+        nodes[to as usize].entry = nodes[from as usize].entry;
+    }
     nodes[from as usize].entry.is_live = false;
 }
