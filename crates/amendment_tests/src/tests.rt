@@ -9,10 +9,9 @@ mod memory;
 mod printed;
 mod refusals;
 
-use expects::{expect_bytes, expect_count, expect_outcome, expect_success};
+use expects::{expect_bytes, expect_count, expect_outcome};
 use globex_run::Outcome;
-use gx_station::{MemSource, MemStation};
-use run_fixtures::{ROOM, ended, frames_of, product_text, run_over, station_over};
+use run_fixtures::{execute_frames, image_then, must, product_text, station_of};
 use std::process::Abort;
 
 /// A product with few live orders, whose memory is soon taken, and which matches by FIFO. Each text of these products has 151 bytes.
@@ -49,50 +48,6 @@ const BEGINNING: [&str; 4] = ["run", "book", "drill --first 1 --count 2", "check
 /// The commands that read record by record.
 const READING: [&str; 3] = ["replay", "fills", "ledger"];
 
-/// The bytes of these frames.
-fn frames(rt: &(impl Abort + AllocGlobal), bodies: &[&str]) -> Vec<u8> {
-    frames_of(rt.alloc(), bodies).expect(rt, "memory")
-}
-
-/// A source of these bytes, whose reads do not fail.
-fn source_of(rt: &(impl Abort + AllocGlobal), bytes: &[u8]) -> MemSource {
-    let alloc = rt.alloc();
-    let bytes = bytes.to_vec(alloc).expect(rt, "memory");
-    MemSource::new(alloc, bytes, Vec::new(alloc), Vec::new(alloc)).expect(rt, "memory")
-}
-
-/// A station over this image, whose calls do not fail.
-fn station_of(rt: &(impl Abort + AllocGlobal), image: &[u8]) -> MemStation {
-    assert!(rt; image.len() <= ROOM);
-    station_over(rt.alloc(), image, Vec::new(rt.alloc())).expect(rt, "memory")
-}
-
-/// Executes the command of these words over the product of this text and the frames of these bodies.
-fn execute(
-    rt: &(impl Abort + AllocGlobal),
-    text: &str,
-    line: &str,
-    bodies: &[&str],
-    station: &mut MemStation,
-) -> Outcome {
-    let mut product = source_of(rt, text.as_bytes());
-    let mut input = source_of(rt, frames(rt, bodies).as_slice());
-    run_over(rt.alloc(), line, &mut product, &mut input, station).expect(rt, "memory")
-}
-
-/// Executes the command over the product of this text; it does all it should, and counts so many messages.
-fn execute_well(
-    rt: &(impl Abort + AllocGlobal),
-    station: &mut MemStation,
-    text: &str,
-    line: &str,
-    bodies: &[&str],
-    messages: u64,
-) {
-    let got = execute(rt, text, line, bodies, station);
-    expect_outcome(rt, line, got, ended(0, 0, messages));
-}
-
 /// A command under the product of this text ends so over this image, sends these bytes, and leaves the image as it is.
 fn expect_left(
     rt: &(impl Abort + AllocGlobal),
@@ -102,49 +57,23 @@ fn expect_left(
     outcome: Outcome,
     sent: &[u8],
 ) {
-    let mut station = station_of(rt, image);
-    let got = execute(rt, text, line, &[BUY], &mut station);
+    let mut station = must!(rt; station_of(image));
+    let got = must!(rt; execute_frames(text, line, &[BUY], &mut station));
     expect_outcome(rt, line, got, outcome);
     expect_bytes(rt, line, station.output(), sent);
     expect_bytes(rt, line, station.image(), image);
 }
 
-/// The station after a command over this image under the product of this text, which does all it should.
-fn station_then(
-    rt: &(impl Abort + AllocGlobal),
-    text: &str,
-    line: &str,
-    bodies: &[&str],
-    image: &[u8],
-) -> MemStation {
-    let mut station = station_of(rt, image);
-    let got = execute(rt, text, line, bodies, &mut station);
-    expect_success(rt, line, got);
-    station
-}
-
-/// The image after it.
-fn image_then(
-    rt: &(impl Abort + AllocGlobal),
-    text: &str,
-    line: &str,
-    bodies: &[&str],
-    image: &[u8],
-) -> Vec<u8> {
-    let station = station_then(rt, text, line, bodies, image);
-    station.image().to_vec(rt.alloc()).expect(rt, "memory")
-}
-
 /// The journal of the sells under FIFO, which has one record of frames, and then its closed gate.
 fn journal_of_sells(rt: &(impl Abort + AllocGlobal)) -> Vec<u8> {
-    let journal = image_then(rt, FIFO, "run", &SELLS, b"");
+    let journal = must!(rt; image_then(FIFO, "run", &SELLS, b""));
     expect_count(rt, "the journal", journal.len(), GATE + 1);
     journal
 }
 
 /// The payload of the book image that a checkpoint under this product adds to a journal.
 fn book_image(rt: &(impl Abort + AllocGlobal), text: &str, journal: &[u8]) -> Vec<u8> {
-    let longer = image_then(rt, text, "checkpoint", &[], journal);
+    let longer = must!(rt; image_then(text, "checkpoint", &[], journal));
     let first = journal.len() + 5;
     assert!(rt; first < longer.len());
     let payload = &longer[first..longer.len() - 1];
@@ -225,17 +154,4 @@ fn amended_sells(rt: &(impl Abort + AllocGlobal)) -> Vec<u8> {
     let journal = amended(rt, journal_of_sells(rt).as_slice(), FIFO, PRO_RATA);
     expect_count(rt, "the amended journal", journal.len(), LATER_GATE + 1);
     journal
-}
-
-/// The bytes with another one at a place.
-fn with_byte(rt: &(impl Abort + AllocGlobal), bytes: &[u8], at: usize, byte: u8) -> Vec<u8> {
-    let mut bytes = bytes.to_vec(rt.alloc()).expect(rt, "memory");
-    assert!(rt; at < bytes.len());
-    bytes[at] = byte;
-    bytes
-}
-
-/// A text with another one in the place of a part.
-fn text_with(rt: &(impl Abort + AllocGlobal), text: &str, old: &str, new: &str) -> String {
-    text.replace(rt.alloc(), old, new).expect(rt, "memory")
 }

@@ -5,12 +5,12 @@ use book_side::LinkedBook;
 use exec_report::ByteEmit;
 use fix_frame::Framer;
 use gx_base::Emit;
-use gx_station::{LEAST_READ, MemSource, MemStation, Source};
+use gx_station::{LEAST_READ, MemStation, Source};
 use order_kinds::Core;
 use order_maker::MakerSource;
 use plain_book::{Book, PlainBook};
 use product_file::{Product, read_product};
-use run_fixtures::{PRODUCT, apply_held, ended, product_text, run_over};
+use run_fixtures::{PRODUCT, apply_held, ended, execute, must, product_text, source_of};
 use std::process::Abort;
 
 /// The usual product with room for 100,000 live orders, and for the journal of the drill.
@@ -91,13 +91,7 @@ fn both_books_give_the_same_lines(rt: HostRuntime) {
 #[test]
 fn drill_of_400_000_messages(rt: HostRuntime) {
     let alloc = rt.alloc();
-    let text = LARGE_PRODUCT.as_bytes().to_vec(alloc).expect(&rt, "memory");
-    let mut product = MemSource::new(alloc, text, Vec::new(alloc), Vec::new(alloc)).expect(
-        &rt, "memory",
-    );
-    let mut input = MemSource::new(alloc, Vec::new(alloc), Vec::new(alloc), Vec::new(alloc)).expect(
-        &rt, "memory",
-    );
+    let mut input = must!(&rt; source_of(b""));
     let none = Vec::new(alloc);
     let mut station = MemStation::new(
         alloc,
@@ -108,7 +102,7 @@ fn drill_of_400_000_messages(rt: HostRuntime) {
         Vec::new(alloc),
     ).expect(&rt, "memory");
     let line = "drill --first 1 --count 400000";
-    let got = run_over(alloc, line, &mut product, &mut input, &mut station).expect(&rt, "memory");
+    let got = must!(&rt; execute(LARGE_PRODUCT, line, &mut input, &mut station));
     assert_eq!(rt; got, ended(0, 0, 400_000));
     assert!(rt; station.output().starts_with(b"messages 400000 "));
     assert!(rt; station.output().ends_with(b" live 100000\n"));

@@ -11,8 +11,8 @@ use expects::expect_outcome;
 use globex_run::Outcome;
 use gx_station::{MemSource, MemStation};
 use run_fixtures::{
-    ACCEPTED, FILLED, ORDER, PRODUCT, ROOM, SECOND_ACCEPTED, SECOND_FILLED, SECOND_ORDER, ended,
-    join, run_over, station_over,
+    ACCEPTED, FILLED, NEVER, ORDER, PRODUCT, SECOND_ACCEPTED, SECOND_FILLED, SECOND_ORDER, concat,
+    cut_source, ended, execute, join, must, run_over, source_of, station_of,
 };
 use std::process::Abort;
 
@@ -46,20 +46,11 @@ const HEADER: &[u8] = b"\x01GXJOURN2\x00\x00\x00\x88";
 /// The same in a journal of the first version.
 const FIRST_HEADER: &[u8] = b"\x01GXJOURN1\x00\x00\x00\x88";
 
-/// The parts, one after the other.
-fn image_of(rt: &(impl Abort + AllocGlobal), parts: &[&[u8]]) -> Vec<u8> {
-    let mut bytes = Vec::new(rt.alloc());
-    for part in parts {
-        bytes.extend_from_slice(part).expect(rt, "memory");
-    }
-    bytes
-}
-
 /// A journal of the product with this before its text, and with these records, each with its head, and a closed gate.
 fn journal_with(rt: &(impl Abort + AllocGlobal), header: &[u8], records: &[&[u8]]) -> Vec<u8> {
-    let records = image_of(rt, records);
+    let records = must!(rt; concat(records));
     let parts: [&[u8]; 4] = [header, PRODUCT.as_bytes(), records.as_slice(), b"\x00"];
-    image_of(rt, &parts)
+    must!(rt; concat(&parts))
 }
 
 /// A journal of the product as it is made now, with these records.
@@ -67,65 +58,16 @@ fn journal_of(rt: &(impl Abort + AllocGlobal), records: &[&[u8]]) -> Vec<u8> {
     journal_with(rt, HEADER, records)
 }
 
-/// The bytes of these texts, one after the other.
-fn joined(rt: &(impl Abort + AllocGlobal), texts: &[&str]) -> Vec<u8> {
-    join(rt.alloc(), texts).expect(rt, "memory")
-}
-
-/// A source of these bytes.
-fn source_of(rt: &(impl Abort + AllocGlobal), bytes: &[u8]) -> MemSource {
-    let alloc = rt.alloc();
-    let bytes = bytes.to_vec(alloc).expect(rt, "memory");
-    MemSource::new(alloc, bytes, Vec::new(alloc), Vec::new(alloc)).expect(rt, "memory")
-}
-
-/// A source of these bytes, of which the first read gives so many, and the next one all others; the reads of these numbers fail.
-fn cut_source(
-    rt: &(impl Abort + AllocGlobal),
-    bytes: &[u8],
-    first: usize,
-    fail: Vec<u64>,
-) -> MemSource {
-    let alloc = rt.alloc();
-    assert!(rt; first >= 1);
-    let pieces = vec![in alloc; first].expect(rt, "memory");
-    let bytes = bytes.to_vec(alloc).expect(rt, "memory");
-    MemSource::new(alloc, bytes, pieces, fail).expect(rt, "memory")
-}
-
-/// A station over this image.
-fn station_of(rt: &(impl Abort + AllocGlobal), image: &[u8]) -> MemStation {
-    assert!(rt; image.len() <= ROOM);
-    station_over(rt.alloc(), image, Vec::new(rt.alloc())).expect(rt, "memory")
-}
-
-/// A station over an empty image, of which this call fails.
-fn failing_station(rt: &(impl Abort + AllocGlobal), call: u64) -> MemStation {
-    let fail = vec![in rt.alloc(); call].expect(rt, "memory");
-    station_over(rt.alloc(), b"", fail).expect(rt, "memory")
-}
-
-/// Executes the command of these words over these sources and this station.
-fn execute_from(
-    rt: &(impl Abort + AllocGlobal),
-    line: &str,
-    mut product: MemSource,
-    mut input: MemSource,
-    station: &mut MemStation,
-) -> Outcome {
-    run_over(rt.alloc(), line, &mut product, &mut input, station).expect(rt, "memory")
-}
-
 /// Executes the command of these words over the product and these frames.
-fn execute(
+fn execute_texts(
     rt: &(impl Abort + AllocGlobal),
     line: &str,
     frames: &[&str],
     station: &mut MemStation,
 ) -> Outcome {
-    let product = source_of(rt, PRODUCT.as_bytes());
-    let input = source_of(rt, joined(rt, frames).as_slice());
-    execute_from(rt, line, product, input, station)
+    let frames = must!(rt; join(frames));
+    let mut input = must!(rt; source_of(frames.as_slice()));
+    must!(rt; execute(PRODUCT, line, &mut input, station))
 }
 
 /// Executes the command over this image.
@@ -135,20 +77,19 @@ fn execute_over(
     frames: &[&str],
     image: &[u8],
 ) -> (Outcome, MemStation) {
-    let mut station = station_of(rt, image);
-    let outcome = execute(rt, line, frames, &mut station);
+    let mut station = must!(rt; station_of(image));
+    let outcome = execute_texts(rt, line, frames, &mut station);
     (outcome, station)
 }
 
 /// How a run over these sources and this station ends, and the station then.
 fn run_over_sources(
     rt: &(impl Abort + AllocGlobal),
-    product: MemSource,
-    input: MemSource,
-    station: MemStation,
+    mut product: MemSource,
+    mut input: MemSource,
+    mut station: MemStation,
 ) -> (Outcome, MemStation) {
-    let mut station = station;
-    let outcome = execute_from(rt, "run", product, input, &mut station);
+    let outcome = must!(rt; run_over("run", &mut product, &mut input, &mut station));
     (outcome, station)
 }
 
@@ -159,9 +100,10 @@ fn run_from(
     input: &[u8],
     first: usize,
 ) -> (Outcome, MemStation) {
-    let product = source_of(rt, PRODUCT.as_bytes());
-    let input = cut_source(rt, input, first, Vec::new(rt.alloc()));
-    run_over_sources(rt, product, input, station_of(rt, image))
+    let product = must!(rt; source_of(PRODUCT.as_bytes()));
+    let input = must!(rt; cut_source(input, first, NEVER));
+    let station = must!(rt; station_of(image));
+    run_over_sources(rt, product, input, station)
 }
 
 /// Executes the command over a station; it does all it should, and counts so many messages.
@@ -172,13 +114,13 @@ fn execute_well(
     station: &mut MemStation,
     messages: u64,
 ) {
-    let got = execute(rt, line, frames, station);
+    let got = execute_texts(rt, line, frames, station);
     expect_outcome(rt, line, got, ended(0, 0, messages));
 }
 
 /// The station after a run over an empty image and both orders, of which the first read gives so many bytes.
 fn run_of_orders(rt: &(impl Abort + AllocGlobal), first: usize) -> MemStation {
-    let orders = joined(rt, &ORDERS);
+    let orders = must!(rt; join(&ORDERS));
     let (got, station) = run_from(rt, b"", orders.as_slice(), first);
     expect_outcome(rt, "both orders", got, ended(0, 0, 2));
     station

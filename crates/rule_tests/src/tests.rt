@@ -10,7 +10,7 @@ mod sessions;
 mod shares;
 mod stops;
 
-use run_fixtures::{ended, frames_of, product_text, run};
+use run_fixtures::{ended, execute_frames, frames_of, must, product_text, station_of};
 use std::process::Abort;
 
 /// The product of most runs with room for two live orders.
@@ -27,11 +27,9 @@ fn expect_reports(
     bodies: &[&str],
     reports: &[&str],
 ) {
-    let alloc = rt.alloc();
-    let input = frames_of(alloc, bodies).expect(rt, "memory");
-    let sent = frames_of(alloc, reports).expect(rt, "memory");
-    let ran = run(alloc, "run", product, input.as_slice(), Vec::new(alloc));
-    let (got, station) = ran.expect(rt, "memory");
+    let mut station = must!(rt; station_of(b""));
+    let got = must!(rt; execute_frames(product, "run", bodies, &mut station));
+    let sent = must!(rt; frames_of(reports));
     assert_eq!(rt; got, ended(0, 0, bodies.len() as u64), "{name}");
     assert_eq!(rt; station.output(), sent.as_slice(), "{name}");
 }

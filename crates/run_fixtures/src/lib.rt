@@ -3,14 +3,21 @@
 
 mod applying;
 mod example;
-mod fixtures;
+mod frames;
+mod orders;
 mod product;
+mod runs;
+mod unmade;
 
 pub use applying::apply_held;
 pub use example::{
     ACCEPTED, DUPLICATE, FILLED, ORDER, SECOND_ACCEPTED, SECOND_FILLED, SECOND_ORDER,
 };
-pub use fixtures::{
-    ROOM, bytes_of, ended, frames_of, join, push_frame, run, run_over, station_over, words_of,
-};
+pub use frames::{bytes_of, concat, frames_of, join, push_frame, text_with, with_byte, words_of};
 pub use product::PRODUCT;
+pub use runs::{
+    NEVER, ROOM, cut_source, ended, execute, execute_frames, execute_well, failing_source,
+    failing_station, image_then, run, run_over, source_of, source_of_frames, station_of,
+    station_then,
+};
+pub use unmade::Unmade;

@@ -16,10 +16,12 @@ mod tags;
 mod types;
 mod worked;
 
-use expects::{expect_bytes, expect_outcome, expect_success};
+use expects::{expect_bytes, expect_outcome};
 use globex_run::Outcome;
-use gx_station::{MemSource, MemStation};
-use run_fixtures::{ROOM, ended, frames_of, product_text, run_over, station_over};
+use gx_station::MemSource;
+use run_fixtures::{
+    ended, execute, frames_of, image_then, must, product_text, source_of_frames, station_of,
+};
 use std::process::Abort;
 
 /// A product with few live orders, whose memory is soon taken. Its text has 151 bytes.
@@ -58,92 +60,9 @@ const SERVED: [&str; 2] = [LOGON, ALL_AGAIN];
 
 const ANSWERS: [&str; 3] = [LOGGED_ON, ACCEPTED_AGAIN, FILLED_AGAIN];
 
-/// The bytes of these frames.
-fn frames(rt: &(impl Abort + AllocGlobal), bodies: &[&str]) -> Vec<u8> {
-    frames_of(rt.alloc(), bodies).expect(rt, "memory")
-}
-
-/// A source of these bytes, whose reads do not fail.
-fn source_of(rt: &(impl Abort + AllocGlobal), bytes: &[u8]) -> MemSource {
-    let alloc = rt.alloc();
-    let bytes = bytes.to_vec(alloc).expect(rt, "memory");
-    MemSource::new(alloc, bytes, Vec::new(alloc), Vec::new(alloc)).expect(rt, "memory")
-}
-
-/// A source of these bytes, of which the first read gives so many, and the next one all others; the read of this number fails.
-fn cut_source(
-    rt: &(impl Abort + AllocGlobal),
-    bytes: &[u8],
-    first: usize,
-    failing: u64,
-) -> MemSource {
-    let alloc = rt.alloc();
-    assert!(rt; first >= 1);
-    let pieces = vec![in alloc; first].expect(rt, "memory");
-    let fail = vec![in alloc; failing].expect(rt, "memory");
-    let bytes = bytes.to_vec(alloc).expect(rt, "memory");
-    MemSource::new(alloc, bytes, pieces, fail).expect(rt, "memory")
-}
-
-/// A station over this image, whose calls do not fail.
-fn station_of(rt: &(impl Abort + AllocGlobal), image: &[u8]) -> MemStation {
-    assert!(rt; image.len() <= ROOM);
-    station_over(rt.alloc(), image, Vec::new(rt.alloc())).expect(rt, "memory")
-}
-
-/// Executes the command of these words over the product of this text and this input.
-fn execute_from(
-    rt: &(impl Abort + AllocGlobal),
-    text: &str,
-    line: &str,
-    input: &mut MemSource,
-    station: &mut MemStation,
-) -> Outcome {
-    let mut product = source_of(rt, text.as_bytes());
-    run_over(rt.alloc(), line, &mut product, input, station).expect(rt, "memory")
-}
-
-/// Executes it over the frames of these bodies.
-fn execute(
-    rt: &(impl Abort + AllocGlobal),
-    text: &str,
-    line: &str,
-    bodies: &[&str],
-    station: &mut MemStation,
-) -> Outcome {
-    let mut input = source_of(rt, frames(rt, bodies).as_slice());
-    execute_from(rt, text, line, &mut input, station)
-}
-
-/// The station after a command over this image under the product of this text, which does all it should.
-fn station_then(
-    rt: &(impl Abort + AllocGlobal),
-    text: &str,
-    line: &str,
-    bodies: &[&str],
-    image: &[u8],
-) -> MemStation {
-    let mut station = station_of(rt, image);
-    let got = execute(rt, text, line, bodies, &mut station);
-    expect_success(rt, line, got);
-    station
-}
-
-/// The image after it.
-fn image_then(
-    rt: &(impl Abort + AllocGlobal),
-    text: &str,
-    line: &str,
-    bodies: &[&str],
-    image: &[u8],
-) -> Vec<u8> {
-    let station = station_then(rt, text, line, bodies, image);
-    station.image().to_vec(rt.alloc()).expect(rt, "memory")
-}
-
 /// A journal of the product that keeps these messages.
 fn kept(rt: &(impl Abort + AllocGlobal), bodies: &[&str]) -> Vec<u8> {
-    image_then(rt, FIFO, "run", bodies, b"")
+    must!(rt; image_then(FIFO, "run", bodies, b""))
 }
 
 /// A journal of both orders.
@@ -161,8 +80,8 @@ fn expect_ended(
     outcome: Outcome,
     sent: &[u8],
 ) {
-    let mut station = station_of(rt, image);
-    let got = execute_from(rt, text, line, input, &mut station);
+    let mut station = must!(rt; station_of(image));
+    let got = must!(rt; execute(text, line, input, &mut station));
     expect_outcome(rt, line, got, outcome);
     expect_bytes(rt, line, station.output(), sent);
     expect_bytes(rt, line, station.image(), image);
@@ -176,9 +95,9 @@ fn expect_session(
     asked: &[&str],
     answers: &[&str],
 ) {
-    let mut input = source_of(rt, frames(rt, asked).as_slice());
+    let mut input = must!(rt; source_of_frames(asked));
     let done = ended(0, 0, asked.len() as u64);
-    let sent = frames(rt, answers);
+    let sent = must!(rt; frames_of(answers));
     expect_ended(
         rt,
         text,
@@ -204,17 +123,4 @@ fn expect_answers(
 fn front_of<'a>(rt: &impl Abort, bytes: &'a [u8], count: usize) -> &'a [u8] {
     assert!(rt; count <= bytes.len());
     &bytes[..count]
-}
-
-/// The bytes with another one at a place.
-fn with_byte(rt: &(impl Abort + AllocGlobal), bytes: &[u8], at: usize, byte: u8) -> Vec<u8> {
-    let mut bytes = bytes.to_vec(rt.alloc()).expect(rt, "memory");
-    assert!(rt; at < bytes.len());
-    bytes[at] = byte;
-    bytes
-}
-
-/// A text with another one in the place of a part.
-fn text_with(rt: &(impl Abort + AllocGlobal), text: &str, old: &str, new: &str) -> String {
-    text.replace(rt.alloc(), old, new).expect(rt, "memory")
 }

@@ -2,12 +2,14 @@
 use super::expects::{expect_bytes, expect_count, expect_outcome};
 use super::going_on::{REPORTS, USUAL_PRO_RATA, expect_going_on, expect_refused};
 use super::{
-    BUY, FIFO, PRO_RATA, SELLS, THIRD, amended, amended_to, book_image, execute, execute_well,
-    expect_left, frames, image_then, journal_of_sells, push, station_of, station_then, text_with,
-    with_byte,
+    BUY, FIFO, PRO_RATA, SELLS, THIRD, amended, amended_to, book_image, expect_left,
+    journal_of_sells, push,
 };
 use gx_station::{MemStation, Station};
-use run_fixtures::{PRODUCT, ended, product_text};
+use run_fixtures::{
+    PRODUCT, ended, execute_frames, execute_well, frames_of, image_then, must, product_text,
+    station_of, station_then, text_with, with_byte,
+};
 use std::process::Abort;
 
 /// An amendment to the product of this text counts so many messages, sends nothing, and makes this image of the journal.
@@ -18,8 +20,8 @@ fn expect_amended(
     messages: u64,
     want: &[u8],
 ) {
-    let mut station = station_of(rt, journal);
-    let got = execute(rt, text, "amend", &[BUY], &mut station);
+    let mut station = must!(rt; station_of(journal));
+    let got = must!(rt; execute_frames(text, "amend", &[BUY], &mut station));
     expect_outcome(rt, "amend", got, ended(0, 0, messages));
     expect_bytes(rt, "amend", station.image(), want);
     expect_bytes(rt, "amend", station.output(), b"");
@@ -35,16 +37,16 @@ fn sent_and(rt: &(impl Abort + AllocGlobal), station: &MemStation, more: &[u8]) 
 /// Two sells under FIFO, an amendment to pro rata, and a buy.
 #[test]
 fn worked_amendment(rt: HostRuntime) {
-    let sells = station_then(&rt, PRODUCT, "run", &SELLS, b"");
+    let sells = must!(&rt; station_then(PRODUCT, "run", &SELLS, b""));
     expect_count(&rt, "the journal", sells.image().len(), 376);
     let journal = amended(&rt, sells.image(), PRODUCT, USUAL_PRO_RATA);
     let journal = journal.as_slice();
     expect_count(&rt, "the amended journal", journal.len(), 1_272);
     expect_amended(&rt, USUAL_PRO_RATA, sells.image(), 2, journal);
     expect_left(&rt, PRODUCT, "run", journal, ended(11, 518, 0), b"");
-    let mut station = station_of(&rt, journal);
-    execute_well(&rt, &mut station, USUAL_PRO_RATA, "run", &[BUY], 1);
-    let reports = frames(&rt, &REPORTS);
+    let mut station = must!(&rt; station_of(journal));
+    must!(&rt; execute_well(USUAL_PRO_RATA, "run", &[BUY], &mut station, 1));
+    let reports = must!(&rt; frames_of(&REPORTS));
     let reports = reports.as_slice();
     expect_bytes(&rt, "run", station.output(), reports);
     let sent = sent_and(&rt, &sells, reports);
@@ -59,7 +61,7 @@ const COMMENTED: &str = product_text!("max_orders = 8", letter: "F", "# a commen
 /// The same product by another text is an amendment.
 #[test]
 fn comment_changed(rt: HostRuntime) {
-    let sells = station_then(&rt, FIFO, "run", &SELLS, b"");
+    let sells = must!(&rt; station_then(FIFO, "run", &SELLS, b""));
     let want = amended(&rt, sells.image(), FIFO, COMMENTED);
     let want = want.as_slice();
     expect_amended(&rt, COMMENTED, sells.image(), 2, want);
@@ -70,7 +72,7 @@ fn comment_changed(rt: HostRuntime) {
 
 /// A station over this image with a write that is not synced, and that changed nothing.
 fn unsettled_station(rt: &(impl Abort + AllocGlobal), image: &[u8]) -> MemStation {
-    let mut station = station_of(rt, image);
+    let mut station = must!(rt; station_of(image));
     assert!(rt; station.write(0, b"\x01").is_ok());
     station
 }
@@ -80,14 +82,14 @@ fn expect_unsettled(rt: &(impl Abort + AllocGlobal), station: &MemStation, image
     let left = station
         .crash_image(rt.alloc(), station.calls(), 200)
         .expect(rt, "memory");
-    let torn = with_byte(rt, image, 0, 200);
+    let torn = must!(rt; with_byte(image, 0, 200));
     expect_bytes(rt, "a crash image", left.as_slice(), torn.as_slice());
 }
 
 /// An amendment to the text that the journal has writes and syncs nothing, and sends nothing.
 fn expect_same(rt: &(impl Abort + AllocGlobal), text: &str, image: &[u8], messages: u64) {
     let mut station = unsettled_station(rt, image);
-    let got = execute(rt, text, "amend", &[], &mut station);
+    let got = must!(rt; execute_frames(text, "amend", &[], &mut station));
     expect_outcome(rt, "the same text", got, ended(0, 0, messages));
     expect_bytes(rt, "the same text", station.image(), image);
     expect_bytes(rt, "the same text", station.output(), b"");
@@ -99,11 +101,11 @@ fn expect_same(rt: &(impl Abort + AllocGlobal), text: &str, image: &[u8], messag
 fn same_text(rt: HostRuntime) {
     let sells = journal_of_sells(&rt);
     expect_same(&rt, FIFO, sells.as_slice(), 2);
-    let first = with_byte(&rt, sells.as_slice(), 8, b'1');
+    let first = must!(&rt; with_byte(sells.as_slice(), 8, b'1'));
     expect_same(&rt, FIFO, first.as_slice(), 2);
-    let once = image_then(&rt, PRO_RATA, "amend", &[], sells.as_slice());
+    let once = must!(&rt; image_then(PRO_RATA, "amend", &[], sells.as_slice()));
     expect_same(&rt, PRO_RATA, once.as_slice(), 2);
-    let later = image_then(&rt, PRO_RATA, "run", &[BUY], once.as_slice());
+    let later = must!(&rt; image_then(PRO_RATA, "run", &[BUY], once.as_slice()));
     expect_same(&rt, PRO_RATA, later.as_slice(), 3);
 }
 
@@ -118,7 +120,7 @@ fn amendments_then_a_checkpoint(rt: HostRuntime) {
     let third = amended(&rt, back.as_slice(), FIFO, THIRD);
     expect_amended(&rt, THIRD, back.as_slice(), 2, third.as_slice());
     expect_going_on(&rt, THIRD, third.as_slice());
-    let image = image_then(&rt, THIRD, "checkpoint", &[], third.as_slice());
+    let image = must!(&rt; image_then(THIRD, "checkpoint", &[], third.as_slice()));
     expect_going_on(&rt, THIRD, image.as_slice());
     let behind = amended(&rt, image.as_slice(), THIRD, PRO_RATA);
     expect_amended(&rt, PRO_RATA, image.as_slice(), 2, behind.as_slice());
@@ -136,11 +138,11 @@ const REFUSED: &str =
 #[test]
 fn closed_market(rt: HostRuntime) {
     let sells = journal_of_sells(&rt);
-    let closed = image_then(&rt, FIFO, "run", &[CLOSE], sells.as_slice());
+    let closed = must!(&rt; image_then(FIFO, "run", &[CLOSE], sells.as_slice()));
     let want = amended(&rt, closed.as_slice(), FIFO, PRO_RATA);
     expect_amended(&rt, PRO_RATA, closed.as_slice(), 3, want.as_slice());
-    let station = station_then(&rt, PRO_RATA, "run", &[BUY], want.as_slice());
-    let refused = frames(&rt, &[REFUSED]);
+    let station = must!(&rt; station_then(PRO_RATA, "run", &[BUY], want.as_slice()));
+    let refused = must!(&rt; frames_of(&[REFUSED]));
     expect_bytes(&rt, "run", station.output(), refused.as_slice());
 }
 
@@ -168,22 +170,22 @@ fn expect_book(rt: &(impl Abort + AllocGlobal), text: &str, journal: &[u8], book
 /// step it stays TOP.
 #[test]
 fn top_ends(rt: HostRuntime) {
-    let sells = image_then(&rt, FAVORED, "run", &SELLS, b"");
+    let sells = must!(&rt; image_then(FAVORED, "run", &SELLS, b""));
     expect_book(&rt, FAVORED, sells.as_slice(), FAVORED_BOOK);
-    let plain = image_then(&rt, PRO_RATA, "amend", &[], sells.as_slice());
+    let plain = must!(&rt; image_then(PRO_RATA, "amend", &[], sells.as_slice()));
     expect_book(&rt, PRO_RATA, plain.as_slice(), PLAIN_BOOK);
-    let again = image_then(&rt, FAVORED, "amend", &[], plain.as_slice());
+    let again = must!(&rt; image_then(FAVORED, "amend", &[], plain.as_slice()));
     expect_book(&rt, FAVORED, again.as_slice(), PLAIN_BOOK);
-    let kept = text_with(&rt, FAVORED, "protection = 2", "protection = 3");
+    let kept = must!(&rt; text_with(FAVORED, "protection = 2", "protection = 3"));
     let kept = kept.as_str();
-    let favored = image_then(&rt, kept, "amend", &[], sells.as_slice());
+    let favored = must!(&rt; image_then(kept, "amend", &[], sells.as_slice()));
     expect_book(&rt, kept, favored.as_slice(), FAVORED_BOOK);
 }
 
 /// The image of an amendment is that of the state under its product: the one of before has an order that is TOP.
 #[test]
 fn image_under_the_new_product(rt: HostRuntime) {
-    let sells = image_then(&rt, FAVORED, "run", &SELLS, b"");
+    let sells = must!(&rt; image_then(FAVORED, "run", &SELLS, b""));
     let image = book_image(&rt, FIFO, journal_of_sells(&rt).as_slice());
     let text = PRO_RATA.as_bytes();
     let want = amended_to(&rt, sells.as_slice(), text, image.as_slice());
@@ -193,14 +195,14 @@ fn image_under_the_new_product(rt: HostRuntime) {
 /// An image without a journal gets one, and all of a journal but its first gate gets that; neither has an amendment.
 #[test]
 fn journals_begun(rt: HostRuntime) {
-    let new = image_then(&rt, FIFO, "run", &[], b"");
+    let new = must!(&rt; image_then(FIFO, "run", &[], b""));
     let new = new.as_slice();
     expect_amended(&rt, FIFO, b"", 0, new);
     expect_amended(&rt, FIFO, b"x", 0, new);
     expect_amended(&rt, FIFO, b"\x00GXJOURN", 0, new);
-    let sealed = with_byte(&rt, new, 0, 200);
+    let sealed = must!(&rt; with_byte(new, 0, 200));
     expect_amended(&rt, FIFO, sealed.as_slice(), 0, new);
-    let journal = image_then(&rt, PRO_RATA, "amend", &[], new);
+    let journal = must!(&rt; image_then(PRO_RATA, "amend", &[], new));
     expect_amended(&rt, PRO_RATA, journal.as_slice(), 0, journal.as_slice());
     expect_left(
         &rt,

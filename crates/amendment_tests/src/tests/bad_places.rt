@@ -2,12 +2,13 @@
 use super::expects::{expect_bytes, expect_outcome};
 use super::going_on::{expect_going_on, expect_refused};
 use super::{
-    BUY, FIFO, GATE, LATER_GATE, PRO_RATA, READING, SELLS, THIRD, amended, amended_sells,
-    amended_to, book_image, execute, expect_left, frames, image_then, journal_of_sells, station_of,
-    station_then, text_with, with_amendment, with_byte, with_end, with_record,
+    FIFO, GATE, LATER_GATE, PRO_RATA, READING, SELLS, THIRD, amended, amended_sells, amended_to,
+    book_image, expect_left, journal_of_sells, with_amendment, with_end, with_record,
 };
 use gx_station::MemStation;
-use run_fixtures::{ended, product_text};
+use run_fixtures::{
+    ended, execute_frames, image_then, must, product_text, station_then, text_with, with_byte,
+};
 use std::process::Abort;
 
 /// A record whose kind is none.
@@ -45,7 +46,7 @@ fn expect_hidden(rt: &(impl Abort + AllocGlobal), text: &str, image: &[u8], at: 
 
 /// A replay of the sells under FIFO sends this.
 fn sells_again(rt: &(impl Abort + AllocGlobal)) -> Vec<u8> {
-    let station = station_then(rt, FIFO, "run", &SELLS, b"");
+    let station = must!(rt; station_then(FIFO, "run", &SELLS, b""));
     station.output().to_vec(rt.alloc()).expect(rt, "memory")
 }
 
@@ -127,7 +128,7 @@ fn expect_long_text(
     let text = long_text(rt, length);
     let journal = behind_bad_text(rt, length as u32, text.as_slice());
     let mut station = roomy_station(rt, journal.as_slice());
-    let got = execute(rt, THIRD, "replay", &[], &mut station);
+    let got = must!(rt; execute_frames(THIRD, "replay", &[], &mut station));
     expect_outcome(rt, "a long text", got, ended(status, at, messages));
     expect_bytes(rt, "a long text", station.output(), sent);
 }
@@ -142,7 +143,7 @@ fn longest_text(rt: HostRuntime) {
 
 /// The product of this text may not follow that of `FIFO`: as an earlier one and as the last one its amendment is bad.
 fn expect_not_following(rt: &(impl Abort + AllocGlobal), old: &str, new: &str) {
-    let text = text_with(rt, PRO_RATA, old, new);
+    let text = must!(rt; text_with(PRO_RATA, old, new));
     let image = image_of_sells(rt);
     let journal = journal_of_sells(rt);
     let image = image.as_slice();
@@ -169,7 +170,7 @@ fn products_that_may_not_follow(rt: HostRuntime) {
 /// An amendment may follow the one before it, and not the header's product alone; and the other way round.
 #[test]
 fn each_follows_the_one_before(rt: HostRuntime) {
-    let five = text_with(&rt, FIFO, "\"DDD\"", "\"DDD\", \"EEE\"");
+    let five = must!(&rt; text_with(FIFO, "\"DDD\"", "\"DDD\", \"EEE\""));
     let once = amended(&rt, journal_of_sells(&rt).as_slice(), FIFO, five.as_str());
     let image = image_of_sells(&rt);
     let back = amended_to(&rt, once.as_slice(), PRO_RATA.as_bytes(), image.as_slice());
@@ -184,9 +185,9 @@ fn each_follows_the_one_before(rt: HostRuntime) {
 /// The header's text gives no product: 9, before other texts and before records, and after the heads and the size of the last text.
 #[test]
 fn no_product_in_the_header(rt: HostRuntime) {
-    let journal = with_byte(&rt, amended_sells(&rt).as_slice(), 13, b'x');
+    let journal = must!(&rt; with_byte(amended_sells(&rt).as_slice(), 13, b'x'));
     expect_hidden(&rt, PRO_RATA, journal.as_slice(), 9);
-    let earlier = with_byte(&rt, behind_bad_text(&rt, 902, b"").as_slice(), 13, b'x');
+    let earlier = must!(&rt; with_byte(behind_bad_text(&rt, 902, b"").as_slice(), 13, b'x'));
     expect_hidden(&rt, THIRD, earlier.as_slice(), 9);
     let record = with_end(&rt, journal.as_slice(), BAD_RECORD);
     expect_unread(&rt, PRO_RATA, record.as_slice(), 9);
@@ -222,7 +223,7 @@ fn bad_records_behind_an_amendment(rt: HostRuntime) {
     let bad = with_end(&rt, journal.as_slice(), BAD_RECORD);
     expect_sells_sent(&rt, PRO_RATA, bad.as_slice(), LATER_GATE);
     // The last byte of the image is the session.
-    let image = with_byte(&rt, journal.as_slice(), LATER_GATE - 1, 2);
+    let image = must!(&rt; with_byte(journal.as_slice(), LATER_GATE - 1, 2));
     expect_sells_sent(&rt, PRO_RATA, image.as_slice(), GATE);
     let earlier = amended_to(
         &rt,
@@ -265,9 +266,9 @@ const LATE_SELLS: [&str; 2] = [
 /// An image with an order of a firm that an amendment adds is right after it, and bad before it.
 #[test]
 fn image_that_is_right_after_an_amendment(rt: HostRuntime) {
-    let five = text_with(&rt, FIFO, "\"DDD\"", "\"DDD\", \"EEE\"");
+    let five = must!(&rt; text_with(FIFO, "\"DDD\"", "\"DDD\", \"EEE\""));
     let five = five.as_str();
-    let other = image_then(&rt, five, "run", &LATE_SELLS, b"");
+    let other = must!(&rt; image_then(five, "run", &LATE_SELLS, b""));
     let image = book_image(&rt, five, other.as_slice());
     let journal = journal_of_sells(&rt);
     let (before, after) = around(&rt, journal.as_slice(), five, image.as_slice());
@@ -281,7 +282,7 @@ const ALLOCATION: &str = product_text!("max_orders = 8", letter: "A");
 /// An image in which an order is TOP is right before an amendment that takes that step away, and bad after it.
 #[test]
 fn image_that_is_right_before_an_amendment(rt: HostRuntime) {
-    let journal = image_then(&rt, ALLOCATION, "run", &SELLS, b"");
+    let journal = must!(&rt; image_then(ALLOCATION, "run", &SELLS, b""));
     let image = book_image(&rt, ALLOCATION, journal.as_slice());
     let (before, after) = around(&rt, journal.as_slice(), FIFO, image.as_slice());
     expect_replayed(&rt, FIFO, before.as_slice(), sells_again(&rt).as_slice());

@@ -3,12 +3,12 @@ ghost use Rattle.std.specs.Prelude.{◌≤◌, length};
 
 use super::expects::{expect_bytes, expect_outcome};
 use super::going_on::REPORTS;
-use super::{
-    BUY, FIFO, PRO_RATA, SELLS, amended_sells, execute, execute_well, expect_left, frames,
-    image_then, station_of, station_then,
-};
+use super::{BUY, FIFO, PRO_RATA, SELLS, amended_sells, expect_left};
 use gx_station::MemStation;
-use run_fixtures::{ROOM, ended, station_over};
+use run_fixtures::{
+    ended, execute_frames, execute_well, failing_station, frames_of, image_then, must, station_of,
+    station_then,
+};
 use std::process::Abort;
 
 /// What the sells are reported by, and the journal that an amendment to pro rata makes of theirs.
@@ -20,9 +20,9 @@ struct Kept<'a> {
 
 /// A run of the buy goes on from this image of the amended journal.
 fn expect_served(rt: &(impl Abort + AllocGlobal), left: &[u8]) {
-    let mut station = station_of(rt, left);
-    execute_well(rt, &mut station, PRO_RATA, "run", &[BUY], 1);
-    let want = frames(rt, &REPORTS);
+    let mut station = must!(rt; station_of(left));
+    must!(rt; execute_well(PRO_RATA, "run", &[BUY], &mut station, 1));
+    let want = must!(rt; frames_of(&REPORTS));
     expect_bytes(rt, "a run", station.output(), want.as_slice());
 }
 
@@ -46,7 +46,7 @@ fn expect_either(rt: &(impl Abort + AllocGlobal), kept: &Kept<'_>, is_amended: b
         expect_served(rt, left);
     } else {
         expect_of(rt, kept, FIFO, PRO_RATA, 161, left);
-        let amended = image_then(rt, PRO_RATA, "amend", &[], left);
+        let amended = must!(rt; image_then(PRO_RATA, "amend", &[], left));
         expect_bytes(rt, "amended later", amended.as_slice(), kept.amended);
     }
 }
@@ -87,14 +87,14 @@ fn expect_crashes(
 /// A crash at each call of an amendment.
 #[test]
 fn crash_at_each_call_of_an_amendment(rt: HostRuntime) {
-    let sells = station_then(&rt, FIFO, "run", &SELLS, b"");
+    let sells = must!(&rt; station_then(FIFO, "run", &SELLS, b""));
     let amended = amended_sells(&rt);
     let kept = Kept {
         reports: sells.output(),
         amended: amended.as_slice(),
     };
-    let mut station = station_of(&rt, sells.image());
-    execute_well(&rt, &mut station, PRO_RATA, "amend", &[], 2);
+    let mut station = must!(&rt; station_of(sells.image()));
+    must!(&rt; execute_well(PRO_RATA, "amend", &[], &mut station, 2));
     for call in 0..=station.calls() {
         expect_crashes(&rt, &kept, &station, call);
     }
@@ -102,10 +102,8 @@ fn crash_at_each_call_of_an_amendment(rt: HostRuntime) {
 
 /// The station after an amendment of the sells whose call of this number fails.
 fn faulty_amendment(rt: &(impl Abort + AllocGlobal), image: &[u8], call: usize) -> MemStation {
-    assert!(rt; image.len() <= ROOM);
-    let fail = vec![in rt.alloc(); call as u64].expect(rt, "memory");
-    let mut station = station_over(rt.alloc(), image, fail).expect(rt, "memory");
-    let got = execute(rt, PRO_RATA, "amend", &[], &mut station);
+    let mut station = must!(rt; failing_station(image, call as u64));
+    let got = must!(rt; execute_frames(PRO_RATA, "amend", &[], &mut station));
     expect_outcome(rt, "a fault", got, ended(5, 0, 0));
     expect_bytes(rt, "a fault", station.output(), b"");
     station
@@ -130,14 +128,14 @@ fn expect_fault(
 /// A fault of each call of an amendment.
 #[test]
 fn fault_of_each_call_of_an_amendment(rt: HostRuntime) {
-    let sells = station_then(&rt, FIFO, "run", &SELLS, b"");
+    let sells = must!(&rt; station_then(FIFO, "run", &SELLS, b""));
     let amended = amended_sells(&rt);
     let kept = Kept {
         reports: sells.output(),
         amended: amended.as_slice(),
     };
-    let mut station = station_of(&rt, sells.image());
-    execute_well(&rt, &mut station, PRO_RATA, "amend", &[], 2);
+    let mut station = must!(&rt; station_of(sells.image()));
+    must!(&rt; execute_well(PRO_RATA, "amend", &[], &mut station, 2));
     let calls = station.calls();
     for call in 1..=calls {
         expect_fault(&rt, &kept, sells.image(), call, calls);

@@ -7,11 +7,6 @@ pub fn expect_outcome(rt: &impl Abort, name: &str, got: Outcome, want: Outcome) 
     assert_eq!(rt; got, want, "{name}");
 }
 
-/// Looks for status 0 in the case of a name.
-pub fn expect_success(rt: &impl Abort, name: &str, got: Outcome) {
-    assert_eq!(rt; got.status, 0, "{name}");
-}
-
 /// Looks for these bytes in the case of a name.
 pub fn expect_bytes(rt: &impl Abort, name: &str, got: &[u8], want: &[u8]) {
     assert_eq!(rt; got, want, "{name}");

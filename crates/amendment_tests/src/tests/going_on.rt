@@ -4,11 +4,12 @@ ghost use Rattle.std.specs.Prelude.{◌≤◌, length};
 use super::expects::{expect_bytes, expect_count};
 use super::{
     BEGINNING, BUY, FIFO, PRO_RATA, READING, SELLS, THIRD, amended, amended_sells, amended_to,
-    book_image, execute_well, expect_left, frames, image_then, journal_of_sells, station_of,
-    with_amendment, with_byte,
+    book_image, expect_left, journal_of_sells, with_amendment,
 };
 use gx_station::MemStation;
-use run_fixtures::{PRODUCT, ended, product_text};
+use run_fixtures::{
+    PRODUCT, ended, execute_well, frames_of, image_then, must, product_text, station_of, with_byte,
+};
 use std::process::Abort;
 
 /// The usual product with pro rata in place of FIFO.
@@ -54,16 +55,16 @@ pub fn expect_refused(
 /// checkpoint, and the books are those before and after it.
 pub fn expect_going_on(rt: &(impl Abort + AllocGlobal), text: &str, journal: &[u8]) {
     expect_left(rt, text, "book", journal, ended(0, 0, 2), BOOK.as_bytes());
-    let reports = frames(rt, &REPORTS);
-    let mut station = station_of(rt, journal);
-    execute_well(rt, &mut station, text, "run", &[BUY], 1);
+    let reports = must!(rt; frames_of(&REPORTS));
+    let mut station = must!(rt; station_of(journal));
+    must!(rt; execute_well(text, "run", &[BUY], &mut station, 1));
     expect_bytes(rt, "run", station.output(), reports.as_slice());
     let then = station.image();
     let book = BOOK_THEN.as_bytes();
     expect_left(rt, text, "book", then, ended(0, 0, 3), book);
-    let checkpointed = image_then(rt, text, "checkpoint", &[], journal);
-    let mut station = station_of(rt, checkpointed.as_slice());
-    execute_well(rt, &mut station, text, "run", &[BUY], 1);
+    let checkpointed = must!(rt; image_then(text, "checkpoint", &[], journal));
+    let mut station = must!(rt; station_of(checkpointed.as_slice()));
+    must!(rt; execute_well(text, "run", &[BUY], &mut station, 1));
     expect_bytes(rt, "run", station.output(), reports.as_slice());
 }
 
@@ -79,15 +80,15 @@ fn run_behind_an_amendment(rt: HostRuntime) {
 /// The same with the usual product.
 #[test]
 fn usual_product_amended(rt: HostRuntime) {
-    let sells = image_then(&rt, PRODUCT, "run", &SELLS, b"");
+    let sells = must!(&rt; image_then(PRODUCT, "run", &SELLS, b""));
     expect_count(&rt, "the journal", sells.len(), 376);
     let journal = amended(&rt, sells.as_slice(), PRODUCT, USUAL_PRO_RATA);
     let journal = journal.as_slice();
     expect_count(&rt, "the amended journal", journal.len(), 1_272);
     expect_left(&rt, PRODUCT, "run", journal, ended(11, 518, 0), b"");
-    let mut station = station_of(&rt, journal);
-    execute_well(&rt, &mut station, USUAL_PRO_RATA, "run", &[BUY], 1);
-    let reports = frames(&rt, &REPORTS);
+    let mut station = must!(&rt; station_of(journal));
+    must!(&rt; execute_well(USUAL_PRO_RATA, "run", &[BUY], &mut station, 1));
+    let reports = must!(&rt; frames_of(&REPORTS));
     expect_bytes(&rt, "run", station.output(), reports.as_slice());
 }
 
@@ -98,15 +99,9 @@ fn amendments_and_images(rt: HostRuntime) {
     let twice = amended(&rt, once.as_slice(), PRO_RATA, THIRD);
     expect_going_on(&rt, THIRD, twice.as_slice());
     expect_refused(&rt, PRO_RATA, twice.as_slice(), 11, 1_444);
-    let behind = image_then(&rt, PRO_RATA, "checkpoint", &[], once.as_slice());
+    let behind = must!(&rt; image_then(PRO_RATA, "checkpoint", &[], once.as_slice()));
     expect_going_on(&rt, PRO_RATA, behind.as_slice());
-    let image = image_then(
-        &rt,
-        FIFO,
-        "checkpoint",
-        &[],
-        journal_of_sells(&rt).as_slice(),
-    );
+    let image = must!(&rt; image_then(FIFO, "checkpoint", &[], journal_of_sells(&rt).as_slice()));
     let before = amended(&rt, image.as_slice(), FIFO, PRO_RATA);
     expect_going_on(&rt, PRO_RATA, before.as_slice());
 }
@@ -115,18 +110,11 @@ fn amendments_and_images(rt: HostRuntime) {
 #[test]
 fn drill_behind_an_amendment(rt: HostRuntime) {
     let journal = amended_sells(&rt);
-    let mut station = station_of(&rt, journal.as_slice());
-    execute_well(
-        &rt,
-        &mut station,
-        PRO_RATA,
-        "drill --first 1 --count 3",
-        &[],
-        3,
-    );
+    let mut station = must!(&rt; station_of(journal.as_slice()));
+    must!(&rt; execute_well(PRO_RATA, "drill --first 1 --count 3", &[], &mut station, 3));
     assert!(rt; station.image().len() > journal.len());
     let sent = station.output().len();
-    execute_well(&rt, &mut station, PRO_RATA, "book", &[], 5);
+    must!(&rt; execute_well(PRO_RATA, "book", &[], &mut station, 5));
     assert!(rt; station.output().len() > sent);
 }
 
@@ -135,15 +123,15 @@ fn drill_behind_an_amendment(rt: HostRuntime) {
 fn bad_image_of_an_amendment(rt: HostRuntime) {
     let once = amended_sells(&rt);
     // The last byte of the image is the session.
-    let bad = with_byte(&rt, once.as_slice(), 1_300, 2);
+    let bad = must!(&rt; with_byte(once.as_slice(), 1_300, 2));
     for line in BEGINNING {
         expect_left(&rt, PRO_RATA, line, bad.as_slice(), ended(10, 390, 0), b"");
     }
     let twice = amended(&rt, once.as_slice(), PRO_RATA, THIRD);
-    let earlier = with_byte(&rt, twice.as_slice(), 1_300, 2);
+    let earlier = must!(&rt; with_byte(twice.as_slice(), 1_300, 2));
     expect_going_on(&rt, THIRD, earlier.as_slice());
     assert!(rt; twice.len() >= 2);
-    let last = with_byte(&rt, twice.as_slice(), twice.len() - 2, 2);
+    let last = must!(&rt; with_byte(twice.as_slice(), twice.len() - 2, 2));
     for line in BEGINNING {
         expect_left(&rt, THIRD, line, last.as_slice(), ended(10, 1_301, 0), b"");
     }
@@ -193,9 +181,9 @@ fn expect_kept_after_a_crash(
         let book = BOOK_THEN.as_bytes();
         expect_left(rt, PRO_RATA, "book", left, ended(0, 0, 3), book);
     } else {
-        let mut then = station_of(rt, left);
-        execute_well(rt, &mut then, PRO_RATA, "run", &[BUY], 1);
-        let want = frames(rt, &REPORTS);
+        let mut then = must!(rt; station_of(left));
+        must!(rt; execute_well(PRO_RATA, "run", &[BUY], &mut then, 1));
+        let want = must!(rt; frames_of(&REPORTS));
         expect_bytes(rt, "after a crash", then.output(), want.as_slice());
     }
 }
@@ -203,8 +191,8 @@ fn expect_kept_after_a_crash(
 /// A run after an amendment that crashes at a call keeps the buy or not, and always the amendment.
 #[test]
 fn crash_at_each_call_of_a_run_behind_an_amendment(rt: HostRuntime) {
-    let mut station = station_of(&rt, amended_sells(&rt).as_slice());
-    execute_well(&rt, &mut station, PRO_RATA, "run", &[BUY], 1);
+    let mut station = must!(&rt; station_of(amended_sells(&rt).as_slice()));
+    must!(&rt; execute_well(PRO_RATA, "run", &[BUY], &mut station, 1));
     for call in 0..=station.calls() {
         expect_kept_after_a_crash(&rt, &station, call, 0);
         expect_kept_after_a_crash(&rt, &station, call, 1);

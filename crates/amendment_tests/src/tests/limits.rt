@@ -1,8 +1,8 @@
 //! Which limits of bytes hold for an amendment: for its record that of the product handed in, and for what is there the greatest one.
 use super::expects::{expect_bytes, expect_count, expect_outcome};
-use super::{amended_to, book_image, execute};
+use super::{amended_to, book_image};
 use gx_station::MemStation;
-use run_fixtures::{ended, product_text};
+use run_fixtures::{ended, execute_frames, must, product_text};
 use std::process::Abort;
 
 /// Products whose journals have at most 131,072 bytes, and one more.
@@ -33,7 +33,7 @@ fn long_text(rt: &(impl Abort + AllocGlobal), text: &str, length: usize) -> Stri
 fn long_journal(rt: &(impl Abort + AllocGlobal)) -> Vec<u8> {
     let text = long_text(rt, LEAST, 65_536);
     let mut station = roomy_station(rt, b"");
-    let got = execute(rt, text.as_str(), "amend", &[], &mut station);
+    let got = must!(rt; execute_frames(text.as_str(), "amend", &[], &mut station));
     expect_outcome(rt, "a new journal", got, ended(0, 0, 0));
     expect_count(rt, "a new journal", station.image().len(), 65_550);
     station.image().to_vec(rt.alloc()).expect(rt, "memory")
@@ -51,7 +51,7 @@ fn expect_length(
     let journal = long_journal(rt);
     let text = long_text(rt, text, length);
     let mut station = roomy_station(rt, journal.as_slice());
-    let got = execute(rt, text.as_str(), "amend", &[], &mut station);
+    let got = must!(rt; execute_frames(text.as_str(), "amend", &[], &mut station));
     expect_outcome(rt, "an amendment", got, ended(status, at, 0));
     expect_count(rt, "an amendment", station.image().len(), left);
     if status == 12 {
@@ -79,7 +79,7 @@ fn journal_past_its_limit(rt: &(impl Abort + AllocGlobal), text: &str) -> Vec<u8
 /// A journal without messages.
 fn short_journal(rt: &(impl Abort + AllocGlobal)) -> Vec<u8> {
     let mut station = roomy_station(rt, b"");
-    let got = execute(rt, LEAST, "run", &[], &mut station);
+    let got = must!(rt; execute_frames(LEAST, "run", &[], &mut station));
     expect_outcome(rt, "a new journal", got, ended(0, 0, 0));
     station.image().to_vec(rt.alloc()).expect(rt, "memory")
 }
@@ -94,7 +94,7 @@ fn expect_ended(
     at: u64,
 ) {
     let mut station = roomy_station(rt, image);
-    let got = execute(rt, text, line, &[], &mut station);
+    let got = must!(rt; execute_frames(text, line, &[], &mut station));
     expect_outcome(rt, line, got, ended(status, at, 0));
     if status != 0 {
         expect_bytes(rt, line, station.image(), image);

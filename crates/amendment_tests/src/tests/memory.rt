@@ -1,11 +1,9 @@
 //! Printing and amending for which memory may not suffice.
 use super::expects::{expect_bytes, expect_count, expect_outcome};
-use super::{
-    FIFO, PRO_RATA, SELLS, THIRD, amended, amended_sells, execute, station_of, station_then,
-};
+use super::{FIFO, PRO_RATA, SELLS, THIRD, amended, amended_sells};
 use globex_run::Outcome;
 use gx_station::MemStation;
-use run_fixtures::ended;
+use run_fixtures::{ended, execute_frames, must, station_of, station_then};
 use std::process::Abort;
 
 /// A command that ended for want of memory left the image as it was, and sent nothing.
@@ -23,8 +21,8 @@ fn expect_replayed_or_not(
     sent: &[u8],
     takes_later: bool,
 ) {
-    let mut station = station_of(rt, image);
-    let got = execute(rt, text, "replay", &[], &mut station);
+    let mut station = must!(rt; station_of(image));
+    let got = must!(rt; execute_frames(text, "replay", &[], &mut station));
     if got.status == 1 {
         expect_untouched(rt, got, &station, image);
         if !takes_later {
@@ -39,7 +37,7 @@ fn expect_replayed_or_not(
 /// A replay that ends for want of memory sent and wrote nothing. With `rt try --test --fail-alloc` an allocation is refused.
 #[test]
 fn refused_memory_of_products(rt: HostRuntime) {
-    let sells = station_then(&rt, FIFO, "run", &SELLS, b"");
+    let sells = must!(&rt; station_then(FIFO, "run", &SELLS, b""));
     let sent = sells.output();
     let twice = amended(&rt, amended_sells(&rt).as_slice(), PRO_RATA, THIRD);
     expect_replayed_or_not(&rt, THIRD, twice.as_slice(), sent, true);
@@ -48,7 +46,7 @@ fn refused_memory_of_products(rt: HostRuntime) {
 /// Over a journal without amendments it did not call the station then.
 #[test]
 fn refused_memory_without_amendments(rt: HostRuntime) {
-    let sells = station_then(&rt, FIFO, "run", &SELLS, b"");
+    let sells = must!(&rt; station_then(FIFO, "run", &SELLS, b""));
     expect_replayed_or_not(&rt, FIFO, sells.image(), sells.output(), false);
 }
 
@@ -60,8 +58,8 @@ fn expect_amended_or_not(
     want: &[u8],
     takes_later: bool,
 ) {
-    let mut station = station_of(rt, image);
-    let got = execute(rt, text, "amend", &[], &mut station);
+    let mut station = must!(rt; station_of(image));
+    let got = must!(rt; execute_frames(text, "amend", &[], &mut station));
     if got.status == 1 {
         expect_untouched(rt, got, &station, image);
         if !takes_later {
@@ -76,7 +74,7 @@ fn expect_amended_or_not(
 /// An amendment that ends for want of memory wrote nothing.
 #[test]
 fn refused_memory_of_an_amendment(rt: HostRuntime) {
-    let sells = station_then(&rt, FIFO, "run", &SELLS, b"");
+    let sells = must!(&rt; station_then(FIFO, "run", &SELLS, b""));
     let amended = amended_sells(&rt);
     expect_amended_or_not(&rt, PRO_RATA, sells.image(), amended.as_slice(), true);
 }
@@ -84,6 +82,6 @@ fn refused_memory_of_an_amendment(rt: HostRuntime) {
 /// With the text that the journal has it did not call the station then.
 #[test]
 fn refused_memory_of_the_same_text(rt: HostRuntime) {
-    let sells = station_then(&rt, FIFO, "run", &SELLS, b"");
+    let sells = must!(&rt; station_then(FIFO, "run", &SELLS, b""));
     expect_amended_or_not(&rt, FIFO, sells.image(), sells.image(), false);
 }

@@ -1,11 +1,10 @@
 //! What `replay`, `fills` and `ledger` print of messages before an amendment and after it: what was sent when they were served.
 use super::expects::{expect_bytes, expect_outcome};
-use super::{
-    FIFO, PRO_RATA, THIRD, amended, execute, expect_left, frames, image_then, push, station_of,
-    station_then, text_with,
-};
+use super::{FIFO, PRO_RATA, THIRD, amended, expect_left, push};
 use gx_station::MemStation;
-use run_fixtures::ended;
+use run_fixtures::{
+    ended, execute_frames, frames_of, image_then, must, station_of, station_then, text_with,
+};
 use std::process::Abort;
 
 /// Two sells that share a price, and a buy.
@@ -75,7 +74,7 @@ fn expect_both_printed(
     text: &str,
     between: &[u8],
 ) {
-    let second = station_then(rt, text, "run", &ORDERS_AGAIN, between);
+    let second = must!(rt; station_then(text, "run", &ORDERS_AGAIN, between));
     let journal = second.image();
     let sent = sent_by_both(rt, first, &second);
     let done = ended(0, 0, 6);
@@ -87,14 +86,14 @@ fn expect_both_printed(
 /// The same orders before an amendment and after it: with images before it and after it, and with a second one.
 #[test]
 fn matching_on_both_sides(rt: HostRuntime) {
-    let first = station_then(&rt, FIFO, "run", &ORDERS, b"");
+    let first = must!(&rt; station_then(FIFO, "run", &ORDERS, b""));
     let once = amended(&rt, first.image(), FIFO, PRO_RATA);
     expect_both_printed(&rt, &first, PRO_RATA, once.as_slice());
-    let behind = image_then(&rt, PRO_RATA, "checkpoint", &[], once.as_slice());
+    let behind = must!(&rt; image_then(PRO_RATA, "checkpoint", &[], once.as_slice()));
     expect_both_printed(&rt, &first, PRO_RATA, behind.as_slice());
     let twice = amended(&rt, behind.as_slice(), PRO_RATA, THIRD);
     expect_both_printed(&rt, &first, THIRD, twice.as_slice());
-    let image = image_then(&rt, FIFO, "checkpoint", &[], first.image());
+    let image = must!(&rt; image_then(FIFO, "checkpoint", &[], first.image()));
     let before = amended(&rt, image.as_slice(), FIFO, PRO_RATA);
     expect_both_printed(&rt, &first, PRO_RATA, before.as_slice());
 }
@@ -102,9 +101,9 @@ fn matching_on_both_sides(rt: HostRuntime) {
 /// An amendment before any message, and one to the product of before.
 #[test]
 fn amendments_at_the_ends(rt: HostRuntime) {
-    let none = image_then(&rt, PRO_RATA, "run", &[], b"");
+    let none = must!(&rt; image_then(PRO_RATA, "run", &[], b""));
     let first = amended(&rt, none.as_slice(), PRO_RATA, FIFO);
-    let served = station_then(&rt, FIFO, "run", &ORDERS, first.as_slice());
+    let served = must!(&rt; station_then(FIFO, "run", &ORDERS, first.as_slice()));
     let last = amended(&rt, served.image(), FIFO, PRO_RATA);
     expect_both_printed(&rt, &served, PRO_RATA, last.as_slice());
     let done = ended(0, 0, 0);
@@ -146,21 +145,21 @@ fn expect_run(
     bodies: &[&str],
     reports: &[&str],
 ) {
-    let got = execute(rt, text, "run", bodies, station);
+    let got = must!(rt; execute_frames(text, "run", bodies, station));
     expect_outcome(rt, "run", got, ended(0, 0, bodies.len() as u64));
-    let sent = frames(rt, reports);
+    let sent = must!(rt; frames_of(reports));
     expect_bytes(rt, "run", station.output(), sent.as_slice());
 }
 
 /// A firm that an amendment adds is refused before it and accepted after it, also when all is read again.
 #[test]
 fn firm_that_comes_later(rt: HostRuntime) {
-    let five = text_with(&rt, FIFO, "\"DDD\"", "\"DDD\", \"EEE\"");
+    let five = must!(&rt; text_with(FIFO, "\"DDD\"", "\"DDD\", \"EEE\""));
     let five = five.as_str();
-    let mut early = station_of(&rt, b"");
+    let mut early = must!(&rt; station_of(b""));
     expect_run(&rt, &mut early, FIFO, &EARLY, &EARLY_REPORTS);
     let between = amended(&rt, early.image(), FIFO, five);
-    let mut late = station_of(&rt, between.as_slice());
+    let mut late = must!(&rt; station_of(between.as_slice()));
     expect_run(&rt, &mut late, five, &LATE, &LATE_REPORTS);
     let sent = sent_by_both(&rt, &early, &late);
     let journal = late.image();

@@ -2,12 +2,13 @@
 use super::expects::{expect_bytes, expect_outcome};
 use super::going_on::USUAL_PRO_RATA;
 use super::{
-    FIFO, GATE, PRO_RATA, SELLS, THIRD, amended_to, book_image, execute_well, expect_left,
-    image_then, journal_of_sells, push, source_of, station_of, text_with, with_amendment,
-    with_byte, with_end, with_record,
+    FIFO, GATE, PRO_RATA, SELLS, THIRD, amended_to, book_image, expect_left, journal_of_sells,
+    push, with_amendment, with_end, with_record,
 };
-use gx_station::MemSource;
-use run_fixtures::{PRODUCT, ended, product_text, run_over};
+use run_fixtures::{
+    PRODUCT, ended, execute_well, failing_source, image_then, must, product_text, run_over,
+    source_of, station_of, text_with, with_byte,
+};
 use std::process::Abort;
 
 /// An amendment to the product of this text is refused so, and leaves the image as it is.
@@ -23,7 +24,7 @@ fn expect_not_following(
     new: &str,
     reason: u64,
 ) {
-    let text = text_with(rt, FIFO, old, new);
+    let text = must!(rt; text_with(FIFO, old, new));
     expect_refused(rt, text.as_str(), journal, 13, reason);
 }
 
@@ -47,14 +48,14 @@ fn products_that_may_not_follow(rt: HostRuntime) {
 /// The worked ones, and the first version.
 #[test]
 fn worked_refusals(rt: HostRuntime) {
-    let journal = image_then(&rt, PRODUCT, "run", &SELLS, b"");
+    let journal = must!(&rt; image_then(PRODUCT, "run", &SELLS, b""));
     let journal = journal.as_slice();
-    let ticks = text_with(&rt, PRODUCT, "tick = 1", "tick = 2");
+    let ticks = must!(&rt; text_with(PRODUCT, "tick = 1", "tick = 2"));
     expect_refused(&rt, ticks.as_str(), journal, 13, 6);
     let firms = "\"AAA\", \"BBB\", \"CCC\", \"DDD\"";
-    let one = text_with(&rt, PRODUCT, firms, "\"AAA\"");
+    let one = must!(&rt; text_with(PRODUCT, firms, "\"AAA\""));
     expect_refused(&rt, one.as_str(), journal, 13, 3);
-    let first = with_byte(&rt, journal, 8, b'1');
+    let first = must!(&rt; with_byte(journal, 8, b'1'));
     expect_refused(&rt, USUAL_PRO_RATA, first.as_slice(), 13, 1);
     expect_refused(&rt, ticks.as_str(), first.as_slice(), 13, 1);
 }
@@ -77,13 +78,13 @@ fn heads_before_products_before_records(rt: HostRuntime) {
     let record = with_end(&rt, sells.as_slice(), BAD_RECORD);
     for text in [FIFO, PRO_RATA, OTHER_TICK] {
         expect_refused(&rt, text, head.as_slice(), 10, 390);
-        let first = with_byte(&rt, head.as_slice(), 8, b'1');
+        let first = must!(&rt; with_byte(head.as_slice(), 8, b'1'));
         expect_refused(&rt, text, first.as_slice(), 10, 390);
     }
     expect_refused(&rt, FIFO, record.as_slice(), 10, 390);
     expect_refused(&rt, PRO_RATA, record.as_slice(), 10, 390);
     expect_refused(&rt, OTHER_TICK, record.as_slice(), 13, 6);
-    let first = with_byte(&rt, record.as_slice(), 8, b'1');
+    let first = must!(&rt; with_byte(record.as_slice(), 8, b'1'));
     expect_refused(&rt, FIFO, first.as_slice(), 10, 390);
     expect_refused(&rt, PRO_RATA, first.as_slice(), 13, 1);
 }
@@ -124,8 +125,8 @@ fn header_without_a_product(rt: HostRuntime) {
     let image = book_image(&rt, FIFO, journal.as_slice());
     let bare = without_product(&rt, b'2', b"\x00");
     let once = amended_to(&rt, bare.as_slice(), FIFO.as_bytes(), image.as_slice());
-    let mut station = station_of(&rt, once.as_slice());
-    execute_well(&rt, &mut station, PRO_RATA, "amend", &[], 2);
+    let mut station = must!(&rt; station_of(once.as_slice()));
+    must!(&rt; execute_well(PRO_RATA, "amend", &[], &mut station, 2));
     let want = amended_to(&rt, once.as_slice(), PRO_RATA.as_bytes(), image.as_slice());
     expect_bytes(&rt, "amend", station.image(), want.as_slice());
 }
@@ -151,25 +152,17 @@ fn bad_last_amendment(rt: HostRuntime) {
 /// All of a journal of another text but its first gate, and files that are no journal.
 #[test]
 fn unfinished_and_foreign(rt: HostRuntime) {
-    let new = image_then(&rt, FIFO, "run", &[], b"");
+    let new = must!(&rt; image_then(FIFO, "run", &[], b""));
     for gate in [2, 200] {
-        let sealed = with_byte(&rt, new.as_slice(), 0, gate);
+        let sealed = must!(&rt; with_byte(new.as_slice(), 0, gate));
         expect_refused(&rt, PRO_RATA, sealed.as_slice(), 11, 161);
         expect_refused(&rt, OTHER_TICK, sealed.as_slice(), 11, 131);
-        let first = with_byte(&rt, sealed.as_slice(), 8, b'1');
+        let first = must!(&rt; with_byte(sealed.as_slice(), 8, b'1'));
         expect_refused(&rt, PRO_RATA, first.as_slice(), 11, 161);
     }
     expect_refused(&rt, FIFO, b"hello", 9, 0);
     expect_refused(&rt, FIFO, b"\x01GXJOURN3", 9, 8);
     expect_refused(&rt, FIFO, b"\x01GXJOURN2\x00\x01\x00\x01", 10, 9);
-}
-
-/// A source of the product of pro rata, of which the first read fails.
-fn failing_product(rt: &(impl Abort + AllocGlobal)) -> MemSource {
-    let alloc = rt.alloc();
-    let text = PRO_RATA.as_bytes().to_vec(alloc).expect(rt, "memory");
-    let fail = vec![in alloc; 1].expect(rt, "memory");
-    MemSource::new(alloc, text, Vec::new(alloc), fail).expect(rt, "memory")
 }
 
 /// Words and products that are wrong, and a read of the product that fails.
@@ -181,12 +174,10 @@ fn words_and_products(rt: HostRuntime) {
     expect_left(&rt, PRO_RATA, "amend --count 1", journal, faulty, b"");
     expect_left(&rt, PRO_RATA, "amend book", journal, faulty, b"");
     expect_refused(&rt, "firms = [", journal, 3, 2);
-    let mut product = failing_product(&rt);
-    let mut input = source_of(&rt, b"");
-    let mut station = station_of(&rt, journal);
-    let got = run_over(rt.alloc(), "amend", &mut product, &mut input, &mut station).expect(
-        &rt, "memory",
-    );
+    let mut product = must!(&rt; failing_source(PRO_RATA.as_bytes(), 1));
+    let mut input = must!(&rt; source_of(b""));
+    let mut station = must!(&rt; station_of(journal));
+    let got = must!(&rt; run_over("amend", &mut product, &mut input, &mut station));
     expect_outcome(&rt, "a failed read", got, ended(4, 0, 0));
     expect_bytes(&rt, "a failed read", station.image(), journal);
 }

@@ -1,5 +1,6 @@
 //! Books of all forms: one side, sides that do not meet, equal prices, hidden lots, and orders that a run left.
 use super::{expect_opening, kept};
+use run_fixtures::{buy, sell};
 
 /// Two sells.
 const SELLS: [&str; 2] = [

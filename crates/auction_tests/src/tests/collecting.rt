@@ -1,5 +1,6 @@
 //! Which messages are collected: every one counts, but few come to rest.
 use super::{CLOSE, expect_opening, kept};
+use run_fixtures::{buy, cancel, limit_order, sell};
 
 /// Fill and kill, fill or kill, a market order, a stop, and two with a least quantity; then a least quantity of none, no life, life until
 /// cancelled, and a sell. The lots of each differ.

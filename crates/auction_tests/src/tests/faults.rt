@@ -2,10 +2,12 @@
 ghost use Rattle.std.specs.Prelude.{◌≤◌, length};
 
 use super::expects::{expect_bytes, expect_call, expect_count, expect_outcome};
-use super::{FIFO, TWO, TWO_LINES, execute, expect_unread, frames, kept, source_of, station_of};
+use super::{FIFO, TWO, TWO_LINES, expect_unread, kept};
 use globex_run::Outcome;
 use gx_station::MemStation;
-use run_fixtures::{ROOM, ended, station_over};
+use run_fixtures::{
+    buy, ended, execute, failing_station, frames_of, must, sell, source_of_frames, station_of,
+};
 use std::process::Abort;
 
 /// Two orders that trade with each other: the lines over them differ in the numbers alone.
@@ -20,18 +22,11 @@ opening 100.00 volume 1
 1@100.00 #3 #4
 ";
 
-/// A station over this image, of which the call of this number fails.
-fn failing_station(rt: &(impl Abort + AllocGlobal), image: &[u8], call: usize) -> MemStation {
-    assert!(rt; image.len() <= ROOM);
-    let fail = vec![in rt.alloc(); call as u64].expect(rt, "memory");
-    station_over(rt.alloc(), image, fail).expect(rt, "memory")
-}
-
 /// The station after both orders were collected over this image, and these lines were sent.
 fn served_station(rt: &(impl Abort + AllocGlobal), image: &[u8], lines: &str) -> MemStation {
-    let mut input = source_of(rt, frames(rt, &TWO).as_slice());
-    let mut station = station_of(rt, image);
-    let got = execute(rt, FIFO, "opening", &mut input, &mut station);
+    let mut input = must!(rt; source_of_frames(&TWO));
+    let mut station = must!(rt; station_of(image));
+    let got = must!(rt; execute(FIFO, "opening", &mut input, &mut station));
     expect_outcome(rt, "no fault", got, ended(0, 0, 2));
     expect_bytes(rt, "no fault", station.output(), lines.as_bytes());
     station
@@ -45,9 +40,9 @@ fn expect_failed(
     outcome: Outcome,
     unread: &[u8],
 ) {
-    let mut input = source_of(rt, frames(rt, &TWO).as_slice());
-    let mut station = failing_station(rt, image, call);
-    let got = execute(rt, FIFO, "opening", &mut input, &mut station);
+    let mut input = must!(rt; source_of_frames(&TWO));
+    let mut station = must!(rt; failing_station(image, call as u64));
+    let got = must!(rt; execute(FIFO, "opening", &mut input, &mut station));
     expect_call(rt, call, got, outcome);
     expect_bytes(rt, "a fault", station.output(), b"");
     expect_bytes(rt, "a fault", station.image(), image);
@@ -57,7 +52,7 @@ fn expect_failed(
 
 /// All calls but the last one open the journal, before the input is read; the last one sends, after all messages were counted.
 fn expect_each_failed(rt: &(impl Abort + AllocGlobal), image: &[u8], lines: &str) {
-    let asked = frames(rt, &TWO);
+    let asked = must!(rt; frames_of(&TWO));
     let last = served_station(rt, image, lines).calls();
     assert!(rt; 2 <= last);
     for call in 1..last {

@@ -1,11 +1,8 @@
 //! Inputs that come in pieces, that end within a frame, that are no frames, or whose reads fail. Nothing is sent unless all was read.
-use super::{
-    BOTH, FIFO, FIRST, NEVER, TWO, TWO_LINES, cut_source, expect_ended, frames, front_of,
-    source_of, with_byte, with_more,
-};
+use super::{BOTH, FIFO, FIRST, TWO, TWO_LINES, expect_ended, front_of};
 use globex_run::Outcome;
 use gx_station::MemSource;
-use run_fixtures::ended;
+use run_fixtures::{NEVER, concat, cut_source, ended, frames_of, must, source_of, with_byte};
 use std::process::Abort;
 
 /// Over no journal this input ends so, and these lines are sent.
@@ -34,17 +31,17 @@ fn expect_refused(
     at: usize,
     count: u64,
 ) {
-    let outcome = ended(status, at as u64, count);
-    expect_input(rt, source_of(rt, bytes), outcome, "");
+    let input = must!(rt; source_of(bytes));
+    expect_input(rt, input, ended(status, at as u64, count), "");
 }
 
 /// In two pieces both are collected, wherever they part.
 #[test]
 fn input_in_pieces(rt: HostRuntime) {
-    let both = frames(&rt, &TWO);
+    let both = must!(&rt; frames_of(&TWO));
     assert_eq!(rt; both.len(), BOTH);
     for first in 1..=BOTH {
-        let input = cut_source(&rt, both.as_slice(), first, NEVER);
+        let input = must!(&rt; cut_source(both.as_slice(), first, NEVER));
         expect_input(&rt, input, ended(0, 0, 2), TWO_LINES);
     }
 }
@@ -52,7 +49,7 @@ fn input_in_pieces(rt: HostRuntime) {
 /// The front of a frame is told with its place.
 #[test]
 fn input_cut_at_each_byte(rt: HostRuntime) {
-    let both = frames(&rt, &TWO);
+    let both = must!(&rt; frames_of(&TWO));
     let both = both.as_slice();
     for count in 1..FIRST {
         expect_refused(&rt, front_of(&rt, both, count), 8, 0, 0);
@@ -65,14 +62,14 @@ fn input_cut_at_each_byte(rt: HostRuntime) {
 /// A byte that no frame has there is told with the place of its frame.
 #[test]
 fn input_broken_at_each_byte(rt: HostRuntime) {
-    let both = frames(&rt, &TWO);
+    let both = must!(&rt; frames_of(&TWO));
     let both = both.as_slice();
     for at in 0..FIRST {
-        let broken = with_byte(&rt, both, at, b'!');
+        let broken = must!(&rt; with_byte(both, at, b'!'));
         expect_refused(&rt, broken.as_slice(), 7, 0, 0);
     }
     for at in FIRST..BOTH {
-        let broken = with_byte(&rt, both, at, b'!');
+        let broken = must!(&rt; with_byte(both, at, b'!'));
         expect_refused(&rt, broken.as_slice(), 7, FIRST, 1);
     }
 }
@@ -85,14 +82,14 @@ fn expect_failing(
     failing: u64,
     outcome: Outcome,
 ) {
-    let input = cut_source(rt, bytes, first, failing);
+    let input = must!(rt; cut_source(bytes, first, failing));
     expect_input(rt, input, outcome, "");
 }
 
 /// The place is the number of bytes that were read. Bytes that are no frame are told, though the next read would fail.
 #[test]
 fn failing_reads(rt: HostRuntime) {
-    let both = frames(&rt, &TWO);
+    let both = must!(&rt; frames_of(&TWO));
     let both = both.as_slice();
     expect_failing(&rt, both, FIRST, 1, ended(4, 0, 0));
     expect_failing(&rt, both, 1, 2, ended(4, 1, 0));
@@ -100,7 +97,7 @@ fn failing_reads(rt: HostRuntime) {
     expect_failing(&rt, both, 110, 2, ended(4, 110, 1));
     expect_failing(&rt, both, 111, 2, ended(4, 111, 1));
     expect_failing(&rt, both, 110, 3, ended(4, 220, 2));
-    let noise = with_more(&rt, both, b"noise");
+    let noise = must!(&rt; concat(&[both, b"noise"]));
     expect_failing(&rt, noise.as_slice(), 225, 2, ended(7, 220, 2));
     expect_failing(&rt, noise.as_slice(), 220, 2, ended(4, 220, 2));
 }

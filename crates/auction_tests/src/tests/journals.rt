@@ -1,7 +1,6 @@
 //! Journals of several runs, with images and with amendments, of both versions, and unfinished ones.
-use super::{
-    FIFO, TWO, TWO_LINES, expect_lines, expect_opening, five_firms, image_then, kept, with_byte,
-};
+use super::{FIFO, TWO, TWO_LINES, expect_lines, expect_opening, five_firms, kept};
+use run_fixtures::{buy, image_then, must, sell, with_byte};
 use std::process::Abort;
 
 /// A trade at 100.06, and a sell that is left.
@@ -28,21 +27,21 @@ opening 100.06 volume 3
 
 /// The image after a checkpoint under the product of this text.
 fn checkpointed(rt: &(impl Abort + AllocGlobal), text: &str, image: &[u8]) -> Vec<u8> {
-    image_then(rt, text, "checkpoint", &[], image)
+    must!(rt; image_then(text, "checkpoint", &[], image))
 }
 
 /// With no image, with one between the runs, after them, and after both; and with the first version's number.
 #[test]
 fn checkpoints(rt: HostRuntime) {
     let first = kept(&rt, &EARLIER);
-    let second = image_then(&rt, FIFO, "run", &LATER, first.as_slice());
+    let second = must!(&rt; image_then(FIFO, "run", &LATER, first.as_slice()));
     expect_opening(&rt, second.as_slice(), &ASKED, LINES);
-    let old = with_byte(&rt, second.as_slice(), 8, b'1');
+    let old = must!(&rt; with_byte(second.as_slice(), 8, b'1'));
     expect_opening(&rt, old.as_slice(), &ASKED, LINES);
     let behind = checkpointed(&rt, FIFO, second.as_slice());
     expect_opening(&rt, behind.as_slice(), &ASKED, LINES);
     let between = checkpointed(&rt, FIFO, first.as_slice());
-    let second = image_then(&rt, FIFO, "run", &LATER, between.as_slice());
+    let second = must!(&rt; image_then(FIFO, "run", &LATER, between.as_slice()));
     expect_opening(&rt, second.as_slice(), &ASKED, LINES);
     let behind = checkpointed(&rt, FIFO, second.as_slice());
     expect_opening(&rt, behind.as_slice(), &ASKED, LINES);
@@ -57,8 +56,8 @@ fn amendments(rt: HostRuntime) {
     let five = five_firms(&rt);
     let five = five.as_str();
     let first = kept(&rt, &EARLIER);
-    let amended = image_then(&rt, five, "amend", &[], first.as_slice());
-    let second = image_then(&rt, five, "run", &LATER, amended.as_slice());
+    let amended = must!(&rt; image_then(five, "amend", &[], first.as_slice()));
+    let second = must!(&rt; image_then(five, "run", &LATER, amended.as_slice()));
     expect_lines(&rt, five, second.as_slice(), &NEW_FIRM, LINES);
     let behind = checkpointed(&rt, five, second.as_slice());
     expect_lines(&rt, five, behind.as_slice(), &NEW_FIRM, LINES);

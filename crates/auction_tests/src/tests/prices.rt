@@ -1,6 +1,6 @@
 //! Which of the candidates is the opening price: each rule, where those after it would take another candidate.
-use super::{expect_lines, expect_opening, image_then, kept};
-use run_fixtures::product_text;
+use super::{expect_lines, expect_opening, kept};
+use run_fixtures::{buy, cancel, image_then, limit_order, must, product_text, sell};
 use std::process::Abort;
 
 /// Nothing is left after a trade at 100.00.
@@ -146,7 +146,7 @@ opening -5 volume 6
 /// They come in the order of the file. With the last price of the other one each would open at its other price.
 #[test]
 fn last_price_of_each_instrument(rt: HostRuntime) {
-    let journal = image_then(&rt, INSTRUMENTS, "run", &BOTH_TRADED, b"");
+    let journal = must!(&rt; image_then(INSTRUMENTS, "run", &BOTH_TRADED, b""));
     expect_lines(&rt, INSTRUMENTS, journal.as_slice(), &FOR_BOTH, OF_BOTH);
     let lines = "ESZ4\nopening none\nNQZ4\nopening none\n";
     expect_lines(&rt, INSTRUMENTS, b"", &[], lines);

@@ -1,9 +1,6 @@
 //! Words, products and journals that are refused, with the place that is told: nothing is sent then, and the input is not read.
-use super::{
-    FIFO, TWO, expect_ended, expect_unread, five_firms, frames, front_of, image_then, kept,
-    source_of, with_more,
-};
-use run_fixtures::{ended, product_text};
+use super::{FIFO, TWO, expect_ended, expect_unread, five_firms, front_of, kept};
+use run_fixtures::{concat, ended, frames_of, image_then, must, product_text, source_of};
 use std::process::Abort;
 
 /// Where the gate of the first record is, and that after the record of both orders.
@@ -20,8 +17,8 @@ fn expect_refused(
     status: u8,
     at: usize,
 ) {
-    let asked = frames(rt, &TWO);
-    let mut input = source_of(rt, asked.as_slice());
+    let asked = must!(rt; frames_of(&TWO));
+    let mut input = must!(rt; source_of(asked.as_slice()));
     let refused = ended(status, at as u64, 0);
     expect_ended(rt, text, line, image, &mut input, refused, b"");
     expect_unread(rt, line, &mut input, asked.as_slice());
@@ -40,7 +37,7 @@ fn words_and_products(rt: HostRuntime) {
 fn expect_bad_end(rt: &(impl Abort + AllocGlobal), journal: &[u8], end: &[u8], at: usize) {
     assert!(rt; !journal.is_empty());
     let front = front_of(rt, journal, journal.len() - 1);
-    let bad = with_more(rt, front, end);
+    let bad = must!(rt; concat(&[front, end]));
     expect_refused(rt, FIFO, "opening", bad.as_slice(), 10, at);
 }
 
@@ -68,7 +65,7 @@ fn other_texts(rt: HostRuntime) {
     expect_refused(&rt, pro_rata, "opening", none.as_slice(), 11, 161);
     let five = five_firms(&rt);
     let five = five.as_str();
-    let amended = image_then(&rt, five, "amend", &[], none.as_slice());
+    let amended = must!(&rt; image_then(five, "amend", &[], none.as_slice()));
     expect_refused(&rt, FIFO, "opening", amended.as_slice(), 11, 225);
     expect_refused(&rt, five, "opening", none.as_slice(), 11, 64);
 }

@@ -1,6 +1,6 @@
 //! The worked examples, and what comes of nothing.
 use super::expect_lines;
-use run_fixtures::PRODUCT;
+use run_fixtures::{PRODUCT, buy, sell};
 
 /// Two buys and two sells.
 const ORDERS: [&str; 4] = [

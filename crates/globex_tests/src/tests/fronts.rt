@@ -1,7 +1,7 @@
 //! Inputs that end within their first frame, and inputs that no frame begins with.
 use super::expects::{expect_bytes, expect_outcome};
 use fix_frame::{Framer, Next, ROOM};
-use run_fixtures::{ORDER, PRODUCT, bytes_of, ended, frames_of, run};
+use run_fixtures::{ORDER, PRODUCT, bytes_of, ended, frames_of, must, run};
 use std::process::Abort;
 
 /// What a framer that takes these bytes alone answers first.
@@ -25,8 +25,7 @@ fn prefix_of<'a>(rt: &impl Abort, bytes: &'a [u8], count: usize) -> &'a [u8] {
 
 /// Looks for this status at the first of these bytes, with nothing sent, and for the framer's answer to it.
 fn expect_front(rt: &(impl Abort + AllocGlobal), name: &str, bytes: &[u8], status: u8) {
-    let alloc = rt.alloc();
-    let (got, station) = run(alloc, "run", PRODUCT, bytes, Vec::new(alloc)).expect(rt, "memory");
+    let (got, station) = must!(rt; run("run", PRODUCT, bytes, Vec::new(rt.alloc())));
     expect_outcome(rt, name, got, ended(status, 0, 0));
     expect_bytes(rt, name, station.output(), b"");
     let answer = if status == 8 {
@@ -39,7 +38,7 @@ fn expect_front(rt: &(impl Abort + AllocGlobal), name: &str, bytes: &[u8], statu
 
 /// The same of a text in which `|` stands for SOH.
 fn expect_text(rt: &(impl Abort + AllocGlobal), text: &str, status: u8) {
-    let bytes = bytes_of(rt.alloc(), text).expect(rt, "memory");
+    let bytes = must!(rt; bytes_of(text));
     expect_front(rt, text, bytes.as_slice(), status);
 }
 
@@ -67,7 +66,7 @@ fn fronts(rt: HostRuntime) {
 
 #[test]
 fn prefixes_of_a_frame(rt: HostRuntime) {
-    let order = bytes_of(rt.alloc(), ORDER).expect(&rt, "memory");
+    let order = must!(&rt; bytes_of(ORDER));
     assert_eq!(rt; order.len(), 111);
     for count in 0..111 {
         let answer = first_answer(&rt, prefix_of(&rt, order.as_slice(), count));
@@ -80,17 +79,16 @@ fn prefixes_of_a_frame(rt: HostRuntime) {
 /// A body of 4,000 bytes, the most, is one field without a tag.
 #[test]
 fn frame_of_the_greatest_length(rt: HostRuntime) {
-    let alloc = rt.alloc();
     let mut frame: [u8; 4024] = [b'x'; 4024];
     frame[..17].copy_from_slice(b"8=FIX.4.2\x019=4000\x01");
     frame[4016] = 1;
     frame[4017..].copy_from_slice(b"10=227\x01");
     expect_front(&rt, "all but its last byte", &frame[..4023], 8);
-    let (got, station) = run(alloc, "run", PRODUCT, &frame, Vec::new(alloc)).expect(&rt, "memory");
+    let (got, station) = must!(&rt; run("run", PRODUCT, &frame, Vec::new(rt.alloc())));
     expect_outcome(&rt, "all", got, ended(0, 0, 1));
     let reports = [
         "35=3|34=1|49=GX|52=00000000-00:00:00|56=UNKNOWN|45=0|371=35|373=11|58=FIRST TAG|",
     ];
-    let sent = frames_of(alloc, &reports).expect(&rt, "memory");
+    let sent = must!(&rt; frames_of(&reports));
     expect_bytes(&rt, "all", station.output(), sent.as_slice());
 }

@@ -2,7 +2,7 @@
 use gx_station::{LEAST_READ, Source};
 use order_maker::MakerSource;
 use product_file::read_product;
-use run_fixtures::{PRODUCT, join};
+use run_fixtures::{PRODUCT, join, must};
 
 /// The stream of three messages with the first state 1, with `|` for SOH.
 const STREAM: [&str; 3] = [
@@ -17,7 +17,7 @@ fn makes_the_first_messages(rt: HostRuntime) {
     let mut source = MakerSource::new(&product, 1, 3);
     let mut into = [0; LEAST_READ];
     let count = source.read(&mut into).expect(&rt, "messages");
-    let stream = join(rt.alloc(), &STREAM).expect(&rt, "memory");
+    let stream = must!(&rt; join(&STREAM));
     assert_eq!(rt; &into[..count], stream.as_slice());
     assert_eq!(rt; source.read(&mut into), Ok(0));
 }

@@ -7,7 +7,7 @@ use gx_base::Emit;
 use order_kinds::Core;
 use plain_book::PlainBook;
 use product_file::{Product, read_product};
-use run_fixtures::{PRODUCT, apply_held, frames_of, product_text};
+use run_fixtures::{PRODUCT, apply_held, frames_of, must, product_text};
 use std::process::Abort;
 
 /// Four sells at one price, of 10, 50, 30 and 1 lots, and a buy of 41.
@@ -31,7 +31,7 @@ const ACCEPTED: [&str; 5] = [
 /// A framer that holds the orders.
 fn framer_of_orders(rt: &(impl Abort + AllocGlobal)) -> Framer {
     let mut framer = Framer::new(rt.alloc()).expect(rt, "memory");
-    let bytes = frames_of(rt.alloc(), &ORDERS).expect(rt, "memory");
+    let bytes = must!(rt; frames_of(&ORDERS));
     assert!(rt; bytes.len() <= 4096);
     assert_eq!(rt; framer.feed(bytes.as_slice()), bytes.len());
     framer
@@ -39,8 +39,8 @@ fn framer_of_orders(rt: &(impl Abort + AllocGlobal)) -> Framer {
 
 /// The lines of the five acceptances, and these fills after them.
 fn expected_lines(rt: &(impl Abort + AllocGlobal), fills: &[&str]) -> Vec<u8> {
-    let mut lines = frames_of(rt.alloc(), &ACCEPTED).expect(rt, "memory");
-    let fills = frames_of(rt.alloc(), fills).expect(rt, "memory");
+    let mut lines = must!(rt; frames_of(&ACCEPTED));
+    let fills = must!(rt; frames_of(fills));
     lines
         .extend_from_slice(fills.as_slice())
         .expect(rt, "memory");

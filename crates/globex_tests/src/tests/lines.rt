@@ -4,7 +4,7 @@ use gx_base::{
     Event, Head, Kind, LONGEST_LINE, Life, Order, Price, PriceFault, ShortId, Side, Stamp, StepName,
 };
 use product_file::read_product;
-use run_fixtures::bytes_of;
+use run_fixtures::{bytes_of, must};
 
 /// An exchange, a firm and an instrument of 24 bytes each, with prices of 8 decimals.
 const LONG_NAMES: &str = r#"exchange = "EEEEEEEEEEEEEEEEEEEEEEEE"
@@ -57,7 +57,7 @@ fn longest_line(rt: HostRuntime) {
     };
     let mut room = [0; LONGEST_LINE];
     let count = write_line(&event, product.names(), &mut room);
-    let longest = bytes_of(rt.alloc(), LONGEST).expect(&rt, "memory");
+    let longest = must!(&rt; bytes_of(LONGEST));
     assert_eq!(rt; &room[..count], longest.as_slice());
     let text = format!(in rt.alloc(); "{}", PriceFault::Scale).expect(&rt, "memory");
     assert_eq!(rt;

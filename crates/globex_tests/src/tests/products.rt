@@ -1,8 +1,7 @@
 //! Products that are refused, before the input is read: by which rule, and with which text.
 use super::expects::{expect_bytes, expect_outcome};
-use gx_station::MemSource;
 use product_file::read_product;
-use run_fixtures::{PRODUCT, ended, run_over, station_over};
+use run_fixtures::{PRODUCT, ended, must, run_over, source_of, station_of};
 use std::process::Abort;
 
 const FIRMS: &str = r#"firms = ["AAA", "BBB"]"#;
@@ -18,20 +17,13 @@ fn file(rt: &(impl Abort + AllocGlobal), firms: &str, tick: &str, algorithm: &st
     ).expect(rt, "memory")
 }
 
-/// A source that gives these bytes at once.
-fn source(rt: &(impl Abort + AllocGlobal), bytes: &[u8]) -> MemSource {
-    let alloc = rt.alloc();
-    let bytes = bytes.to_vec(alloc).expect(rt, "memory");
-    MemSource::new(alloc, bytes, Vec::new(alloc), Vec::new(alloc)).expect(rt, "memory")
-}
-
 /// Looks for status 3 with this number, and for a fault that says this.
 fn expect_refused(rt: &(impl Abort + AllocGlobal), text: &[u8], number: u8, says: &str) {
     let alloc = rt.alloc();
-    let mut product = source(rt, text);
-    let mut input = source(rt, b"");
-    let mut station = station_over(alloc, b"", Vec::new(alloc)).expect(rt, "memory");
-    let got = run_over(alloc, "run", &mut product, &mut input, &mut station).expect(rt, "memory");
+    let mut product = must!(rt; source_of(text));
+    let mut input = must!(rt; source_of(b""));
+    let mut station = must!(rt; station_of(b""));
+    let got = must!(rt; run_over("run", &mut product, &mut input, &mut station));
     expect_outcome(rt, says, got, ended(3, u64::from(number), 0));
     assert_eq!(rt; station.calls(), 0, "{says}");
     let fault = read_product(alloc, text).err().expect(rt, "a fault");

@@ -6,7 +6,7 @@ use super::expects::{expect_bytes, expect_outcome};
 use globex_run::Outcome;
 use run_fixtures::{
     ACCEPTED, DUPLICATE, FILLED, ORDER, PRODUCT, SECOND_ACCEPTED, SECOND_FILLED, SECOND_ORDER,
-    ended, join, run,
+    ended, join, must, run,
 };
 use std::process::Abort;
 
@@ -32,7 +32,7 @@ fn expect_run(
 )
     requires { AllByRecursion (λ size. 1 ≤ size) pieces.items }
 {
-    let (got, station) = run(rt.alloc(), word, PRODUCT, input, pieces).expect(rt, "memory");
+    let (got, station) = must!(rt; run(word, PRODUCT, input, pieces));
     expect_outcome(rt, name, got, outcome);
     expect_bytes(rt, name, station.output(), sent);
 }
@@ -85,14 +85,13 @@ const READINGS: [Reading; 6] = [
 
 #[test]
 fn readings(rt: HostRuntime) {
-    let alloc = rt.alloc();
     for (name, frames, (status, at, messages), reports) in READINGS {
-        let input = join(alloc, frames).expect(&rt, "memory");
-        let sent = join(alloc, reports).expect(&rt, "memory");
+        let input = must!(&rt; join(frames));
+        let sent = must!(&rt; join(reports));
         let outcome = ended(status, at, messages);
         expect_each_reading(&rt, name, "run", input.as_slice(), outcome, sent.as_slice());
     }
-    let input = join(alloc, &[ORDER, SECOND_ORDER]).expect(&rt, "memory");
+    let input = must!(&rt; join(&[ORDER, SECOND_ORDER]));
     expect_each_reading(
         &rt,
         "other words",

@@ -1,11 +1,11 @@
 //! Words that are a command, and words that are none.
 use command_words::{Command, WordsFault, read_command};
-use run_fixtures::words_of;
+use run_fixtures::{must, words_of};
 use std::process::Abort;
 
 /// The answer to the words of a text.
 fn answer(rt: &(impl Abort + AllocGlobal), line: &str) -> Result<Command, WordsFault> {
-    let words = words_of(rt.alloc(), line).expect(rt, "memory");
+    let words = must!(rt; words_of(line));
     read_command(rt.alloc(), words.as_slice())
 }
 

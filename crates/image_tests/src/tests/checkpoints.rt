@@ -4,12 +4,14 @@ use super::images::{
     FOUR_ORDERS, OLD_BYTES, ONE_ORDER, ONE_ORDER_BYTES, one_order_image, two_instruments,
 };
 use super::{
-    SMALL_PRODUCT, THIRD_ORDER, THIRD_REPORTS, closed, execute_over, execute_well, expect_sent,
-    expect_third_reports, front_of, image_behind, joined, station_behind, station_of,
+    SMALL_PRODUCT, THIRD_ORDER, THIRD_REPORTS, closed, execute_over, expect_sent,
+    expect_third_reports, front_of,
 };
 use globex_run::Outcome;
 use gx_station::MemStation;
-use run_fixtures::{PRODUCT, ended, frames_of};
+use run_fixtures::{
+    PRODUCT, concat, ended, execute_well, frames_of, image_then, must, station_of, station_then,
+};
 use std::process::Abort;
 
 /// A gate and the head of an image of 668 bytes.
@@ -27,8 +29,8 @@ fn journal_with_image(rt: &(impl Abort + AllocGlobal), journal: &[u8]) -> Vec<u8
 
 /// The station after a run of `ONE_ORDER` over the usual product.
 fn station_of_one_order(rt: &(impl Abort + AllocGlobal)) -> MemStation {
-    let mut station = station_of(rt, b"");
-    execute_well(rt, &mut station, PRODUCT, "run", &ONE_ORDER, 2);
+    let mut station = must!(rt; station_of(b""));
+    must!(rt; execute_well(PRODUCT, "run", &ONE_ORDER, &mut station, 2));
     expect_count(rt, "the journal", station.image().len(), 377);
     station
 }
@@ -42,7 +44,7 @@ fn expect_image(
     image: &[u8],
 ) {
     let sent = station.output().len();
-    execute_well(rt, station, PRODUCT, line, &[], messages);
+    must!(rt; execute_well(PRODUCT, line, &[], station, messages));
     expect_bytes(rt, line, station.image(), image);
     expect_count(rt, line, station.output().len(), sent);
 }
@@ -59,18 +61,18 @@ fn checkpoint_byte_for_byte(rt: HostRuntime) {
 /// Looks for these reports of `ONE_ORDER` and `THIRD_ORDER` in one run, the first messages' reports and then those of the last one.
 fn expect_whole_run(rt: &(impl Abort + AllocGlobal), first: &[u8], third: &[u8]) {
     let all = [ONE_ORDER[0], ONE_ORDER[1], THIRD_ORDER];
-    let sent = joined(rt, &[first, third]);
+    let sent = must!(rt; concat(&[first, third]));
     expect_sent(rt, "run", &all, b"", ended(0, 0, 3), sent.as_slice());
 }
 
 /// The reports of a message after an image are those that the same message has in a run of all of them.
 #[test]
 fn run_behind_an_image(rt: HostRuntime) {
-    let first = image_behind(&rt, "run", &ONE_ORDER, b"");
-    let image = image_behind(&rt, "checkpoint", &[], first.as_slice());
+    let first = must!(&rt; image_then(SMALL_PRODUCT, "run", &ONE_ORDER, b""));
+    let image = must!(&rt; image_then(SMALL_PRODUCT, "checkpoint", &[], first.as_slice()));
     expect_third_reports(&rt, image.as_slice());
-    let station = station_behind(&rt, "run", &ONE_ORDER, b"");
-    let reports = frames_of(rt.alloc(), &THIRD_REPORTS).expect(&rt, "memory");
+    let station = must!(&rt; station_then(SMALL_PRODUCT, "run", &ONE_ORDER, b""));
+    let reports = must!(&rt; frames_of(&THIRD_REPORTS));
     expect_whole_run(&rt, station.output(), reports.as_slice());
 }
 
@@ -86,9 +88,9 @@ fn expect_step(
     plain: &mut MemStation,
 ) {
     let (line, bodies, messages) = *step;
-    execute_well(rt, station, text, line, bodies, messages);
+    must!(rt; execute_well(text, line, bodies, station, messages));
     if line != "checkpoint" {
-        execute_well(rt, plain, text, line, bodies, messages);
+        must!(rt; execute_well(text, line, bodies, plain, messages));
     }
     expect_bytes(rt, line, station.output(), plain.output());
 }
@@ -100,8 +102,8 @@ pub(super) fn expect_no_difference(
     steps: &[Step],
     end: &str,
 ) {
-    let mut station = station_of(rt, b"");
-    let mut plain = station_of(rt, b"");
+    let mut station = must!(rt; station_of(b""));
+    let mut plain = must!(rt; station_of(b""));
     for step in steps {
         expect_step(rt, text, step, &mut station, &mut plain);
     }
@@ -236,7 +238,7 @@ fn expect_front(rt: &impl Abort, line: &str, whole: &[u8], front: &[u8]) {
 fn expect_lines_before(rt: &(impl Abort + AllocGlobal), line: &str, image: &[u8], bad: usize) {
     let sent = sent_before(rt, line, image, bad);
     let before = closed(rt, &[front_of(rt, image, bad)]);
-    let whole = station_behind(rt, line, &[], before.as_slice());
+    let whole = must!(rt; station_then(SMALL_PRODUCT, line, &[], before.as_slice()));
     expect_front(rt, line, whole.output(), sent.as_slice());
 }
 
@@ -317,9 +319,9 @@ fn expect_cut(rt: &(impl Abort + AllocGlobal), image: &[u8], longer: &[u8], leng
 /// A record after an image that is cut after so many of its bytes: a closed gate hides it, and after an open one it is bad.
 #[test]
 fn cut_behind_an_image(rt: HostRuntime) {
-    let first = image_behind(&rt, "run", &ONE_ORDER, b"");
-    let image = image_behind(&rt, "checkpoint", &[], first.as_slice());
-    let longer = image_behind(&rt, "run", &[THIRD_ORDER], image.as_slice());
+    let first = must!(&rt; image_then(SMALL_PRODUCT, "run", &ONE_ORDER, b""));
+    let image = must!(&rt; image_then(SMALL_PRODUCT, "checkpoint", &[], first.as_slice()));
+    let longer = must!(&rt; image_then(SMALL_PRODUCT, "run", &[THIRD_ORDER], image.as_slice()));
     // A gate, a head of five bytes, a frame of 110, and the next gate.
     expect_count(&rt, "the journal", longer.len(), LATER_GATE + 117);
     for count in [1, 2, 5, 6, 7, 60, 115, 116] {
@@ -403,7 +405,7 @@ fn expect_hidden(
 
 /// The journal of `ONE_ORDER` but for its last gate.
 fn open_journal(rt: &(impl Abort + AllocGlobal)) -> Vec<u8> {
-    let first = image_behind(rt, "run", &ONE_ORDER, b"");
+    let first = must!(rt; image_then(SMALL_PRODUCT, "run", &ONE_ORDER, b""));
     expect_count(rt, "the journal", first.len(), IMAGE_GATE + 1);
     front_of(rt, first.as_slice(), IMAGE_GATE)
         .to_vec(rt.alloc())
@@ -483,12 +485,8 @@ fn bad_records_behind_others(rt: HostRuntime) {
 fn images_behind_bad_records(rt: HostRuntime) {
     let first = open_journal(&rt);
     let first = first.as_slice();
-    let whole = image_behind(
-        &rt,
-        "checkpoint",
-        &[],
-        with_records(&rt, first, &[]).as_slice(),
-    );
+    let journal = with_records(&rt, first, &[]);
+    let whole = must!(&rt; image_then(SMALL_PRODUCT, "checkpoint", &[], journal.as_slice()));
     let whole = whole.as_slice();
     expect_hidden(
         &rt,
@@ -518,7 +516,7 @@ fn images_behind_bad_records(rt: HostRuntime) {
 
 /// A checkpoint over this journal of `ONE_ORDER` adds an image of now.
 fn expect_image_added(rt: &(impl Abort + AllocGlobal), image: &[u8]) {
-    let behind = image_behind(rt, "checkpoint", &[], image);
+    let behind = must!(rt; image_then(SMALL_PRODUCT, "checkpoint", &[], image));
     assert!(rt; !image.is_empty());
     let before = &image[..image.len() - 1];
     let want = with_records(rt, before, &[Added::Image(10, 1)]);
@@ -535,7 +533,7 @@ fn expect_going_on(rt: &(impl Abort + AllocGlobal), front: &[u8], records: &[Add
 
 /// The journal of `ONE_ORDER` with an image, part by part as earlier versions wrote it.
 fn journal_of_before(rt: &(impl Abort + AllocGlobal)) -> Vec<u8> {
-    let orders = frames_of(rt.alloc(), &ONE_ORDER).expect(rt, "memory");
+    let orders = must!(rt; frames_of(&ONE_ORDER));
     let payload = one_order_image(rt);
     let old = front_of(rt, payload.as_slice(), OLD_BYTES);
     let parts: [&[u8]; 6] = [
@@ -610,7 +608,7 @@ fn expect_ended(
 
 /// A record of a third message after this image is bad.
 fn expect_bad_third(rt: &(impl Abort + AllocGlobal), full: &[u8]) {
-    let frame = frames_of(rt.alloc(), &[THIRD_ORDER]).expect(rt, "memory");
+    let frame = must!(rt; frames_of(&[THIRD_ORDER]));
     let front = front_of(rt, full, LATER_GATE + 226);
     let over = closed(rt, &[front, b"\x01M\x00\x00\x00\x6E", frame.as_slice()]);
     expect_bad_record(rt, over.as_slice(), 1_314, 1_314);

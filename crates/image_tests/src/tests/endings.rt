@@ -3,13 +3,13 @@ ghost use Rattle.std.specs.Prelude.{◌≤◌, length};
 
 use super::expects::{expect_bytes, expect_count, expect_outcome};
 use super::images::ONE_ORDER;
-use super::{
-    SMALL_PRODUCT, closed, execute, execute_from, execute_over, execute_well, expect_sent,
-    expect_third_reports, front_of, image_behind, source_of, station_behind, station_of,
-};
+use super::{SMALL_PRODUCT, closed, execute_over, expect_sent, expect_third_reports, front_of};
 use globex_run::Outcome;
-use gx_station::{MemSource, MemStation};
-use run_fixtures::{ROOM, ended, push_frame, station_over};
+use gx_station::MemStation;
+use run_fixtures::{
+    ended, execute, execute_frames, execute_well, failing_source, failing_station, image_then,
+    must, push_frame, run_over, source_of, station_of, station_then,
+};
 use std::process::Abort;
 
 /// A command over the product of this text and this image ends so, sends nothing, and leaves the image as it is.
@@ -20,8 +20,8 @@ fn expect_left(
     image: &[u8],
     outcome: Outcome,
 ) {
-    let mut station = station_of(rt, image);
-    let got = execute(rt, text, line, &[], &mut station);
+    let mut station = must!(rt; station_of(image));
+    let got = must!(rt; execute_frames(text, line, &[], &mut station));
     expect_outcome(rt, line, got, outcome);
     expect_bytes(rt, line, station.image(), image);
     expect_bytes(rt, line, station.output(), b"");
@@ -30,7 +30,7 @@ fn expect_left(
 /// Words and products that are wrong.
 #[test]
 fn statuses_of_words_and_products(rt: HostRuntime) {
-    let first = image_behind(&rt, "run", &ONE_ORDER, b"");
+    let first = must!(&rt; image_then(SMALL_PRODUCT, "run", &ONE_ORDER, b""));
     let first = first.as_slice();
     let faulty = ended(2, 0, 0);
     expect_left(&rt, "checkpoint --count 1", SMALL_PRODUCT, first, faulty);
@@ -58,7 +58,7 @@ fn statuses_of_files(rt: HostRuntime) {
 /// Of an empty file a checkpoint makes a journal with the image of an empty book.
 #[test]
 fn over_an_empty_file(rt: HostRuntime) {
-    let new = image_behind(&rt, "run", &[], b"");
+    let new = must!(&rt; image_then(SMALL_PRODUCT, "run", &[], b""));
     expect_count(&rt, "a new journal", new.len(), 188);
     let header = front_of(&rt, new.as_slice(), 187);
     let want = closed(&rt, &[header, b"\x01D\x00\x00\x02\x4A", &[0; 585], b"\x01"]);
@@ -67,20 +67,12 @@ fn over_an_empty_file(rt: HostRuntime) {
     expect_bytes(&rt, "checkpoint", station.image(), want.as_slice());
 }
 
-/// A source of the small product, of which the first read fails.
-fn failing_product(rt: &(impl Abort + AllocGlobal)) -> MemSource {
-    let alloc = rt.alloc();
-    let text = SMALL_PRODUCT.as_bytes().to_vec(alloc).expect(rt, "memory");
-    let fail = vec![in alloc; 1].expect(rt, "memory");
-    MemSource::new(alloc, text, Vec::new(alloc), fail).expect(rt, "memory")
-}
-
 #[test]
 fn failed_read_of_the_product(rt: HostRuntime) {
-    let product = failing_product(&rt);
-    let mut station = station_of(&rt, b"");
-    let input = source_of(&rt, b"");
-    let got = execute_from(&rt, "checkpoint", product, input, &mut station);
+    let mut product = must!(&rt; failing_source(SMALL_PRODUCT.as_bytes(), 1));
+    let mut station = must!(&rt; station_of(b""));
+    let mut input = must!(&rt; source_of(b""));
+    let got = must!(&rt; run_over("checkpoint", &mut product, &mut input, &mut station));
     expect_outcome(&rt, "checkpoint", got, ended(4, 0, 0));
     expect_bytes(&rt, "checkpoint", station.image(), b"");
 }
@@ -101,10 +93,10 @@ fn heartbeats(rt: &(impl Abort + AllocGlobal), last: usize) -> Vec<u8> {
     let long = heartbeat(rt, 3_952);
     let mut bytes = Vec::new(rt.alloc());
     for _ in 0..32 {
-        push_frame(rt.alloc(), &mut bytes, long.as_str()).expect(rt, "memory");
+        must!(rt; push_frame(&mut bytes, long.as_str()));
     }
     let body = heartbeat(rt, last);
-    push_frame(rt.alloc(), &mut bytes, body.as_str()).expect(rt, "memory");
+    must!(rt; push_frame(&mut bytes, body.as_str()));
     bytes
 }
 
@@ -119,9 +111,8 @@ fn roomy_station(rt: &(impl Abort + AllocGlobal)) -> MemStation {
 fn run_heartbeats(rt: &(impl Abort + AllocGlobal), last: usize) -> MemStation {
     let bytes = heartbeats(rt, last);
     let mut station = roomy_station(rt);
-    let product = source_of(rt, SMALL_PRODUCT.as_bytes());
-    let input = source_of(rt, bytes.as_slice());
-    let got = execute_from(rt, "run", product, input, &mut station);
+    let mut input = must!(rt; source_of(bytes.as_slice()));
+    let got = must!(rt; execute(SMALL_PRODUCT, "run", &mut input, &mut station));
     expect_outcome(rt, "heartbeats", got, ended(0, 0, 33));
     station
 }
@@ -133,10 +124,10 @@ fn expect_length_behind(
     outcome: Outcome,
     length: usize,
 ) {
-    let got = execute(rt, SMALL_PRODUCT, "checkpoint", &[], station);
+    let got = must!(rt; execute_frames(SMALL_PRODUCT, "checkpoint", &[], station));
     expect_outcome(rt, "checkpoint", got, outcome);
     expect_count(rt, "checkpoint", station.image().len(), length);
-    execute_well(rt, station, SMALL_PRODUCT, "replay", &[], 33);
+    must!(rt; execute_well(SMALL_PRODUCT, "replay", &[], station, 33));
 }
 
 /// After 33 heartbeats there is just room for the image of an empty book, which has 586 bytes.
@@ -183,10 +174,8 @@ fn expect_kept_at(
 
 /// The station after a checkpoint over this image whose call of this number fails.
 fn faulty_checkpoint(rt: &(impl Abort + AllocGlobal), image: &[u8], call: usize) -> MemStation {
-    assert!(rt; image.len() <= ROOM);
-    let fail = vec![in rt.alloc(); call as u64].expect(rt, "memory");
-    let mut station = station_over(rt.alloc(), image, fail).expect(rt, "memory");
-    let got = execute(rt, SMALL_PRODUCT, "checkpoint", &[], &mut station);
+    let mut station = must!(rt; failing_station(image, call as u64));
+    let got = must!(rt; execute_frames(SMALL_PRODUCT, "checkpoint", &[], &mut station));
     expect_outcome(rt, "a fault", got, ended(5, 0, 0));
     expect_bytes(rt, "a fault", station.output(), b"");
     station
@@ -222,7 +211,7 @@ fn expect_crashes(rt: &(impl Abort + AllocGlobal), clean: &MemStation, reports: 
 /// A crash at each call of a checkpoint, and a fault of each call: the journal keeps what it kept.
 #[test]
 fn crashes_and_faults(rt: HostRuntime) {
-    let first = station_behind(&rt, "run", &ONE_ORDER, b"");
+    let first = must!(&rt; station_then(SMALL_PRODUCT, "run", &ONE_ORDER, b""));
     let clean = clean_checkpoint(&rt, first.image());
     expect_crashes(&rt, &clean, first.output());
     for call in 1..=clean.calls() {

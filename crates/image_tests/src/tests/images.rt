@@ -5,7 +5,7 @@ ghost use Rattle.order_kinds.specs.State.{empty_state};
 ghost use Rattle.order_kinds.specs.Cores.{FitsProduct};
 
 use super::expects::{expect_bytes, expect_count};
-use super::{front_of, joined};
+use super::front_of;
 use book_image::{ImageBad, image_len, read_image, write_image};
 use book_side::LinkedBook;
 use fix_frame::Framer;
@@ -14,7 +14,7 @@ use match_journal::EntryKind;
 use order_kinds::Core;
 use plain_book::Book;
 use product_file::{Product, read_product};
-use run_fixtures::{PRODUCT, apply_held, frames_of, product_text};
+use run_fixtures::{PRODUCT, apply_held, concat, frames_of, must, product_text};
 use std::process::Abort;
 
 /// An order of ten lots, four of which were traded.
@@ -105,7 +105,7 @@ const STOP: u64 = 856;
 
 /// A framer that holds the frames of these bodies.
 fn framer_of(rt: &(impl Abort + AllocGlobal), bodies: &[&str]) -> Framer {
-    let bytes = frames_of(rt.alloc(), bodies).expect(rt, "memory");
+    let bytes = must!(rt; frames_of(bodies));
     let mut framer = Framer::new(rt.alloc()).expect(rt, "memory");
     assert_eq!(rt; framer.feed(bytes.as_slice()), bytes.len());
     framer
@@ -307,7 +307,7 @@ fn images_that_end_too_early(rt: HostRuntime) {
 fn images_that_go_on(rt: HostRuntime) {
     let product = product_from(&rt, PRODUCT);
     let image = image_after(&rt, &product, &ONE_ORDER);
-    let long = joined(&rt, &[image.as_slice(), b"\x01"]);
+    let long = must!(&rt; concat(&[image.as_slice(), b"\x01"]));
     expect_cut(&rt, &product, EntryKind::OldImage, long.as_slice(), 667);
     expect_cut(&rt, &product, EntryKind::Image, long.as_slice(), 667);
 }

@@ -2,16 +2,16 @@
 use super::checkpoints::IMAGE_HEAD;
 use super::expects::{expect_bytes, expect_count, expect_outcome};
 use super::images::{ONE_ORDER, one_order_image};
-use super::{closed, execute, front_of, station_of};
+use super::{closed, front_of};
 use globex_run::Outcome;
 use gx_station::MemStation;
-use run_fixtures::{PRODUCT, ended, frames_of};
+use run_fixtures::{PRODUCT, ended, execute_frames, frames_of, must, station_of};
 use std::process::Abort;
 
 /// The station after a run of no messages over this image, which ends so and sends nothing.
 fn run_of_none(rt: &(impl Abort + AllocGlobal), image: &[u8], outcome: Outcome) -> MemStation {
-    let mut station = station_of(rt, image);
-    let got = execute(rt, PRODUCT, "run", &[], &mut station);
+    let mut station = must!(rt; station_of(image));
+    let got = must!(rt; execute_frames(PRODUCT, "run", &[], &mut station));
     expect_outcome(rt, "a run of no messages", got, outcome);
     expect_bytes(rt, "a run of no messages", station.output(), b"");
     station
@@ -46,7 +46,7 @@ fn expect_new(rt: &(impl Abort + AllocGlobal), journal: &[u8], length: usize) {
 
 /// The journal of `ONE_ORDER`, with the image of it.
 fn journal_of_one_order(rt: &(impl Abort + AllocGlobal)) -> Vec<u8> {
-    let orders = frames_of(rt.alloc(), &ONE_ORDER).expect(rt, "memory");
+    let orders = must!(rt; frames_of(&ONE_ORDER));
     let payload = one_order_image(rt);
     let parts: [&[u8]; 6] = [
         b"\x01GXJOURN2\x00\x00\x00\x88",

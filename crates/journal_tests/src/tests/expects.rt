@@ -1,6 +1,6 @@
 //! What is looked for, each kind in a function of its own: a call of it costs a proof less than an assertion where the call stands.
-use super::joined;
 use globex_run::Outcome;
+use run_fixtures::{join, must};
 use std::process::Abort;
 
 /// Looks for this outcome in the case of a name.
@@ -15,7 +15,7 @@ pub fn expect_bytes(rt: &impl Abort, name: &str, got: &[u8], want: &[u8]) {
 
 /// Looks for the bytes of these texts, one after the other, in the case of a name.
 pub fn expect_texts(rt: &(impl Abort + AllocGlobal), name: &str, got: &[u8], texts: &[&str]) {
-    let want = joined(rt, texts);
+    let want = must!(rt; join(texts));
     expect_bytes(rt, name, got, want.as_slice());
 }
 

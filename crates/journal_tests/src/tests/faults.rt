@@ -1,38 +1,15 @@
 //! Runs in which a call of the outside fails, what can still be done then, and a run for which memory may not suffice.
 use super::expects::{expect_bytes, expect_count, expect_outcome, expect_texts};
-use super::{
-    BOTH, ONE, ORDERS, REPORTS, cut_source, execute_over, failing_station, joined,
-    run_over_sources, source_of, station_of,
-};
+use super::{BOTH, ONE, ORDERS, REPORTS, execute_over, run_over_sources};
 use globex_run::Outcome;
 use gx_station::{LEAST_READ, MemSource, MemStation, Source};
-use run_fixtures::{ACCEPTED, PRODUCT, SECOND_ORDER, ended, run_over};
+use run_fixtures::{
+    ACCEPTED, NEVER, PRODUCT, SECOND_ORDER, cut_source, ended, execute, failing_source,
+    failing_station, join, must, source_of, station_of,
+};
 use std::process::Abort;
 
 const HEARTBEAT: &str = "8=FIX.4.2|9=49|35=0|49=AAA|56=GX|34=1|52=20240102-09:30:00|58=x|10=133|";
-
-/// The number of a call that there is not.
-const NEVER: u64 = 99;
-
-/// A source of the product, of which the read of this number fails.
-fn failing_product(rt: &(impl Abort + AllocGlobal), read: u64) -> MemSource {
-    let alloc = rt.alloc();
-    let text = PRODUCT.as_bytes().to_vec(alloc).expect(rt, "memory");
-    let fail = vec![in alloc; read].expect(rt, "memory");
-    MemSource::new(alloc, text, Vec::new(alloc), fail).expect(rt, "memory")
-}
-
-/// A source of these frames, of which the first read gives so many bytes; the read of this number fails.
-fn failing_input(
-    rt: &(impl Abort + AllocGlobal),
-    frames: &[&str],
-    first: usize,
-    read: u64,
-) -> MemSource {
-    let bytes = joined(rt, frames);
-    let fail = vec![in rt.alloc(); read].expect(rt, "memory");
-    cut_source(rt, bytes.as_slice(), first, fail)
-}
 
 /// Runs over these frames, of which the first read may give so many bytes. The numbers are those of the calls that fail: of the
 /// reads of the product, of the reads of the input, and of the calls of the station.
@@ -43,9 +20,11 @@ fn run_failing(
     fails: (u64, u64, u64),
 ) -> (Outcome, MemStation) {
     let (product_read, input_read, call) = fails;
-    let product = failing_product(rt, product_read);
-    let input = failing_input(rt, frames, first, input_read);
-    run_over_sources(rt, product, input, failing_station(rt, call))
+    let product = must!(rt; failing_source(PRODUCT.as_bytes(), product_read));
+    let bytes = must!(rt; join(frames));
+    let input = must!(rt; cut_source(bytes.as_slice(), first, input_read));
+    let station = must!(rt; failing_station(b"", call));
+    run_over_sources(rt, product, input, station)
 }
 
 /// A run with calls that fail, as of `run_failing`: how it ends, what is sent, how often the station is called, and how many bytes
@@ -330,18 +309,17 @@ fn run_with(
     input: &mut MemSource,
     station: &mut MemStation,
 ) -> Outcome {
-    let mut product = source_of(rt, PRODUCT.as_bytes());
-    run_over(rt.alloc(), "run", &mut product, input, station).expect(rt, "memory")
+    must!(rt; execute(PRODUCT, "run", input, station))
 }
 
 /// A run that ends for want of memory has left the input and the station alone. With `rt try --test --fail-alloc` an allocation
 /// is refused; with ample memory all reports are sent.
 #[test]
 fn refused_memory(rt: HostRuntime) {
-    let orders = joined(&rt, &ORDERS);
-    let sent = joined(&rt, &REPORTS);
-    let mut station = station_of(&rt, b"");
-    let mut input = source_of(&rt, orders.as_slice());
+    let orders = must!(&rt; join(&ORDERS));
+    let sent = must!(&rt; join(&REPORTS));
+    let mut station = must!(&rt; station_of(b""));
+    let mut input = must!(&rt; source_of(orders.as_slice()));
     let got = run_with(&rt, &mut input, &mut station);
     let mut into = [0; LEAST_READ];
     let count = input.read(&mut into).expect(&rt, "a read");

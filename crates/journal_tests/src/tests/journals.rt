@@ -3,14 +3,14 @@ ghost use Rattle.std.specs.Prelude.{◌≤◌, length};
 
 use super::expects::{expect_bytes, expect_count, expect_outcome, expect_texts};
 use super::{
-    BOTH, ONE, ORDERS, REPORTS, execute_from, execute_well, image_of, joined, journal_of,
-    roomy_station, run_from, run_of_orders, source_of,
+    BOTH, ONE, ORDERS, REPORTS, execute_well, journal_of, roomy_station, run_from, run_of_orders,
 };
 use globex_run::{Outcome, globex};
 use gx_station::{FileStation, MemStation};
 use run_fixtures::{
     ACCEPTED, DUPLICATE, FILLED, ORDER, PRODUCT, SECOND_ACCEPTED, SECOND_FILLED, SECOND_ORDER,
-    ended, frames_of, product_text, push_frame, run, words_of,
+    concat, ended, execute, frames_of, join, must, product_text, push_frame, run, source_of,
+    words_of,
 };
 use std::fs::{File, OpenOptions};
 use std::process::Abort;
@@ -29,8 +29,8 @@ fn expect_records(rt: &(impl Abort + AllocGlobal), image: &[u8], records: &[&[u8
 
 /// Looks for the reports of both orders, and the same once more.
 fn expect_twice(rt: &(impl Abort + AllocGlobal), got: &[u8]) {
-    let reports = joined(rt, &REPORTS);
-    let twice = image_of(rt, &[reports.as_slice(), reports.as_slice()]);
+    let reports = must!(rt; join(&REPORTS));
+    let twice = must!(rt; concat(&[reports.as_slice(), reports.as_slice()]));
     expect_bytes(rt, "a replay", got, twice.as_slice());
 }
 
@@ -55,7 +55,7 @@ fn journal_of_no_records(rt: HostRuntime) {
 /// What one read gives shares a record.
 #[test]
 fn journal_of_one_read(rt: HostRuntime) {
-    let orders = joined(&rt, &ORDERS);
+    let orders = must!(&rt; join(&ORDERS));
     let records: [&[u8]; 2] = [b"\x01M\x00\x00\x00\xDD", orders.as_slice()];
     expect_journal(&rt, BOTH, &records, 377);
 }
@@ -63,8 +63,8 @@ fn journal_of_one_read(rt: HostRuntime) {
 /// With two reads the reports are the same, and so is what `replay` prints.
 #[test]
 fn journal_of_two_reads(rt: HostRuntime) {
-    let first = joined(&rt, &[ORDER]);
-    let second = joined(&rt, &[SECOND_ORDER]);
+    let first = must!(&rt; join(&[ORDER]));
+    let second = must!(&rt; join(&[SECOND_ORDER]));
     let records: [&[u8]; 4] = [
         b"\x01M\x00\x00\x00\x6F",
         first.as_slice(),
@@ -76,7 +76,7 @@ fn journal_of_two_reads(rt: HostRuntime) {
 
 /// The station after a run over this image, which reads this order alone.
 fn run_of_one(rt: &(impl Abort + AllocGlobal), image: &[u8], order: &str) -> MemStation {
-    let order = joined(rt, &[order]);
+    let order = must!(rt; join(&[order]));
     let (got, station) = run_from(rt, image, order.as_slice(), BOTH);
     expect_outcome(rt, "one order", got, ended(0, 0, 1));
     station
@@ -91,7 +91,7 @@ fn expect_reports(rt: &(impl Abort + AllocGlobal), image: &[u8], order: &str, re
 /// A run over this image refuses the first order, as it does once both orders are kept.
 fn expect_third_refusal(rt: &(impl Abort + AllocGlobal), image: &[u8]) {
     let station = run_of_one(rt, image, ORDER);
-    let want = frames_of(rt.alloc(), &[THIRD_REFUSAL]).expect(rt, "memory");
+    let want = must!(rt; frames_of(&[THIRD_REFUSAL]));
     expect_bytes(rt, "both are kept", station.output(), want.as_slice());
 }
 
@@ -158,7 +158,7 @@ fn crash_at_each_call_of_one_record(rt: HostRuntime) {
 
 /// One run over three orders sends these bytes, and leaves an image that has twelve bytes less than this one.
 fn expect_one_run(rt: &(impl Abort + AllocGlobal), sent: &[u8], image: &[u8]) {
-    let all = joined(rt, &[ORDER, SECOND_ORDER, ORDER]);
+    let all = must!(rt; join(&[ORDER, SECOND_ORDER, ORDER]));
     let (got, whole) = run_from(rt, b"", all.as_slice(), 3 * ONE);
     expect_outcome(rt, "one run", got, ended(0, 0, 3));
     expect_bytes(rt, "one run", whole.output(), sent);
@@ -175,7 +175,7 @@ fn continued_runs(rt: HostRuntime) {
     let others = [SECOND_ACCEPTED, FILLED, SECOND_FILLED];
     expect_texts(&rt, "the second run", second.output(), &others);
     let third = run_of_one(&rt, second.image(), ORDER);
-    let sent = image_of(&rt, &[first.output(), second.output(), third.output()]);
+    let sent = must!(&rt; concat(&[first.output(), second.output(), third.output()]));
     expect_one_run(&rt, sent.as_slice(), third.image());
 }
 
@@ -201,7 +201,7 @@ fn push_heartbeats(
 ) {
     let body = heartbeat(rt, count);
     for _ in 0..times {
-        push_frame(rt.alloc(), bytes, body.as_str()).expect(rt, "memory");
+        must!(rt; push_frame(bytes, body.as_str()));
     }
 }
 
@@ -212,10 +212,10 @@ fn heartbeats_and(
     last: usize,
     orders: &[&str],
 ) -> Vec<u8> {
-    let mut bytes = joined(rt, &[]);
+    let mut bytes = must!(rt; join(&[]));
     push_heartbeats(rt, &mut bytes, times, 3952);
     push_heartbeats(rt, &mut bytes, 1, last);
-    let orders = joined(rt, orders);
+    let orders = must!(rt; join(orders));
     bytes
         .extend_from_slice(orders.as_slice())
         .expect(rt, "memory");
@@ -225,9 +225,8 @@ fn heartbeats_and(
 /// Runs over this input and an empty image, with the least limit that a journal may have.
 fn run_limited(rt: &(impl Abort + AllocGlobal), input: &[u8]) -> (Outcome, MemStation) {
     let mut station = roomy_station(rt, 140_000, 1_000, 1_000);
-    let product = source_of(rt, LIMITED_PRODUCT.as_bytes());
-    let input = source_of(rt, input);
-    let outcome = execute_from(rt, "run", product, input, &mut station);
+    let mut input = must!(rt; source_of(input));
+    let outcome = must!(rt; execute(LIMITED_PRODUCT, "run", &mut input, &mut station));
     (outcome, station)
 }
 
@@ -261,8 +260,7 @@ fn journal_limit(rt: HostRuntime) {
 
 /// Runs over this input, which is read in one piece as far as there is room, and an empty image.
 fn run_input(rt: &(impl Abort + AllocGlobal), input: &[u8]) -> (Outcome, MemStation) {
-    let alloc = rt.alloc();
-    run(alloc, "run", PRODUCT, input, Vec::new(alloc)).expect(rt, "memory")
+    must!(rt; run("run", PRODUCT, input, Vec::new(rt.alloc())))
 }
 
 /// A run over two heartbeats of the longest body, one of which the text is so long, and the first order: how long the journal is then.
@@ -289,9 +287,10 @@ fn run_into(
     frames: &[&str],
     out: &mut Vec<u8>,
 ) -> Outcome {
-    let words = words_of(rt.alloc(), "run").expect(rt, "memory");
-    let mut product = source_of(rt, PRODUCT.as_bytes());
-    let mut input = source_of(rt, joined(rt, frames).as_slice());
+    let words = must!(rt; words_of("run"));
+    let mut product = must!(rt; source_of(PRODUCT.as_bytes()));
+    let frames = must!(rt; join(frames));
+    let mut input = must!(rt; source_of(frames.as_slice()));
     let mut station = FileStation::new(Some(file), out);
     globex(
         rt.alloc(),

@@ -1,17 +1,14 @@
 //! What the commands print of the stored example and of made messages.
 use super::expects::{expect_bytes, expect_last, expect_outcome, expect_texts};
-use super::{
-    ENTRIES, FILLS, ORDERS, REPORTS, execute, execute_well, failing_station, image_of, joined,
-    roomy_station, station_of,
-};
+use super::{ENTRIES, FILLS, ORDERS, REPORTS, execute_texts, execute_well, roomy_station};
 use gx_station::MemStation;
-use run_fixtures::ended;
+use run_fixtures::{concat, ended, failing_station, join, must, station_of};
 use std::process::Abort;
 
 /// These bytes, and the texts after them.
 fn with_texts(rt: &(impl Abort + AllocGlobal), bytes: &[u8], texts: &[&str]) -> Vec<u8> {
-    let texts = joined(rt, texts);
-    image_of(rt, &[bytes, texts.as_slice()])
+    let texts = must!(rt; join(texts));
+    must!(rt; concat(&[bytes, texts.as_slice()]))
 }
 
 /// Executes a command over a station: it reads these frames, its outcome counts so many messages, and it sends these texts after what
@@ -32,7 +29,7 @@ fn expect_step(
 /// What the commands print of no orders.
 #[test]
 fn printed_forms_of_none(rt: HostRuntime) {
-    let mut station = station_of(&rt, b"");
+    let mut station = must!(&rt; station_of(b""));
     expect_bytes(&rt, "before", station.output(), b"");
     expect_step(&rt, &mut station, "book", &[], 0, &["ESZ4 last -\n"]);
     expect_step(&rt, &mut station, "fills", &[], 0, &[]);
@@ -48,7 +45,7 @@ const TOTAL_OF_BOTH: &str = "total entered 14 filled 8 open 6 cancelled 0\n";
 /// What the commands print of both orders.
 #[test]
 fn printed_forms(rt: HostRuntime) {
-    let mut station = station_of(&rt, b"");
+    let mut station = must!(&rt; station_of(b""));
     expect_step(&rt, &mut station, "run", &ORDERS, 2, &REPORTS);
     expect_step(&rt, &mut station, "book", &[], 2, &BOOK);
     expect_step(&rt, &mut station, "fills", &[], 2, &[FILLS]);
@@ -65,7 +62,7 @@ B 99.20 20/20 #2 CCC G3
 
 #[test]
 fn drills(rt: HostRuntime) {
-    let mut station = station_of(&rt, b"");
+    let mut station = must!(&rt; station_of(b""));
     let none = "messages 0 reports 0 trades 0 lots 0 live 0\n";
     expect_step(
         &rt,
@@ -90,8 +87,8 @@ fn drills(rt: HostRuntime) {
 /// The send of the reports fails; they can be sent later.
 #[test]
 fn replay_after_a_failed_send(rt: HostRuntime) {
-    let mut station = failing_station(&rt, 16);
-    let got = execute(&rt, "run", &ORDERS, &mut station);
+    let mut station = must!(&rt; failing_station(b"", 16));
+    let got = execute_texts(&rt, "run", &ORDERS, &mut station);
     expect_outcome(&rt, "a failed send", got, ended(6, 0, 2));
     expect_bytes(&rt, "a failed send", station.output(), b"");
     execute_well(&rt, "replay", &[], &mut station, 2);

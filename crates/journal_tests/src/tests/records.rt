@@ -4,21 +4,21 @@ ghost use Rattle.match_journal.specs.Journal.{has_kind, least_payload, most_payl
 ghost use Rattle.match_journal.specs.declared.entry.EntryKind.TheVariants.{Amendment};
 ghost use Rattle.match_journal.specs.declared.version.Version.{Version};
 
-use super::{ORDERS, failing_station, joined, journal_of, station_of};
+use super::{ORDERS, journal_of};
 use gx_station::Station;
 use match_journal::{AppendFault, Entry, EntryKind, Journal, StartFault};
-use run_fixtures::PRODUCT;
+use run_fixtures::{PRODUCT, failing_station, join, must, station_of};
 use std::process::Abort;
 
 const LIMIT: u64 = 131_072;
 
 #[test]
 fn two_messages_in_one_record(rt: HostRuntime) {
-    let mut station = station_of(&rt, b"");
+    let mut station = must!(&rt; station_of(b""));
     let started = Journal::start(&mut station, PRODUCT.as_bytes(), LIMIT);
     let mut journal = started.expect(&rt, "a journal");
     assert_eq!(rt; journal.next_entry(&mut station), Ok(None));
-    let both = joined(&rt, &ORDERS);
+    let both = must!(&rt; join(&ORDERS));
     assert_eq!(rt; both.len(), 221);
     assert!(rt; journal.at_end());
     let added = journal.append(&mut station, EntryKind::Frames, both.as_slice());
@@ -34,7 +34,7 @@ fn records_are_read_in_their_order(rt: HostRuntime) {
         &rt,
         &[b"\x01M\x00\x00\x00\x03one", b"\x01M\x00\x00\x00\x012"],
     );
-    let mut station = station_of(&rt, image.as_slice());
+    let mut station = must!(&rt; station_of(image.as_slice()));
     let looked = Journal::look(&mut station, PRODUCT.as_bytes(), LIMIT);
     let looked = looked.expect(&rt, "an image that is opened");
     let mut journal = looked.expect(&rt, "a journal");
@@ -68,7 +68,7 @@ fn expect_images(rt: &(impl Abort + AllocGlobal), kind: EntryKind, byte: u8)
     requires known { (version : Version) → has_kind version kind ≡ true }
     requires alone { kind ≢ Amendment }
 {
-    let mut station = station_of(rt, b"");
+    let mut station = must!(rt; station_of(b""));
     let started = Journal::start(&mut station, PRODUCT.as_bytes(), LIMIT);
     let mut journal = started.expect(rt, "a journal");
     let long = [b'x'; 9_000];
@@ -164,7 +164,7 @@ const IMAGES: [(&[u8], Result<bool, StartFault>); 22] = [
 
 /// Whether one who looks at this image finds a journal, or why not; the image stays as it is.
 fn expect_looked(rt: &(impl Abort + AllocGlobal), image: &[u8], want: Result<bool, StartFault>) {
-    let mut station = station_of(rt, image);
+    let mut station = must!(rt; station_of(image));
     let looked = Journal::look(&mut station, b"text", LIMIT);
     assert_eq!(rt; looked.map(|found| found.is_some()), want);
     assert_eq!(rt; station.image(), image);
@@ -172,7 +172,7 @@ fn expect_looked(rt: &(impl Abort + AllocGlobal), image: &[u8], want: Result<boo
 
 /// Whether one starts over this image, or why not; then the image stays as it is.
 fn expect_started(rt: &(impl Abort + AllocGlobal), image: &[u8], want: Result<(), StartFault>) {
-    let mut station = station_of(rt, image);
+    let mut station = must!(rt; station_of(image));
     let started = Journal::start(&mut station, b"text", LIMIT);
     assert_eq!(rt; started.map(|_| ()), want);
     assert!(rt; want.is_ok() || station.image() == image);
@@ -200,7 +200,7 @@ fn images_by_their_class(rt: HostRuntime) {
 
 /// Over this image one who starts has a journal of this version.
 fn expect_version(rt: &(impl Abort + AllocGlobal), image: &[u8], version: u8) {
-    let mut station = station_of(rt, image);
+    let mut station = must!(rt; station_of(image));
     let started = Journal::start(&mut station, b"text", LIMIT);
     let journal = started.expect(rt, "a journal");
     assert_eq!(rt; journal.version(), version);
@@ -222,7 +222,7 @@ fn versions_of_journals(rt: HostRuntime) {
 #[test]
 fn a_look_does_not_sync(rt: HostRuntime) {
     let image = b"\x01GXJOURN1\x00\x00\x00\x04text\x00";
-    let mut station = station_of(&rt, image);
+    let mut station = must!(&rt; station_of(image));
     assert_eq!(rt; station.length(), Ok(18));
     assert_eq!(rt; station.write(17, b"\x00"), Ok(()));
     let looked = Journal::look(&mut station, b"text", LIMIT);
@@ -241,7 +241,7 @@ fn a_look_does_not_sync(rt: HostRuntime) {
 #[test]
 fn failed_calls(rt: HostRuntime) {
     for call in [1, 2, 3, 4, 5, 6, 7, 8, 9, 10, 12, 13, 14, 15] {
-        let mut station = failing_station(&rt, call);
+        let mut station = must!(&rt; failing_station(b"", call));
         match Journal::start(&mut station, PRODUCT.as_bytes(), LIMIT) {
             Err(fault) => {
                 assert!(rt; call <= 10 && fault == StartFault::Store);

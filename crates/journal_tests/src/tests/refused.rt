@@ -1,11 +1,10 @@
 //! Images that are refused: what each command answers and sends, and that they stay as they are.
 use super::expects::{expect_bytes, expect_outcome, expect_texts};
 use super::{
-    ENTRIES, FILLS, FIRST_HEADER, HEADER, ORDERS, REPORTS, execute_over, image_of, joined,
-    journal_of, journal_with,
+    ENTRIES, FILLS, FIRST_HEADER, HEADER, ORDERS, REPORTS, execute_over, journal_of, journal_with,
 };
 use globex_run::Outcome;
-use run_fixtures::{ORDER, PRODUCT, ended};
+use run_fixtures::{ORDER, PRODUCT, concat, ended, join, must};
 use std::process::Abort;
 
 /// The command of these words over this image and both orders ends so, sends these texts, and leaves the image as it is.
@@ -49,12 +48,12 @@ fn other_journal(rt: &(impl Abort + AllocGlobal)) -> Vec<u8> {
     let other = PRODUCT
         .replace(rt.alloc(), "protection = 2", "protection = 3")
         .expect(rt, "memory");
-    image_of(rt, &[HEADER, other.as_bytes(), b"\x00"])
+    must!(rt; concat(&[HEADER, other.as_bytes(), b"\x00"]))
 }
 
 /// No command opens an image whose header, but for the product text, is this one.
 fn expect_bad_header(rt: &(impl Abort + AllocGlobal), header: &[u8]) {
-    let image = image_of(rt, &[header, PRODUCT.as_bytes(), b"\x00"]);
+    let image = must!(rt; concat(&[header, PRODUCT.as_bytes(), b"\x00"]));
     expect_unopened(rt, image.as_slice(), ended(10, 9, 0));
 }
 
@@ -75,7 +74,7 @@ const BEGINNING: [&str; 4] = ["run", "book", "drill --first 1 --count 2", "check
 
 /// A journal with this before its text, and with one record of both orders, with these bytes after it.
 fn behind_orders(rt: &(impl Abort + AllocGlobal), header: &[u8], bad: &[u8]) -> Vec<u8> {
-    let orders = joined(rt, &ORDERS);
+    let orders = must!(rt; join(&ORDERS));
     journal_with(
         rt,
         header,
@@ -140,7 +139,7 @@ fn expect_run_refused(rt: &(impl Abort + AllocGlobal), records: &[&[u8]], place:
 #[test]
 fn bad_records(rt: HostRuntime) {
     expect_run_refused(&rt, &[b"\x01M\x00\x00\x00\x64"], 149);
-    let order = joined(&rt, &[ORDER]);
+    let order = must!(&rt; join(&[ORDER]));
     let whole = order.as_slice();
     assert!(rt; whole.len() >= 110);
     let cut_frame: [&[u8]; 2] = [b"\x01M\x00\x00\x00\x6E", &whole[..110]];

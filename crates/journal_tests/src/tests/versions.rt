@@ -1,16 +1,16 @@
 //! Journals of the first version: each command goes on over them, and they stay of that version.
 use super::expects::{expect_bytes, expect_outcome, expect_texts};
 use super::{
-    ENTRIES, FILLS, FIRST_HEADER, HEADER, ORDERS, REPORTS, execute, execute_over, joined,
+    ENTRIES, FILLS, FIRST_HEADER, HEADER, ORDERS, REPORTS, execute_over, execute_texts,
     journal_with,
 };
 use gx_station::MemStation;
-use run_fixtures::{ORDER, SECOND_ORDER, ended};
+use run_fixtures::{ORDER, SECOND_ORDER, ended, join, must};
 use std::process::Abort;
 
 /// A journal of the first version with one record of both orders.
 fn first_version(rt: &(impl Abort + AllocGlobal)) -> Vec<u8> {
-    let orders = joined(rt, &ORDERS);
+    let orders = must!(rt; join(&ORDERS));
     journal_with(
         rt,
         FIRST_HEADER,
@@ -54,8 +54,8 @@ fn first_version_printed(rt: HostRuntime) {
 /// an empty image does.
 #[test]
 fn first_version_run(rt: HostRuntime) {
-    let first = joined(&rt, &[ORDER]);
-    let second = joined(&rt, &[SECOND_ORDER]);
+    let first = must!(&rt; join(&[ORDER]));
+    let second = must!(&rt; join(&[SECOND_ORDER]));
     let one: [&[u8]; 2] = [b"\x01M\x00\x00\x00\x6F", first.as_slice()];
     let two: [&[u8]; 4] = [
         b"\x01M\x00\x00\x00\x6F",
@@ -74,7 +74,7 @@ fn first_version_run(rt: HostRuntime) {
 #[test]
 fn first_version_checkpoint(rt: HostRuntime) {
     let old = first_version(&rt);
-    let orders = joined(&rt, &ORDERS);
+    let orders = must!(&rt; join(&ORDERS));
     let records: [&[u8]; 2] = [b"\x01M\x00\x00\x00\xDD", orders.as_slice()];
     let new = journal_with(&rt, HEADER, &records);
     let over_old = station_after(&rt, "checkpoint", &[], old.as_slice(), 2);
@@ -84,7 +84,7 @@ fn first_version_checkpoint(rt: HostRuntime) {
     want[8] = b'1';
     expect_bytes(&rt, "the journal", over_old.image(), want.as_slice());
     let mut station = over_old;
-    let got = execute(&rt, "run", &[], &mut station);
+    let got = execute_texts(&rt, "run", &[], &mut station);
     expect_outcome(&rt, "run", got, ended(0, 0, 0));
     expect_bytes(&rt, "a run of none", station.image(), want.as_slice());
     let replayed = station_after(&rt, "replay", &[], station.image(), 2);

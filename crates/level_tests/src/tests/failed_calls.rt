@@ -2,10 +2,10 @@
 ghost use Rattle.std.specs.Prelude.{◌≤◌, length};
 
 use super::expects::{expect_bytes, expect_call, expect_count, expect_outcome};
-use super::{FIFO, execute_from, image_then, kept, source_of, station_of};
+use super::{FIFO, counted_image, kept};
 use globex_run::Outcome;
 use gx_station::MemStation;
-use run_fixtures::{ROOM, ended, station_over};
+use run_fixtures::{buy, ended, execute, failing_station, must, sell, source_of, station_of};
 use std::process::Abort;
 
 const SELL: [&str; 1] = [sell!("AAA", "a1", 3, "100.00")];
@@ -21,25 +21,18 @@ const TABLE: &str = "ESZ4 S 100.00 2 1\n";
 /// A journal with a record of a sell and one of a buy.
 fn journal_of_both(rt: &(impl Abort + AllocGlobal)) -> Vec<u8> {
     let first = kept(rt, &SELL);
-    image_then(rt, FIFO, "run", &BUY, first.as_slice(), 1)
-}
-
-/// A station over this image, of which the call of this number fails.
-fn failing_station(rt: &(impl Abort + AllocGlobal), image: &[u8], call: usize) -> MemStation {
-    assert!(rt; image.len() <= ROOM);
-    let fail = vec![in rt.alloc(); call as u64].expect(rt, "memory");
-    station_over(rt.alloc(), image, fail).expect(rt, "memory")
+    counted_image(rt, FIFO, "run", &BUY, first.as_slice(), 1)
 }
 
 /// How a command over this station ends, whose input is the feed.
 fn serve(rt: &(impl Abort + AllocGlobal), line: &str, station: &mut MemStation) -> Outcome {
-    let mut input = source_of(rt, FEED.as_bytes());
-    execute_from(rt, FIFO, line, &mut input, station)
+    let mut input = must!(rt; source_of(FEED.as_bytes()));
+    must!(rt; execute(FIFO, line, &mut input, station))
 }
 
 /// How many calls `levels` takes over this image, if none fails and it sends this feed.
 fn calls_for(rt: &(impl Abort + AllocGlobal), image: &[u8], messages: u64, feed: &str) -> usize {
-    let mut station = station_of(rt, image);
+    let mut station = must!(rt; station_of(image));
     let got = serve(rt, "levels", &mut station);
     expect_outcome(rt, "no fault", got, ended(0, 0, messages));
     expect_bytes(rt, "no fault", station.output(), feed.as_bytes());
@@ -54,7 +47,7 @@ fn expect_failed(
     outcome: Outcome,
     sent: &str,
 ) {
-    let mut station = failing_station(rt, image, call);
+    let mut station = must!(rt; failing_station(image, call as u64));
     let got = serve(rt, "levels", &mut station);
     expect_call(rt, call, got, outcome);
     expect_bytes(rt, "a fault", station.output(), sent.as_bytes());
@@ -74,7 +67,7 @@ fn each_call_failing(rt: HostRuntime) {
     assert!(rt; whole < 500);
     let mut sends = 0;
     for call in 1..=whole {
-        let mut station = failing_station(&rt, both, call);
+        let mut station = must!(&rt; failing_station(both, call as u64));
         let got = serve(&rt, "levels", &mut station);
         let is_send = got.status == 6;
         let sent = match sends {
@@ -106,12 +99,12 @@ fn each_call_failing_over_no_journal(rt: HostRuntime) {
 /// The levels that are rebuilt are sent in one call, and there is no other.
 #[test]
 fn rebuild_whose_send_fails(rt: HostRuntime) {
-    let mut station = station_of(&rt, b"");
+    let mut station = must!(&rt; station_of(b""));
     let got = serve(&rt, "rebuild", &mut station);
     expect_outcome(&rt, "no fault", got, ended(0, 0, 2));
     expect_bytes(&rt, "no fault", station.output(), TABLE.as_bytes());
     expect_count(&rt, "no fault", station.calls(), 1);
-    let mut station = failing_station(&rt, b"", 1);
+    let mut station = must!(&rt; failing_station(b"", 1));
     let got = serve(&rt, "rebuild", &mut station);
     expect_outcome(&rt, "a failed send", got, ended(6, 0, 0));
     expect_bytes(&rt, "a failed send", station.output(), b"");
@@ -140,13 +133,13 @@ fn expect_crash_left(
 fn nothing_is_written(rt: HostRuntime) {
     let journal = journal_of_both(&rt);
     for line in ["levels", "rebuild"] {
-        let mut station = station_of(&rt, journal.as_slice());
+        let mut station = must!(&rt; station_of(journal.as_slice()));
         let got = serve(&rt, line, &mut station);
         expect_outcome(&rt, line, got, ended(0, 0, 2));
         for call in 0..=station.calls() {
             expect_crash_left(&rt, &station, call, journal.as_slice());
         }
-        let mut none = station_of(&rt, b"");
+        let mut none = must!(&rt; station_of(b""));
         serve(&rt, line, &mut none);
         for call in 0..=none.calls() {
             expect_crash_left(&rt, &none, call, b"");

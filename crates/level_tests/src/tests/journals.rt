@@ -1,7 +1,7 @@
 //! Journals that are damaged, or none: `levels` tells where, after the feed of the messages before; `rebuild` opens none.
-use super::{FIFO, expect_ended, expect_levels, image_then, kept, source_of};
+use super::{FIFO, counted_image, expect_ended, expect_levels, kept};
 use globex_run::Outcome;
-use run_fixtures::ended;
+use run_fixtures::{ended, must, sell, source_of};
 use std::process::Abort;
 
 /// Two sells at two prices.
@@ -41,7 +41,7 @@ fn with_end(rt: &(impl Abort + AllocGlobal), journal: &[u8], end: &[u8]) -> Vec<
 
 /// The levels of this image end so, after this feed.
 fn expect_bad(rt: &(impl Abort + AllocGlobal), image: &[u8], outcome: Outcome, feed: &str) {
-    let mut input = source_of(rt, b"");
+    let mut input = must!(rt; source_of(b""));
     expect_ended(
         rt,
         FIFO,
@@ -58,11 +58,11 @@ fn expect_bad(rt: &(impl Abort + AllocGlobal), image: &[u8], outcome: Outcome, f
 fn several_records(rt: HostRuntime) {
     let first = kept(&rt, &SELLS);
     expect_levels(&rt, FIFO, first.as_slice(), 2, SELLS_FEED);
-    let checked = image_then(&rt, FIFO, "checkpoint", &[], first.as_slice(), 2);
+    let checked = counted_image(&rt, FIFO, "checkpoint", &[], first.as_slice(), 2);
     expect_levels(&rt, FIFO, checked.as_slice(), 2, SELLS_FEED);
-    let all = image_then(&rt, FIFO, "run", &THIRD, first.as_slice(), 1);
+    let all = counted_image(&rt, FIFO, "run", &THIRD, first.as_slice(), 1);
     expect_levels(&rt, FIFO, all.as_slice(), 3, ALL_FEED);
-    let all = image_then(&rt, FIFO, "run", &THIRD, checked.as_slice(), 1);
+    let all = counted_image(&rt, FIFO, "run", &THIRD, checked.as_slice(), 1);
     expect_levels(&rt, FIFO, all.as_slice(), 3, ALL_FEED);
 }
 
@@ -106,7 +106,7 @@ fn rebuild_opens_no_journal(rt: HostRuntime) {
 
 /// Over this image the feed of three sells is rebuilt.
 fn expect_rebuilt_over(rt: &(impl Abort + AllocGlobal), image: &[u8]) {
-    let mut input = source_of(rt, ALL_FEED.as_bytes());
+    let mut input = must!(rt; source_of(ALL_FEED.as_bytes()));
     let table = b"ESZ4 S 100.00 3 1\nESZ4 S 100.01 5 2\n";
     expect_ended(
         rt,

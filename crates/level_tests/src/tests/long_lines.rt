@@ -1,8 +1,8 @@
 //! Lines of more bytes than a line has. None that long is a row or a header; a feed that ends in one is not whole, or has no form.
-use super::{NEVER, PAIR, cut_source, expect_form, expect_input, expect_rebuilt, source_of};
+use super::{PAIR, expect_form, expect_input, expect_rebuilt};
 use globex_run::Outcome;
 use gx_station::MemSource;
-use run_fixtures::ended;
+use run_fixtures::{NEVER, cut_source, ended, must, source_of};
 use std::process::Abort;
 use std::str;
 
@@ -69,8 +69,9 @@ fn longest_row(rt: HostRuntime) {
 fn line_of_several_reads(rt: HostRuntime) {
     let bytes = front_and(&rt, "S 3 0\n", 200_000);
     let fault = ended(14, 6, 0);
-    expect_input(&rt, PAIR, source_of(&rt, bytes.as_slice()), fault, "");
-    let input = cut_source(&rt, bytes.as_slice(), 70, NEVER);
+    let input = must!(&rt; source_of(bytes.as_slice()));
+    expect_input(&rt, PAIR, input, fault, "");
+    let input = must!(&rt; cut_source(bytes.as_slice(), 70, NEVER));
     expect_input(&rt, PAIR, input, fault, "");
 }
 

@@ -1,8 +1,8 @@
 //! Streams of made messages: the levels that a feed tells are those of a walk over the lines of the book.
 use super::expects::{expect_bytes, expect_count, expect_outcome};
-use super::{execute_from, execute_well, roomy_station, source_of};
+use super::{execute_bytes, roomy_station};
 use gx_station::MemStation;
-use run_fixtures::{PRODUCT, ended, product_text};
+use run_fixtures::{PRODUCT, ended, execute, must, product_text, source_of};
 use std::process::Abort;
 use std::str;
 
@@ -16,7 +16,7 @@ const CALLS: usize = 50_000;
 fn drilled(rt: &(impl Abort + AllocGlobal), text: &str, count: u64) -> MemStation {
     let mut station = roomy_station(rt, ROOM, CALLS);
     let line = format!(in rt.alloc(); "drill --first 1 --count {count}").expect(rt, "memory");
-    execute_well(rt, text, line.as_str(), b"", &mut station, count);
+    execute_bytes(rt, text, line.as_str(), b"", &mut station, count);
     station
 }
 
@@ -29,7 +29,7 @@ fn sent_by(
     count: u64,
 ) -> Vec<u8> {
     let before = station.output().len();
-    execute_well(rt, text, line, b"", station, count);
+    execute_bytes(rt, text, line, b"", station, count);
     assert!(rt; before <= station.output().len());
     station.output()[before..]
         .to_vec(rt.alloc())
@@ -130,8 +130,8 @@ fn expect_rebuilt_from(
     table: &str,
 ) {
     let mut station = roomy_station(rt, ROOM, CALLS);
-    let mut input = source_of(rt, feed);
-    let got = execute_from(rt, text, "rebuild", &mut input, &mut station);
+    let mut input = must!(rt; source_of(feed));
+    let got = must!(rt; execute(text, "rebuild", &mut input, &mut station));
     expect_outcome(rt, "a made feed", got, ended(0, 0, number));
     expect_bytes(rt, "a made feed", station.output(), table.as_bytes());
 }

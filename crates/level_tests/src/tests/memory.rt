@@ -1,8 +1,8 @@
 //! Feeds for which memory may not suffice. With `rt try --test --fail-alloc` an allocation is refused.
 use super::expects::{expect_bytes, expect_count, expect_outcome};
-use super::{FIFO, execute_from, kept, source_of, station_of};
+use super::{FIFO, kept};
 use globex_run::Outcome;
-use run_fixtures::ended;
+use run_fixtures::{ended, execute, must, sell, source_of, station_of};
 use std::process::Abort;
 
 const SELL: [&str; 1] = [sell!("AAA", "a1", 3, "100.00")];
@@ -17,9 +17,9 @@ fn expect_sent_or_not(
     outcome: Outcome,
     sent: &str,
 ) {
-    let mut input = source_of(rt, FEED.as_bytes());
-    let mut station = station_of(rt, image);
-    let got = execute_from(rt, FIFO, line, &mut input, &mut station);
+    let mut input = must!(rt; source_of(FEED.as_bytes()));
+    let mut station = must!(rt; station_of(image));
+    let got = must!(rt; execute(FIFO, line, &mut input, &mut station));
     if got.status == 1 {
         expect_outcome(rt, "want of memory", got, ended(1, 0, 0));
         expect_count(rt, "want of memory", station.calls(), 0);

@@ -1,9 +1,6 @@
 //! Short streams worked by hand: their feeds byte for byte, and what is rebuilt from the middle.
-use super::{
-    CLOSE, FIFO, execute_well, expect_levels, expect_rebuilt, frames, image_then, joined,
-    station_of,
-};
-use run_fixtures::{ended, product_text};
+use super::{CLOSE, FIFO, counted_image, execute_bytes, expect_levels, expect_rebuilt, joined};
+use run_fixtures::{buy, cancel, ended, frames_of, must, product_text, sell, station_of};
 use std::process::Abort;
 
 /// The usual product of these tests, changed to pro rata.
@@ -71,9 +68,9 @@ const TABLE: &str = "ESZ4 S 100.02 1 1\n";
 
 /// A journal of all these messages, which is amended between them.
 fn journal_with_amendment(rt: &(impl Abort + AllocGlobal)) -> Vec<u8> {
-    let before = image_then(rt, FIFO, "run", &BEFORE, b"", 8);
-    let amended = image_then(rt, PRO_RATA, "amend", &[], before.as_slice(), 8);
-    image_then(rt, PRO_RATA, "run", &AFTER, amended.as_slice(), 3)
+    let before = counted_image(rt, FIFO, "run", &BEFORE, b"", 8);
+    let amended = counted_image(rt, PRO_RATA, "amend", &[], before.as_slice(), 8);
+    counted_image(rt, PRO_RATA, "run", &AFTER, amended.as_slice(), 3)
 }
 
 /// Hidden lots and waiting stops are not counted, what changes no level sends nothing, nor does an amendment, and a close sends what is
@@ -160,7 +157,7 @@ R ESZ4 S 99.90 5 1
 
 #[test]
 fn replaces_and_an_order_at_the_market(rt: HostRuntime) {
-    let journal = image_then(&rt, FIFO, "run", &REPLACES, b"", 10);
+    let journal = counted_image(&rt, FIFO, "run", &REPLACES, b"", 10);
     expect_levels(&rt, FIFO, journal.as_slice(), 10, REPLACES_FEED);
     let table = "ESZ4 S 99.90 5 1\n";
     expect_rebuilt(&rt, FIFO, REPLACES_FEED, ended(0, 0, 10), table);
@@ -204,7 +201,7 @@ R Six E B -3 0 0
 
 #[test]
 fn close_over_two_instruments(rt: HostRuntime) {
-    let journal = image_then(&rt, TWO, "run", &ON_BOTH, b"", 4);
+    let journal = counted_image(&rt, TWO, "run", &ON_BOTH, b"", 4);
     expect_levels(&rt, TWO, journal.as_slice(), 4, BOTH_FEED);
     expect_rebuilt(&rt, TWO, BOTH_FEED, ended(0, 0, 4), "");
 }
@@ -218,9 +215,9 @@ fn messages_without_a_level(rt: HostRuntime) {
         buy!("AAA", "a1", 1, "99.00"),
         "35=Z|49=AAA|56=GX|34=4|52=20240102-09:30:00|",
     ];
-    let mut station = station_of(&rt, b"");
-    let bytes = frames(&rt, &bodies);
-    execute_well(&rt, FIFO, "run", bytes.as_slice(), &mut station, 4);
+    let mut station = must!(&rt; station_of(b""));
+    let bytes = must!(&rt; frames_of(&bodies));
+    execute_bytes(&rt, FIFO, "run", bytes.as_slice(), &mut station, 4);
     let feed = "S 0 0\nI 3 0 1\nR ESZ4 B 99.00 1 1\n";
     expect_levels(&rt, FIFO, station.image(), 4, feed);
     expect_rebuilt(&rt, FIFO, feed, ended(0, 0, 3), "ESZ4 B 99.00 1 1\n");

@@ -1,9 +1,9 @@
 //! Feeds that end anywhere: each front of a good feed is answered by the places of its blocks alone.
 use super::expects::expect_cut;
 use super::feeds::feeds_of;
-use super::{PAIR, expect_rebuilt, source_of};
+use super::{PAIR, expect_rebuilt};
 use globex_run::Outcome;
-use run_fixtures::ended;
+use run_fixtures::{ended, must, source_of};
 use std::process::Abort;
 use std::str;
 
@@ -21,7 +21,8 @@ fn push_block(
     let (last, front) = block.as_bytes().split_last().expect(rt, "a block");
     for byte in front {
         feed.push(*byte).expect(rt, "memory");
-        let got = feeds.read(rt, source_of(rt, feed.as_slice()), "");
+        let input = must!(rt; source_of(feed.as_slice()));
+        let got = feeds.read(rt, input, "");
         expect_cut(rt, block, feed.len(), got, ended(8, at, 0));
     }
     feed.push(*last).expect(rt, "memory");

@@ -1,9 +1,9 @@
 //! Reads of the feed that fail. A line with a fault that was read before is told first, and of the levels none is sent.
 use super::expects::expect_cut;
 use super::feeds::{Feeds, feeds_of};
-use super::{PAIR, cut_source, execute_from, expect_input, source_of, station_of};
+use super::{PAIR, expect_input};
 use globex_run::Outcome;
-use run_fixtures::{ended, run_over};
+use run_fixtures::{cut_source, ended, execute, must, run_over, source_of, station_of};
 use std::process::Abort;
 
 const FEED: &str = "S 3 1\nR ESZ4 S 100.00 5 1\nI 4 3 1\nR ESZ4 S 100.00 2 1\n";
@@ -17,7 +17,7 @@ fn expect_failing(
     failing: u64,
     outcome: Outcome,
 ) {
-    let input = cut_source(rt, feed.as_bytes(), first, failing);
+    let input = must!(rt; cut_source(feed.as_bytes(), first, failing));
     let got = feeds.read(rt, input, "");
     expect_cut(rt, feed, first, got, outcome);
 }
@@ -30,7 +30,7 @@ fn expect_command_failing(
     failing: u64,
     outcome: Outcome,
 ) {
-    let input = cut_source(rt, feed.as_bytes(), first, failing);
+    let input = must!(rt; cut_source(feed.as_bytes(), first, failing));
     expect_input(rt, PAIR, input, outcome, "");
 }
 
@@ -103,18 +103,12 @@ fn long_line_before_a_failing_read(rt: HostRuntime) {
 /// A read of the product that fails is told without a place, and the feed is not read.
 #[test]
 fn failing_read_of_the_product(rt: HostRuntime) {
-    let mut product = cut_source(&rt, PAIR.as_bytes(), 10, 2);
-    let mut input = source_of(&rt, FEED.as_bytes());
-    let mut station = station_of(&rt, b"");
-    let got = run_over(
-        rt.alloc(),
-        "rebuild",
-        &mut product,
-        &mut input,
-        &mut station,
-    );
-    assert_eq!(rt; got.expect(&rt, "memory"), ended(4, 0, 0));
+    let mut product = must!(&rt; cut_source(PAIR.as_bytes(), 10, 2));
+    let mut input = must!(&rt; source_of(FEED.as_bytes()));
+    let mut station = must!(&rt; station_of(b""));
+    let got = must!(&rt; run_over("rebuild", &mut product, &mut input, &mut station));
+    assert_eq!(rt; got, ended(4, 0, 0));
     assert_eq!(rt; station.calls(), 0);
-    let got = execute_from(&rt, PAIR, "rebuild", &mut input, &mut station);
+    let got = must!(&rt; execute(PAIR, "rebuild", &mut input, &mut station));
     assert_eq!(rt; got, ended(0, 0, 4));
 }

@@ -1,8 +1,8 @@
 //! Messages that change more levels than are noted one by one, and tables of more lines than wait to be sent at once.
 use super::expects::{expect_bytes, expect_outcome};
-use super::{CLOSE, execute_from, execute_well, roomy_station, source_of};
+use super::{CLOSE, execute_bytes, roomy_station};
 use gx_station::MemStation;
-use run_fixtures::{PRODUCT, ended, push_frame};
+use run_fixtures::{PRODUCT, ended, execute, must, push_frame, source_of};
 use std::process::Abort;
 
 /// How many bytes the image of a station may have, and what is sent.
@@ -32,7 +32,7 @@ fn push_order(
         price / 10 % 10,
         price % 10
     );
-    push_frame(rt.alloc(), bytes, body.expect(rt, "memory").as_str()).expect(rt, "memory");
+    must!(rt; push_frame(bytes, body.expect(rt, "memory").as_str()));
 }
 
 /// Adds the row of a level.
@@ -126,13 +126,13 @@ fn expect_feed(
     table: &str,
 ) {
     let mut station = roomy_station(rt, ROOM, CALLS);
-    execute_well(rt, PRODUCT, "run", bytes, &mut station, u64::from(count));
+    execute_bytes(rt, PRODUCT, "run", bytes, &mut station, u64::from(count));
     let before = station.output().len();
-    execute_well(rt, PRODUCT, "levels", b"", &mut station, u64::from(count));
+    execute_bytes(rt, PRODUCT, "levels", b"", &mut station, u64::from(count));
     assert!(rt; before <= station.output().len());
     expect_bytes(rt, "levels", &station.output()[before..], feed);
     let mut again = roomy_station(rt, ROOM, CALLS);
-    execute_well(rt, PRODUCT, "rebuild", feed, &mut again, u64::from(count));
+    execute_bytes(rt, PRODUCT, "rebuild", feed, &mut again, u64::from(count));
     expect_bytes(rt, "rebuild", again.output(), table.as_bytes());
 }
 
@@ -141,7 +141,7 @@ fn expect_close(rt: &(impl Abort + AllocGlobal), buys: u32, sells: u32) {
     assert!(rt; buys <= 1_000);
     assert!(rt; sells <= 5_000);
     let mut stream = stream_of(rt, buys, sells);
-    push_frame(rt.alloc(), &mut stream.bytes, CLOSE).expect(rt, "memory");
+    must!(rt; push_frame(&mut stream.bytes, CLOSE));
     let count = buys + sells;
     push_increment(rt, &mut stream.feed, count + 1, count);
     push_rows(rt, &mut stream.feed, buys, sells, 0);
@@ -206,7 +206,7 @@ fn long_table(rt: &(impl Abort + AllocGlobal)) -> Vec<u8> {
 }
 
 /// A station of which the call of this number fails.
-fn failing_station(rt: &(impl Abort + AllocGlobal), call: u64) -> MemStation {
+fn failing_roomy_station(rt: &(impl Abort + AllocGlobal), call: u64) -> MemStation {
     let alloc = rt.alloc();
     let fail = vec![in alloc; call].expect(rt, "memory");
     MemStation::new(alloc, Vec::new(alloc), ROOM, ROOM, CALLS, fail).expect(rt, "memory")
@@ -218,14 +218,14 @@ fn long_table_in_parts(rt: HostRuntime) {
     let feed = long_feed(&rt);
     let table = long_table(&rt);
     let table = table.as_slice();
-    let mut whole = failing_station(&rt, 0);
-    execute_well(&rt, PRODUCT, "rebuild", feed.as_slice(), &mut whole, 7);
+    let mut whole = failing_roomy_station(&rt, 0);
+    execute_bytes(&rt, PRODUCT, "rebuild", feed.as_slice(), &mut whole, 7);
     expect_bytes(&rt, "a long table", whole.output(), table);
     assert!(rt; 1 < whole.calls());
     for call in 1..=whole.calls() {
-        let mut station = failing_station(&rt, call as u64);
-        let mut input = source_of(&rt, feed.as_slice());
-        let got = execute_from(&rt, PRODUCT, "rebuild", &mut input, &mut station);
+        let mut station = failing_roomy_station(&rt, call as u64);
+        let mut input = must!(&rt; source_of(feed.as_slice()));
+        let got = must!(&rt; execute(PRODUCT, "rebuild", &mut input, &mut station));
         expect_outcome(&rt, "a failed send", got, ended(6, 0, 0));
         assert!(rt; table.starts_with(station.output()));
         assert!(rt; station.output().len() < table.len());

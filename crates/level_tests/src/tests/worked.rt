@@ -1,9 +1,10 @@
 //! The worked example, parts of its feed, and what comes of nothing.
 use super::{
-    FIFO, execute_from, execute_well, expect_ended, expect_input, expect_levels, expect_rebuilt,
-    image_then, source_of, station_of,
+    FIFO, counted_image, execute_bytes, expect_ended, expect_input, expect_levels, expect_rebuilt,
 };
-use run_fixtures::{ORDER, PRODUCT, SECOND_ORDER, ended, join, product_text};
+use run_fixtures::{
+    ORDER, PRODUCT, SECOND_ORDER, ended, execute, join, must, product_text, source_of, station_of,
+};
 use std::process::Abort;
 
 /// After the sell of ten lots ten are shown by one order; the buy takes four of them.
@@ -18,9 +19,9 @@ const TABLE: &str = "ESZ4 S 100.00 6 1\n";
 
 /// A journal that keeps the messages of the stored example.
 fn example_journal(rt: &(impl Abort + AllocGlobal)) -> Vec<u8> {
-    let mut station = station_of(rt, b"");
-    let stream = join(rt.alloc(), &[ORDER, SECOND_ORDER]).expect(rt, "memory");
-    execute_well(rt, PRODUCT, "run", stream.as_slice(), &mut station, 2);
+    let mut station = must!(rt; station_of(b""));
+    let stream = must!(rt; join(&[ORDER, SECOND_ORDER]));
+    execute_bytes(rt, PRODUCT, "run", stream.as_slice(), &mut station, 2);
     station.image().to_vec(rt.alloc()).expect(rt, "memory")
 }
 
@@ -63,7 +64,7 @@ fn gone_row_in_a_snapshot(rt: HostRuntime) {
 #[test]
 fn no_message(rt: HostRuntime) {
     expect_levels(&rt, FIFO, b"", 0, "S 0 0\n");
-    let journal = image_then(&rt, FIFO, "run", &[], b"", 0);
+    let journal = counted_image(&rt, FIFO, "run", &[], b"", 0);
     expect_levels(&rt, FIFO, journal.as_slice(), 0, "S 0 0\n");
     expect_rebuilt(&rt, FIFO, "S 0 0\n", ended(0, 0, 0), "");
 }
@@ -73,14 +74,14 @@ fn no_message(rt: HostRuntime) {
 fn refused_words_and_product(rt: HostRuntime) {
     let image = b"";
     for line in ["levels all", "rebuild 5", "level", "Rebuild"] {
-        let mut input = source_of(&rt, FEED.as_bytes());
+        let mut input = must!(&rt; source_of(FEED.as_bytes()));
         expect_ended(&rt, FIFO, line, image, &mut input, ended(2, 0, 0), b"");
     }
     let refused = product_text!("max_orders = 0", letter: "F");
     for line in ["levels", "rebuild"] {
-        let mut input = source_of(&rt, FEED.as_bytes());
-        let mut station = station_of(&rt, image);
-        let got = execute_from(&rt, refused, line, &mut input, &mut station);
+        let mut input = must!(&rt; source_of(FEED.as_bytes()));
+        let mut station = must!(&rt; station_of(image));
+        let got = must!(&rt; execute(refused, line, &mut input, &mut station));
         assert_eq!(rt; got.status, 3, "{line}");
         assert_eq!(rt; station.calls(), 0, "{line}");
     }
@@ -90,12 +91,12 @@ fn refused_words_and_product(rt: HostRuntime) {
 #[test]
 fn another_product(rt: HostRuntime) {
     let journal = example_journal(&rt);
-    let mut input = source_of(&rt, FEED.as_bytes());
-    let mut station = station_of(&rt, journal.as_slice());
-    let got = execute_from(&rt, FIFO, "levels", &mut input, &mut station);
+    let mut input = must!(&rt; source_of(FEED.as_bytes()));
+    let mut station = must!(&rt; station_of(journal.as_slice()));
+    let got = must!(&rt; execute(FIFO, "levels", &mut input, &mut station));
     assert_eq!(rt; got.status, 11);
     assert_eq!(rt; station.output(), b"".as_slice());
-    let got = execute_from(&rt, FIFO, "rebuild", &mut input, &mut station);
+    let got = must!(&rt; execute(FIFO, "rebuild", &mut input, &mut station));
     assert_eq!(rt; got, ended(0, 0, 2));
     assert_eq!(rt; station.output(), TABLE.as_bytes());
     assert_eq!(rt; station.image(), journal.as_slice());
@@ -104,5 +105,6 @@ fn another_product(rt: HostRuntime) {
 /// An input of no byte has no snapshot.
 #[test]
 fn no_byte(rt: HostRuntime) {
-    expect_input(&rt, FIFO, source_of(&rt, b""), ended(17, 0, 0), "");
+    let input = must!(&rt; source_of(b""));
+    expect_input(&rt, FIFO, input, ended(17, 0, 0), "");
 }

@@ -1,11 +1,11 @@
 //! Inputs that end within a frame, that are no frames, or that come in pieces.
 use super::expects::{expect_bytes, expect_outcome};
-use super::{
-    ANSWERS, FIFO, LOGGED_ON, LOGON, SERVED, cut_source, execute_from, expect_ended, frames,
-    front_of, kept_orders, source_of, station_of, with_byte,
-};
+use super::{ANSWERS, FIFO, LOGGED_ON, LOGON, SERVED, expect_ended, front_of, kept_orders};
 use gx_station::MemSource;
-use run_fixtures::{ended, push_frame};
+use run_fixtures::{
+    NEVER, cut_source, ended, execute, frames_of, must, push_frame, source_of, station_of,
+    with_byte,
+};
 use std::process::Abort;
 
 /// A logon, whose frame has 78 bytes, and a test request, whose frame has 72.
@@ -30,7 +30,7 @@ fn expect_input(
     count: usize,
 ) {
     assert!(rt; count <= 2);
-    let sent = frames(rt, &TWO_ANSWERS[..count]);
+    let sent = must!(rt; frames_of(&TWO_ANSWERS[..count]));
     let outcome = ended(status, at as u64, count as u64);
     expect_ended(
         rt,
@@ -52,14 +52,15 @@ fn expect_bytes_served(
     at: usize,
     count: usize,
 ) {
-    expect_input(rt, journal, source_of(rt, bytes), status, at, count);
+    let input = must!(rt; source_of(bytes));
+    expect_input(rt, journal, input, status, at, count);
 }
 
 /// The front of a frame is told with its place, after the answers to the frames before it.
 #[test]
 fn input_cut_at_each_byte(rt: HostRuntime) {
     let journal = kept_orders(&rt);
-    let both = frames(&rt, &TWO);
+    let both = must!(&rt; frames_of(&TWO));
     let both = both.as_slice();
     assert_eq!(rt; both.len(), BOTH);
     expect_bytes_served(&rt, journal.as_slice(), b"", 0, 0, 0);
@@ -80,13 +81,13 @@ fn input_cut_at_each_byte(rt: HostRuntime) {
 #[test]
 fn input_broken_at_each_byte(rt: HostRuntime) {
     let journal = kept_orders(&rt);
-    let both = frames(&rt, &TWO);
+    let both = must!(&rt; frames_of(&TWO));
     for at in 0..FIRST {
-        let broken = with_byte(&rt, both.as_slice(), at, b'!');
+        let broken = must!(&rt; with_byte(both.as_slice(), at, b'!'));
         expect_bytes_served(&rt, journal.as_slice(), broken.as_slice(), 7, 0, 0);
     }
     for at in FIRST..BOTH {
-        let broken = with_byte(&rt, both.as_slice(), at, b'!');
+        let broken = must!(&rt; with_byte(both.as_slice(), at, b'!'));
         expect_bytes_served(&rt, journal.as_slice(), broken.as_slice(), 7, FIRST, 1);
     }
 }
@@ -95,21 +96,18 @@ fn input_broken_at_each_byte(rt: HostRuntime) {
 #[test]
 fn input_in_pieces(rt: HostRuntime) {
     let journal = kept_orders(&rt);
-    let both = frames(&rt, &TWO);
+    let both = must!(&rt; frames_of(&TWO));
     for first in 1..BOTH {
-        let input = cut_source(&rt, both.as_slice(), first, NEVER);
+        let input = must!(&rt; cut_source(both.as_slice(), first, NEVER));
         expect_input(&rt, journal.as_slice(), input, 0, 0, 2);
     }
 }
-
-/// The number of a read that there is not.
-const NEVER: u64 = 99;
 
 /// After both frames: the front of one that is no frame any more, with too great a length, a line feed, and a third frame after that.
 #[test]
 fn bytes_behind_the_frames(rt: HostRuntime) {
     let journal = kept_orders(&rt);
-    let both = frames(&rt, &TWO);
+    let both = must!(&rt; frames_of(&TWO));
     expect_behind(
         &rt,
         journal.as_slice(),
@@ -161,19 +159,19 @@ const MANY: usize = 3;
 #[test]
 fn input_of_several_reads(rt: HostRuntime) {
     let journal = kept_orders(&rt);
-    let mut bytes = frames(&rt, &[LOGON]);
+    let mut bytes = must!(&rt; frames_of(&[LOGON]));
     for _ in 0..MANY {
         push_long_copy(&rt, &mut bytes);
     }
-    let request = frames(&rt, &SERVED[1..]);
+    let request = must!(&rt; frames_of(&SERVED[1..]));
     bytes
         .extend_from_slice(request.as_slice())
         .expect(&rt, "memory");
-    let mut input = source_of(&rt, bytes.as_slice());
-    let mut station = station_of(&rt, journal.as_slice());
-    let got = execute_from(&rt, FIFO, "session", &mut input, &mut station);
+    let mut input = must!(&rt; source_of(bytes.as_slice()));
+    let mut station = must!(&rt; station_of(journal.as_slice()));
+    let got = must!(&rt; execute(FIFO, "session", &mut input, &mut station));
     expect_outcome(&rt, "several reads", got, ended(0, 0, 5));
-    let sent = frames(&rt, &ANSWERS);
+    let sent = must!(&rt; frames_of(&ANSWERS));
     expect_bytes(&rt, "several reads", station.output(), sent.as_slice());
 }
 
@@ -185,5 +183,5 @@ fn push_long_copy(rt: &(impl Abort + AllocGlobal), bytes: &mut Vec<u8>) {
         body.push('x').expect(rt, "memory");
     }
     body.push('|').expect(rt, "memory");
-    push_frame(rt.alloc(), bytes, body.as_str()).expect(rt, "memory");
+    must!(rt; push_frame(bytes, body.as_str()));
 }

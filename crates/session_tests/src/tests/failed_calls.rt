@@ -2,43 +2,32 @@
 ghost use Rattle.std.specs.Prelude.{◌≤◌, length};
 
 use super::expects::{expect_bytes, expect_call, expect_count, expect_front, expect_outcome};
-use super::{
-    ALL_AGAIN, ANSWERS, FIFO, LOGGED_ON, LOGON, SERVED, cut_source, execute_from, frames,
-    kept_orders, station_of,
-};
+use super::{ALL_AGAIN, ANSWERS, FIFO, LOGGED_ON, LOGON, SERVED, kept_orders};
 use globex_run::Outcome;
 use gx_station::MemStation;
-use run_fixtures::{ROOM, ended, station_over};
+use run_fixtures::{
+    NEVER, ROOM, cut_source, ended, execute, failing_station, frames_of, must, station_of,
+};
 use std::process::Abort;
 
 /// How a session over this station ends, if each of these messages has a read of its own, or the first one alone has.
 fn serve(rt: &(impl Abort + AllocGlobal), first: usize, station: &mut MemStation) -> Outcome {
-    let asked = frames(rt, &SERVED);
-    let mut input = cut_source(rt, asked.as_slice(), first, NEVER);
-    execute_from(rt, FIFO, "session", &mut input, station)
+    let asked = must!(rt; frames_of(&SERVED));
+    let mut input = must!(rt; cut_source(asked.as_slice(), first, NEVER));
+    must!(rt; execute(FIFO, "session", &mut input, station))
 }
-
-/// The number of a read that there is not.
-const NEVER: u64 = 99;
 
 /// The bytes of the logon's frame, and of both.
 const FIRST: usize = 78;
 
 const BOTH: usize = 153;
 
-/// A station over this image, of which the call of this number fails.
-fn failing_station(rt: &(impl Abort + AllocGlobal), image: &[u8], call: usize) -> MemStation {
-    assert!(rt; image.len() <= ROOM);
-    let fail = vec![in rt.alloc(); call as u64].expect(rt, "memory");
-    station_over(rt.alloc(), image, fail).expect(rt, "memory")
-}
-
 /// How many calls a session takes for these messages, which it answers.
 fn calls_for(rt: &(impl Abort + AllocGlobal), journal: &[u8], asked: &[&str]) -> usize {
-    let bytes = frames(rt, asked);
-    let mut station = station_of(rt, journal);
-    let mut input = cut_source(rt, bytes.as_slice(), FIRST, NEVER);
-    let got = execute_from(rt, FIFO, "session", &mut input, &mut station);
+    let bytes = must!(rt; frames_of(asked));
+    let mut station = must!(rt; station_of(journal));
+    let mut input = must!(rt; cut_source(bytes.as_slice(), FIRST, NEVER));
+    let got = must!(rt; execute(FIFO, "session", &mut input, &mut station));
     expect_outcome(rt, "no fault", got, ended(0, 0, asked.len() as u64));
     station.calls()
 }
@@ -51,10 +40,10 @@ fn expect_failed(
     outcome: Outcome,
     answers: &[&str],
 ) {
-    let mut station = failing_station(rt, journal, call);
+    let mut station = must!(rt; failing_station(journal, call as u64));
     let got = serve(rt, FIRST, &mut station);
     expect_call(rt, call, got, outcome);
-    let sent = frames(rt, answers);
+    let sent = must!(rt; frames_of(answers));
     expect_bytes(rt, "a fault", station.output(), sent.as_slice());
     expect_bytes(rt, "a fault", station.image(), journal);
     expect_count(rt, "a fault", station.calls(), call);
@@ -85,14 +74,14 @@ fn each_call_failing(rt: HostRuntime) {
 
 /// A session with both messages in one read whose call of this number fails: a store fault or a send fault, after a front of the answers.
 fn expect_failed_at_once(rt: &(impl Abort + AllocGlobal), journal: &[u8], call: usize) {
-    let mut station = failing_station(rt, journal, call);
+    let mut station = must!(rt; failing_station(journal, call as u64));
     let got = serve(rt, BOTH, &mut station);
     if got.status == 6 {
         expect_call(rt, call, got, ended(6, 0, 0));
     } else {
         expect_call(rt, call, got, ended(5, 0, 0));
     }
-    let whole = frames(rt, &ANSWERS);
+    let whole = must!(rt; frames_of(&ANSWERS));
     expect_front(rt, "a fault", station.output(), whole.as_slice());
     expect_bytes(rt, "a fault", station.image(), journal);
     expect_count(rt, "a fault", station.calls(), call);
@@ -101,7 +90,7 @@ fn expect_failed_at_once(rt: &(impl Abort + AllocGlobal), journal: &[u8], call: 
 #[test]
 fn each_call_failing_in_one_read(rt: HostRuntime) {
     let journal = kept_orders(&rt);
-    let mut station = station_of(&rt, journal.as_slice());
+    let mut station = must!(&rt; station_of(journal.as_slice()));
     let got = serve(&rt, BOTH, &mut station);
     expect_outcome(&rt, "no fault", got, ended(0, 0, 2));
     for call in 1..=station.calls() {
@@ -132,7 +121,7 @@ fn expect_no_room(
     let mut station = made.expect(rt, "memory");
     let got = serve(rt, FIRST, &mut station);
     expect_outcome(rt, "no room", got, outcome);
-    let sent = frames(rt, answers);
+    let sent = must!(rt; frames_of(answers));
     expect_bytes(rt, "no room", station.output(), sent.as_slice());
 }
 
@@ -157,7 +146,7 @@ fn expect_crash_left(
 #[test]
 fn nothing_is_written(rt: HostRuntime) {
     let journal = kept_orders(&rt);
-    let mut station = station_of(&rt, journal.as_slice());
+    let mut station = must!(&rt; station_of(journal.as_slice()));
     let got = serve(&rt, FIRST, &mut station);
     expect_outcome(&rt, "no fault", got, ended(0, 0, 2));
     for call in 0..=station.calls() {
@@ -168,7 +157,7 @@ fn nothing_is_written(rt: HostRuntime) {
 /// Nor over an empty image.
 #[test]
 fn nothing_is_written_to_an_empty_image(rt: HostRuntime) {
-    let mut station = station_of(&rt, b"");
+    let mut station = must!(&rt; station_of(b""));
     let got = serve(&rt, FIRST, &mut station);
     expect_outcome(&rt, "an empty image", got, ended(0, 0, 2));
     for call in 0..=station.calls() {

@@ -1,12 +1,11 @@
 //! Reads that fail: of the product, and of the input, where what was read before is answered first.
 use super::expects::{expect_bytes, expect_count, expect_outcome};
-use super::{
-    ALL_AGAIN, ANSWERS, FIFO, LOGGED_ON, LOGON, SERVED, cut_source, expect_ended, frames,
-    kept_orders, source_of, station_of,
-};
+use super::{ALL_AGAIN, ANSWERS, FIFO, LOGGED_ON, LOGON, SERVED, expect_ended, kept_orders};
 use globex_run::Outcome;
-use gx_station::{LEAST_READ, MemSource, Source};
-use run_fixtures::{ended, run_over};
+use gx_station::{LEAST_READ, Source};
+use run_fixtures::{
+    cut_source, ended, failing_source, frames_of, must, run_over, source_of, station_of,
+};
 use std::process::Abort;
 
 /// The bytes of the logon's frame, and of both.
@@ -24,8 +23,8 @@ fn expect_failing(
     answers: &[&str],
 ) {
     let journal = kept_orders(rt);
-    let mut input = cut_source(rt, bytes, first, failing);
-    let sent = frames(rt, answers);
+    let mut input = must!(rt; cut_source(bytes, first, failing));
+    let sent = must!(rt; frames_of(answers));
     expect_ended(
         rt,
         FIFO,
@@ -40,7 +39,7 @@ fn expect_failing(
 /// The first read, one after the logon, and the one that would find the end; the place is the number of bytes that were read.
 #[test]
 fn failing_reads_of_the_input(rt: HostRuntime) {
-    let bytes = frames(&rt, &SERVED);
+    let bytes = must!(&rt; frames_of(&SERVED));
     let bytes = bytes.as_slice();
     expect_count(&rt, "both frames", bytes.len(), BOTH);
     expect_failing(&rt, bytes, FIRST, 1, ended(4, 0, 0), &[]);
@@ -52,7 +51,7 @@ fn failing_reads_of_the_input(rt: HostRuntime) {
 /// The read that fails comes within a frame: what is whole is answered.
 #[test]
 fn failing_reads_within_a_frame(rt: HostRuntime) {
-    let bytes = frames(&rt, &SERVED);
+    let bytes = must!(&rt; frames_of(&SERVED));
     let bytes = bytes.as_slice();
     expect_failing(&rt, bytes, 1, 2, ended(4, 1, 0), &[]);
     expect_failing(&rt, bytes, 77, 2, ended(4, 77, 0), &[]);
@@ -63,7 +62,7 @@ fn failing_reads_within_a_frame(rt: HostRuntime) {
 /// A logon and bytes that are no frame: that is told, though the next read would fail.
 #[test]
 fn broken_before_a_failing_read(rt: HostRuntime) {
-    let mut bytes = frames(&rt, &[LOGON]);
+    let mut bytes = must!(&rt; frames_of(&[LOGON]));
     bytes.extend_from_slice(b"noise").expect(&rt, "memory");
     let bytes = bytes.as_slice();
     expect_failing(&rt, bytes, 83, 2, ended(7, 78, 1), &[LOGGED_ON]);
@@ -74,16 +73,11 @@ fn broken_before_a_failing_read(rt: HostRuntime) {
 /// A read of the product fails: neither the station nor the input is touched.
 #[test]
 fn failing_read_of_the_product(rt: HostRuntime) {
-    let alloc = rt.alloc();
-    let text = FIFO.as_bytes().to_vec(alloc).expect(&rt, "memory");
-    let fail = vec![in alloc; 1].expect(&rt, "memory");
-    let mut product = MemSource::new(alloc, text, Vec::new(alloc), fail).expect(&rt, "memory");
-    let asked = frames(&rt, &[LOGON, ALL_AGAIN]);
-    let mut input = source_of(&rt, asked.as_slice());
-    let mut station = station_of(&rt, kept_orders(&rt).as_slice());
-    let got = run_over(alloc, "session", &mut product, &mut input, &mut station).expect(
-        &rt, "memory",
-    );
+    let mut product = must!(&rt; failing_source(FIFO.as_bytes(), 1));
+    let asked = must!(&rt; frames_of(&[LOGON, ALL_AGAIN]));
+    let mut input = must!(&rt; source_of(asked.as_slice()));
+    let mut station = must!(&rt; station_of(kept_orders(&rt).as_slice()));
+    let got = must!(&rt; run_over("session", &mut product, &mut input, &mut station));
     expect_outcome(&rt, "the product", got, ended(4, 0, 0));
     expect_count(&rt, "the product", station.calls(), 0);
     let mut into = [0; LEAST_READ];

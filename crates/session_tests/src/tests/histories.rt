@@ -2,10 +2,11 @@
 use super::expects::{expect_bytes, expect_success};
 use super::{
     ACCEPTED_AGAIN, ALL_AGAIN, ANSWERS, BUY, FIFO, FILLED_AGAIN, LOGGED_ON, LOGON, SELL, SERVED,
-    execute, expect_answers, expect_session, image_then, kept, kept_orders, station_of, text_with,
-    with_byte,
+    expect_answers, expect_session, kept, kept_orders,
 };
-use run_fixtures::product_text;
+use run_fixtures::{
+    execute_frames, image_then, must, product_text, station_of, text_with, with_byte,
+};
 use std::process::Abort;
 
 /// Orders under FIFO; the third is one of a firm that is not listed yet.
@@ -28,17 +29,12 @@ const UNDER_THIRD: [&str; 1] = ["35=F|49=AAA|56=GX|34=2|52=20240102-16:00:02|11=
 /// The text of pro rata with a fifth firm.
 fn five_firms(rt: &(impl Abort + AllocGlobal)) -> String {
     let pro_rata = product_text!("max_orders = 8", letter: "C");
-    text_with(rt, pro_rata, "\"DDD\"", "\"DDD\", \"EEE\"")
+    must!(rt; text_with(pro_rata, "\"DDD\"", "\"DDD\", \"EEE\""))
 }
 
 /// The same with another range for market orders.
 fn third_text(rt: &(impl Abort + AllocGlobal)) -> String {
-    text_with(
-        rt,
-        five_firms(rt).as_str(),
-        "protection = 2",
-        "protection = 3",
-    )
+    must!(rt; text_with(five_firms(rt).as_str(), "protection = 2", "protection = 3"))
 }
 
 /// The journal of all three parts.
@@ -46,10 +42,10 @@ fn journal_of_three(rt: &(impl Abort + AllocGlobal)) -> Vec<u8> {
     let five = five_firms(rt);
     let third = third_text(rt);
     let first = kept(rt, &UNDER_FIFO);
-    let once = image_then(rt, five.as_str(), "amend", &[], first.as_slice());
-    let closed = image_then(rt, five.as_str(), "run", &UNDER_PRO_RATA, once.as_slice());
-    let twice = image_then(rt, third.as_str(), "amend", &[], closed.as_slice());
-    image_then(rt, third.as_str(), "run", &UNDER_THIRD, twice.as_slice())
+    let once = must!(rt; image_then(five.as_str(), "amend", &[], first.as_slice()));
+    let closed = must!(rt; image_then(five.as_str(), "run", &UNDER_PRO_RATA, once.as_slice()));
+    let twice = must!(rt; image_then(third.as_str(), "amend", &[], closed.as_slice()));
+    must!(rt; image_then(third.as_str(), "run", &UNDER_THIRD, twice.as_slice()))
 }
 
 /// The seller, the fifth firm, and one that is not known, connect.
@@ -93,7 +89,7 @@ fn amendments_and_a_close(rt: HostRuntime) {
         &CONNECTING,
         &CONNECTED,
     );
-    let image = image_then(&rt, third.as_str(), "checkpoint", &[], journal.as_slice());
+    let image = must!(&rt; image_then(third.as_str(), "checkpoint", &[], journal.as_slice()));
     expect_session(
         &rt,
         third.as_str(),
@@ -124,7 +120,7 @@ fn amendment_without_messages_behind_it(rt: HostRuntime) {
     let five = five_firms(&rt);
     let five = five.as_str();
     let first = kept(&rt, &UNDER_FIFO);
-    let once = image_then(&rt, five, "amend", &[], first.as_slice());
+    let once = must!(&rt; image_then(five, "amend", &[], first.as_slice()));
     expect_session(&rt, five, once.as_slice(), &AT_ONCE, &AT_ONCE_ANSWERS);
 }
 
@@ -163,7 +159,7 @@ fn expired_orders(rt: HostRuntime) {
 #[test]
 fn other_journals(rt: HostRuntime) {
     let journal = kept_orders(&rt);
-    let first = with_byte(&rt, journal.as_slice(), 8, b'1');
+    let first = must!(&rt; with_byte(journal.as_slice(), 8, b'1'));
     expect_answers(&rt, first.as_slice(), &SERVED, &ANSWERS);
     let mut longer = journal.to_vec(rt.alloc()).expect(&rt, "memory");
     longer.extend_from_slice(b"noise").expect(&rt, "memory");
@@ -191,18 +187,18 @@ fn no_message_is_kept(rt: HostRuntime) {
     expect_answers(&rt, b"", &FIRST, &FIRST_ANSWERS);
     expect_answers(&rt, b"\x01", &FIRST, &FIRST_ANSWERS);
     expect_answers(&rt, b"\x00GXJOURN2\x00", &FIRST, &FIRST_ANSWERS);
-    let sealed = with_byte(&rt, new.as_slice(), 0, 200);
+    let sealed = must!(&rt; with_byte(new.as_slice(), 0, 200));
     expect_answers(&rt, sealed.as_slice(), &FIRST, &FIRST_ANSWERS);
 }
 
 /// Nothing of a session is kept: after it a run, and a session after that, go on from the messages of the journal.
 #[test]
 fn run_behind_a_session(rt: HostRuntime) {
-    let mut station = station_of(&rt, kept(&rt, &[SELL]).as_slice());
-    let got = execute(&rt, FIFO, "session", &FIRST, &mut station);
+    let mut station = must!(&rt; station_of(kept(&rt, &[SELL]).as_slice()));
+    let got = must!(&rt; execute_frames(FIFO, "session", &FIRST, &mut station));
     expect_success(&rt, "session", got);
-    let journal = image_then(&rt, FIFO, "run", &[BUY], station.image());
-    let want = image_then(&rt, FIFO, "run", &[BUY], kept(&rt, &[SELL]).as_slice());
+    let journal = must!(&rt; image_then(FIFO, "run", &[BUY], station.image()));
+    let want = must!(&rt; image_then(FIFO, "run", &[BUY], kept(&rt, &[SELL]).as_slice()));
     expect_bytes(&rt, "run", journal.as_slice(), want.as_slice());
     expect_answers(&rt, journal.as_slice(), &SERVED, &ANSWERS);
 }

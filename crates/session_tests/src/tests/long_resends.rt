@@ -1,9 +1,9 @@
 //! Resends of more lines than wait to be sent at once, over a journal of several records, and calls that fail among them.
+use super::FIFO;
 use super::expects::{expect_bytes, expect_call, expect_count, expect_front, expect_outcome};
-use super::{FIFO, execute_from, source_of};
 use globex_run::Outcome;
 use gx_station::MemStation;
-use run_fixtures::{ended, push_frame};
+use run_fixtures::{ended, execute, must, push_frame, source_of};
 use std::process::Abort;
 
 /// How many messages there are. Each is refused, and their reports have more than 65,536 bytes, as the messages have more than a read gives.
@@ -14,7 +14,7 @@ const LONG: usize = 131_072;
 
 /// Adds the frame of this body.
 fn push(rt: &(impl Abort + AllocGlobal), bytes: &mut Vec<u8>, body: &str) {
-    push_frame(rt.alloc(), bytes, body).expect(rt, "memory");
+    must!(rt; push_frame(bytes, body));
 }
 
 /// Messages of an unknown type, each with the next number.
@@ -59,8 +59,8 @@ const NEVER: usize = 1_001;
 /// The journal of all messages.
 fn long_journal(rt: &(impl Abort + AllocGlobal)) -> Vec<u8> {
     let mut station = station_failing(rt, b"", NEVER);
-    let mut input = source_of(rt, messages(rt).as_slice());
-    let got = execute_from(rt, FIFO, "run", &mut input, &mut station);
+    let mut input = must!(rt; source_of(messages(rt).as_slice()));
+    let got = must!(rt; execute(FIFO, "run", &mut input, &mut station));
     expect_outcome(rt, "run", got, ended(0, 0, MANY));
     station.image().to_vec(rt.alloc()).expect(rt, "memory")
 }
@@ -76,8 +76,8 @@ fn serve(rt: &(impl Abort + AllocGlobal), range: &str, station: &mut MemStation)
     let front = "35=2|49=AAA|56=GX|34=802|52=20240102-10:00:01|";
     let request = format!(in rt.alloc(); "{front}{range}").expect(rt, "memory");
     push(rt, &mut bytes, request.as_str());
-    let mut input = source_of(rt, bytes.as_slice());
-    execute_from(rt, FIFO, "session", &mut input, station)
+    let mut input = must!(rt; source_of(bytes.as_slice()));
+    must!(rt; execute(FIFO, "session", &mut input, station))
 }
 
 /// A request for this range is answered by the lines from this one to that one.

@@ -1,11 +1,11 @@
 //! Sessions for which memory may not suffice.
 use super::expects::{expect_bytes, expect_count, expect_outcome};
-use super::{
-    ANSWERS, FIFO, SERVED, execute_from, frames, image_then, kept_orders, source_of, station_of,
-};
+use super::{ANSWERS, FIFO, SERVED, kept_orders};
 use globex_run::Outcome;
 use gx_station::{LEAST_READ, MemSource, MemStation, Source};
-use run_fixtures::{ended, product_text};
+use run_fixtures::{
+    ended, execute, frames_of, image_then, must, product_text, source_of, station_of,
+};
 use std::process::Abort;
 
 /// A session that ended for want of memory has left the input, and has sent nothing.
@@ -40,11 +40,11 @@ fn expect_answered_or_not(
     image: &[u8],
     takes_later: bool,
 ) {
-    let asked = frames(rt, &SERVED);
-    let sent = frames(rt, &ANSWERS);
-    let mut station = station_of(rt, image);
-    let mut input = source_of(rt, asked.as_slice());
-    let got = execute_from(rt, text, "session", &mut input, &mut station);
+    let asked = must!(rt; frames_of(&SERVED));
+    let sent = must!(rt; frames_of(&ANSWERS));
+    let mut station = must!(rt; station_of(image));
+    let mut input = must!(rt; source_of(asked.as_slice()));
+    let got = must!(rt; execute(text, "session", &mut input, &mut station));
     let mut into = [0; LEAST_READ];
     let count = read_rest(rt, &mut input, &mut into);
     assert!(rt; count <= LEAST_READ);
@@ -72,6 +72,6 @@ fn refused_memory(rt: HostRuntime) {
 fn refused_memory_of_products(rt: HostRuntime) {
     let pro_rata = product_text!("max_orders = 8", letter: "C");
     let journal = kept_orders(&rt);
-    let amended = image_then(&rt, pro_rata, "amend", &[], journal.as_slice());
+    let amended = must!(&rt; image_then(pro_rata, "amend", &[], journal.as_slice()));
     expect_answered_or_not(&rt, pro_rata, amended.as_slice(), true);
 }

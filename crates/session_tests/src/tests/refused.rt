@@ -1,12 +1,11 @@
 //! Words, products and journals that are refused, with the place that is told: nothing is sent then, not even of what is good before it, and
 //! the input is not read.
 use super::expects::{expect_bytes, expect_count};
-use super::{
-    FIFO, SERVED, expect_ended, frames, front_of, image_then, kept, kept_orders, source_of,
-    text_with, with_byte,
-};
+use super::{FIFO, SERVED, expect_ended, front_of, kept, kept_orders};
 use gx_station::{LEAST_READ, MemSource, Source};
-use run_fixtures::{ended, product_text};
+use run_fixtures::{
+    ended, frames_of, image_then, must, product_text, source_of, text_with, with_byte,
+};
 use std::process::Abort;
 
 /// The same product with pro rata.
@@ -30,8 +29,8 @@ fn expect_refused(
     status: u8,
     at: usize,
 ) {
-    let asked = frames(rt, &SERVED);
-    let mut input = source_of(rt, asked.as_slice());
+    let asked = must!(rt; frames_of(&SERVED));
+    let mut input = must!(rt; source_of(asked.as_slice()));
     let refused = ended(status, at as u64, 0);
     expect_ended(rt, text, line, image, &mut input, refused, b"");
     expect_unread(rt, line, &mut input, asked.as_slice());
@@ -77,7 +76,7 @@ fn order_of_refusals(rt: HostRuntime) {
     expect_refused(&rt, "firms = [", "session x", b"hello", 2, 0);
     expect_refused(&rt, "firms = [", "session", b"hello", 3, 2);
     expect_refused(&rt, "firms = [", "session", journal.as_slice(), 3, 2);
-    let mut input = source_of(&rt, b"noise");
+    let mut input = must!(&rt; source_of(b"noise"));
     let foreign = ended(9, 0, 0);
     expect_ended(&rt, FIFO, "session", b"hello", &mut input, foreign, b"");
 }
@@ -95,7 +94,7 @@ fn files_and_headers(rt: HostRuntime) {
     expect_refused(&rt, PRO_RATA, "session", journal.as_slice(), 11, 161);
     expect_refused(&rt, THIRD, "session", journal.as_slice(), 11, 146);
     let new = kept(&rt, &[]);
-    let sealed = with_byte(&rt, new.as_slice(), 0, 200);
+    let sealed = must!(&rt; with_byte(new.as_slice(), 0, 200));
     expect_refused(&rt, PRO_RATA, "session", sealed.as_slice(), 11, 161);
 }
 
@@ -153,7 +152,7 @@ fn cut_journals(rt: HostRuntime) {
 /// A good journal of the orders, with these bytes after its record, and an amendment to pro rata after them.
 fn amended_behind(rt: &(impl Abort + AllocGlobal), between: &[u8]) -> Vec<u8> {
     let journal = kept_orders(rt);
-    let good = image_then(rt, PRO_RATA, "amend", &[], journal.as_slice());
+    let good = must!(rt; image_then(PRO_RATA, "amend", &[], journal.as_slice()));
     let mut bytes = with_end(rt, journal.as_slice(), between);
     assert!(rt; GATE < good.len());
     bytes.extend_from_slice(&good[GATE..]).expect(rt, "memory");
@@ -191,14 +190,14 @@ fn amendments(rt: HostRuntime) {
         amended_behind(&rt, NO_FRAME).as_slice(),
         GATE,
     );
-    let header = with_byte(&rt, good.as_slice(), 13, b'x');
+    let header = must!(&rt; with_byte(good.as_slice(), 13, b'x'));
     expect_bad(&rt, PRO_RATA, header.as_slice(), 9);
     let both = amended_behind(
         &rt,
         b"\x01M\x00\x00\x00\x05hello\x01P\x00\x00\x00\x08\x00\x00\x00\x04more",
     );
     expect_bad(&rt, PRO_RATA, both.as_slice(), 402);
-    let both = with_byte(&rt, both.as_slice(), 13, b'x');
+    let both = must!(&rt; with_byte(both.as_slice(), 13, b'x'));
     expect_bad(&rt, PRO_RATA, both.as_slice(), 9);
     let size = with_end(
         &rt,
@@ -221,13 +220,13 @@ fn records_of_amended_journals(rt: HostRuntime) {
     let gate = last_gate(&rt, good);
     assert!(rt; 1 <= gate);
     // The last byte of the image is the session.
-    let image = with_byte(&rt, good, gate - 1, 2);
+    let image = must!(&rt; with_byte(good, gate - 1, 2));
     expect_bad(&rt, PRO_RATA, image.as_slice(), GATE);
     let head = with_end(&rt, good, b"\x01X\x00\x00\x00\x01x\x00");
     expect_bad(&rt, PRO_RATA, head.as_slice(), gate);
     let record = with_end(&rt, good, b"\x01M\x00\x00\x00\x05hello\x00");
     expect_bad(&rt, PRO_RATA, record.as_slice(), gate);
-    let old = with_byte(&rt, good, 8, b'1');
+    let old = must!(&rt; with_byte(good, 8, b'1'));
     expect_bad(&rt, FIFO, old.as_slice(), GATE);
 }
 
@@ -235,8 +234,8 @@ fn records_of_amended_journals(rt: HostRuntime) {
 #[test]
 fn amendment_that_may_not_follow(rt: HostRuntime) {
     let good = amended_behind(&rt, b"");
-    let last = with_byte(&rt, good.as_slice(), TICK_PLACE, b'2');
-    let text = text_with(&rt, PRO_RATA, "tick = 1", "tick = 2");
+    let last = must!(&rt; with_byte(good.as_slice(), TICK_PLACE, b'2'));
+    let text = must!(&rt; text_with(PRO_RATA, "tick = 1", "tick = 2"));
     expect_bad(&rt, text.as_str(), last.as_slice(), GATE);
     let record = front_of(&rt, last.as_slice(), last_gate(&rt, last.as_slice()));
     assert!(rt; GATE <= record.len());

@@ -1,6 +1,7 @@
 //! Resends: all lines of a firm, none, one, some from the middle, and ranges past the end; each kind of line.
 use super::expects::expect_bytes;
-use super::{FIFO, expect_answers, frames, image_then, kept, station_then};
+use super::{FIFO, expect_answers, kept};
+use run_fixtures::{frames_of, image_then, must, station_then};
 use std::process::Abort;
 
 /// A sell, a buy of a part, a cancel of no order, a replace, a message to nobody, one of an unknown firm, and a cancel.
@@ -40,8 +41,8 @@ const AGAIN: [&str; 6] = [
 /// A run sends the reports of which this file has lines again.
 #[test]
 fn reports_as_they_were_sent(rt: HostRuntime) {
-    let station = station_then(&rt, FIFO, "run", &MESSAGES, b"");
-    let sent = frames(&rt, &REPORTS);
+    let station = must!(&rt; station_then(FIFO, "run", &MESSAGES, b""));
+    let sent = must!(&rt; frames_of(&REPORTS));
     expect_bytes(&rt, "run", station.output(), sent.as_slice());
 }
 
@@ -131,8 +132,8 @@ fn several_requests(rt: HostRuntime) {
 fn journal_of_records(rt: &(impl Abort + AllocGlobal)) -> Vec<u8> {
     let mut journal = Vec::new(rt.alloc());
     for body in MESSAGES {
-        journal = image_then(rt, FIFO, "run", &[body], journal.as_slice());
-        journal = image_then(rt, FIFO, "checkpoint", &[], journal.as_slice());
+        journal = must!(rt; image_then(FIFO, "run", &[body], journal.as_slice()));
+        journal = must!(rt; image_then(FIFO, "checkpoint", &[], journal.as_slice()));
     }
     journal
 }

@@ -1,7 +1,7 @@
 //! The worked examples, byte for byte: a logon and a resend; and a firm that is not logged on, a gap, and a number that is too low.
 use super::expects::expect_bytes;
-use super::{ANSWERS, ORDERS, SERVED, expect_ended, expect_session, frames, image_then, source_of};
-use run_fixtures::{PRODUCT, ended, join};
+use super::{ANSWERS, ORDERS, SERVED, expect_ended, expect_session};
+use run_fixtures::{PRODUCT, ended, frames_of, image_then, join, must, source_of};
 use std::process::Abort;
 
 /// A logon and a resend request, and their answers: each is one frame.
@@ -18,17 +18,17 @@ const ANSWER_BYTES: [&str; 3] = [
 
 /// The frames of these bodies are these bytes.
 fn expect_frames(rt: &(impl Abort + AllocGlobal), bodies: &[&str], texts: &[&str]) {
-    let want = join(rt.alloc(), texts).expect(rt, "memory");
-    let got = frames(rt, bodies);
+    let want = must!(rt; join(texts));
+    let got = must!(rt; frames_of(bodies));
     expect_bytes(rt, "frames", got.as_slice(), want.as_slice());
 }
 
 /// A session over the usual product and the stored orders sends these frames for these.
 fn expect_worked(rt: &(impl Abort + AllocGlobal), asked: &[&str], answers: &[&str]) {
-    let journal = image_then(rt, PRODUCT, "run", &ORDERS, b"");
-    let bytes = join(rt.alloc(), asked).expect(rt, "memory");
-    let mut input = source_of(rt, bytes.as_slice());
-    let sent = join(rt.alloc(), answers).expect(rt, "memory");
+    let journal = must!(rt; image_then(PRODUCT, "run", &ORDERS, b""));
+    let bytes = must!(rt; join(asked));
+    let mut input = must!(rt; source_of(bytes.as_slice()));
+    let sent = must!(rt; join(answers));
     let done = ended(0, 0, asked.len() as u64);
     expect_ended(
         rt,
