@@ -1,5 +1,5 @@
 //! Bytes, frames and words from texts.
-use crate::unmade::Unmade;
+use crate::unmet::Unmet;
 use std::alloc::{AllocError, Global};
 
 /// The bytes of a text in which `|` stands for SOH.
@@ -60,10 +60,10 @@ pub fn concat(alloc: Global, parts: &[&[u8]]) -> Result<Vec<u8>, AllocError> {
 }
 
 /// The bytes with another one at a place.
-pub fn with_byte(alloc: Global, bytes: &[u8], at: usize, byte: u8) -> Result<Vec<u8>, Unmade> {
+pub fn with_byte(alloc: Global, bytes: &[u8], at: usize, byte: u8) -> Result<Vec<u8>, Unmet> {
     let mut bytes = bytes.to_vec(alloc)?;
     if at >= bytes.len() {
-        return Err(Unmade::Place);
+        return Err(Unmet::Place);
     }
     bytes[at] = byte;
     Ok(bytes)

@@ -7,7 +7,7 @@ mod frames;
 mod orders;
 mod product;
 mod runs;
-mod unmade;
+mod unmet;
 
 pub use applying::apply_held;
 pub use example::{
@@ -16,8 +16,8 @@ pub use example::{
 pub use frames::{bytes_of, concat, frames_of, join, push_frame, text_with, with_byte, words_of};
 pub use product::PRODUCT;
 pub use runs::{
-    NEVER, ROOM, cut_source, ended, execute, execute_frames, execute_well, failing_source,
-    failing_station, image_then, run, run_over, source_of, source_of_frames, station_of,
-    station_then,
+    NEVER, ROOM, crashes_leave, cut_source, ended, execute, execute_frames, execute_well,
+    failing_source, failing_station, image_then, run, run_over, source_of, source_of_frames,
+    station_of, station_then,
 };
-pub use unmade::Unmade;
+pub use unmet::Unmet;

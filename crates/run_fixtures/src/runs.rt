@@ -1,9 +1,9 @@
 //! Runs over sources and stations in memory.
-ghost use Rattle.std.specs.Prelude.{◌≤◌};
+ghost use Rattle.std.specs.Prelude.{◌≤◌, length};
 ghost use Rattle.std.specs.List.{AllByRecursion};
 
 use crate::frames::{frames_of, words_of};
-use crate::unmade::Unmade;
+use crate::unmet::Unmet;
 use globex_run::{Outcome, globex};
 use gx_station::{MemSource, MemStation};
 use std::alloc::{AllocError, Global};
@@ -114,12 +114,12 @@ pub fn execute_well(
     bodies: &[&str],
     station: &mut MemStation,
     messages: u64,
-) -> Result<(), Unmade> {
+) -> Result<(), Unmet> {
     let got = execute_frames(alloc, text, line, bodies, station)?;
     if got == ended(0, 0, messages) {
         Ok(())
     } else {
-        Err(Unmade::Ended(got))
+        Err(Unmet::Ended(got))
     }
 }
 
@@ -130,13 +130,13 @@ pub fn station_then(
     line: &str,
     bodies: &[&str],
     image: &[u8],
-) -> Result<MemStation, Unmade> {
+) -> Result<MemStation, Unmet> {
     let mut station = station_of(alloc, image)?;
     let got = execute_frames(alloc, text, line, bodies, &mut station)?;
     if got.status == 0 {
         Ok(station)
     } else {
-        Err(Unmade::Ended(got))
+        Err(Unmet::Ended(got))
     }
 }
 
@@ -147,9 +147,30 @@ pub fn image_then(
     line: &str,
     bodies: &[&str],
     image: &[u8],
-) -> Result<Vec<u8>, Unmade> {
+) -> Result<Vec<u8>, Unmet> {
     let station = station_then(alloc, text, line, bodies, image)?;
     Ok(station.image().to_vec(alloc)?)
+}
+
+/// A crash just after this call leaves this image, whatever the disk gives for the bytes that no sync has followed.
+fn crash_leaves(alloc: Global, station: &MemStation, call: usize, image: &[u8]) -> Result<(), Unmet>
+    requires { call ≤ length station.now.done }
+{
+    for fill in [0, 1, 200] {
+        let left = station.crash_image(alloc, call, fill)?;
+        if left.as_slice() != image {
+            return Err(Unmet::Crash(call, fill));
+        }
+    }
+    Ok(())
+}
+
+/// So does a crash just after any call, or the error names the call.
+pub fn crashes_leave(alloc: Global, station: &MemStation, image: &[u8]) -> Result<(), Unmet> {
+    for call in 0..=station.calls() {
+        crash_leaves(alloc, station, call, image)?;
+    }
+    Ok(())
 }
 
 /// Runs the command of a word over this product and this input, read in these pieces, and an empty image. No call fails.

@@ -1,12 +1,11 @@
 //! Calls of the station that fail, each in turn; and that no call writes.
-ghost use Rattle.std.specs.Prelude.{◌≤◌, length};
-
 use super::expects::{expect_bytes, expect_call, expect_count, expect_outcome};
 use super::{FIFO, TWO, TWO_LINES, expect_unread, kept};
 use globex_run::Outcome;
 use gx_station::MemStation;
 use run_fixtures::{
-    buy, ended, execute, failing_station, frames_of, must, sell, source_of_frames, station_of,
+    buy, crashes_leave, ended, execute, failing_station, frames_of, must, sell, source_of_frames,
+    station_of,
 };
 use std::process::Abort;
 
@@ -68,33 +67,12 @@ fn each_call_failing(rt: HostRuntime) {
     expect_each_failed(&rt, b"", TWO_LINES);
 }
 
-/// A crash just after this call leaves this image, whatever the disk gives for the bytes that no sync has followed.
-fn expect_crash_left(
-    rt: &(impl Abort + AllocGlobal),
-    station: &MemStation,
-    call: usize,
-    image: &[u8],
-)
-    requires { call ≤ length station.now.done }
-{
-    for fill in [0, 1, 200] {
-        let left = station
-            .crash_image(rt.alloc(), call, fill)
-            .expect(rt, "memory");
-        expect_bytes(rt, "a crash", left.as_slice(), image);
-    }
-}
-
 /// No call writes, not even what is there already: a crash at each leaves the journal, or no image.
 #[test]
 fn nothing_is_written(rt: HostRuntime) {
     let journal = kept(&rt, &TRADED);
     let station = served_station(&rt, journal.as_slice(), OVER_TRADED);
-    for call in 0..=station.calls() {
-        expect_crash_left(&rt, &station, call, journal.as_slice());
-    }
+    must!(&rt; crashes_leave(&station, journal.as_slice()));
     let station = served_station(&rt, b"", TWO_LINES);
-    for call in 0..=station.calls() {
-        expect_crash_left(&rt, &station, call, b"");
-    }
+    must!(&rt; crashes_leave(&station, b""));
 }

@@ -1,11 +1,11 @@
 //! Calls of the station that fail, each in turn; and that no call writes.
-ghost use Rattle.std.specs.Prelude.{◌≤◌, length};
-
 use super::expects::{expect_bytes, expect_call, expect_count, expect_outcome};
 use super::{FIFO, counted_image, kept};
 use globex_run::Outcome;
 use gx_station::MemStation;
-use run_fixtures::{buy, ended, execute, failing_station, must, sell, source_of, station_of};
+use run_fixtures::{
+    buy, crashes_leave, ended, execute, failing_station, must, sell, source_of, station_of,
+};
 use std::process::Abort;
 
 const SELL: [&str; 1] = [sell!("AAA", "a1", 3, "100.00")];
@@ -111,23 +111,6 @@ fn rebuild_whose_send_fails(rt: HostRuntime) {
     expect_count(&rt, "a failed send", station.calls(), 1);
 }
 
-/// A crash just after any call leaves this image, whatever the disk gives for the bytes that no sync has followed.
-fn expect_crash_left(
-    rt: &(impl Abort + AllocGlobal),
-    station: &MemStation,
-    call: usize,
-    image: &[u8],
-)
-    requires { call ≤ length station.now.done }
-{
-    for fill in [0, 1, 200] {
-        let left = station
-            .crash_image(rt.alloc(), call, fill)
-            .expect(rt, "memory");
-        expect_bytes(rt, "a crash", left.as_slice(), image);
-    }
-}
-
 /// No call writes, not even what is there already: a crash at each leaves the journal, or no image.
 #[test]
 fn nothing_is_written(rt: HostRuntime) {
@@ -136,13 +119,9 @@ fn nothing_is_written(rt: HostRuntime) {
         let mut station = must!(&rt; station_of(journal.as_slice()));
         let got = serve(&rt, line, &mut station);
         expect_outcome(&rt, line, got, ended(0, 0, 2));
-        for call in 0..=station.calls() {
-            expect_crash_left(&rt, &station, call, journal.as_slice());
-        }
+        must!(&rt; crashes_leave(&station, journal.as_slice()));
         let mut none = must!(&rt; station_of(b""));
         serve(&rt, line, &mut none);
-        for call in 0..=none.calls() {
-            expect_crash_left(&rt, &none, call, b"");
-        }
+        must!(&rt; crashes_leave(&none, b""));
     }
 }

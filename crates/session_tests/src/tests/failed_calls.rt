@@ -1,12 +1,11 @@
 //! Calls of the station that fail, each in turn; and that no call writes.
-ghost use Rattle.std.specs.Prelude.{◌≤◌, length};
-
 use super::expects::{expect_bytes, expect_call, expect_count, expect_front, expect_outcome};
 use super::{ALL_AGAIN, ANSWERS, FIFO, LOGGED_ON, LOGON, SERVED, kept_orders};
 use globex_run::Outcome;
 use gx_station::MemStation;
 use run_fixtures::{
-    NEVER, ROOM, cut_source, ended, execute, failing_station, frames_of, must, station_of,
+    NEVER, ROOM, crashes_leave, cut_source, ended, execute, failing_station, frames_of, must,
+    station_of,
 };
 use std::process::Abort;
 
@@ -125,23 +124,6 @@ fn expect_no_room(
     expect_bytes(rt, "no room", station.output(), sent.as_slice());
 }
 
-/// A crash just after this call leaves this image, whatever the disk gives for the bytes that no sync has followed.
-fn expect_crash_left(
-    rt: &(impl Abort + AllocGlobal),
-    station: &MemStation,
-    call: usize,
-    journal: &[u8],
-)
-    requires { call ≤ length station.now.done }
-{
-    for fill in [0, 1, 200] {
-        let left = station
-            .crash_image(rt.alloc(), call, fill)
-            .expect(rt, "memory");
-        expect_bytes(rt, "a crash", left.as_slice(), journal);
-    }
-}
-
 /// No call of a session writes, not even what is there already: a crash at each leaves the journal.
 #[test]
 fn nothing_is_written(rt: HostRuntime) {
@@ -149,9 +131,7 @@ fn nothing_is_written(rt: HostRuntime) {
     let mut station = must!(&rt; station_of(journal.as_slice()));
     let got = serve(&rt, FIRST, &mut station);
     expect_outcome(&rt, "no fault", got, ended(0, 0, 2));
-    for call in 0..=station.calls() {
-        expect_crash_left(&rt, &station, call, journal.as_slice());
-    }
+    must!(&rt; crashes_leave(&station, journal.as_slice()));
 }
 
 /// Nor over an empty image.
@@ -160,7 +140,5 @@ fn nothing_is_written_to_an_empty_image(rt: HostRuntime) {
     let mut station = must!(&rt; station_of(b""));
     let got = serve(&rt, FIRST, &mut station);
     expect_outcome(&rt, "an empty image", got, ended(0, 0, 2));
-    for call in 0..=station.calls() {
-        expect_crash_left(&rt, &station, call, b"");
-    }
+    must!(&rt; crashes_leave(&station, b""));
 }

@@ -1,21 +1,23 @@
-//! Why a test cannot have what it asks for, and the end of the test then.
+//! Why a test does not get what it asks for, and the end of the test then.
 use globex_run::Outcome;
 use std::alloc::AllocError;
 
-/// Why what a test asks for is not there.
+/// Why a test does not get what it asks for.
 #[derive(Debug, Drop)]
-pub enum Unmade {
+pub enum Unmet {
     /// There is no memory for it.
     Memory,
     /// The bytes have no such place.
     Place,
     /// A command that should do all ended otherwise.
     Ended(Outcome),
+    /// A crash just after the call of this number leaves another image if the disk gives this byte for what was not synced.
+    Crash(usize, u8),
 }
 
-impl From<AllocError> for Unmade {
-    fn from(_error: AllocError) -> Unmade {
-        Unmade::Memory
+impl From<AllocError> for Unmet {
+    fn from(_error: AllocError) -> Unmet {
+        Unmet::Memory
     }
 }
 
