@@ -1,5 +1,5 @@
 #!/bin/sh
-# Builds the program. Runs the stored example in a folder of its own, and shows its reports, its book and, behind a checkpoint,
+# Builds the program. Runs the stored example in a folder of its own, and shows its reports, its book and, after a checkpoint,
 # its ledger; then runs the example of each algorithm, and shows the reports. `|` stands for SOH, and each report has a line.
 # Ends with a status other than 0 where anything differs from what is stored.
 set -u
@@ -63,7 +63,7 @@ take_checkpoint() {
     (cd "$folder" && "$program" checkpoint </dev/null >text && [ ! -s text ] && "$program" book </dev/null >text)
     status=$?
     [ "$status" -eq 0 ] || fail "the program ended with status $status at a checkpoint, or sent something"
-    cmp -- "$folder/text" "$1" || fail 'this is not the stored book, behind a checkpoint'
+    cmp -- "$folder/text" "$1" || fail 'this is not the stored book, after a checkpoint'
 }
 
 cp -- "$crate/data/product.toml" "$folder/product.toml" || exit 1

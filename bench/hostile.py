@@ -55,7 +55,7 @@ INSTRUMENT = '\n[[instrument]]\nname = "ESZ4"\ndecimals = 2\ntick = 1\nprotectio
 
 
 def filled_up(text, size=LONGEST_TEXT):
-    """A product text with a comment behind it that makes it so long."""
+    """A product text with a comment after it that makes it so long."""
     return text + b"#" * (size - len(text))
 
 

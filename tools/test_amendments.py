@@ -215,7 +215,7 @@ class Amended(InFolder):
                     status, out, error = self.over(data, "count")
                     self.assertEqual((status, out), (1, b"2\n" if len(front) == 1 else b"3\n"))
                     self.assertTrue(error.startswith(f"place {gate}: {why}"))
-                    # behind an image nobody looks at the image of the amendment, and the text is looked for all the same
+                    # after an image nobody looks at the image of the amendment, and the text is looked for all the same
                     later = journal_of(*front, bad, image_record(image_after(2)))
                     self.assertEqual(places(later)[0], gate)
                     if (bad, why) in BAD_TEXTS:
