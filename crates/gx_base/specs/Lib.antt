@@ -7,6 +7,7 @@ pub mod NameLists
 pub mod Frames
 pub mod Line
 pub mod KnownBytes
+pub mod Executions
 pub mod Emits
 pub mod EmitLaws
 pub mod NullEmits

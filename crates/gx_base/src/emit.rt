@@ -1,8 +1,10 @@
 //! What takes events.
 ghost use Rattle.std.specs.Prelude.{◌≡◌};
 ghost use Rattle.gx_base.specs.Emits.{EmitMeanings, Puts};
+ghost use Rattle.gx_base.specs.Executions.{event_of};
 
 use crate::event::Event;
+use crate::execution::Execution;
 
 /// Takes events in their order, and may fail, as where its room is used up. A failure is for good.
 pub trait Emit {
@@ -12,6 +14,13 @@ pub trait Emit {
     /// put fails. After a failure it does nothing.
     fn put(&mut self, event: &Event)
         ensures { Puts meanings self.old self.new event.now };
+
+    /// Takes an execution report as `put` takes its event. An emitter that needs no copy of the order makes none.
+    fn put_execution(&mut self, execution: &Execution<'_>)
+        ensures { Puts meanings self.old self.new (event_of execution.now) }
+    {
+        self.put(&execution.event());
+    }
 
     /// Whether a put has failed.
     fn failed(&self) -> bool

@@ -5,6 +5,7 @@ mod bytes;
 mod digits;
 mod emit;
 mod event;
+mod execution;
 mod id;
 mod laws;
 mod limits;
@@ -22,6 +23,7 @@ pub use bytes::{append, append_few, soh_marks, split_at_byte};
 pub use digits::{MOST_DIGITS, are_digits, read_digits};
 pub use emit::{Emit, NullEmit};
 pub use event::{Cause, ChangeFault, Event, Head, NewFault, NewRefused, StepName};
+pub use execution::{ExecType, Execution};
 pub use id::ShortId;
 pub use laws::printed_texts_are_read_back;
 pub use limits::{
