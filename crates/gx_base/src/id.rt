@@ -1,5 +1,5 @@
 //! Names: firms, instruments, the exchange, and the ids that clients give their orders.
-ghost use Rattle.std.specs.Prelude.{◌≡◌, ◌+◌, ◌≤◌, ◌++◌, SomeIff, IsTrue, codes, length, take};
+ghost use Rattle.std.specs.Prelude.{◌≡◌, ◌+◌, ◌-◌, ◌≤◌, ◌++◌, SomeIff, IsTrue, codes, length, take, replicate};
 ghost use Rattle.gx_base.specs.Texts.{is_name};
 
 use crate::limits::LONGEST_NAME;
@@ -47,6 +47,15 @@ impl ShortId {
         ensures name { IsTrue (is_name result.now) }
     {
         self.text.bytes()
+    }
+
+    /// Lends the bytes of the name and after them zeros, `LONGEST_NAME` bytes together.
+    #[inline]
+    pub fn room(&self) -> &[u8; LONGEST_NAME]
+        ensures room { result.now ≡ self.now ++ replicate (LONGEST_NAME - length self.now) 0 }
+        ensures name { IsTrue (is_name self.now) }
+    {
+        self.text.room()
     }
 
     /// Writes the bytes of the name after the first `at` of `into`, and answers where they end; what stands after them is

@@ -1,5 +1,5 @@
 //! Short texts in fixed room, which can be copied.
-ghost use Rattle.std.specs.Prelude.{◌≡◌, ◌+◌, ◌-◌, ◌≤◌, ◌++◌, SomeIff, IsTrue, length, take, drop};
+ghost use Rattle.std.specs.Prelude.{◌≡◌, ◌+◌, ◌-◌, ◌≤◌, ◌++◌, SomeIff, IsTrue, length, take, drop, replicate};
 ghost use Rattle.std.specs.List.{list_all};
 ghost use Rattle.gx_base.specs.Texts.{is_name_byte};
 
@@ -69,6 +69,14 @@ impl<const N: usize> Text<N> {
         ensures { result.now ≡ self.now }
     {
         &self.bytes[..self.len as usize]
+    }
+
+    /// Lends the bytes and after them zeros, `N` bytes together.
+    #[inline]
+    pub(crate) fn room(&self) -> &[u8; N]
+        ensures { result.now ≡ self.now ++ replicate (N - length self.now) 0 }
+    {
+        &self.bytes
     }
 
     /// Writes the bytes after the first `at` of `into`, and answers where they end. All `N` bytes of its room are copied, a

@@ -6,13 +6,14 @@ ghost use Rattle.id_table.specs.Inner.Ways.{hash_of, home_of};
 use gx_base::ShortId;
 use std::hash::{FoldHasher, Hasher};
 
+/// The hash of a firm and an id. It takes the whole room of the id, so that the compiler knows how many bytes there are.
 #[inline]
 fn hash_of(firm: u8, id: &ShortId) -> u64
     ensures { result ≡ hash_of (key firm id.now) }
 {
     let mut hasher = FoldHasher::default();
     hasher.write_u8(firm);
-    hasher.write(id.bytes());
+    hasher.write(id.room());
     hasher.finish()
 }
 
