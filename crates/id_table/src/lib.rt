@@ -5,6 +5,7 @@ mod forest;
 mod free;
 mod hash;
 mod node;
+mod rooms;
 mod spot;
 mod table;
 mod way;

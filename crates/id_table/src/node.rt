@@ -3,6 +3,7 @@ ghost use Rattle.std.specs.Prelude.{◌≡◌, ◌≢◌, ◌<◌, true, false, 
 ghost use Rattle.id_table.specs.Ids.{key};
 ghost use Rattle.id_table.specs.Inner.Nodes.{key_of, is_same, node_at, blank, nowhere, IsSet, IsMoved};
 
+use crate::rooms::are_same_rooms;
 use gx_base::{ShortId, Slot};
 
 /// A link that leads to no node. The others are places in the row of nodes.
@@ -46,7 +47,7 @@ pub(crate) fn blank_node() -> Node
 fn is_named(entry: &Entry, firm: u8, id: &ShortId) -> bool
     ensures { result ≡ is_same (key firm id.now) (key_of entry.now) }
 {
-    entry.firm == firm && entry.id.bytes() == id.bytes()
+    entry.firm == firm && are_same_rooms(entry.id.room(), id.room())
 }
 
 /// Whether the search for an id ends at a link: it leads to the node of the id, or to none.
