@@ -24,7 +24,7 @@ fn is_same_word(left: &[u8], right: &[u8]) -> bool
     word(left) == word(right)
 }
 
-/// Eight bytes as one number.
+/// Eight bytes as one number, the lowest first.
 #[inline(always)]
 fn word(bytes: &[u8]) -> u64
     requires { length bytes.now ≡ 8 }
