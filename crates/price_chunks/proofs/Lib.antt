@@ -12,5 +12,6 @@ mod Held
 mod Sided
 mod Moves
 mod Enough
+mod Prices
 mod Come
 mod Gone

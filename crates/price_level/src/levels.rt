@@ -59,7 +59,7 @@ fn side_number(instrument: u8, side: Side) -> usize
 
 impl Levels {
     /// No levels, with room for so many of so many instruments. An `Err` is want of memory: it takes 52 bytes for each level, and
-    /// for each chunk 3,092 bytes and 8 more for each instrument, and 48 bytes for each instrument. There is room for one chunk for
+    /// for each chunk 3,092 bytes and 8 more for each instrument, and 80 bytes for each instrument. There is room for one chunk for
     /// each 32 levels, two for each instrument, and one more: so many are always enough, whichever side the levels stand on. It takes
     /// all the memory: no call changes how much a part has room for.
     pub fn new(alloc: Global, capacity: u32, instruments: u8) -> Result<Levels, AllocError>

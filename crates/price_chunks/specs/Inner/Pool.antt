@@ -1,8 +1,12 @@
 -- The chunks of all sides, and the pool that they share.
-use Rattle.std.specs.Prelude.{◌≡◌, ℕ, ◌+◌, ◌/◌, ◌<◌, ◌≤◌, ◌^◌, eqb, if◌then◌else◌, List, [], map, length, set, slice_index_or, sum_by, Vec, vec_capacity}
+use Rattle.std.specs.Prelude.{◌≡◌, ℕ, ◌+◌, ◌/◌, ◌<◌, ◌≤◌, ◌^◌, eqb, if◌then◌else◌, List, [], map, length, set, slice_index_or, sum_by, Option, Some, None, Vec, vec_capacity}
 use Rattle.std.specs.declared.alloc.Global.{Global}
 use Rattle.std.specs.List.{AllByRecursion}
+use Rattle.gx_base.specs.declared.price.Price.{Price}
+use Rattle.gx_base.specs.declared.order.Side.{Side}
+use Rattle.book_order.specs.Levels.{is_better}
 use Rattle.price_chunks.specs.declared.place.Step.{Step}
+use Rattle.price_chunks.specs.Steps.{price_of_last}
 use Rattle.price_chunks.specs.Inner.Chunks.{flat, chunk_at, AreChunks}
 
 -- for how many chunks there is room, and the chunks of each side
@@ -94,3 +98,13 @@ pub record IsKept (capacity : ℕ) (p : SideChunks) : Type 0 where
   pub chunks : AllByRecursion AreChunks p.sides
   pub few : sum_by length (lists_of p.sides) ≤ capacity
   pub roomy : p.room ≡ pool capacity (length p.sides)
+
+-- the best price of each side, and room for no more
+pub record AreBest (p : SideChunks) (best : List (Option Price)) (room : ℕ) : Type 0 where
+  pub prices : best ≡ map price_of_last (lists_of p.sides)
+  pub full : room ≡ length best
+
+-- the best price of a side, to which a level with this price has come
+abbrev pub best_with : Side → Price → Option Price → Option Price
+best_with side price None = Some price
+best_with side price (Some best) = if is_better side price.0 best.0 then Some price else Some best

@@ -9,7 +9,7 @@ pub open_lots-requires-clause-listed : goal.open_lots-requires-clause-listed
 open_lots-requires-clause-listed c = listed c.self.inside.capacity c.self.inside.pool c.args.self.now c.self.view_is c.args.at c.requires.listed
 
 pub open_lots-requires-clause-chunks : goal.open_lots-requires-clause-chunks
-open_lots-requires-clause-chunks c = kept_chunks c.self.inside.capacity c.self.inside.pool c.self.invariant c.args.at (listed c.self.inside.capacity c.self.inside.pool c.args.self.now c.self.view_is c.args.at c.requires.listed)
+open_lots-requires-clause-chunks c = kept_chunks c.self.inside.capacity c.self.inside.pool c.self.invariant.0 c.args.at (listed c.self.inside.capacity c.self.inside.pool c.args.self.now c.self.view_is c.args.at c.requires.listed)
 
 pub open_lots-requires-clause-ordered : goal.open_lots-requires-clause-ordered
 open_lots-requires-clause-ordered c = subst (AreWorstFirst c.args.side) (sym (list_is c.self.inside.capacity c.self.inside.pool c.args.self.now c.self.view_is c.args.at c.requires.listed)) c.requires.ordered

@@ -9,7 +9,7 @@ pub better_price-requires-clause-listed : goal.better_price-requires-clause-list
 better_price-requires-clause-listed c = listed c.self.inside.capacity c.self.inside.pool c.args.self.now c.self.view_is c.args.at c.requires.listed
 
 pub better_price-requires-clause-chunks : goal.better_price-requires-clause-chunks
-better_price-requires-clause-chunks c = kept_chunks c.self.inside.capacity c.self.inside.pool c.self.invariant c.args.at (listed c.self.inside.capacity c.self.inside.pool c.args.self.now c.self.view_is c.args.at c.requires.listed)
+better_price-requires-clause-chunks c = kept_chunks c.self.inside.capacity c.self.inside.pool c.self.invariant.0 c.args.at (listed c.self.inside.capacity c.self.inside.pool c.args.self.now c.self.view_is c.args.at c.requires.listed)
 
 pub better_price-requires-clause-ordered : goal.better_price-requires-clause-ordered
 better_price-requires-clause-ordered c = subst (AreWorstFirst c.args.side) (sym (list_is c.self.inside.capacity c.self.inside.pool c.args.self.now c.self.view_is c.args.at c.requires.listed)) c.requires.ordered

@@ -9,7 +9,7 @@ pub queue_at-requires-clause-listed : goal.queue_at-requires-clause-listed
 queue_at-requires-clause-listed c = listed c.self.inside.capacity c.self.inside.pool c.args.self.now c.self.view_is c.args.at c.requires.listed
 
 pub queue_at-requires-clause-chunks : goal.queue_at-requires-clause-chunks
-queue_at-requires-clause-chunks c = kept_chunks c.self.inside.capacity c.self.inside.pool c.self.invariant c.args.at (listed c.self.inside.capacity c.self.inside.pool c.args.self.now c.self.view_is c.args.at c.requires.listed)
+queue_at-requires-clause-chunks c = kept_chunks c.self.inside.capacity c.self.inside.pool c.self.invariant.0 c.args.at (listed c.self.inside.capacity c.self.inside.pool c.args.self.now c.self.view_is c.args.at c.requires.listed)
 
 pub queue_at-requires-clause-ordered : goal.queue_at-requires-clause-ordered
 queue_at-requires-clause-ordered c = subst (AreWorstFirst c.args.side) (sym (list_is c.self.inside.capacity c.self.inside.pool c.args.self.now c.self.view_is c.args.at c.requires.listed)) c.requires.ordered

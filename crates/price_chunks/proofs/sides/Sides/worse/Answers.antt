@@ -9,7 +9,7 @@ pub worse_price-requires-clause-listed : goal.worse_price-requires-clause-listed
 worse_price-requires-clause-listed c = listed c.self.inside.capacity c.self.inside.pool c.args.self.now c.self.view_is c.args.at c.requires.listed
 
 pub worse_price-requires-clause-chunks : goal.worse_price-requires-clause-chunks
-worse_price-requires-clause-chunks c = kept_chunks c.self.inside.capacity c.self.inside.pool c.self.invariant c.args.at (listed c.self.inside.capacity c.self.inside.pool c.args.self.now c.self.view_is c.args.at c.requires.listed)
+worse_price-requires-clause-chunks c = kept_chunks c.self.inside.capacity c.self.inside.pool c.self.invariant.0 c.args.at (listed c.self.inside.capacity c.self.inside.pool c.args.self.now c.self.view_is c.args.at c.requires.listed)
 
 pub worse_price-requires-clause-ordered : goal.worse_price-requires-clause-ordered
 worse_price-requires-clause-ordered c = subst (AreWorstFirst c.args.side) (sym (list_is c.self.inside.capacity c.self.inside.pool c.args.self.now c.self.view_is c.args.at c.requires.listed)) c.requires.ordered
