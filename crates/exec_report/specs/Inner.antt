@@ -2,7 +2,11 @@
 use Rattle.std.specs.Prelude.{ℕ, List, ◌++◌, decimal}
 use Rattle.gx_base.specs.Frames.{field}
 use Rattle.gx_base.specs.Line.{side_text, kind_text, life_text, price_fields}
+use Rattle.gx_base.specs.Executions.{event_of}
 use Rattle.gx_base.specs.declared.order.Order.{Order}
+use Rattle.gx_base.specs.declared.event.Event.{Event}
+use Rattle.exec_report.specs.declared.reported.Reported.{Reported}
+use Rattle.exec_report.specs.declared.reported.Reported.TheVariants as reported
 
 -- what was ordered after the instrument, whose prices have so many decimals
 abbrev pub term_fields : Order → ℕ → List ℕ
@@ -12,3 +16,8 @@ term_fields order decimals =
     ++ field "40" (kind_text order.kind)
     ++ price_fields order.kind order.price order.trigger decimals
     ++ field "59" (life_text order.life)
+
+-- the event that a line is of
+abbrev pub reported_event : Reported → Event
+reported_event (reported.Event event) = event.now
+reported_event (reported.Execution execution) = event_of execution.now

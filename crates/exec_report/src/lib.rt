@@ -4,10 +4,13 @@
 
 mod body;
 mod byte_emit;
+mod head_fields;
 mod line;
 mod line_emit;
 mod line_form;
+mod refusals;
 mod report_buffer;
+mod reported;
 mod texts;
 mod values;
 

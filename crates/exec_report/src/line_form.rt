@@ -1,8 +1,9 @@
 //! The form of a line: how an event is printed, what is kept of events and of messages, and what is printed after all lines.
 ghost use Rattle.std.specs.Prelude.{◌≡◌, ◌≤◌, length, take};
+ghost use Rattle.gx_base.specs.Executions.{event_of};
 
-use crate::line::write_line_into;
-use gx_base::{Event, LONGEST_LINE, Names};
+use crate::line::{write_execution_into, write_line_into};
+use gx_base::{Event, Execution, LONGEST_LINE, Names};
 use product_file::Product;
 
 /// How many bytes a form may print of an event (our own rule): a report line, and nine more for one that is sent again, which says so.
@@ -21,9 +22,25 @@ pub trait LineForm {
         ensures line { take result into.new ≡ meanings.text self.now names.now event.now }
         ensures short { result ≤ LONGEST_PRINTED };
 
+    /// Writes the line of an execution report as `write` does that of its event. A form that needs no copy of the order makes none.
+    fn write_execution(&self, execution: &Execution<'_>, names: &Names, into: &mut [u8]) -> usize
+        requires { LONGEST_PRINTED ≤ length into.old }
+        ensures line { take result into.new ≡ meanings.text self.now names.now (event_of execution.now) }
+        ensures short { result ≤ LONGEST_PRINTED }
+    {
+        self.write(&execution.event(), names, into)
+    }
+
     /// Keeps of an event what the form keeps.
     fn keep(&mut self, event: &Event)
         ensures { self.new ≡ meanings.after self.old event.now };
+
+    /// Keeps of an execution report what `keep` keeps of its event.
+    fn keep_execution(&mut self, execution: &Execution<'_>)
+        ensures { self.new ≡ meanings.after self.old (event_of execution.now) }
+    {
+        self.keep(&execution.event());
+    }
 
     /// Keeps of a message what the form keeps: its frame, as it was given.
     fn note(&mut self, product: &Product, frame: &[u8])
@@ -50,7 +67,13 @@ impl LineForm for ReportForm {
         write_line_into(event, names, into)
     }
 
+    fn write_execution(&self, execution: &Execution<'_>, names: &Names, into: &mut [u8]) -> usize {
+        write_execution_into(execution, names, into)
+    }
+
     fn keep(&mut self, _event: &Event) {}
+
+    fn keep_execution(&mut self, _execution: &Execution<'_>) {}
 
     fn note(&mut self, _product: &Product, _frame: &[u8]) {}
 

@@ -1,9 +1,11 @@
 //! Reports that wait to be sent.
 ghost use Rattle.std.specs.Prelude.{◌≡◌, ◌+◌, ◌≤◌, ◌↔◌, ◌++◌, ◌==◌, [], IsTrue, IfOk, length, vec_len, vec_capacity};
 ghost use Rattle.std.specs.Bool.{OnTrue, OnFalse};
+ghost use Rattle.exec_report.specs.Inner.{reported_event};
 
 use crate::line_form::{LONGEST_PRINTED, LineForm};
-use gx_base::{Event, Names, append};
+use crate::reported::{Reported, write_reported};
+use gx_base::{Names, append};
 use line_parts::zeros;
 use std::alloc::{AllocError, Global};
 use std::marker::Model;
@@ -47,15 +49,21 @@ impl ReportBuffer {
         })
     }
 
-    /// Writes the line of an event after the bytes that wait, and answers whether there was room for it. Where there
+    /// Writes the line of what is reported after the bytes that wait, and answers whether there was room for it. Where there
     /// was none, nothing is added.
-    pub(crate) fn add_line<F: LineForm>(&mut self, form: &F, event: &Event, names: &Names) -> bool
-        ensures fits { IsTrue result ↔ (length self.old + length (F.meanings.text form.now names.now event.now) ≤ MOST_WAITING) }
-        ensures added { OnTrue result (self.new ≡ self.old ++ F.meanings.text form.now names.now event.now) }
+    #[inline(always)]
+    pub(crate) fn add_line<F: LineForm>(
+        &mut self,
+        form: &F,
+        reported: Reported<'_>,
+        names: &Names,
+    ) -> bool
+        ensures fits { IsTrue result ↔ (length self.old + length (F.meanings.text form.now names.now (reported_event reported.entry)) ≤ MOST_WAITING) }
+        ensures added { OnTrue result (self.new ≡ self.old ++ F.meanings.text form.now names.now (reported_event reported.entry)) }
         ensures full { OnFalse result (self.new ≡ self.old) }
-        ensures short { length (F.meanings.text form.now names.now event.now) ≤ LONGEST_PRINTED }
+        ensures short { length (F.meanings.text form.now names.now (reported_event reported.entry)) ≤ LONGEST_PRINTED }
     {
-        let count = form.write(event, names, &mut self.bytes[self.len..]);
+        let count = write_reported(form, reported, names, &mut self.bytes[self.len..]);
         if count > MOST_WAITING - self.len {
             return false;
         }

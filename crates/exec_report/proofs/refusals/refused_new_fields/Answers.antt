@@ -2,7 +2,7 @@ use Rattle.std.proofs.Common.{codes}
 use Rattle.gx_base.specs.Line.{line_head, refused_fields, wanted_fields, nothing_fields, fault_fields}
 use Rattle.line_parts.specs.Rows.{ended}
 use Rattle.exec_report.proofs.Rows.{five_in_a_row}
-use Rattle.exec_report.proofs.body.refused_new_fields.Goals as goal
+use Rattle.exec_report.proofs.refusals.refused_new_fields.Goals as goal
 
 pub returns-clause-fields : goal.returns-clause-fields
 returns-clause-fields c =
