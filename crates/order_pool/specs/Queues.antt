@@ -75,6 +75,10 @@ removed i qs = map (without_slot i) qs
 abbrev pub with_entry : ℕ → Order → List Entry → List Entry
 with_entry i o es = map (λ e. (e.0, if e.0 == i then o else e.1)) es
 
+-- so much of an order is filled, open and shown
+abbrev pub opened : ℕ → ℕ → ℕ → Order → Order
+opened filled leaves shown o = record o { filled = filled; leaves = leaves; shown = shown }
+
 -- ---- what is true of them
 
 abbrev pub NoRepeat : List Entry → Type 0

@@ -1,5 +1,6 @@
 //! The orders of the slots and the links. A contract sees one list of cells, whose links are numbers.
 ghost use Rattle.std.specs.Prelude.{◌≡◌, ◌≢◌, ℕ, ◌+◌, ◌-◌, ◌*◌, ◌<◌, ◌≤◌, ◌^◌, slice_index, slice_set, vec_len, vec_capacity, IfOk, IsTrue, MatchOption, max};
+ghost use Rattle.order_pool.specs.Queues.{opened};
 ghost use Rattle.order_pool.specs.Inner.Block.{number, cell_at, new_block, with_order, with_next, with_prev, with_queue, relinked, detached, attached, IsPlace, IsUsed, HasOpened, IsLead};
 
 use crate::link::{Link, write_links};
@@ -247,6 +248,17 @@ impl Block {
         ensures { self.new ≡ record self.old { cells = with_order self.old.cells slot order.now } }
     {
         self.orders[slot as usize] = *order;
+    }
+
+    /// Sets what is filled, open and shown of the order of a slot, where it is.
+    pub(crate) fn set_open(&mut self, slot: u32, filled: u32, leaves: u32, shown: u32)
+        requires { slot < self.old.lent }
+        ensures { self.new ≡ record self.old { cells = with_order self.old.cells slot (opened filled leaves shown (cell_at self.old.cells slot).order) } }
+    {
+        let order = &mut self.orders[slot as usize];
+        order.filled = filled;
+        order.leaves = leaves;
+        order.shown = shown;
     }
 
     /// One order more in a queue.

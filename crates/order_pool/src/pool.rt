@@ -1,6 +1,6 @@
 //! The pool: queues of orders, as rings in one block.
 ghost use Rattle.std.specs.Prelude.{◌≡◌, ℕ, ◌+◌, ◌*◌, ◌<◌, length, option_map, vec_capacity, IfSome, IfOk, IsTrue, ◌↔◌, map};
-ghost use Rattle.order_pool.specs.Queues.{slot_number, empty_queues, order_of, first_slot, next_slot, IsIn, IsLive, entries_at, removed, appended, live_of, with_entry, SlotsDiffer};
+ghost use Rattle.order_pool.specs.Queues.{slot_number, empty_queues, order_of, first_slot, next_slot, IsIn, IsLive, entries_at, removed, appended, live_of, with_entry, opened, SlotsDiffer};
 ghost use Rattle.order_pool.specs.Inner.Rings.{AreWholeRings, IsPool, rings_of, HasTaken, HasPut, IsNewest};
 
 use crate::block::Block;
@@ -191,6 +191,18 @@ impl Pool {
         ensures live { live_of self.new ≡ live_of self.old }
     {
         self.block.set_order(slot.0, order);
+    }
+
+    /// Sets what is filled, open and shown of the order of a slot. It keeps its place, and is not copied.
+    pub fn set_open(&mut self, slot: Slot, filled: u32, leaves: u32, shown: u32)
+        requires { IsLive self.old (slot_number slot) }
+        ensures queues { (q : ℕ) → IsIn self.old (slot_number slot) q
+            → self.new ≡ record self.old {
+              queues = map (with_entry (slot_number slot) (opened filled leaves shown (order_of (slot_number slot) (entries_at self.old.queues q)))) self.old.queues;
+            } }
+        ensures live { live_of self.new ≡ live_of self.old }
+    {
+        self.block.set_open(slot.0, filled, leaves, shown);
     }
 }
 

@@ -114,6 +114,16 @@ pub trait Book {
         ensures order { result ≡ filled_by lots (order_of slot.0 (book self.old).resting) }
         ensures traded { book self.new ≡ book_traded slot.0 lots (book self.old) };
 
+    /// Some lots of a resting order are traded, as `trade` does, and no copy of the order is made.
+    fn fill(&mut self, slot: Slot, lots: u32)
+        requires rests { HasSlot slot.0 (book self.old).resting }
+        requires some { 1 ≤ lots }
+        requires shown { lots ≤ (order_of slot.0 (book self.old).resting).shown }
+        ensures traded { book self.new ≡ book_traded slot.0 lots (book self.old) }
+    {
+        self.trade(slot, lots);
+    }
+
     /// A live order leaves.
     fn remove(&mut self, slot: Slot) -> Order
         requires live { HasSlot slot.0 (live_orders (book self.old)) }
