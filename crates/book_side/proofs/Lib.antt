@@ -4,6 +4,7 @@ mod Beside
 mod Bounds
 mod Cleared
 mod Empty
+mod Filling
 mod Flat
 mod Given
 mod Ids

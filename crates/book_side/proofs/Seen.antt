@@ -31,12 +31,12 @@ use Rattle.book_side.proofs.Resting.{IsHeld, is-listed, is-row, is-order, is-hel
 use Rattle.book_side.proofs.Places as places
 
 -- the slot of an order that went to the end of its queue
-pub back-in : (p : pool.Queues) (s q : ℕ) → IsIn p s q → (p' : pool.Queues)
-    → ((q : ℕ) → IsIn p s q → p' ≡ record p { queues = pool.appended q (s, pool.order_of s (pool.entries_at p.queues q)) (pool.removed s p.queues) }) → IsLive p' s
-back-in p s q at p' back =
+pub back-at : (p : pool.Queues) (s q : ℕ) → IsIn p s q → (p' : pool.Queues)
+    → ((q : ℕ) → IsIn p s q → p' ≡ record p { queues = pool.appended q (s, pool.order_of s (pool.entries_at p.queues q)) (pool.removed s p.queues) }) → IsIn p' s q
+back-at p s q at p' back =
     let gone : pool.Queues = record p { queues = pool.removed s p.queues } in
     let low : q < length gone.queues = omega (arith, length-map p.queues (pool.without_slot s), at.0) in
-    (q, subst (λ (y : pool.Queues). IsIn y s q) (sym (back q at)) (IsIn-appended gone q s (pool.order_of s (pool.entries_at p.queues q)) low))
+    subst (λ (y : pool.Queues). IsIn y s q) (sym (back q at)) (IsIn-appended gone q s (pool.order_of s (pool.entries_at p.queues q)) low)
 
 module _ {c n : ℕ} {p : pool.Queues} {ids : Ids} {lv : Rows} {tops : List SideTops} (k : IsLinked c n p ids lv tops) {b : Book} (seen : book_of c n tops p.queues lv.rows ≡ b) where
   abbrev book : Book

@@ -1,12 +1,12 @@
 //! A book that keeps its orders in queues.
 ghost use Rattle.std.specs.Prelude.{◌≡◌, ◌≢◌, ◌<◌, ◌+◌, false, IfOk};
 ghost use Rattle.std.specs.Bool.{MatchBool};
-ghost use Rattle.plain_book.specs.Orders.{HasSlot, refreshed, settled, level_of, placed, without, is_live, order_of};
+ghost use Rattle.plain_book.specs.Orders.{HasSlot, filled_by, refreshed, level_of, placed, without, is_live, order_of};
 ghost use Rattle.book_side.specs.Inner.Steps.{resting_as, book_reordered};
 ghost use Rattle.plain_book.specs.Book.{empty_book, live_orders, IsResting, IsWaiting, book_with_order, book_without};
 
 use crate::clearing::clear_instrument;
-use crate::steps::{enter_level, exchanged, filled, is_new_best, leave_level, refreshed};
+use crate::steps::{enter_level, exchanged, filled, is_new_best, leave_level};
 use crate::tops::{SideTops, drop_top, no_tops, place_top, set_top_at, top_at};
 use gx_base::{Order, Price, ShortId, Side, Slot};
 use id_table::IdTable;
@@ -191,8 +191,20 @@ impl Book for LinkedBook {
     fn trade(&mut self, slot: Slot, lots: u32) -> Order {
         self.rules();
         let given = filled(self.resting(slot), lots);
-        self.settle(slot, &given);
+        self.fill(slot, lots);
         given
+    }
+
+    fn fill(&mut self, slot: Slot, lots: u32) {
+        self.rules();
+        let order = self.resting(slot);
+        if order.leaves == lots {
+            self.take_out(slot);
+        } else if order.shown == lots {
+            self.send_back(slot, lots);
+        } else {
+            self.fill_in_place(slot, lots);
+        }
     }
 
     fn remove(&mut self, slot: Slot) -> Order {
@@ -314,26 +326,49 @@ impl LinkedBook {
         self.pool.unlink(slot);
     }
 
-    /// A resting order changes, and goes after the last order of its price. It is TOP no more.
-    fn send_back(&mut self, slot: Slot, order: &Order)
+    /// Some lots of a resting order are traded, and some of it is still shown. It keeps its place.
+    fn fill_in_place(&mut self, slot: Slot, lots: u32)
         requires rests { HasSlot slot.0 self.old.resting }
-        requires level { level_of order.now ≡ level_of (order_of slot.0 self.old.resting) }
-        requires firm { order.now.firm ≡ (order_of slot.0 self.old.resting).firm }
-        requires id { order.now.id ≡ (order_of slot.0 self.old.resting).id }
-        requires fit { IsResting self.old.instruments order.now }
-        ensures { self.new ≡ resting_as self.old (placed (record { slot = slot.0; order = order.now; is_top = false }) (without slot.0 self.old.resting)) }
+        requires shown { lots < (order_of slot.0 self.old.resting).shown }
+        ensures { self.new ≡ book_with_order slot.0 (filled_by lots (order_of slot.0 self.old.resting)) self.old }
     {
         self.pool.rules();
         self.levels.rules();
-        let old = self.pool.order(slot);
         let queue = self.pool.queue_of(slot);
+        let order = self.pool.order(slot);
+        let (filled, leaves, shown) = (
+            order.filled + lots,
+            order.leaves - lots,
+            order.shown - lots,
+        );
         let row = self.levels.row(queue);
-        let shown = exchanged(row.shown, old.shown, order.shown);
-        let leaves = exchanged(row.leaves, old.leaves, order.leaves);
+        let less = u64::from(lots);
+        self.pool.set_open(slot, filled, leaves, shown);
+        self.levels
+            .set_sums(queue, row.count, row.shown - less, row.leaves - less);
+    }
+
+    /// All that is shown of a resting order is traded, and some of it is still open. Its next part is shown, and it goes
+    /// after the last order of its price. It is TOP no more.
+    fn send_back(&mut self, slot: Slot, lots: u32)
+        requires rests { HasSlot slot.0 self.old.resting }
+        requires shown { lots ≡ (order_of slot.0 self.old.resting).shown }
+        requires open { lots ≢ (order_of slot.0 self.old.resting).leaves }
+        ensures { self.new ≡ resting_as self.old (placed (record { slot = slot.0; order = refreshed (filled_by lots (order_of slot.0 self.old.resting)); is_top = false }) (without slot.0 self.old.resting)) }
+    {
+        self.pool.rules();
+        self.levels.rules();
+        let queue = self.pool.queue_of(slot);
+        let old = self.pool.order(slot);
+        let (filled, leaves) = (old.filled + lots, old.leaves - lots);
+        let shown = old.show.min(leaves);
+        let row = self.levels.row(queue);
+        let shown_sum = exchanged(row.shown, lots, shown);
         drop_top(&mut self.tops, old, slot);
         self.pool.to_back(slot);
-        self.pool.set(slot, order);
-        self.levels.set_sums(queue, row.count, shown, leaves);
+        self.pool.set_open(slot, filled, leaves, shown);
+        self.levels
+            .set_sums(queue, row.count, shown_sum, row.leaves - u64::from(lots));
     }
 
     /// A live order gets another id.
@@ -388,25 +423,5 @@ impl LinkedBook {
         ensures { result.now ≡ order_of slot.0 self.now.resting }
     {
         self.pool.order(slot)
-    }
-
-    /// A resting order has become this one by a trade.
-    fn settle(&mut self, slot: Slot, order: &Order)
-        requires rests { HasSlot slot.0 self.old.resting }
-        requires level { level_of order.now ≡ level_of (order_of slot.0 self.old.resting) }
-        requires firm { order.now.firm ≡ (order_of slot.0 self.old.resting).firm }
-        requires id { order.now.id ≡ (order_of slot.0 self.old.resting).id }
-        requires stays { order.now.leaves ≢ 0 → order.now.shown ≢ 0 → IsResting self.old.instruments order.now }
-        requires goes { order.now.leaves ≢ 0 → order.now.shown ≡ 0 → IsResting self.old.instruments (refreshed order.now) }
-        ensures { self.new ≡ resting_as self.old (settled slot.0 order.now self.old.resting) }
-    {
-        self.rules();
-        if order.leaves == 0 {
-            self.take_out(slot);
-        } else if order.shown == 0 {
-            self.send_back(slot, &refreshed(order));
-        } else {
-            self.set_order(slot, order);
-        }
     }
 }

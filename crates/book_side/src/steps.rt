@@ -1,7 +1,7 @@
 //! Parts of the calls of a linked book.
 ghost use Rattle.std.specs.Prelude.{◌≡◌, ◌+◌, ◌^◌, ◌<◌, ◌≤◌, length, None};
 ghost use Rattle.gx_base.specs.declared.limits.TheConstants.{MOST_LOTS};
-ghost use Rattle.plain_book.specs.Orders.{level, is_best_price, filled_by, refreshed};
+ghost use Rattle.plain_book.specs.Orders.{level, is_best_price, filled_by};
 ghost use Rattle.price_level.specs.Rows.{best_row, HasQueue, row_of};
 ghost use Rattle.book_side.specs.Inner.Steps.{IsEntered, rows_left};
 
@@ -75,13 +75,4 @@ pub(crate) fn filled(order: &Order, lots: u32) -> Order
     given.leaves -= lots;
     given.shown -= lots;
     given
-}
-
-/// The order with its next part shown.
-pub(crate) fn refreshed(order: &Order) -> Order
-    ensures { result ≡ refreshed order.now }
-{
-    let mut refreshed = *order;
-    refreshed.shown = order.show.min(order.leaves);
-    refreshed
 }

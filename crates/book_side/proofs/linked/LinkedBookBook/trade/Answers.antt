@@ -1,4 +1,4 @@
-use Rattle.book_side.proofs.Given.{within, whole, stays, goes}
+use Rattle.book_side.proofs.Given.{within, whole}
 use Rattle.book_side.proofs.linked.LinkedBookBook.trade.Goals as goal
 
 pub filled-given-requires-clause-within : goal.filled-given-requires-clause-within
@@ -6,9 +6,3 @@ filled-given-requires-clause-within c = within c.args.self.now c.rules.ensures c
 
 pub filled-given-requires-clause-whole : goal.filled-given-requires-clause-whole
 filled-given-requires-clause-whole c = whole c.args.self.now c.rules.ensures c.args.slot.0 c.requires.rests c.resting.result.now c.resting.ensures
-
-pub settle-requires-clause-stays : goal.settle-requires-clause-stays
-settle-requires-clause-stays c = stays c.args.self.now c.rules.ensures c.args.slot.0 c.requires.rests c.resting.result.now c.resting.ensures c.args.lots c.requires.shown c.filled-given.result c.filled-given.ensures
-
-pub settle-requires-clause-goes : goal.settle-requires-clause-goes
-settle-requires-clause-goes c = goes c.args.self.now c.rules.ensures c.args.slot.0 c.requires.rests c.resting.result.now c.resting.ensures c.args.lots c.requires.shown c.filled-given.result c.filled-given.ensures
