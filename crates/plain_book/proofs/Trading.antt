@@ -1,13 +1,11 @@
 -- The reports and the counters of a trade.
-use Rattle.std.proofs.Common.{◌≡◌, ℕ, ◌+◌, ◌-◌, ◌≤◌, List, [], ◌∷◌, slice_index, slice_set, Option, ap, ◌∙◌, arith, refl}
+use Rattle.std.proofs.Common.{◌≡◌, ℕ, ◌+◌, ◌-◌, ◌≤◌, List, [], ◌∷◌, slice_index, slice_set, Option, subst, arith, refl}
 use Rattle.gx_base.specs.declared.price.Price.{Price}
 use Rattle.gx_base.specs.declared.order.Order.{Order}
 use Rattle.gx_base.specs.declared.order.Desk.{Desk}
 use Rattle.gx_base.specs.declared.order.Taker.{Taker}
-use Rattle.gx_base.specs.declared.event.Head.{Head}
 use Rattle.gx_base.specs.declared.event.StepName.{StepName}
 use Rattle.gx_base.specs.declared.event.Event.{Event}
-use Rattle.gx_base.specs.declared.event.Event.TheVariants.{Fill}
 use Rattle.gx_base.specs.Emits.{EmitMeanings, Puts, Emits}
 use Rattle.gx_base.specs.EmitLaws.{emits_joined, emits_one}
 use Rattle.plain_book.specs.Orders.{HasSlot, order_of, filled_by}
@@ -33,25 +31,19 @@ keeps-traded desk a b wanted lots some le =
       lines = λ i. omega (arith, line-counted desk.lines a i, line-counted once b i);
     }
 
--- the two reports of a trade
-pub two_fills : (step : StepName) (lots number n1 n2 : ℕ) (desk desk' : Desk) (time : List ℕ) (resting given taken : Order) (h1 h2 : Head) (e1 e2 : Event)
-    → given ≡ filled_by lots resting
-    → h1 ≡ next_head desk given.firm time → desk' ≡ report_counted desk given.firm → h2 ≡ next_head desk' taken.firm time
-    → n1 ≡ number → n2 ≡ number
-    → e1 ≡ Fill h1 given lots given.price step n1 → e2 ≡ Fill h2 taken lots given.price step n2
-    → e1 ∷ (e2 ∷ []) ≡ fill lots resting.price step number (next_head desk resting.firm time) (filled_by lots resting) ∷ (fill lots resting.price step number (next_head (report_counted desk resting.firm) taken.firm time) taken ∷ [])
-two_fills step lots number n1 n2 desk desk' time resting given taken h1 h2 e1 e2 g a d b m1 m2 x y =
-    let firm : given.firm ≡ resting.firm = ap (λ (o : Order). o.firm) g in
-    let price : given.price ≡ resting.price = ap (λ (o : Order). o.price) g in
-    let first : e1 ≡ Fill (next_head desk resting.firm time) (filled_by lots resting) lots resting.price step number =
-    x ∙ ap (λ n. Fill h1 given lots given.price step n) m1 ∙ ap (λ (o : Order). Fill h1 o lots o.price step number) g ∙ ap (λ (h : Head). Fill h (filled_by lots resting) lots resting.price step number) (a ∙ ap (λ f. next_head desk f time) firm) in
-    let second : e2 ≡ Fill (next_head (report_counted desk resting.firm) taken.firm time) taken lots resting.price step number =
-    y ∙ ap (λ n. Fill h2 taken lots given.price step n) m2 ∙ ap (λ (p : Price). Fill h2 taken lots p step number) price
-    ∙ ap (λ (h : Head). Fill h taken lots resting.price step number) (b ∙ ap (λ (k : Desk). next_head k taken.firm time) (d ∙ ap (λ f. report_counted desk f) firm)) in
-    ap (λ (e : Event). e ∷ (e2 ∷ [])) first ∙ ap (λ (e : Event). Fill (next_head desk resting.firm time) (filled_by lots resting) lots resting.price step number ∷ (e ∷ [])) second
-
-pub emits_two : {E : Type 0} (m : EmitMeanings E) (a b c : E) (x y : Event) → Puts m a b x → Puts m b c y → Emits m a c (x ∷ (y ∷ []))
-emits_two m a b c x y p q = emits_joined m a b c (x ∷ []) (y ∷ []) (emits_one m a b x p) (emits_one m b c y q)
+-- the two reports of a trade, of which the second counts after the first
+pub emits_trade : {E : Type 0} (m : EmitMeanings E) (a b c : E) (step : StepName) (lots : ℕ) (first second : Desk) (time : List ℕ) (price : Price) (resting taken : Order)
+    → price ≡ resting.price → second ≡ report_counted first resting.firm
+    → Puts m a b (fill lots resting.price step first.trades (next_head first resting.firm time) (filled_by lots resting))
+    → Puts m b c (fill lots price step second.trades (next_head second taken.firm time) taken)
+    → Emits m a c (fill lots resting.price step first.trades (next_head first resting.firm time) (filled_by lots resting) ∷ (fill lots resting.price step first.trades (next_head (report_counted first resting.firm) taken.firm time) taken ∷ []))
+emits_trade m a b c step lots first second time price resting taken same counted p q =
+    let x : Event = fill lots resting.price step first.trades (next_head first resting.firm time) (filled_by lots resting) in
+    let told : Puts m b c (fill lots resting.price step second.trades (next_head second taken.firm time) taken) =
+    subst (λ (p : Price). Puts m b c (fill lots p step second.trades (next_head second taken.firm time) taken)) same q in
+    let y : Puts m b c (fill lots resting.price step first.trades (next_head (report_counted first resting.firm) taken.firm time) taken) =
+    subst (λ (d : Desk). Puts m b c (fill lots resting.price step d.trades (next_head d taken.firm time) taken)) counted told in
+    emits_joined m a b c (x ∷ []) _ (emits_one m a b x p) (emits_one m b c _ y)
 
 -- after a trade the incoming order can still trade
 abbrev pub taker_after : ℕ → Option (Price × Price) → Taker → Taker

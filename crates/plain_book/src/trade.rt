@@ -1,13 +1,16 @@
 //! One trade of a resting order and the incoming one, over any book.
-ghost use Rattle.std.specs.Prelude.{◌≡◌, ◌≤◌, ◌<◌, ◌+◌, ◌^◌, [], ◌∷◌, slice_index, if◌then◌else◌};
-ghost use Rattle.gx_base.specs.Emits.{Emits};
-ghost use Rattle.plain_book.specs.Orders.{HasSlot, order_of, opposite};
-ghost use Rattle.plain_book.specs.Match.{trade, trade_if_any, trade_share, lower, higher, lengthened, next_head, report_counted, is_prorata, book_share_noted};
+ghost use Rattle.std.specs.Prelude.{◌≡◌, ◌≤◌, ◌<◌, ◌+◌, ◌^◌, ℕ, slice_index, if◌then◌else◌};
+ghost use Rattle.gx_base.specs.Emits.{Puts};
+ghost use Rattle.gx_base.specs.Executions.{event_with, event_of};
+ghost use Rattle.plain_book.specs.Orders.{HasSlot, order_of, opposite, filled_by};
+ghost use Rattle.plain_book.specs.Book.{IsResting};
+ghost use Rattle.plain_book.specs.Match.{fill, trade, trade_if_any, trade_share, lower, higher, lengthened, next_head, report_counted, is_prorata, book_share_noted};
 ghost use Rattle.plain_book.specs.Matches.{match_at, Matches, CanTrade};
 
 use crate::book::Book;
 use gx_base::{
-    Desk, Emit, Event, Head, MOST_FIRMS, Order, Price, Side, Slot, Stamp, StepName, Taker,
+    Desk, Emit, ExecType, Execution, Head, MOST_FIRMS, MOST_LOTS, Order, Price, Side, Slot, Stamp,
+    StepName, Taker,
 };
 
 /// The side that an order of this side meets.
@@ -62,26 +65,14 @@ fn lengthen(price: Price, range: Option<(Price, Price)>) -> Option<(Price, Price
     }
 }
 
-/// The event of a trade, with its own copy of the order.
-fn fill(head: Head, order: &Order, lots: u32, price: Price, step: StepName, trade: u64) -> Event
-    ensures { result ≡ Event.Fill head order.now lots price step trade }
+/// The order of a slot that rests.
+fn resting_order<B: Book>(book: &B, slot: Slot) -> &Order
+    requires { HasSlot slot.0 (B.book book.now).resting }
+    ensures order { result.now ≡ order_of slot.0 (B.book book.now).resting }
+    ensures rests { IsResting (B.book book.now).instruments result.now }
 {
-    Event::Fill {
-        head,
-        order: *order,
-        lots,
-        price,
-        step,
-        trade,
-    }
-}
-
-/// Puts two events, one after the other.
-fn put_both<E: Emit>(out: &mut E, first: &Event, second: &Event)
-    ensures { Emits E.meanings out.old out.new (first.now ∷ second.now ∷ []) }
-{
-    out.put(first);
-    out.put(second);
+    book.rules();
+    book.order(slot)
 }
 
 /// How many lots the order of a slot trades in a step.
@@ -89,6 +80,78 @@ fn put_both<E: Emit>(out: &mut E, first: &Event, second: &Event)
 pub struct OrderShare {
     pub slot: Slot,
     pub lots: u32,
+}
+
+/// The report of a trade to the resting order, which is lent as it was before.
+fn given<'a>(head: &'a Head, order: &'a Order, lots: u32, fill: ExecType<'a>) -> Execution<'a>
+    requires shown { lots ≤ order.now.shown }
+    requires within { order.now.shown ≤ order.now.leaves }
+    requires whole { order.now.filled + order.now.leaves ≤ MOST_LOTS }
+    ensures { event_of result ≡ event_with head.now (filled_by lots order.now) fill.entry }
+{
+    Execution {
+        head,
+        order,
+        filled: order.filled + lots,
+        leaves: order.leaves - lots,
+        shown: order.shown - lots,
+        exec_type: fill,
+    }
+}
+
+/// Reports a trade to the resting order, which is lent as it was before. Returns the price of the trade.
+fn report_given<B: Book, E: Emit>(
+    book: &B,
+    desk: &mut Desk,
+    time: Stamp,
+    share: OrderShare,
+    step: StepName,
+    out: &mut E,
+) -> Price
+    requires rests { HasSlot share.slot.0 (B.book book.now).resting }
+    requires shown { share.lots ≤ (order_of share.slot.0 (B.book book.now).resting).shown }
+    requires reports { desk.old.reports < 2 ^ 63 }
+    requires lines { (firm : ℕ) → slice_index desk.old.lines firm < 2 ^ 63 }
+    ensures price { result ≡ (order_of share.slot.0 (B.book book.now).resting).price }
+    ensures desk { desk.new ≡ report_counted desk.old (order_of share.slot.0 (B.book book.now).resting).firm }
+    ensures puts { let resting = order_of share.slot.0 (B.book book.now).resting in
+        Puts E.meanings out.old out.new (fill share.lots resting.price step desk.old.trades (next_head desk.old resting.firm time) (filled_by share.lots resting)) }
+{
+    let order = resting_order(book, share.slot);
+    let head = count_report(desk, order.firm, time);
+    let fill = ExecType::Fill {
+        lots: share.lots,
+        price: order.price,
+        step,
+        trade: desk.trades,
+    };
+    out.put_execution(&given(&head, order, share.lots, fill));
+    order.price
+}
+
+/// Reports a trade to the incoming order, which is as the trade leaves it.
+fn report_taken<E: Emit>(
+    desk: &mut Desk,
+    taker: &Taker,
+    lots: u32,
+    price: Price,
+    step: StepName,
+    out: &mut E,
+)
+    requires firm { taker.now.order.firm < MOST_FIRMS }
+    requires reports { desk.old.reports < 2 ^ 63 }
+    requires lines { slice_index desk.old.lines taker.now.order.firm < 2 ^ 63 }
+    ensures desk { desk.new ≡ report_counted desk.old taker.now.order.firm }
+    ensures puts { Puts E.meanings out.old out.new (fill lots price step desk.old.trades (next_head desk.old taker.now.order.firm taker.now.time) taker.now.order) }
+{
+    let head = count_report(desk, taker.order.firm, taker.time);
+    let fill = ExecType::Fill {
+        lots,
+        price,
+        step,
+        trade: desk.trades,
+    };
+    out.put_execution(&Execution::new(&head, &taker.order, fill));
 }
 
 /// A resting order trades lots with the incoming one, at its own price. Its report comes first.
@@ -110,17 +173,13 @@ pub fn trade_lots<B: Book, E: Emit>(
         Matches E.meanings (trade step share.slot.0 share.lots) before after }
 {
     book.rules();
-    let given = book.trade(share.slot, share.lots);
-    let price = given.price;
+    desk.trades += 1;
+    let price = report_given(book, desk, taker.time, share, step, out);
+    book.fill(share.slot, share.lots);
     taker.order.filled += share.lots;
     taker.order.leaves -= share.lots;
     taker.range = lengthen(price, taker.range);
-    desk.trades += 1;
-    let head = count_report(desk, given.firm, taker.time);
-    let first = fill(head, &given, share.lots, price, step, desk.trades);
-    let head = count_report(desk, taker.order.firm, taker.time);
-    let second = fill(head, &taker.order, share.lots, price, step, desk.trades);
-    put_both(out, &first, &second);
+    report_taken(desk, taker, share.lots, price, step, out);
 }
 
 fn trade_if_any<B: Book, E: Emit>(
