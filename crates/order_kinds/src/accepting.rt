@@ -17,7 +17,7 @@ use crate::new_orders::Terms;
 use crate::state::{EngineState, set_last};
 use crate::stops::come_in;
 use fix_request::NewOrder;
-use gx_base::{Desk, Emit, Event, MOST_FIRMS, NewFault, NewRefused, Taker};
+use gx_base::{Desk, Emit, Event, ExecType, Execution, MOST_FIRMS, NewFault, NewRefused, Taker};
 use plain_book::{Book, count_report};
 use product_file::Product;
 
@@ -95,10 +95,7 @@ fn accept_new<B: Book, E: Emit>(
         range: None,
     };
     let head = count_report(&mut state.desk, new.sender.firm, new.sender.time);
-    out.put(&Event::Accepted {
-        head,
-        order: taker.order,
-    });
+    out.put_execution(&Execution::new(&head, &taker.order, ExecType::New));
     bring_in(state, &terms.instrument, &mut taker, out);
 }
 

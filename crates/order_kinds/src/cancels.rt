@@ -8,7 +8,7 @@ ghost use Rattle.order_kinds.specs.Reports.{line_place, line_counted};
 ghost use Rattle.order_kinds.specs.Cancels.{order_cancelled, cancel_step, rejected};
 ghost use Rattle.order_kinds.specs.Inner.Taking.{Takes, CountsRose, IsCounted};
 
-use crate::entering::closed;
+use crate::entering::cancelled;
 use crate::reports::{RefusedChange, count_line};
 use crate::state::EngineState;
 use fix_request::{CancelOrder, Refusal};
@@ -31,15 +31,10 @@ fn cancel_order<B: Book, E: Emit>(
     ensures desk { desk.new ≡ report_counted desk.old request.now.sender.firm }
     ensures emits { Emits E.meanings out.old out.new (order_cancelled request.now (order_of slot.0 (live_orders (B.book book.old))) desk.old ∷ []) }
 {
-    let order = book.remove(slot);
+    let order = book.order(slot);
     let head = count_report(desk, request.sender.firm, request.sender.time);
-    out.put(&Event::Cancelled {
-        head,
-        order: closed(&order),
-        gone: order.leaves,
-        by: Some(request.id),
-        cause: Cause::Asked,
-    });
+    out.put_execution(&cancelled(&head, order, Some(&request.id), Cause::Asked));
+    book.remove(slot);
 }
 
 /// What is said of a cancel of an order that is not live.

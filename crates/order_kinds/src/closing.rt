@@ -9,10 +9,9 @@ ghost use Rattle.order_kinds.specs.TradingSessions.{is_until_cancelled, stays, e
 ghost use Rattle.order_kinds.specs.Inner.Taking.{CountsRose, IsCounted};
 ghost use Rattle.order_kinds.specs.Inner.Closing.{resting_ended, waiting_ended, ReportsExpiries, HasRoomFor};
 
-use crate::entering::closed;
 use crate::state::EngineState;
 use book_walks::{first_on_side, next_on_side};
-use gx_base::{Desk, Emit, Event, Life, Side, Slot, Stamp, Trading};
+use gx_base::{Desk, Emit, ExecType, Execution, Life, Side, Slot, Stamp, Trading};
 use plain_book::{Book, count_report};
 
 /// Whether an order of this life is good till cancelled, so that it outlives the close of the market.
@@ -38,13 +37,11 @@ fn expire_order<B: Book, E: Emit>(
     ensures room { HasRoomFor (B.book book.new) desk.new }
 {
     book.rules();
-    let order = book.remove(slot);
+    let order = book.order(slot);
     let head = count_report(desk, order.firm, time);
-    out.put(&Event::Expired {
-        head,
-        order: closed(&order),
-        gone: order.leaves,
-    });
+    let gone = order.leaves;
+    out.put_execution(&Execution::of_end(&head, order, ExecType::Expired { gone }));
+    book.remove(slot);
 }
 
 /// The orders of a side that are not good till cancelled expire, in book order.

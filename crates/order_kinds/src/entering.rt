@@ -1,6 +1,9 @@
 //! Entering an order: it meets the other side, and what is left of it comes to rest or is cancelled.
-ghost use Rattle.std.specs.Prelude.{◌≡◌, ◌≤◌, ◌<◌, ◌+◌, ◌*◌, ◌^◌, [], ◌∷◌, nat_lt, not, true, ℕ, slice_index};
+ghost use Rattle.std.specs.Prelude.{◌≡◌, ◌≤◌, ◌<◌, ◌+◌, ◌*◌, ◌^◌, [], ◌∷◌, nat_lt, not, true, ℕ, slice_index, None};
+ghost use Rattle.std.specs.Option.{option_copied};
+ghost use Rattle.gx_base.specs.declared.event.Event.TheVariants.{Cancelled};
 ghost use Rattle.gx_base.specs.Emits.{Emits};
+ghost use Rattle.gx_base.specs.Executions.{event_of};
 ghost use Rattle.plain_book.specs.Orders.{open_within, opposite};
 ghost use Rattle.plain_book.specs.Book.{book_placed};
 ghost use Rattle.plain_book.specs.Match.{next_head, report_counted};
@@ -10,19 +13,32 @@ ghost use Rattle.order_kinds.specs.Entering.{closed, cancel_event, as_limit, top
 ghost use Rattle.order_kinds.specs.Inner.Taking.{TakesPart, CountsRose, CanRest};
 
 use crate::new_orders::may_rest;
-use gx_base::{Cause, Desk, Emit, Event, Kind, MOST_FIRMS, Order, Taker};
+use gx_base::{
+    Cause, Desk, Emit, ExecType, Execution, Head, Kind, MOST_FIRMS, Order, ShortId, Taker,
+};
 use level_sweep::sweep;
 use plain_book::{Book, count_report, opposite_side};
 use step_config::Steps;
 
-/// The order as the report of its cancel or of its end at a close shows it: nothing is open or shown any more.
-pub(crate) fn closed(order: &Order) -> Order
-    ensures { result ≡ closed order.now }
+/// The report of an order of which what was open is cancelled: nothing is open or shown any more. It names the id of the cancel if
+/// one asked for it.
+pub(crate) fn cancelled<'a>(
+    head: &'a Head,
+    order: &'a Order,
+    by: Option<&'a ShortId>,
+    cause: Cause,
+) -> Execution<'a>
+    ensures { event_of result ≡ Cancelled head.now (closed order.now) order.now.leaves (option_copied by.entry) cause }
 {
-    let mut closed = *order;
-    closed.leaves = 0;
-    closed.shown = 0;
-    closed
+    let gone = order.leaves;
+    Execution::of_end(head, order, ExecType::Cancelled { gone, by, cause })
+}
+
+/// The report of an order of which what was open is cancelled, though nobody asked for it.
+fn cancelled_unasked<'a>(head: &'a Head, order: &'a Order, cause: Cause) -> Execution<'a>
+    ensures { event_of result ≡ Cancelled head.now (closed order.now) order.now.leaves None cause }
+{
+    cancelled(head, order, None, cause)
 }
 
 /// What is open of the incoming order is cancelled, and reported.
@@ -34,13 +50,7 @@ fn cancel_taker<E: Emit>(desk: &mut Desk, taker: &Taker, cause: Cause, out: &mut
     ensures emits { Emits E.meanings out.old out.new (cancel_event cause (next_head desk.old taker.now.order.firm taker.now.time) taker.now.order ∷ []) }
 {
     let head = count_report(desk, taker.order.firm, taker.time);
-    out.put(&Event::Cancelled {
-        head,
-        order: closed(&taker.order),
-        gone: taker.order.leaves,
-        by: None,
-        cause,
-    });
+    out.put_execution(&cancelled_unasked(&head, &taker.order, cause));
 }
 
 /// How many open lots make a resting order TOP, where the steps have a TOP.

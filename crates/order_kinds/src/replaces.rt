@@ -1,6 +1,8 @@
 //! Replaces: refused, or the order is changed, where it stands or by coming in again.
 ghost use Rattle.std.specs.Prelude.{◌≡◌, ◌≤◌, ◌<◌, ◌^◌, [], ◌∷◌, length, slice_index, true, false, Some};
+ghost use Rattle.gx_base.specs.declared.event.Event.TheVariants.{Replaced};
 ghost use Rattle.gx_base.specs.Emits.{Emits};
+ghost use Rattle.gx_base.specs.Executions.{event_of};
 ghost use Rattle.product_file.specs.declared.limits.TheConstants.{MOST_ORDERS};
 ghost use Rattle.fix_request.specs.ValidRequests.{IsValidReplace};
 ghost use Rattle.plain_book.specs.Orders.{HasSlot, order_of, slot_named};
@@ -22,7 +24,8 @@ use crate::state::EngineState;
 use book_order::is_same_side;
 use fix_request::{Px, ReplaceOrder};
 use gx_base::{
-    ChangeFault, Desk, Emit, Event, Kind, Life, MOST_FIRMS, Order, Price, Side, Slot, Taker,
+    ChangeFault, Desk, Emit, ExecType, Execution, Head, Kind, Life, MOST_FIRMS, Order, Price, Side,
+    Slot, Taker,
 };
 use plain_book::{Book, count_report};
 use product_file::Product;
@@ -132,6 +135,17 @@ fn replaced_order(request: &ReplaceOrder, order: &Order) -> Order
     replaced
 }
 
+/// The report of an order that was this one before a replace.
+fn replaced<'a>(head: &'a Head, order: &'a Order, before: &'a Order) -> Execution<'a>
+    ensures { event_of result ≡ Replaced head.now order.now before.now.id before.now.quantity }
+{
+    let exec_type = ExecType::Replaced {
+        old: &before.id,
+        old_quantity: before.quantity,
+    };
+    Execution::new(head, order, exec_type)
+}
+
 /// An order is changed where it stands, and reported.
 fn replace_in_place<B: Book, E: Emit>(
     state: &mut EngineState<B>,
@@ -152,12 +166,7 @@ fn replace_in_place<B: Book, E: Emit>(
     let least = least_after(request, order);
     state.book.change(slot, request.id, request.quantity, least);
     let head = count_report(&mut state.desk, order.firm, request.sender.time);
-    out.put(&Event::Replaced {
-        head,
-        order: *state.book.order(slot),
-        old: order.id,
-        old_quantity: order.quantity,
-    });
+    out.put_execution(&replaced(&head, state.book.order(slot), order));
 }
 
 /// An order leaves, is reported as changed, and comes in again under its number.
@@ -185,12 +194,7 @@ fn replace_anew<B: Book, E: Emit>(
         range: None,
     };
     let head = count_report(&mut state.desk, order.firm, request.sender.time);
-    out.put(&Event::Replaced {
-        head,
-        order: taker.order,
-        old: order.id,
-        old_quantity: order.quantity,
-    });
+    out.put_execution(&replaced(&head, &taker.order, &order));
     bring_in(state, instrument, &mut taker, out);
 }
 

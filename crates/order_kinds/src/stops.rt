@@ -12,7 +12,7 @@ ghost use Rattle.order_kinds.specs.Inner.Triggering.{ComesIn, CanWait, HasRoomTo
 
 use crate::entering::enter;
 use crate::trades::{PriceRange, Trades};
-use gx_base::{Desk, Emit, Event, Kind, Order, Price, Slot, Taker};
+use gx_base::{Desk, Emit, ExecType, Execution, Kind, Order, Price, Slot, Taker};
 use plain_book::{Book, count_report};
 use step_config::Steps;
 
@@ -55,10 +55,7 @@ fn trigger<B: Book, E: Emit>(
     taker.order = as_triggered(&book.remove(slot));
     taker.range = None;
     let head = count_report(desk, taker.order.firm, taker.time);
-    out.put(&Event::Triggered {
-        head,
-        order: taker.order,
-    });
+    out.put_execution(&Execution::new(&head, &taker.order, ExecType::Triggered));
     enter(book, desk, taker, steps, out);
 }
 

@@ -1,7 +1,8 @@
-use Rattle.std.proofs.Common.{◌≡◌, sym, ap, subst, ◌∙◌}
+use Rattle.std.proofs.Common.{◌≡◌, [], ◌∷◌, sym, ap, subst, ◌∙◌}
 use Rattle.std.specs.Prelude.{◌<◌}
 use Rattle.gx_base.specs.declared.limits.TheConstants.{MOST_FIRMS}
 use Rattle.gx_base.specs.declared.order.Order.{Order}
+use Rattle.gx_base.specs.declared.event.Event.{Event}
 use Rattle.gx_base.specs.Emits.{Emits}
 use Rattle.gx_base.specs.EmitLaws.{emits_as, emits_one}
 use Rattle.plain_book.specs.Orders.{HasSlot, order_of}
@@ -42,7 +43,7 @@ returns-clause-emits g c =
     let old : State = record { book = g.B.Book.book c.state.inside.book; last = c.state.inside.last.items; desk = c.state.inside.desk; trading = c.state.inside.trading } in
     let has = subst (λ (x : State). HasSlot s (live_orders x.book)) (sym c.state.view_is) c.requires.live in
     let was = subst (λ (x : State). c.args.order.now ≡ order_of s (live_orders x.book)) (sym c.state.view_is) c.requires.order in
-    subst (λ (x : State). Emits m c.args.out.now c.put.new.self (replaced_in_place request s x).1) c.state.view_is
+    subst (λ (x : State). Emits m c.args.out.now c.put_execution.new.self (replaced_in_place request s x).1) c.state.view_is
     (emits_as m _ _ _ _
-    (kept-events request s old (g.B.Book.book c.change.new.self) c.args.order.now c.order.result.now c.least_after-least.result c.count_report-head.result has was c.least_after-least.ensures c.change.ensures c.order.ensures c.count_report-head.ensures.head)
-    (emits_one m _ _ _ c.put.ensures))
+    (ap (λ (e : Event). e ∷ []) c.replaced.ensures ∙ kept-events request s old (g.B.Book.book c.change.new.self) c.args.order.now c.order.result.now c.least_after-least.result c.count_report-head.result has was c.least_after-least.ensures c.change.ensures c.order.ensures c.count_report-head.ensures.head)
+    (emits_one m _ _ _ c.put_execution.ensures))

@@ -1,5 +1,6 @@
-use Rattle.std.proofs.Common.{◌≡◌, ap, ◌∙◌}
-use Rattle.gx_base.specs.EmitLaws.{emits_one}
+use Rattle.std.proofs.Common.{◌≡◌, [], ◌∷◌, ap, ◌∙◌}
+use Rattle.gx_base.specs.declared.event.Event.{Event}
+use Rattle.gx_base.specs.EmitLaws.{emits_as, emits_one}
 use Rattle.plain_book.specs.Orders.{order_of}
 use Rattle.plain_book.specs.Book.{live_orders}
 use Rattle.order_kinds.specs.Stops.{as_triggered}
@@ -40,8 +41,8 @@ pub returns-clause-takes : goal.returns-clause-takes
 returns-clause-takes g c =
     takes-stop g.E.Emit.meanings (g.B.Book.book c.args.book.now) c.rules.ensures c.args.slot.0 c.requires.waits c.as_triggered-taker.result (g.B.Book.book c.remove.new.self)
     (is-triggered g (goal.at.returns-clause-takes g c).After-as_triggered-taker) c.remove.ensures.left c.args.desk.now c.count_report-head.new.desk c.args.taker.now
-    c.args.out.now c.put.new.self c.count_report-head.result c.args.steps.now _ c.count_report-head.ensures.head c.count_report-head.ensures.desk
-    (emits_one g.E.Emit.meanings _ _ _ c.put.ensures) c.enter.ensures.takes
+    c.args.out.now c.put_execution.new.self c.count_report-head.result c.args.steps.now _ c.count_report-head.ensures.head c.count_report-head.ensures.desk
+    (emits_as g.E.Emit.meanings _ _ _ _ (ap (λ (e : Event). e ∷ []) c.new.ensures) (emits_one g.E.Emit.meanings _ _ _ c.put_execution.ensures)) c.enter.ensures.takes
 
 pub returns-clause-rose : goal.returns-clause-rose
 returns-clause-rose g c =
