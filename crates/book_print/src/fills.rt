@@ -1,6 +1,6 @@
 //! The fills as text.
 use exec_report::{LineForm, step_text};
-use gx_base::{Event, Names, listed};
+use gx_base::{Event, Execution, Names, listed};
 use line_parts::pieces::{end_line, number, order_words, price, text};
 use line_parts::side_letter;
 use product_file::Product;
@@ -38,6 +38,8 @@ impl LineForm for FillForm {
     }
 
     fn keep(&mut self, _event: &Event) {}
+
+    fn keep_execution(&mut self, _execution: &Execution<'_>) {}
 
     fn note(&mut self, _product: &Product, _frame: &[u8]) {}
 

@@ -5,7 +5,9 @@ ghost use Rattle.gx_base.specs.Texts.{is_name, is_stamp};
 ghost use Rattle.fix_session.specs.Again.{again_body, again_line, head_in, is_asked, again_text};
 
 use exec_report::{LONGEST_PRINTED, LineEmit, LineForm, write_line};
-use gx_base::{Event, Head, LONGEST_LINE, Names, SOH, Stamp, append, split_at_byte};
+use gx_base::{
+    Event, Execution, Head, LONGEST_LINE, Names, SOH, Stamp, append, split_at_byte,
+};
 use line_parts::fields::{LONGEST_FIELD, number, time, word};
 use line_parts::{TRAILER_LENGTH, checksum, trailer_with};
 use product_file::Product;
@@ -163,6 +165,8 @@ impl LineForm for AgainForm {
     }
 
     fn keep(&mut self, _event: &Event) {}
+
+    fn keep_execution(&mut self, _execution: &Execution<'_>) {}
 
     fn note(&mut self, _product: &Product, _frame: &[u8]) {}
 

@@ -38,6 +38,8 @@ impl Emit for NullEmit {
 
     fn put(&mut self, _event: &Event) {}
 
+    fn put_execution(&mut self, _execution: &Execution<'_>) {}
+
     fn failed(&self) -> bool {
         false
     }
