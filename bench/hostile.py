@@ -383,6 +383,14 @@ def folded_multiply(a, b):
     return (product & WORD) ^ (product >> 64)
 
 
+def hash_of(of_firm, name):
+    """The hash of an id after its firm: the three words of its room of 24 bytes, which zeros fill."""
+    room = name.encode().ljust(24, b"\0")
+    first, second, third = (int.from_bytes(room[k : k + 8], "little") for k in (0, 8, 16))
+    state = folded_multiply(((of_firm + len(room)) & WORD) ^ first, MULTIPLIER ^ second)
+    return folded_multiply(state ^ second, MULTIPLIER ^ third)
+
+
 def ids_that_meet(count):
     """Ids of 8 digits of the first firm that all stand in a five-hundredth of the table's buckets: the hash has a fixed seed. With
     50,000 of them and room for 100,000 that is some 125 in each bucket."""
@@ -390,8 +398,7 @@ def ids_that_meet(count):
     number = 0
     while count > 0:
         name = f"{number:08}"
-        word = int.from_bytes(name.encode(), "little")
-        if folded_multiply(of_firm ^ word, MULTIPLIER ^ 16) < WORD // 500:
+        if hash_of(of_firm, name) < WORD // 500:
             count -= 1
             yield name
         number += 1
