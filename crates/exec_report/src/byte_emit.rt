@@ -1,12 +1,26 @@
 //! A log of lines.
-ghost use Rattle.std.specs.Prelude.{◌≡◌, ◌+◌, ◌<◌, ◌≤◌, ◌↔◌, [], true, false, IfOk, length};
+ghost use Rattle.std.specs.Prelude.{◌≡◌, ◌+◌, ◌<◌, ◌≤◌, ◌↔◌, ◌++◌, [], true, false, IsTrue, IfOk, length, vec_len, vec_capacity};
+ghost use Rattle.std.specs.Bool.{OnTrue, OnFalse};
+ghost use Rattle.gx_base.specs.Executions.{event_of};
 ghost use Rattle.gx_base.specs.Line.{line_of};
 ghost use Rattle.gx_base.specs.Emits.{Puts};
 
-use crate::line::write_line;
-use gx_base::{Emit, Event, LONGEST_LINE, Names};
+use crate::line::{write_execution_into, write_line};
+use gx_base::{Emit, Event, Execution, LONGEST_LINE, Names};
 use std::alloc::{AllocError, Global};
 use std::marker::Model;
+
+/// Adds a line to those that are kept in so many bytes of room, and answers whether there was room for it. Where there was none,
+/// nothing is added.
+fn add_line(lines: &mut Vec<u8>, room: usize, line: &[u8]) -> bool
+    requires room { (room ≤ vec_capacity lines.old) × (vec_len lines.old ≤ room) }
+    ensures fits { IsTrue result ↔ (length lines.old.items + length line.now ≤ room) }
+    ensures added { OnTrue result (lines.new.items ≡ lines.old.items ++ line.now) }
+    ensures full { OnFalse result (lines.new ≡ lines.old) }
+    ensures room { room ≤ vec_capacity lines.new }
+{
+    line.len() <= room - lines.len() && lines.extend_from_slice(line).is_ok()
+}
 
 /// Keeps the lines of events, one after the other, in fixed room. It fails exactly where a line does not fit. Contracts
 /// see it as the names, the bytes so far, the room in bytes, and whether it is full, which is to have failed.
@@ -72,10 +86,24 @@ impl<'a> Emit for ByteEmit<'a> {
             return;
         }
         let count = write_line(event, self.names, &mut self.line);
-        let line = &self.line[..count];
-        if line.len() > self.room - self.lines.len()
-            || self.lines.extend_from_slice(line).is_err()
-        {
+        if !add_line(&mut self.lines, self.room, &self.line[..count]) {
+            self.full = true;
+        }
+    }
+
+    /// As `put` of its event.
+    fn put_execution(&mut self, execution: &Execution<'_>)
+        ensures puts { Puts byte_meanings self.old self.new (event_of execution.now) }
+        ensures exactly { self.old.full ≡ false → (self.new.full ≡ true)
+            ↔ (self.old.room < length self.old.bytes + length (line_of self.old.names (event_of execution.now))) }
+        ensures whole { self.new.full ≡ true → self.new.bytes ≡ self.old.bytes }
+        ensures room { self.new.room ≡ self.old.room }
+    {
+        if self.full {
+            return;
+        }
+        let count = write_execution_into(execution, self.names, &mut self.line);
+        if !add_line(&mut self.lines, self.room, &self.line[..count]) {
             self.full = true;
         }
     }
