@@ -6,6 +6,7 @@ pub mod FirstFault
 pub mod NameLists
 pub mod Frames
 pub mod Line
+pub mod Fronts
 pub mod KnownBytes
 pub mod Executions
 pub mod Emits

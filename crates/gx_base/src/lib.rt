@@ -6,6 +6,7 @@ mod digits;
 mod emit;
 mod event;
 mod execution;
+mod fronts;
 mod id;
 mod laws;
 mod limits;
@@ -24,6 +25,7 @@ pub use digits::{MOST_DIGITS, are_digits, read_digits};
 pub use emit::{Emit, NullEmit};
 pub use event::{Cause, ChangeFault, Event, Head, NewFault, NewRefused, StepName};
 pub use execution::{ExecType, Execution};
+pub use fronts::{LONGEST_NAME_FRONT, LONGEST_SIDE_FRONT};
 pub use id::ShortId;
 pub use laws::printed_texts_are_read_back;
 pub use limits::{

@@ -1,9 +1,13 @@
 //! The names that a product lists.
-ghost use Rattle.std.specs.Prelude.{◌≡◌, ◌<◌, ◌≤◌, Some, length, position, bytes_eq, slice_get};
+ghost use Rattle.std.specs.Prelude.{◌≡◌, ◌+◌, ◌<◌, ◌≤◌, ◌++◌, Some, length, take, position, bytes_eq, slice_get};
 ghost use Rattle.gx_base.specs.NameLists.{AreRight, instrument_names};
+ghost use Rattle.gx_base.specs.Line.{firm_name, instrument_name};
+ghost use Rattle.gx_base.specs.Fronts.{exchange_front, firm_front, instrument_front};
 
+use crate::fronts::{Fronts, LONGEST_NAME_FRONT, LONGEST_SIDE_FRONT};
 use crate::id::ShortId;
 use crate::limits::{MOST_DECIMALS, MOST_FIRMS, MOST_INSTRUMENTS};
+use crate::order::Side;
 use arrayvec::ArrayVec;
 use std::marker::Model;
 
@@ -26,6 +30,7 @@ pub struct Names {
     exchange: ShortId,
     firms: ArrayVec<ShortId, MOST_FIRMS>,
     instruments: ArrayVec<Listed, MOST_INSTRUMENTS>,
+    fronts: Fronts,
 }
 
 impl Model for Names {
@@ -34,10 +39,13 @@ impl Model for Names {
     ghost Value = { NameLists };
 
     ghost use Rattle.gx_base.specs.NameLists.{AreRight};
+    ghost use Rattle.gx_base.specs.Fronts.{AreFronts};
 
     ghost view = { λ names. record { exchange = names.exchange; firms = names.firms.items; instruments = names.instruments.items } };
 
-    ghost invariant = { λ names. AreRight (record { exchange = names.exchange; firms = names.firms.items; instruments = names.instruments.items }) };
+    ghost invariant = { λ names.
+        AreRight (record { exchange = names.exchange; firms = names.firms.items; instruments = names.instruments.items })
+        × AreFronts (record { exchange = names.exchange; firms = names.firms.items; instruments = names.instruments.items }) names.fronts };
 }
 
 impl Names {
@@ -46,6 +54,7 @@ impl Names {
         requires { AreRight (record { exchange = exchange; firms = firms.now; instruments = instruments.now }) }
         ensures { result ≡ record { exchange = exchange; firms = firms.now; instruments = instruments.now } }
     {
+        let fronts = Fronts::new(&exchange, firms, instruments);
         let mut kept_firms = ArrayVec::new();
         for firm in firms {
             kept_firms.push(*firm);
@@ -58,6 +67,7 @@ impl Names {
             exchange,
             firms: kept_firms,
             instruments: kept_instruments,
+            fronts,
         }
     }
 
@@ -116,6 +126,47 @@ impl Names {
     {
         let n = find_listed(&self.instruments, name)?;
         Some(n as u8)
+    }
+
+    /// Writes SOH, the exchange as the sender (49) and the tag of a time (52) after the first `at` bytes of `into`, and answers where
+    /// this ends; what stands after it is left open.
+    #[inline]
+    pub fn append_exchange_front(&self, into: &mut [u8], at: usize) -> usize
+        requires { at + LONGEST_NAME_FRONT ≤ length into.old }
+        ensures bytes { take result into.new ≡ take at into.old ++ exchange_front self.now.exchange }
+        ensures short { result ≤ at + LONGEST_NAME_FRONT }
+    {
+        self.fronts.exchange.append_to(into, at)
+    }
+
+    /// Writes SOH, the firm with this number as the addressee (56) and the tag of an order's number (37), as `append_exchange_front`
+    /// does.
+    #[inline]
+    pub fn append_firm_front(&self, number: u8, into: &mut [u8], at: usize) -> usize
+        requires listed { number < length self.now.firms }
+        requires room { at + LONGEST_NAME_FRONT ≤ length into.old }
+        ensures bytes { take result into.new ≡ take at into.old ++ firm_front (firm_name self.now number) }
+        ensures short { result ≤ at + LONGEST_NAME_FRONT }
+    {
+        self.fronts.firms[number as usize].append_to(into, at)
+    }
+
+    /// Writes SOH, the instrument with this number (55), a side (54) and the tag of a quantity (38), as `append_exchange_front` does.
+    #[inline]
+    pub fn append_instrument_front(
+        &self,
+        number: u8,
+        side: Side,
+        into: &mut [u8],
+        at: usize,
+    ) -> usize
+        requires listed { number < length self.now.instruments }
+        requires room { at + LONGEST_SIDE_FRONT ≤ length into.old }
+        ensures bytes { take result into.new ≡ take at into.old ++ instrument_front (instrument_name self.now number) side }
+        ensures short { result ≤ at + LONGEST_SIDE_FRONT }
+    {
+        let fronts = &self.fronts.instruments[number as usize];
+        fronts.of_side(side).append_to(into, at)
     }
 }
 

@@ -1,5 +1,5 @@
 //! Short texts in fixed room, which can be copied.
-ghost use Rattle.std.specs.Prelude.{◌≡◌, ◌+◌, ◌-◌, ◌≤◌, ◌++◌, SomeIff, IsTrue, length, take, drop, replicate};
+ghost use Rattle.std.specs.Prelude.{◌≡◌, ◌+◌, ◌-◌, ◌≤◌, [], ◌++◌, SomeIff, IsTrue, length, take, drop, replicate};
 ghost use Rattle.std.specs.List.{list_all};
 ghost use Rattle.gx_base.specs.Texts.{is_name_byte};
 
@@ -91,6 +91,18 @@ impl<const N: usize> Text<N> {
         let room = self.bytes;
         append_few(into, at, &room);
         at + self.len as usize
+    }
+}
+
+/// The text of no bytes.
+impl<const N: usize> Default for Text<N> {
+    ghost is_default = { λ text. text ≡ [] };
+
+    fn default() -> Text<N> {
+        Text {
+            bytes: [0; N],
+            len: 0,
+        }
     }
 }
 
