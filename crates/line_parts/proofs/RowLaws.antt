@@ -33,6 +33,11 @@ field_ended old mid new front value at end last begins fronted valued =
     (valued ∙ ap (λ (l : List ℕ). l ++ value) (fronted ∙ ended_before old front at begins) ∙ append_assoc (ended at old) (drop 1 front) value)
     ∙ append_assoc (ended at old) (drop 1 front ++ value) (soh ∷ [])
 
+-- a value that is written after its tag is ended with the next field
+pub value_ended : (old new value : List ℕ) (at last : ℕ) → take last new ≡ take at old ++ value → ended last new ≡ take at old ++ (value ++ soh ∷ [])
+unfolding ended
+value_ended old new value at last written = ap (λ (l : List ℕ). l ++ soh ∷ []) written ∙ append_assoc (take at old) value (soh ∷ [])
+
 -- the first bytes, of which the last ends a field
 pub ended_length : (old : List ℕ) (at : ℕ) → at ≤ length old → length (ended at old) ≡ at + 1
 unfolding ended

@@ -105,6 +105,36 @@ pub fn time(into: &mut [u8], at: usize, front: &[u8], time: &Stamp) -> usize
     time.append_to(into, end)
 }
 
+/// Writes a value that is a number after the tag of its field, with which the first `at` bytes end. Answers where it ends.
+#[inline]
+pub fn number_value(into: &mut [u8], at: usize, n: u64) -> usize
+    requires { at + LONGEST_VALUE ≤ length into.old }
+    ensures value { ended result into.new ≡ take at into.old ++ (decimal n ++ SOH ∷ []) }
+    ensures short { result ≤ at + LONGEST_VALUE }
+{
+    append_number(into, at, n)
+}
+
+/// Writes a value that is a counter, as `number_value` does.
+#[inline]
+pub fn counter_value(into: &mut [u8], at: usize, n: u64) -> usize
+    requires { at + LONGEST_VALUE ≤ length into.old }
+    ensures value { ended result into.new ≡ take at into.old ++ (decimal n ++ SOH ∷ []) }
+    ensures short { result ≤ at + LONGEST_VALUE }
+{
+    append_counter(into, at, n)
+}
+
+/// Writes a value that is a time, as `number_value` does; what stands after it is left open.
+#[inline]
+pub fn time_value(into: &mut [u8], at: usize, time: &Stamp) -> usize
+    requires { at + LONGEST_VALUE ≤ length into.old }
+    ensures value { ended result into.new ≡ take at into.old ++ (time.now ++ SOH ∷ []) }
+    ensures short { result ≤ at + LONGEST_VALUE }
+{
+    time.append_to(into, at)
+}
+
 /// Ends the field before, and writes a constant text that ends the row.
 #[inline]
 pub fn last_text(into: &mut [u8], at: usize, text: &[u8]) -> usize
