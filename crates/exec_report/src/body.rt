@@ -4,11 +4,11 @@ ghost use Rattle.std.specs.Prelude.{◌≡◌, ◌+◌, ◌*◌, ◌<◌, ◌≤
 ghost use Rattle.std.specs.Option.{option_copied};
 ghost use Rattle.gx_base.specs.Frames.{field};
 ghost use Rattle.line_parts.specs.Rows.{ended};
-ghost use Rattle.exec_report.specs.Inner.{term_fields};
+ghost use Rattle.exec_report.specs.Inner.{ordered_fields, term_fields};
 ghost use Rattle.gx_base.specs.Executions.{order_after, event_of};
 ghost use Rattle.gx_base.specs.Line.{field_if, decimals_of, kind_text, step_text, cause_text, cancel_id, cancelled_id, price_fields, order_fields, order_front, state_fields, trade_fields, body_of};
 
-use crate::head_fields::{id_fields, line_head, report_fields};
+use crate::head_fields::{client_ids, line_head, order_head, report_fields};
 use crate::refusals::{change_fields, refused_new_fields, request_fields, session_fields};
 use crate::values::{fill_status, life_digit, side_digit};
 use gx_base::{
@@ -16,7 +16,9 @@ use gx_base::{
     ShortId, StepName,
 };
 use line_parts::fields::LONGEST_FIELD;
-use line_parts::rows::{counter, end_row, last_text, letter, name, number, price, text, time};
+use line_parts::rows::{
+    counter, end_row, last_text, letter, number, number_value, price, text, time,
+};
 
 /// What a report tells of the change of an order.
 #[derive(Clone, Copy)]
@@ -267,8 +269,8 @@ fn order_front(
     ensures few { result.decimals ≤ MOST_DECIMALS }
     ensures short { result.end ≤ at + 19 * LONGEST_FIELD }
 {
-    let at = line_head(into, at, names, b'8', execution.head);
-    let at = id_fields(into, at, execution.order.number, update.id, update.old);
+    let at = order_head(into, at, names, execution.head, execution.order.number);
+    let at = client_ids(into, at, update.id, update.old);
     let at = report_fields(into, at, execution.head, update.status);
     order_fields(into, at, names, execution.order)
 }
@@ -314,11 +316,12 @@ fn order_fields(into: &mut [u8], at: usize, names: &Names, order: &Order) -> Ord
     ensures short { result.end ≤ at + 7 * LONGEST_FIELD }
 {
     if (order.instrument as usize) < names.instrument_count() {
-        let listed = names.listed(order.instrument);
-        let at = name(into, at, b"\x0155=", &listed.name);
+        let decimals = names.listed(order.instrument).decimals;
+        let at = names.append_instrument_front(order.instrument, order.side, into, at);
+        let at = number_value(into, at, u64::from(order.quantity));
         return Ordered {
-            end: term_fields(into, at, order, listed.decimals),
-            decimals: listed.decimals,
+            end: term_fields(into, at, order, decimals),
+            decimals,
         };
     }
     Ordered {
@@ -332,23 +335,22 @@ fn order_fields(into: &mut [u8], at: usize, names: &Names, order: &Order) -> Ord
 #[inline(never)]
 fn unlisted_fields(into: &mut [u8], at: usize, order: &Order) -> usize
     requires { at + 7 * LONGEST_FIELD ≤ length into.old }
-    ensures fields { ended result into.new ≡ ended at into.old ++ (field "55" (codes "UNKNOWN") ++ term_fields order.now 0) }
+    ensures fields { ended result into.new ≡ ended at into.old ++ ordered_fields (codes "UNKNOWN") order.now 0 }
     ensures short { result ≤ at + 7 * LONGEST_FIELD }
 {
-    let at = text(into, at, b"\x0155=UNKNOWN");
+    let at = letter(into, at, b"\x0155=UNKNOWN\x0154=", side_digit(order.side));
+    let at = number(into, at, b"\x0138=", u64::from(order.quantity));
     term_fields(into, at, order, 0)
 }
 
-/// What was ordered after the instrument, whose prices have so many decimals.
+/// What was ordered after the quantity. Prices have so many decimals.
 #[inline(always)]
 fn term_fields(into: &mut [u8], at: usize, order: &Order, decimals: u8) -> usize
-    requires room { at + 6 * LONGEST_FIELD ≤ length into.old }
+    requires room { at + 4 * LONGEST_FIELD ≤ length into.old }
     requires decimals { decimals ≤ MOST_DECIMALS }
     ensures fields { ended result into.new ≡ ended at into.old ++ term_fields order.now decimals }
-    ensures short { result ≤ at + 6 * LONGEST_FIELD }
+    ensures short { result ≤ at + 4 * LONGEST_FIELD }
 {
-    let at = letter(into, at, b"\x0154=", side_digit(order.side));
-    let at = number(into, at, b"\x0138=", u64::from(order.quantity));
     let at = kind_fields(into, at, order, decimals);
     letter(into, at, b"\x0159=", life_digit(order.life))
 }
