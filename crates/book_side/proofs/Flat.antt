@@ -227,3 +227,17 @@ without-summed q a b d (r ∷ rs) =
           ∙ ap (λ (l : List LevelRow). r ∷ l) (without-summed q a b d rs)
           ∙ sym (ap (λ (c : Bool). cond (not c) (r ∷ without_row q rs) (without_row q rs)) t.0)
     ]
+
+-- the sums that a level has, set anew, are the same
+pub same-sums : (q : ℕ) (x : LevelRow) (rs : List LevelRow) → AllByRecursion (λ (r : LevelRow). r.queue ≡ q → r ≡ x) rs → with_sums q x.count x.shown x.leaves rs ≡ rs
+same-sums q x [] a = refl
+same-sums q x (r ∷ rs) a =
+    let new : LevelRow = record r { count = x.count; shown = x.shown; leaves = x.leaves } in
+    let later = ap (λ (l : List LevelRow). r ∷ l) (same-sums q x rs a.1) in
+    elim (eqb_tells r.queue q) [
+      | inl t ↦
+          ap (λ (c : Bool). cond c new r ∷ with_sums q x.count x.shown x.leaves rs) t.0
+          ∙ ap (λ (y : LevelRow). record r { count = y.count; shown = y.shown; leaves = y.leaves } ∷ with_sums q x.count x.shown x.leaves rs) (sym (a.0 t.1))
+          ∙ later
+      | inr t ↦ ap (λ (c : Bool). cond c new r ∷ with_sums q x.count x.shown x.leaves rs) t.0 ∙ later
+    ]

@@ -17,6 +17,7 @@ mod Names
 mod Naming
 mod Places
 mod Placing
+mod Noting
 mod Open
 mod Pools
 mod Reached

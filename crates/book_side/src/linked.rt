@@ -225,10 +225,9 @@ impl Book for LinkedBook {
     }
 
     fn set_prorated(&mut self, slot: Slot, share: u32) {
-        self.rules();
-        let mut order = *self.resting(slot);
-        order.prorated = share;
-        self.set_order(slot, &order);
+        self.pool.rules();
+        self.levels.rules();
+        self.pool.set_prorated(slot, share);
     }
 
     fn set_shown(&mut self, slot: Slot, shown: u32) {

@@ -79,6 +79,10 @@ with_entry i o es = map (λ e. (e.0, if e.0 == i then o else e.1)) es
 abbrev pub opened : ℕ → ℕ → ℕ → Order → Order
 opened filled leaves shown o = record o { filled = filled; leaves = leaves; shown = shown }
 
+-- an order has such a share in a pro rata step
+abbrev pub with_share : ℕ → Order → Order
+with_share share o = record o { prorated = share }
+
 -- ---- what is true of them
 
 abbrev pub NoRepeat : List Entry → Type 0

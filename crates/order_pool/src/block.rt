@@ -1,6 +1,6 @@
 //! The orders of the slots and the links. A contract sees one list of cells, whose links are numbers.
 ghost use Rattle.std.specs.Prelude.{◌≡◌, ◌≢◌, ℕ, ◌+◌, ◌-◌, ◌*◌, ◌<◌, ◌≤◌, ◌^◌, slice_index, slice_set, vec_len, vec_capacity, IfOk, IsTrue, MatchOption, max};
-ghost use Rattle.order_pool.specs.Queues.{opened};
+ghost use Rattle.order_pool.specs.Queues.{opened, with_share};
 ghost use Rattle.order_pool.specs.Inner.Block.{number, cell_at, new_block, with_order, with_next, with_prev, with_queue, relinked, detached, attached, IsPlace, IsUsed, HasOpened, IsLead};
 
 use crate::link::{Link, write_links};
@@ -259,6 +259,14 @@ impl Block {
         order.filled = filled;
         order.leaves = leaves;
         order.shown = shown;
+    }
+
+    /// Sets the pro rata share of the order of a slot, where it is.
+    pub(crate) fn set_prorated(&mut self, slot: u32, share: u32)
+        requires { slot < self.old.lent }
+        ensures { self.new ≡ record self.old { cells = with_order self.old.cells slot (with_share share (cell_at self.old.cells slot).order) } }
+    {
+        self.orders[slot as usize].prorated = share;
     }
 
     /// One order more in a queue.

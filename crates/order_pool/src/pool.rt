@@ -1,6 +1,6 @@
 //! The pool: queues of orders, as rings in one block.
 ghost use Rattle.std.specs.Prelude.{◌≡◌, ℕ, ◌+◌, ◌*◌, ◌<◌, length, option_map, vec_capacity, IfSome, IfOk, IsTrue, ◌↔◌, map};
-ghost use Rattle.order_pool.specs.Queues.{slot_number, empty_queues, order_of, first_slot, next_slot, IsIn, IsLive, entries_at, removed, appended, live_of, with_entry, opened, SlotsDiffer};
+ghost use Rattle.order_pool.specs.Queues.{slot_number, empty_queues, order_of, first_slot, next_slot, IsIn, IsLive, entries_at, removed, appended, live_of, with_entry, opened, with_share, SlotsDiffer};
 ghost use Rattle.order_pool.specs.Inner.Rings.{AreWholeRings, IsPool, rings_of, HasTaken, HasPut, IsNewest};
 
 use crate::block::Block;
@@ -203,6 +203,18 @@ impl Pool {
         ensures live { live_of self.new ≡ live_of self.old }
     {
         self.block.set_open(slot.0, filled, leaves, shown);
+    }
+
+    /// Sets the share that a pro rata step gives the order of a slot. It keeps its place, and is not copied.
+    pub fn set_prorated(&mut self, slot: Slot, share: u32)
+        requires { IsLive self.old (slot_number slot) }
+        ensures queues { (q : ℕ) → IsIn self.old (slot_number slot) q
+            → self.new ≡ record self.old {
+              queues = map (with_entry (slot_number slot) (with_share share (order_of (slot_number slot) (entries_at self.old.queues q)))) self.old.queues;
+            } }
+        ensures live { live_of self.new ≡ live_of self.old }
+    {
+        self.block.set_prorated(slot.0, share);
     }
 }
 
