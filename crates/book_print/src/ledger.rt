@@ -1,11 +1,12 @@
 //! The ledger: the quantities of each execution report as text, and the totals.
 ghost use Rattle.std.specs.Prelude.{◌≡◌, ◌+◌, ◌*◌, ◌≤◌, ◌++◌, length, take};
+ghost use Rattle.gx_base.specs.Executions.{event_of};
 ghost use Rattle.order_kinds.specs.Balance.{quantities, all_cancelled, cancelled_in};
 ghost use Rattle.book_print.specs.LedgerText.{quantity_words, report_line, entered_capped};
 
-use crate::tally::filled_in;
+use crate::tally::{filled_in, lots_of};
 use exec_report::LineForm;
-use gx_base::{Event, LONGEST_LINE, Names, Order, append};
+use gx_base::{Event, ExecType, Execution, LONGEST_LINE, Names, Order, append};
 use line_parts::pieces::{LONGEST_PIECE, end_line, number};
 use product_file::Product;
 
@@ -31,23 +32,30 @@ fn quantity_words(into: &mut [u8], at: usize, lots: Lots) -> usize
     end_line(into, at)
 }
 
+/// Writes the line of the order with this number.
+fn numbered_line(order: u64, lots: Lots, into: &mut [u8]) -> usize
+    requires { LONGEST_LINE ≤ length into.old }
+    ensures line { let told = record { ordered = lots.entered; filled = lots.filled; leaves = lots.leaves; cancelled = lots.cancelled } in
+        take result into.new ≡ report_line order told }
+    ensures short { result ≤ LONGEST_LINE }
+{
+    let at = number(into, 0, b"#", order);
+    quantity_words(into, at, lots)
+}
+
 /// Writes the line of an order of which so many lots are cancelled by what is reported.
 fn order_line(order: &Order, gone: u32, into: &mut [u8]) -> usize
     requires { LONGEST_LINE ≤ length into.old }
     ensures line { take result into.new ≡ report_line order.now.number (quantities order.now gone) }
     ensures short { result ≤ LONGEST_LINE }
 {
-    let at = number(into, 0, b"#", order.number);
-    quantity_words(
-        into,
-        at,
-        Lots {
-            entered: u64::from(order.quantity),
-            filled: u64::from(order.filled),
-            leaves: u64::from(order.leaves),
-            cancelled: u64::from(gone),
-        },
-    )
+    let lots = Lots {
+        entered: u64::from(order.quantity),
+        filled: u64::from(order.filled),
+        leaves: u64::from(order.leaves),
+        cancelled: u64::from(gone),
+    };
+    numbered_line(order.number, lots, into)
 }
 
 /// Writes the line of a new order of so many lots that is refused.
@@ -56,17 +64,13 @@ fn refused_line(quantity: u32, into: &mut [u8]) -> usize
     ensures line { take result into.new ≡ report_line 0 (all_cancelled quantity) }
     ensures short { result ≤ LONGEST_LINE }
 {
-    let at = number(into, 0, b"#", 0);
-    quantity_words(
-        into,
-        at,
-        Lots {
-            entered: u64::from(quantity),
-            filled: 0,
-            leaves: 0,
-            cancelled: u64::from(quantity),
-        },
-    )
+    let lots = Lots {
+        entered: u64::from(quantity),
+        filled: 0,
+        leaves: 0,
+        cancelled: u64::from(quantity),
+    };
+    numbered_line(0, lots, into)
 }
 
 /// The totals of a ledger, in lots. One that would pass the end of its type stays there, and one that would fall below 0
@@ -108,6 +112,30 @@ fn cancelled_in(event: &Event) -> u64
     }
 }
 
+/// What was ordered, after one report more.
+fn entered_after(total: u64, execution: &Execution<'_>) -> u64
+    ensures { result ≡ entered_capped total (event_of execution.now) }
+{
+    let quantity = u64::from(execution.order.quantity);
+    match execution.exec_type {
+        ExecType::New => total.saturating_add(quantity),
+        ExecType::Replaced { old_quantity, .. } => total
+            .saturating_add(quantity)
+            .saturating_sub(u64::from(old_quantity)),
+        _ => total,
+    }
+}
+
+/// What is cancelled by a report, or expires.
+fn cancelled_by(execution: &Execution<'_>) -> u64
+    ensures { result ≡ cancelled_in (event_of execution.now) }
+{
+    match execution.exec_type {
+        ExecType::Cancelled { gone, .. } | ExecType::Expired { gone } => u64::from(gone),
+        _ => 0,
+    }
+}
+
 impl Totals {
     ghost use Rattle.book_print.specs.LedgerText.{no_totals};
 
@@ -143,10 +171,26 @@ impl LineForm for Totals {
         }
     }
 
+    fn write_execution(&self, execution: &Execution<'_>, _names: &Names, into: &mut [u8]) -> usize {
+        let lots = Lots {
+            entered: u64::from(execution.order.quantity),
+            filled: u64::from(execution.filled),
+            leaves: u64::from(execution.leaves),
+            cancelled: cancelled_by(execution),
+        };
+        numbered_line(execution.order.number, lots, into)
+    }
+
     fn keep(&mut self, event: &Event) {
         self.entered = entered_with(self.entered, event);
         self.filled = self.filled.saturating_add(filled_in(event));
         self.cancelled = self.cancelled.saturating_add(cancelled_in(event));
+    }
+
+    fn keep_execution(&mut self, execution: &Execution<'_>) {
+        self.entered = entered_after(self.entered, execution);
+        self.filled = self.filled.saturating_add(lots_of(execution));
+        self.cancelled = self.cancelled.saturating_add(cancelled_by(execution));
     }
 
     fn note(&mut self, _product: &Product, _frame: &[u8]) {}

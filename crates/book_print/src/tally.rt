@@ -1,12 +1,13 @@
 //! What a drill counts, and its summary.
 ghost use Rattle.std.specs.Prelude.{◌≡◌, ◌≤◌, [], OnOk, take};
+ghost use Rattle.gx_base.specs.Executions.{event_of};
 ghost use Rattle.gx_station.specs.Quiet.{Sends};
 ghost use Rattle.order_kinds.specs.Balance.{filled_in};
 ghost use Rattle.book_print.specs.TallyText.{no_tally, tally_line, fills_in};
 
 use crate::sending::send_line;
 use exec_report::{LineForm, ReportBuffer, SendFault};
-use gx_base::{Event, Names};
+use gx_base::{Event, ExecType, Execution, Names};
 use gx_station::Station;
 use line_parts::pieces::{LONGEST_PIECE, end_line, number};
 use product_file::Product;
@@ -60,6 +61,26 @@ fn fills_in(event: &Event) -> u64
     }
 }
 
+/// The lots of a report of a fill, 0 for any other report.
+pub(crate) fn lots_of(execution: &Execution<'_>) -> u64
+    ensures { result ≡ filled_in (event_of execution.now) }
+{
+    match execution.exec_type {
+        ExecType::Fill { lots, .. } => u64::from(lots),
+        _ => 0,
+    }
+}
+
+/// 1 for a report of a fill, 0 for any other report.
+fn fills_of(execution: &Execution<'_>) -> u64
+    ensures { result ≡ fills_in (event_of execution.now) }
+{
+    match execution.exec_type {
+        ExecType::Fill { .. } => 1,
+        _ => 0,
+    }
+}
+
 /// A drill as a form: nothing is printed, and the events are counted.
 impl LineForm for Tally {
     ghost use Rattle.book_print.specs.Printing.{tally_form};
@@ -70,10 +91,20 @@ impl LineForm for Tally {
         0
     }
 
+    fn write_execution(&self, _: &Execution<'_>, _names: &Names, _into: &mut [u8]) -> usize {
+        0
+    }
+
     fn keep(&mut self, event: &Event) {
         self.reports = self.reports.saturating_add(1);
         self.fills = self.fills.saturating_add(fills_in(event));
         self.lots = self.lots.saturating_add(filled_in(event));
+    }
+
+    fn keep_execution(&mut self, execution: &Execution<'_>) {
+        self.reports = self.reports.saturating_add(1);
+        self.fills = self.fills.saturating_add(fills_of(execution));
+        self.lots = self.lots.saturating_add(lots_of(execution));
     }
 
     fn note(&mut self, _product: &Product, _frame: &[u8]) {}
