@@ -1,7 +1,7 @@
 //! The ledger: the quantities of each execution report as text, and the totals.
 ghost use Rattle.std.specs.Prelude.{◌≡◌, ◌+◌, ◌*◌, ◌≤◌, ◌++◌, length, take};
 ghost use Rattle.gx_base.specs.Executions.{event_of};
-ghost use Rattle.order_kinds.specs.Balance.{quantities, all_cancelled, cancelled_in};
+ghost use Rattle.order_kinds.specs.Balance.{Quantities, quantities, all_cancelled, cancelled_in};
 ghost use Rattle.book_print.specs.LedgerText.{quantity_words, report_line, entered_capped};
 
 use crate::tally::{filled_in, lots_of};
@@ -35,7 +35,7 @@ fn quantity_words(into: &mut [u8], at: usize, lots: Lots) -> usize
 /// Writes the line of the order with this number.
 fn numbered_line(order: u64, lots: Lots, into: &mut [u8]) -> usize
     requires { LONGEST_LINE ≤ length into.old }
-    ensures line { let told = record { ordered = lots.entered; filled = lots.filled; leaves = lots.leaves; cancelled = lots.cancelled } in
+    ensures line { let told : Quantities = record { ordered = lots.entered; filled = lots.filled; leaves = lots.leaves; cancelled = lots.cancelled } in
         take result into.new ≡ report_line order told }
     ensures short { result ≤ LONGEST_LINE }
 {

@@ -5,9 +5,7 @@ ghost use Rattle.gx_base.specs.Texts.{is_name, is_stamp};
 ghost use Rattle.fix_session.specs.Again.{again_body, again_line, head_in, is_asked, again_text};
 
 use exec_report::{LONGEST_PRINTED, LineEmit, LineForm, write_line};
-use gx_base::{
-    Event, Execution, Head, LONGEST_LINE, Names, SOH, Stamp, append, split_at_byte,
-};
+use gx_base::{Event, Execution, Head, LONGEST_LINE, Names, SOH, Stamp, append, split_at_byte};
 use line_parts::fields::{LONGEST_FIELD, number, time, word};
 use line_parts::{TRAILER_LENGTH, checksum, trailer_with};
 use product_file::Product;
