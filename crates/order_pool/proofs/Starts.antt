@@ -109,3 +109,21 @@ module _ (old new : Cells) (free : List ℕ) (whole' : AreWholeRings old.cells o
       let lent : mid.lent ≡ old.lent = ap (λ (x : Cells). x.lent) h.same in
       came-in (old.lent + 1) mid.used (subst (IsOut cs old.slots old.queues (old.lent + 1) free L) (sym (is ∙ lent)) (IsOut-lent cs old.slots old.queues L whole' some)) h.more
       (e ∙ ap (λ (x : Cells). record x { lent = x.lent + 1; cells = with_order x.cells x.lent o }) h.same ∙ (λ j. record old { lent = old.lent + 1; used = mid.used; cells = with_order cs (sym (is ∙ lent) j) o }))
+
+-- the order of a slot that is taken is set once more
+pub taken_changed : (old mid new : Cells) (free : List ℕ) (i : ℕ) (o p : Order) → HasTaken old mid free i o → new ≡ record mid { cells = with_order mid.cells i p } → HasTaken old new free i p
+taken_changed old mid new free i o p h e =
+    let L : List (List ℕ) = rings_of old.cells old.slots old.queues in
+    let c : Cell = record (cell_at mid.cells i) { order = p } in
+    let cells : new.cells ≡ slice_set mid.cells i c = ap (λ (x : Cells). x.cells) e in
+    let used = ap {B = ℕ} (λ (x : Cells). x.used) e in
+    let low : i < length mid.cells = omega (arith, h.out.are.cells, h.out.slot, h.out.room, h.slots, h.queues) in
+    record {
+      slots = ap (λ (x : Cells). x.slots) e ∙ h.slots;
+      queues = ap (λ (x : Cells). x.queues) e ∙ h.queues;
+      more = omega (arith, used, h.more);
+      counts = ap (λ (x : Cells). x.counts) e ∙ h.counts;
+      out = subst (λ (x : Cells). IsOut x.cells old.slots old.queues x.lent free L i) (sym e) (IsOut-set mid.cells old.slots old.queues L i h.out c);
+      order = ap (λ (xs : List Cell). order_at xs i) cells ∙ ap (λ (d : Cell). d.order) (get_or-set_same mid.cells i c no_cell low);
+      others = λ k ne. ap (λ (xs : List Cell). order_at xs k) cells ∙ ap (λ (d : Cell). d.order) (get_or-set_other mid.cells i k c no_cell ne) ∙ h.others k ne;
+    }

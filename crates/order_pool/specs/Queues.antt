@@ -1,6 +1,7 @@
 -- Queues of orders, what the calls of a pool make of them, and what is true of them at every moment.
 use Rattle.std.specs.Prelude.{◌≡◌, ℕ, ◌<◌, ◌==◌, not, if◌then◌else◌, List, [], ◌∷◌, ◌++◌, length, map, filter, sum_by, slice_index_or, slice_set, replicate, ◌⊎◌, Option, Some, None, codes}
 use Rattle.gx_base.specs.declared.order.Order.{Order}
+use Rattle.gx_base.specs.declared.order.Kind.TheVariants.{Limit}
 use Rattle.gx_base.specs.Orders.{blank_order}
 use Rattle.gx_base.specs.declared.order.Slot.{Slot}
 
@@ -82,6 +83,15 @@ opened filled leaves shown o = record o { filled = filled; leaves = leaves; show
 -- an order has such a share in a pro rata step
 abbrev pub with_share : ℕ → Order → Order
 with_share share o = record o { prorated = share }
+
+-- an order as it comes to rest: a limit order without a minimum, of which so much is shown
+abbrev pub rested : ℕ → Order → Order
+rested shown o = record o { kind = Limit; min = 0; shown = shown }
+
+-- an order as it comes to a queue: as it is, or to rest
+abbrev pub coming : Option ℕ → Order → Order
+coming None o = o
+coming (Some shown) o = rested shown o
 
 -- ---- what is true of them
 

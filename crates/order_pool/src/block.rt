@@ -1,10 +1,10 @@
 //! The orders of the slots and the links. A contract sees one list of cells, whose links are numbers.
 ghost use Rattle.std.specs.Prelude.{◌≡◌, ◌≢◌, ℕ, ◌+◌, ◌-◌, ◌*◌, ◌<◌, ◌≤◌, ◌^◌, slice_index, slice_set, vec_len, vec_capacity, IfOk, IsTrue, MatchOption, max};
-ghost use Rattle.order_pool.specs.Queues.{opened, with_share};
+ghost use Rattle.order_pool.specs.Queues.{opened, rested, with_share};
 ghost use Rattle.order_pool.specs.Inner.Block.{number, cell_at, new_block, with_order, with_next, with_prev, with_queue, relinked, detached, attached, IsPlace, IsUsed, HasOpened, IsLead};
 
 use crate::link::{Link, write_links};
-use gx_base::Order;
+use gx_base::{Kind, Order};
 use std::alloc::{AllocError, Global};
 use std::cmp::max;
 use std::marker::Model;
@@ -258,6 +258,17 @@ impl Block {
         let order = &mut self.orders[slot as usize];
         order.filled = filled;
         order.leaves = leaves;
+        order.shown = shown;
+    }
+
+    /// Makes the order of a slot a limit order without a minimum, of which so much is shown, where it is.
+    pub(crate) fn set_rested(&mut self, slot: u32, shown: u32)
+        requires { slot < self.old.lent }
+        ensures { self.new ≡ record self.old { cells = with_order self.old.cells slot (rested shown (cell_at self.old.cells slot).order) } }
+    {
+        let order = &mut self.orders[slot as usize];
+        order.kind = Kind::Limit;
+        order.min = 0;
         order.shown = shown;
     }
 

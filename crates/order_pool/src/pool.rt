@@ -1,6 +1,6 @@
 //! The pool: queues of orders, as rings in one block.
 ghost use Rattle.std.specs.Prelude.{◌≡◌, ℕ, ◌+◌, ◌*◌, ◌<◌, length, option_map, vec_capacity, IfSome, IfOk, IsTrue, ◌↔◌, map};
-ghost use Rattle.order_pool.specs.Queues.{slot_number, empty_queues, order_of, first_slot, next_slot, IsIn, IsLive, entries_at, removed, appended, live_of, with_entry, opened, with_share, SlotsDiffer};
+ghost use Rattle.order_pool.specs.Queues.{slot_number, empty_queues, order_of, first_slot, next_slot, IsIn, IsLive, entries_at, removed, appended, live_of, with_entry, opened, rested, coming, with_share, SlotsDiffer};
 ghost use Rattle.order_pool.specs.Inner.Rings.{AreWholeRings, IsPool, rings_of, HasTaken, HasPut, IsNewest};
 
 use crate::block::Block;
@@ -148,10 +148,35 @@ impl Pool {
         ensures live { live_of self.new ≡ live_of self.old + 1 }
         ensures placed { IsIn self.new (slot_number result) queue }
     {
+        self.push(queue, order, None)
+    }
+
+    /// The same of an order that comes to rest: it is a limit order without a minimum there, and so much of it is shown.
+    pub fn push_rested(&mut self, queue: u32, order: &Order, shown: u32) -> Slot
+        requires queue_in { queue < length self.old.queues }
+        requires room { live_of self.old < self.old.capacity }
+        ensures fresh { IsLive self.old (slot_number result) → ⊥ }
+        ensures queues { self.new ≡ record self.old { queues = appended queue (slot_number result, rested shown order.now) self.old.queues } }
+        ensures live { live_of self.new ≡ live_of self.old + 1 }
+        ensures placed { IsIn self.new (slot_number result) queue }
+    {
+        self.push(queue, order, Some(shown))
+    }
+
+    /// Puts an order at the end of a queue as it is, or to rest.
+    #[inline(always)]
+    fn push(&mut self, queue: u32, order: &Order, shown: Option<u32>) -> Slot
+        requires queue_in { queue < length self.old.queues }
+        requires room { live_of self.old < self.old.capacity }
+        ensures fresh { IsLive self.old (slot_number result) → ⊥ }
+        ensures queues { self.new ≡ record self.old { queues = appended queue (slot_number result, coming shown order.now) self.old.queues } }
+        ensures live { live_of self.new ≡ live_of self.old + 1 }
+        ensures placed { IsIn self.new (slot_number result) queue }
+    {
         if is_ready(&self.block, &self.free, queue) {
-            Slot(put(&mut self.block, &mut self.free, queue, order))
+            Slot(put(&mut self.block, &mut self.free, queue, order, shown))
         } else {
-            Slot(open_and_put(&mut self.block, &mut self.free, queue, order))
+            Slot(open_and_put(&mut self.block, &mut self.free, queue, order, shown))
         }
     }
 
@@ -236,6 +261,21 @@ fn take_slot(block: &mut Block, free: &mut Vec<u32>, order: &Order) -> u32
     }
 }
 
+/// The same of an order that comes as it is, or to rest.
+#[inline(always)]
+fn take_slot_for(block: &mut Block, free: &mut Vec<u32>, order: &Order, shown: Option<u32>) -> u32
+    requires whole { AreWholeRings block.old.cells block.old.slots block.old.queues block.old.lent free.old.items (rings_of block.old.cells block.old.slots block.old.queues) }
+    requires some { block.old.lent < block.old.slots + length free.old.items }
+    ensures taken { HasTaken block.old block.new free.new.items result (coming shown order.now) }
+    ensures room { vec_capacity free.new ≡ vec_capacity free.old }
+{
+    let slot = take_slot(block, free, order);
+    if let Some(shown) = shown {
+        block.set_rested(slot, shown);
+    }
+    slot
+}
+
 /// Whether an order can come to a queue without more memory than was ever used.
 #[inline(always)]
 fn is_ready(block: &Block, free: &Vec<u32>, queue: u32) -> bool
@@ -247,15 +287,15 @@ fn is_ready(block: &Block, free: &Vec<u32>, queue: u32) -> bool
 
 /// Puts an order at the end of a queue whose head is written.
 #[inline(always)]
-fn put(block: &mut Block, free: &mut Vec<u32>, queue: u32, order: &Order) -> u32
+fn put(block: &mut Block, free: &mut Vec<u32>, queue: u32, order: &Order, shown: Option<u32>) -> u32
     requires pool { IsPool block.old free.old.items }
     requires some { block.old.lent < block.old.slots + length free.old.items }
     requires queue_in { queue < block.old.queues }
     requires opened { 2 * queue + 1 < block.old.used }
-    ensures put { HasPut block.old block.new free.new.items queue order.now result }
+    ensures put { HasPut block.old block.new free.new.items queue (coming shown order.now) result }
     ensures room { vec_capacity free.new ≡ vec_capacity free.old }
 {
-    let slot = take_slot(block, free, order);
+    let slot = take_slot_for(block, free, order, shown);
     block.attach(slot, queue);
     block.raise(queue);
     slot
@@ -264,13 +304,19 @@ fn put(block: &mut Block, free: &mut Vec<u32>, queue: u32, order: &Order) -> u32
 /// Puts an order at the end of a queue. A function of its own, so that `push_back` has to keep nothing across a call.
 #[cold]
 #[inline(never)]
-fn open_and_put(block: &mut Block, free: &mut Vec<u32>, queue: u32, order: &Order) -> u32
+fn open_and_put(
+    block: &mut Block,
+    free: &mut Vec<u32>,
+    queue: u32,
+    order: &Order,
+    shown: Option<u32>,
+) -> u32
     requires pool { IsPool block.old free.old.items }
     requires some { block.old.lent < block.old.slots + length free.old.items }
     requires queue_in { queue < block.old.queues }
-    ensures put { HasPut block.old block.new free.new.items queue order.now result }
+    ensures put { HasPut block.old block.new free.new.items queue (coming shown order.now) result }
     ensures room { vec_capacity free.new ≡ vec_capacity free.old }
 {
     block.open(queue);
-    put(block, free, queue, order)
+    put(block, free, queue, order, shown)
 }
