@@ -147,14 +147,17 @@ impl Book for LinkedBook {
         self.ids.find(firm, id)
     }
 
-    fn place(&mut self, mut order: Order, top_min: Option<u32>) -> Slot {
-        let best = is_new_best(&self.levels, &order);
+    fn place(&mut self, order: Order, top_min: Option<u32>) -> Slot {
+        self.rest(&order, top_min)
+    }
+
+    fn rest(&mut self, order: &Order, top_min: Option<u32>) -> Slot {
+        let best = is_new_best(&self.levels, order);
         let queue = enter_level(&mut self.levels, order.instrument, order.side, order.price);
         self.levels.rules();
         let row = self.levels.row(queue);
-        let shown = first_shown(&order);
-        order.shown = shown;
-        let slot = self.pool.push_back(queue, &order);
+        let shown = first_shown(order);
+        let slot = self.pool.push_rested(queue, order, shown);
         self.levels.set_sums(
             queue,
             row.count + 1,
@@ -164,7 +167,7 @@ impl Book for LinkedBook {
         self.ids.insert(order.firm, order.id, slot);
         place_top(
             &mut self.tops,
-            &order,
+            order,
             best,
             makes_top(top_min, order.leaves),
             slot,

@@ -2,7 +2,6 @@
 -- exchange's published outline.
 use Rattle.std.specs.Prelude.{ℕ, ◌==◌, nat_lt, if◌then◌else◌, List, [], ◌∷◌, slice_set, Option, Some, None, option_map}
 use Rattle.gx_base.specs.declared.price.Price.{Price}
-use Rattle.gx_base.specs.declared.order.Kind.TheVariants.{Limit}
 use Rattle.gx_base.specs.declared.order.Order.{Order}
 use Rattle.gx_base.specs.declared.order.TopRule.{TopRule}
 use Rattle.gx_base.specs.declared.event.Head.{Head}
@@ -14,6 +13,7 @@ use Rattle.step_config.specs.declared.step.Step.{Step}
 use Rattle.step_config.specs.Rules.{top_rule_of}
 use Rattle.plain_book.specs.Orders.{open_within, opposite}
 use Rattle.plain_book.specs.Book.{book_placed}
+pub use Rattle.plain_book.specs.Book.{as_limit}
 use Rattle.plain_book.specs.Match.{MatchState, report}
 use Rattle.level_sweep.specs.Sweep.{sweep}
 use Rattle.order_kinds.specs.NewOrders.{may_rest}
@@ -36,10 +36,6 @@ taker_cancelled why m = report (cancel_event why) m.taker.order m
 -- how many lots TOP asks of an order, where the steps have a TOP
 abbrev pub top_min_of : List Step → Option ℕ
 top_min_of steps = option_map (λ (rule : TopRule). rule.min) (top_rule_of steps)
-
--- an order rests as a limit order, a market order at its protected limit, and has no minimum any more
-abbrev pub as_limit : Order → Order
-as_limit o = record o { kind = Limit; min = 0 }
 
 -- What is open of the incoming order comes to rest under its number. (A core names it by its slot.)
 abbrev pub taker_rested : ℕ → List Step → MatchState → MatchState

@@ -13,9 +13,7 @@ ghost use Rattle.order_kinds.specs.Entering.{closed, cancel_event, as_limit, top
 ghost use Rattle.order_kinds.specs.Inner.Taking.{TakesPart, CountsRose, CanRest};
 
 use crate::new_orders::may_rest;
-use gx_base::{
-    Cause, Desk, Emit, ExecType, Execution, Head, Kind, MOST_FIRMS, Order, ShortId, Taker,
-};
+use gx_base::{Cause, Desk, Emit, ExecType, Execution, Head, MOST_FIRMS, Order, ShortId, Taker};
 use level_sweep::sweep;
 use plain_book::{Book, count_report, opposite_side};
 use step_config::Steps;
@@ -65,10 +63,7 @@ fn rest_taker<B: Book>(book: &mut B, taker: &Taker, steps: &Steps)
     requires { CanRest (B.book book.old) taker.now.order }
     ensures { (name : ℕ) × (B.book book.new ≡ book_placed name (as_limit taker.now.order) (top_min_of steps.now) (B.book book.old)) }
 {
-    let mut order = taker.order;
-    order.kind = Kind::Limit;
-    order.min = 0;
-    book.place(order, top_min(steps));
+    book.rest(&taker.order, top_min(steps));
 }
 
 /// What becomes of the incoming order after its sweep: what is left of it rests, or is cancelled.

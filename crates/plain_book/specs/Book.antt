@@ -52,6 +52,10 @@ resting_placed slot o top_min es =
 abbrev pub book_placed : ℕ → Order → Option ℕ → Book → Book
 book_placed slot o top_min b = record b { resting = resting_placed slot o top_min b.resting }
 
+-- an order rests as a limit order, a market order at its protected limit, and has no minimum any more
+abbrev pub as_limit : Order → Order
+as_limit o = record o { kind = Limit; min = 0 }
+
 -- the stop waits, and nothing of it is shown
 abbrev pub book_waited : ℕ → Order → Book → Book
 book_waited slot o b = record b { waiting = lined_up (record { slot = slot; order = record o { shown = 0 }; is_top = false }) b.waiting }

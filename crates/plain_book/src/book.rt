@@ -2,9 +2,9 @@
 ghost use Rattle.std.specs.Prelude.{◌≡◌, ◌<◌, ◌≤◌, min, length, false, option_map};
 ghost use Rattle.plain_book.specs.Orders.{level, level_of, best_of, worse_of, worst_of, better_of, orders_at, stops_of, slot_of, slot_after, slot_named, is_live, order_of, HasSlot, shown_at, open_at, open_within, top_of, filled_by};
 ghost use Rattle.plain_book.specs.Waiting.{reached_stops};
-ghost use Rattle.plain_book.specs.Book.{Book, IsRight, IsFitToRest, IsFitToWait, CanBeTop, live_orders, slot_number, book_placed, book_waited, book_traded, book_with_order, book_without, book_changed, book_with_top, book_cleared};
+ghost use Rattle.plain_book.specs.Book.{Book, IsRight, IsFitToRest, IsFitToWait, CanBeTop, live_orders, slot_number, as_limit, book_placed, book_waited, book_traded, book_with_order, book_without, book_changed, book_with_top, book_cleared};
 
-use gx_base::{Order, Price, ShortId, Side, Slot};
+use gx_base::{Kind, Order, Price, ShortId, Side, Slot};
 
 /// The live orders: those that rest, and the stops that wait. No call takes memory, and each instrument that a call is
 /// given is one of the book's. Quantities are in lots.
@@ -95,6 +95,20 @@ pub trait Book {
         requires fit { IsFitToRest (book self.old).instruments order }
         ensures fresh { HasSlot result.0 (live_orders (book self.old)) → ⊥ }
         ensures placed { book self.new ≡ book_placed result.0 order top_min (book self.old) };
+
+    /// An order comes to rest as a limit order without a minimum, as `place` says of it. It is lent, and copied once: to where it rests.
+    fn rest(&mut self, order: &Order, top_min: Option<u32>) -> Slot
+        requires room { length (live_orders (book self.old)) < (book self.old).capacity }
+        requires unnamed { is_live order.now.firm order.now.id (live_orders (book self.old)) ≡ false }
+        requires fit { IsFitToRest (book self.old).instruments (as_limit order.now) }
+        ensures fresh { HasSlot result.0 (live_orders (book self.old)) → ⊥ }
+        ensures placed { book self.new ≡ book_placed result.0 (as_limit order.now) top_min (book self.old) }
+    {
+        let mut order = *order;
+        order.kind = Kind::Limit;
+        order.min = 0;
+        self.place(order, top_min)
+    }
 
     /// A stop comes to wait, after the stops of its instrument. Nothing of it is shown.
     fn wait(&mut self, order: Order) -> Slot
