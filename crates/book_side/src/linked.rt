@@ -212,12 +212,16 @@ impl Book for LinkedBook {
 
     fn remove(&mut self, slot: Slot) -> Order {
         let order = *self.order(slot);
+        self.leave(slot);
+        order
+    }
+
+    fn leave(&mut self, slot: Slot) {
         if self.is_resting(slot) {
             self.take_out(slot);
         } else {
             self.take_stop(slot);
         }
-        order
     }
 
     fn change(&mut self, slot: Slot, id: ShortId, quantity: u32, min: u32) {

@@ -34,7 +34,7 @@ fn cancel_order<B: Book, E: Emit>(
     let order = book.order(slot);
     let head = count_report(desk, request.sender.firm, request.sender.time);
     out.put_execution(&cancelled(&head, order, Some(&request.id), Cause::Asked));
-    book.remove(slot);
+    book.leave(slot);
 }
 
 /// What is said of a cancel of an order that is not live.

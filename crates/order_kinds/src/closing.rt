@@ -41,7 +41,7 @@ fn expire_order<B: Book, E: Emit>(
     let head = count_report(desk, order.firm, time);
     let gone = order.leaves;
     out.put_execution(&Execution::of_end(&head, order, ExecType::Expired { gone }));
-    book.remove(slot);
+    book.leave(slot);
 }
 
 /// The orders of a side that are not good till cancelled expire, in book order.

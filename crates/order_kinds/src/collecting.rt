@@ -74,7 +74,7 @@ fn collect_cancel<B: Book>(state: &mut EngineState<B>, request: &CancelOrder)
 {
     state.book.rules();
     if let Some(slot) = state.book.find(request.sender.firm, &request.old) {
-        state.book.remove(slot);
+        state.book.leave(slot);
     }
     state.book.rules();
 }

@@ -144,6 +144,14 @@ pub trait Book {
         ensures order { result ≡ order_of slot.0 (live_orders (book self.old)) }
         ensures left { book self.new ≡ book_without slot.0 (book self.old) };
 
+    /// A live order leaves, as `remove` says, and no copy of it is made.
+    fn leave(&mut self, slot: Slot)
+        requires live { HasSlot slot.0 (live_orders (book self.old)) }
+        ensures left { book self.new ≡ book_without slot.0 (book self.old) }
+    {
+        self.remove(slot);
+    }
+
     /// A live order is changed, by a replace that does not raise its quantity and keeps its prices. It keeps its place,
     /// and stays TOP where it is. At most what is open stays shown.
     fn change(&mut self, slot: Slot, id: ShortId, quantity: u32, min: u32)

@@ -36,4 +36,4 @@ returns-clause-emits g c =
 pub returns-clause-room : goal.returns-clause-room
 returns-clause-room g c =
     room-left (g.B.Book.book c.args.book.now) c.rules.ensures c.args.slot.0 c.requires.live c.args.desk.now c.requires.room
-    (g.B.Book.book c.remove.new.self) c.remove.ensures.left c.order-order.result.now.firm c.count_report-head.new.desk c.count_report-head.ensures.desk
+    (g.B.Book.book c.leave.new.self) c.leave.ensures.left c.order-order.result.now.firm c.count_report-head.new.desk c.count_report-head.ensures.desk
