@@ -269,3 +269,20 @@ module _ (b : Cells) (free : List ℕ) (pool : IsPool b free) (now : Queues) (sh
           is = view-ordered cs slots queues b.counts L pool i o s.slot now shown;
           same = let a = live_is ds slots queues (rings_of ds slots queues) in omega (arith, a, after.whole.total, live);
         })
+
+    -- the order of the slot is changed where it is
+    pub record Changed (f : Order → Order) (new : Cells) : Type 0 where
+      pub kept : IsPool new free
+      pub slots_stay : new.slots ≡ slots
+      pub is : (t : ℕ) → IsIn now i t → queues_in new ≡ record now { queues = map (with_entry i (f (order_of i (entries_at now.queues t)))) now.queues }
+      pub same : live_of (queues_in new) ≡ live_of now
+
+    pub changed : (f : Order → Order) (new : Cells) → new ≡ record b { cells = with_order cs i (f (order_at cs i)) } → Changed f new
+    changed f new e =
+        let after = reset (f (order_at cs i)) new e in
+        record {
+          kept = after.kept;
+          slots_stay = ap (λ (x : Cells). x.slots) e;
+          is = λ t h. after.is ∙ ap (λ (x : Order). record now { queues = map (with_entry i (f x)) now.queues }) (sym (order_of-seen cs slots queues L whole now i t shown (in_queue i t h)));
+          same = after.same;
+        }

@@ -173,11 +173,7 @@ impl Pool {
         ensures live { live_of self.new ≡ live_of self.old + 1 }
         ensures placed { IsIn self.new (slot_number result) queue }
     {
-        if is_ready(&self.block, &self.free, queue) {
-            Slot(put(&mut self.block, &mut self.free, queue, order, shown))
-        } else {
-            Slot(open_and_put(&mut self.block, &mut self.free, queue, order, shown))
-        }
+        Slot(put_at_end(&mut self.block, &mut self.free, queue, order, shown))
     }
 
     /// Takes an order out of its queue. From then on its slot is in none.
@@ -301,7 +297,7 @@ fn put(block: &mut Block, free: &mut Vec<u32>, queue: u32, order: &Order, shown:
     slot
 }
 
-/// Puts an order at the end of a queue. A function of its own, so that `push_back` has to keep nothing across a call.
+/// Writes the head of a queue, and puts an order at its end. A function of its own, so that `push` has to keep nothing across a call.
 #[cold]
 #[inline(never)]
 fn open_and_put(
@@ -319,4 +315,26 @@ fn open_and_put(
 {
     block.open(queue);
     put(block, free, queue, order, shown)
+}
+
+/// Puts an order at the end of a queue, whose head is written first if it never was.
+#[inline(always)]
+fn put_at_end(
+    block: &mut Block,
+    free: &mut Vec<u32>,
+    queue: u32,
+    order: &Order,
+    shown: Option<u32>,
+) -> u32
+    requires pool { IsPool block.old free.old.items }
+    requires some { block.old.lent < block.old.slots + length free.old.items }
+    requires queue_in { queue < block.old.queues }
+    ensures put { HasPut block.old block.new free.new.items queue (coming shown order.now) result }
+    ensures room { vec_capacity free.new ≡ vec_capacity free.old }
+{
+    if is_ready(block, free, queue) {
+        put(block, free, queue, order, shown)
+    } else {
+        open_and_put(block, free, queue, order, shown)
+    }
 }
