@@ -28,6 +28,8 @@ enum Family {
 enum Work {
     Table(Family),
     Pool,
+    Ends,
+    Any,
 }
 
 fn work_of(word: &str) -> Option<Work> {
@@ -36,6 +38,8 @@ fn work_of(word: &str) -> Option<Work> {
         "client" => Some(Work::Table(Family::Client)),
         "front" => Some(Work::Table(Family::Front)),
         "pool" => Some(Work::Pool),
+        "ends" => Some(Work::Ends),
+        "any" => Some(Work::Any),
         _ => None,
     }
 }
@@ -152,6 +156,44 @@ fn run_pool(alloc: Global, live: u32, rounds: u32) -> Result<u32, AllocError> {
     Ok(pool.live())
 }
 
+fn leave_first(pool: &mut Pool, queue: u32) {
+    if queue < pool.queues() {
+        if let Some(slot) = pool.first(queue) {
+            pool.unlink(slot);
+        }
+    }
+}
+
+fn leave(pool: &mut Pool, slot: Slot) {
+    if pool.is_live(slot) {
+        pool.unlink(slot);
+    }
+}
+
+fn run_ends(alloc: Global, live: u32, rounds: u32) -> Result<u32, AllocError> {
+    let mut pool = Pool::new(alloc, live, QUEUES)?;
+    for number in 0..live {
+        push_back(&mut pool, number % QUEUES, u64::from(number));
+    }
+    for round in 0..rounds {
+        leave_first(&mut pool, round % QUEUES);
+        push_back(&mut pool, round % QUEUES, u64::from(round));
+    }
+    Ok(pool.live())
+}
+
+fn run_any(alloc: Global, live: u32, rounds: u32) -> Result<u32, AllocError> {
+    let mut pool = Pool::new(alloc, live, QUEUES)?;
+    for number in 0..live {
+        push_back(&mut pool, number % QUEUES, u64::from(number));
+    }
+    for round in 0..rounds {
+        leave(&mut pool, Slot((round & 0xffff).wrapping_mul(7919) & 0x7fff));
+        push_back(&mut pool, round % QUEUES, u64::from(round));
+    }
+    Ok(pool.live())
+}
+
 fn number_of(words: &[String], at: usize) -> u32 {
     words
         .get(at)
@@ -165,6 +207,8 @@ fn main(rt: HostRuntime) -> io::Result<()> {
     let left = match words.get(0).and_then(|word| work_of(word)) {
         Some(Work::Table(family)) => run_table(rt.alloc(), family, live, rounds)?,
         Some(Work::Pool) => run_pool(rt.alloc(), live, rounds)?,
+        Some(Work::Ends) => run_ends(rt.alloc(), live, rounds)?,
+        Some(Work::Any) => run_any(rt.alloc(), live, rounds)?,
         None => 0,
     };
     println!(rt; "{left} live")

@@ -1,6 +1,9 @@
 -- Offered to the crates above: what they may cite.
 pub mod PoolFacts
 -- What the proofs of this crate alone cite.
+mod Places
+mod Lent
+mod Nodes
 mod Cells
 mod CellsAt
 mod Paths

@@ -2,7 +2,7 @@
 use Rattle.std.proofs.Common.{◌≡◌, ◌≢◌, ℕ, ◌+◌, ◌≤◌, Bool, not, cond, List, [], ◌∷◌, ◌++◌, length, refl, sym, ap, subst, ◌∙◌, arith, inl, inr}
 use Rattle.std.proofs.lemmas.Bool.Decides.{eqb_tells}
 use Prim.Native.Nat.{zero, suc}
-use Rattle.order_pool.specs.Inner.Rings.{Each, AllDiffer, Path, cells_along, without, In}
+use Rattle.order_pool.specs.Inner.Rings.{Each, AllDiffer, Path, IsChain, cells_along, without, In}
 
 pub each-from : (S T : ℕ → Type 0) → ((k : ℕ) → S k → T k) → (ks : List ℕ) → Each S ks → Each T ks
 each-from S T f [] h = tt
@@ -34,16 +34,9 @@ pub differ-push : (ks : List ℕ) (i : ℕ) → AllDiffer ks → Each (λ k. k �
 differ-push [] i d h = (tt, tt)
 differ-push (k ∷ ks) i d h = (each-push (λ j. j ≢ k) ks i d.0 (λ e. h.0 (sym e)), differ-push ks i d.1 h.1)
 
-pub each-pop : (T : ℕ → Type 0) (ks : List ℕ) (i : ℕ) → Each T (ks ++ i ∷ []) → Each T ks × T i
-each-pop T [] i h = (tt, h.0)
-each-pop T (k ∷ ks) i h = let rest = each-pop T ks i h.1 in ((h.0, rest.0), rest.1)
-
-pub differ-pop : (ks : List ℕ) (i : ℕ) → AllDiffer (ks ++ i ∷ []) → AllDiffer ks × Each (λ k. k ≢ i) ks
-differ-pop [] i d = (tt, tt)
-differ-pop (k ∷ ks) i d =
-    let here = each-pop (λ j. j ≢ k) ks i d.0 in
-    let rest = differ-pop ks i d.1 in
-    ((here.0, rest.0), (λ e. here.1 (sym e), rest.1))
+pub chain-same : (N M : ℕ → ℕ) (a : ℕ) (ks : List ℕ) → Each (λ k. M k ≡ N k) ks → IsChain N a ks → IsChain M a ks
+chain-same N M a [] s h = tt
+chain-same N M a (k ∷ ks) s h = (h.0, subst (λ (b : ℕ). IsChain M b ks) (sym s.0) (chain-same N M (N k) ks s.1 h.1))
 
 -- ---- `without`
 

@@ -6,8 +6,8 @@ use Rattle.std.proofs.lemmas.Grind.{get_or-set_at}
 use Rattle.std.proofs.lemmas.Bool.{cases_eq}
 use Rattle.std.proofs.lemmas.Bool.Decides.{eqb_tells}
 use Rattle.std.specs.Prelude.{sum_by}
-use Rattle.order_pool.specs.Inner.Block.{Cell, detached}
-use Rattle.order_pool.specs.Inner.Rings.{order_at, queue_at, In, AreWholeRings, IsOut, AreCounts, IsPoolWith, ring_at, rings_of, without, entry, queues_with}
+use Rattle.order_pool.specs.Inner.Block.{Cell, Cells, detached}
+use Rattle.order_pool.specs.Inner.Rings.{order_at, queue_at, In, AreWholeRings, IsOut, AreCounts, IsPoolWith, IsPool, AreFree, ring_at, rings_of, without, entry, queues_with}
 use Rattle.order_pool.specs.Queues.{Entry, Queues, entries_at, order_of, live_of, HasSlot, IsIn}
 use Rattle.order_pool.proofs.Paths.{each-in}
 use Rattle.order_pool.proofs.WholeRings.{rings_of-is, lent-in, length-ring-le, out-other, length-left, ring-came_other, length-came, IsOut-detached}
@@ -48,6 +48,12 @@ module _ (cs : List Cell) (slots queues : ℕ) {lent : ℕ} {free : List ℕ} (L
 
 pub with-rings : (cs : List Cell) (slots queues : ℕ) {lent : ℕ} {free counts : List ℕ} (L : List (List ℕ)) → IsPoolWith cs slots queues lent free counts L → IsPoolWith cs slots queues lent free counts (rings_of cs slots queues)
 with-rings cs slots queues {lent = lent} {free = free} {counts = counts} L h = subst (IsPoolWith cs slots queues lent free counts) (sym (rings_of-is cs slots queues L h.whole)) h
+
+-- a block of which that is true, and of which these are the free slots, is a pool's
+pub pool-with : (b : Cells) (free : List ℕ) → AreFree b free → (L : List (List ℕ)) → IsPoolWith b.cells b.slots b.queues b.lent free b.counts L → IsPool b free
+pool-with b free chained L h =
+    let w = with-rings b.cells b.slots b.queues L h in
+    record { whole = w.whole; fits = w.fits; counted = w.counted; chained = chained }
 
 -- ---- how many orders are live
 

@@ -94,6 +94,13 @@ module _ (cs : List Cell) (slots queues : ℕ) (L : List (List ℕ)) (are : AreR
     pub detached_order : (y : ℕ) → order_at cs' y ≡ order_at cs y
     detached_order = detached-order cs i lp ln
 
+    -- the link after a slot of no such queue stays
+    pub detached_next : (y : ℕ) → queue_at cs y ≢ q → next_at cs' y ≡ N y
+    detached_next y ne =
+        let ring = are.each q lq in
+        let before : queue_at cs (P i) ≡ q = prev-is N P (λ y. queue_at cs y ≡ q) i (slots + q) (ring_at L q) (slots + q) ring.path ring.tag (are.heads q lq) m in
+        detached-next_other cs i lp ln y (λ e. ne (ap (queue_at cs) e ∙ before))
+
     pub AreRings-detached : AreRings cs' slots queues (map (without i) L)
     AreRings-detached = record {
       cells = length-detached cs i lp ln ∙ are.cells;
@@ -185,6 +192,9 @@ module _ (cs : List Cell) (slots queues : ℕ) (L : List (List ℕ)) (are : AreR
 
     pub attached_order : (y : ℕ) → order_at cs⁺ y ≡ order_at cs y
     attached_order = attached-order cs i s r ll wi ws nl nj
+
+    pub attached_next : (y : ℕ) → y ≢ i → queue_at cs y ≢ r → next_at cs⁺ y ≡ N y
+    attached_next y own ne = attached-next_other cs i s r ll wi ws nl nj y (λ e. ne (ap (queue_at cs) e ∙ last_tag)) own
 
     pub AreRings-attached : AreRings cs⁺ slots queues (slice_set L r (ring_at L r ++ i ∷ []))
     AreRings-attached = record {

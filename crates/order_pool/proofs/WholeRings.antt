@@ -11,7 +11,7 @@ use Rattle.std.specs.List.{range_with_len}
 use Rattle.std.specs.Prelude.{sum_by}
 use Rattle.order_pool.specs.Inner.Block.{Cell, cell_at, no_cell, detached, attached}
 use Rattle.order_pool.specs.Inner.Rings.{queue_at, prev_at, next_at, cells_along, rings_of, Each, AllDiffer, In, IsRing, AreWholeRings, IsOut, ring_at, without}
-use Rattle.order_pool.proofs.Paths.{each-from, each-in, each-of, each-push, each-pop, differ-push, differ-pop, without-none, without-gone, without-in, length-without, in-push, in-push_old, path-same, cells_along-path}
+use Rattle.order_pool.proofs.Paths.{each-from, each-in, each-of, without-none, without-gone, without-in, length-without, in-push, in-push_old, path-same, cells_along-path}
 use Rattle.order_pool.proofs.RingMoves.{elsewhere, detached_queue, AreRings-detached, attached_queue, attached_queue_other, AreRings-attached}
 
 pub length-ring-le : (L : List (List ℕ)) (q : ℕ) → q < length L → length (ring_at L q) ≤ sum_by length L
@@ -137,23 +137,23 @@ module _ (cs : List Cell) (slots queues : ℕ) {lent : ℕ} {free : List ℕ} (L
 
   -- ---- a slot that was free
 
-  pub IsOut-popped : (rest : List ℕ) (i : ℕ) → free ≡ rest ++ i ∷ [] → IsOut cs slots queues lent rest L i
+  pub IsOut-popped : (rest : List ℕ) (i : ℕ) → free ≡ i ∷ rest → IsOut cs slots queues lent rest L i
   IsOut-popped rest i e =
-      let within = each-pop (λ k. k < lent) rest i (subst (Each (λ k. k < lent)) e whole.within) in
-      let tags = each-pop (λ k. queue_at cs k ≡ queues) rest i (subst (Each (λ k. queue_at cs k ≡ queues)) e whole.tags) in
-      let differ = differ-pop rest i (subst AllDiffer e whole.differ) in
+      let within = subst (Each (λ k. k < lent)) e whole.within in
+      let tags = subst (Each (λ k. queue_at cs k ≡ queues)) e whole.tags in
+      let differ = subst AllDiffer e whole.differ in
       record {
         are = whole.are;
         room = whole.room;
-        slot = within.1;
-        gone = nowhere i tags.1;
+        slot = within.0;
+        gone = nowhere i tags.0;
         covers = λ k lk ne lt. whole.covers k lk lt;
         unlent = whole.unlent;
-        within = within.0;
-        tags = tags.0;
-        others = differ.1;
-        differ = differ.0;
-        total = let l = ap length e ∙ length-append rest (i ∷ []) in let o : length (i ∷ []) ≡ 1 = refl in omega (arith, whole.total, l, o);
+        within = within.1;
+        tags = tags.1;
+        others = differ.0;
+        differ = differ.1;
+        total = let l = ap length e in let o : length (i ∷ rest) ≡ length rest + 1 = omega arith in omega (arith, whole.total, l, o);
       }
 
 -- ---- a slot that is out
@@ -209,16 +209,16 @@ module _ (cs : List Cell) (slots queues : ℕ) {lent : ℕ} {free : List ℕ} (L
         }
 
   -- it is free
-  pub AreWholeRings-freed : queue_at cs i ≡ queues → AreWholeRings cs slots queues lent (free ++ i ∷ []) L
+  pub AreWholeRings-freed : queue_at cs i ≡ queues → AreWholeRings cs slots queues lent (i ∷ free) L
   AreWholeRings-freed tag = record {
     are = out.are;
     room = out.room;
     covers = λ k lk lt. out.covers k lk (λ e. let v : queue_at cs k ≡ queue_at cs i = ap (queue_at cs) e in omega arith) lt;
     unlent = out.unlent;
-    within = each-push (λ k. k < lent) free i out.within out.slot;
-    tags = each-push (λ k. queue_at cs k ≡ queues) free i out.tags tag;
-    differ = differ-push free i out.differ out.others;
-    total = let l = length-append free (i ∷ []) in let o : length (i ∷ []) ≡ 1 = refl in omega (arith, out.total, l, o);
+    within = (out.slot, out.within);
+    tags = (tag, out.tags);
+    differ = (out.others, out.differ);
+    total = let l : length (i ∷ free) ≡ length free + 1 = omega arith in omega (arith, out.total, l);
   }
 
   -- it comes to the end of ring r

@@ -1,24 +1,29 @@
-//! The orders of the slots and the links. A contract sees one list of cells, whose links are numbers.
-ghost use Rattle.std.specs.Prelude.{◌≡◌, ◌≢◌, ℕ, ◌+◌, ◌-◌, ◌*◌, ◌<◌, ◌≤◌, ◌^◌, slice_index, slice_set, vec_len, vec_capacity, IfOk, IsTrue, MatchOption, max};
+//! One block of nodes, whose links are raw pointers, and the ends of queues. A contract sees one list of cells, whose links are numbers.
+ghost use Rattle.std.specs.Prelude.{◌≡◌, ℕ, ◌+◌, ◌-◌, ◌*◌, ◌<◌, ◌≤◌, ◌^◌, slice_index, slice_set, IfOk, IsTrue};
 ghost use Rattle.order_pool.specs.Queues.{opened, rested, with_share};
-ghost use Rattle.order_pool.specs.Inner.Block.{number, cell_at, new_block, with_order, with_next, with_prev, with_queue, relinked, detached, attached, IsPlace, IsUsed, HasOpened, IsLead};
+ghost use Rattle.order_pool.specs.Inner.Block.{cell_at, new_block, with_order, detached, attached, IsUsed, IsAmong, HasLeft, HasFree, HasOpened, IsLead};
 
-use crate::link::{Link, write_links};
+use crate::node::{Ends, Node, number_of, relink, set_last, set_next, set_prev, write_ends};
+use crate::pointer::{follow_mut, pointer_to};
 use gx_base::{Kind, Order};
 use std::alloc::{AllocError, Global};
-use std::cmp::max;
 use std::marker::Model;
 
-/// For how many slots and queues links are written at once, so that a slot which is lent seldom waits for it.
-const PAIRS_AT_ONCE: u32 = 64;
+/// The ends of how many queues are written at once, so that an order which comes seldom waits for it.
+const ENDS_AT_ONCE: u32 = 64;
 
-/// The orders of all queues, as rings: each queue begins and ends at its head, so no link is null. A slot takes no memory before its
-/// first order, nor do its links and those of the queues up to its number, and a queue takes none before its first order. Contracts see
-/// a cell for each slot and then one for each queue, used or not.
+/// The orders of all queues, each with its links. A slot takes no memory before its first order, and the ends of queues none before
+/// a queue at their number, or above, has one. Contracts see a cell for each slot and then one for each queue, used or not.
 #[derive(Drop)]
 pub(crate) struct Block {
-    orders: Vec<Order>,
-    links: Vec<Link>,
+    nodes: Vec<Node>,
+    ends: Vec<Ends>,
+    /// Past the last node that there is room for. A link that leads to no node leads there.
+    past: *mut Node,
+    /// The node that became free last, where there is a free one. The link after a free node leads to the one that became free before it.
+    free: *mut Node,
+    /// How many nodes are free.
+    freed: u32,
     slots: u32,
     queues: u32,
 }
@@ -28,9 +33,9 @@ impl Model for Block {
 
     ghost Value = { Cells };
 
-    ghost view = { λ b. cells_in b.slots b.queues b.orders b.links };
+    ghost view = { λ b. cells_in b.slots b.queues b.free b.freed b.nodes b.ends };
 
-    ghost invariant = { λ b. IsBlock b.slots b.queues b.orders b.links };
+    ghost invariant = { λ b. IsBlock b.slots b.queues b.past b.free b.nodes b.ends };
 }
 
 /// What is read.
@@ -41,9 +46,14 @@ impl Block {
         requires queues { 2 * queues < 2 ^ 32 }
         ensures { IfOk result (λ b. b ≡ new_block slots queues) }
     {
+        let nodes = Vec::with_capacity(alloc, slots as usize)?;
+        let past = pointer_to(&nodes, slots as usize);
         Ok(Block {
-            orders: Vec::with_capacity(alloc, slots as usize)?,
-            links: Vec::with_capacity(alloc, 2 * max(slots, queues) as usize)?,
+            nodes,
+            ends: Vec::with_capacity(alloc, queues as usize)?,
+            past,
+            free: past,
+            freed: 0,
             slots,
             queues,
         })
@@ -67,36 +77,23 @@ impl Block {
     pub(crate) fn lent(&self) -> u32
         ensures { result ≡ self.now.lent }
     {
-        self.orders.len() as u32
+        self.nodes.len() as u32
     }
 
-    /// The place of a slot. The read of a field opens what is kept of them all: places fit into four bytes.
-    #[inline(always)]
-    fn slot_place(&self, slot: u32) -> u32
-        requires { slot < self.now.lent }
-        ensures { result ≡ 2 * slot }
+    /// How many slots are free of those that were ever lent.
+    pub(crate) fn freed(&self) -> u32
+        ensures { result ≡ self.now.freed }
     {
-        let _slots = self.slots;
-        2 * slot
+        self.freed
     }
 
-    /// The place of the head of a queue.
-    #[inline(always)]
-    fn head_place(&self, queue: u32) -> u32
-        requires { queue < self.now.queues }
-        ensures { result ≡ 2 * queue + 1 }
-    {
-        let _queues = self.queues;
-        2 * queue + 1
-    }
-
-    /// Whether the head of a queue is written.
+    /// Whether the ends of a queue are written.
     #[inline(always)]
     pub(crate) fn is_open(&self, queue: u32) -> bool
         requires { queue < self.now.queues }
-        ensures { IsTrue result → 2 * queue + 1 < self.now.used }
+        ensures { IsTrue result → queue < self.now.used }
     {
-        2 * (queue as usize) + 1 < self.links.len()
+        (queue as usize) < self.ends.len()
     }
 
     /// The order of a slot.
@@ -104,7 +101,7 @@ impl Block {
         requires { slot < self.now.lent }
         ensures { result.now ≡ (cell_at self.now.cells slot).order }
     {
-        &self.orders[slot as usize]
+        &self.nodes[slot as usize].order
     }
 
     /// The queue of a slot.
@@ -112,15 +109,15 @@ impl Block {
         requires { slot < self.now.lent }
         ensures { result ≡ (cell_at self.now.cells slot).queue }
     {
-        self.links[self.slot_place(slot) as usize].tag
+        self.nodes[slot as usize].queue
     }
 
-    /// The slot after another one. `None` where the next is the head.
+    /// The slot after another one. `None` where it is the last of its queue.
     pub(crate) fn next(&self, slot: u32) -> Option<u32>
         requires { slot < self.now.lent }
         ensures { IsLead self.now.slots result (cell_at self.now.cells slot).next }
     {
-        slot_at(self.links[self.slot_place(slot) as usize].next)
+        number_of(&self.nodes, self.past, self.nodes[slot as usize].next)
     }
 
     /// The first slot of a queue. `None` where the queue is empty.
@@ -128,9 +125,8 @@ impl Block {
         requires { queue < self.now.queues }
         ensures { IsLead self.now.slots result (cell_at self.now.cells (self.now.slots + queue)).next }
     {
-        let head = self.head_place(queue) as usize;
-        if head < self.links.len() {
-            slot_at(self.links[head].next)
+        if (queue as usize) < self.ends.len() {
+            number_of(&self.nodes, self.past, self.ends[queue as usize].first)
         } else {
             None
         }
@@ -141,35 +137,22 @@ impl Block {
         requires { queue < self.now.queues }
         ensures { result ≡ slice_index self.now.counts queue }
     {
-        let head = self.head_place(queue) as usize;
-        if head < self.links.len() {
-            self.links[head].tag
+        if (queue as usize) < self.ends.len() {
+            self.ends[queue as usize].count
         } else {
             0
         }
     }
 }
 
-/// The slot at a place. `None` where a head is.
-#[inline(always)]
-fn slot_at(place: u32) -> Option<u32>
-    ensures { MatchOption result ((k : ℕ) → place ≢ 2 * k) (λ k. place ≡ 2 * k) }
-{
-    if place % 2 == 0 {
-        Some(place / 2)
-    } else {
-        None
-    }
-}
-
-/// How many pairs of links there are to be once this one is wanted, of so many.
-fn pairs_past(pair: u32, all: u32) -> u32
-    requires { pair < all }
-    ensures more { pair < result }
+/// The ends of how many queues there are to be once those of this one are wanted, of so many.
+fn ends_past(queue: u32, all: u32) -> u32
+    requires { queue < all }
+    ensures more { queue < result }
     ensures within { result ≤ all }
 {
-    if all - pair > PAIRS_AT_ONCE {
-        pair + PAIRS_AT_ONCE
+    if all - queue > ENDS_AT_ONCE {
+        queue + ENDS_AT_ONCE
     } else {
         all
     }
@@ -177,47 +160,16 @@ fn pairs_past(pair: u32, all: u32) -> u32
 
 /// What is changed.
 impl Block {
-    /// Sets the link after a place.
-    fn set_next(&mut self, at: u32, next: u32)
-        requires at_in { IsPlace self.old at }
-        requires next_in { IsPlace self.old next }
-        ensures { self.new ≡ record self.old { cells = with_next self.old.cells (number self.old.slots at) (number self.old.slots next) } }
-    {
-        self.links[at as usize].next = next;
-    }
-
-    /// Sets the link before a place.
-    fn set_prev(&mut self, at: u32, prev: u32)
-        requires at_in { IsPlace self.old at }
-        requires prev_in { IsPlace self.old prev }
-        ensures { self.new ≡ record self.old { cells = with_prev self.old.cells (number self.old.slots at) (number self.old.slots prev) } }
-    {
-        self.links[at as usize].prev = prev;
-    }
-
-    /// Sets both links and the queue of a slot.
-    fn relink(&mut self, slot: u32, prev: u32, next: u32, queue: u32)
-        requires slot_in { slot < self.old.lent }
-        requires prev_in { IsPlace self.old prev }
-        requires next_in { IsPlace self.old next }
-        ensures { self.new ≡ record self.old { cells = relinked self.old.cells slot (number self.old.slots prev) (number self.old.slots next) queue } }
-    {
-        let at = self.slot_place(slot) as usize;
-        self.links[at] = Link {
-            prev,
-            next,
-            tag: queue,
-        };
-    }
-
     /// Joins the neighbours of a slot, whose own links stay.
     pub(crate) fn detach(&mut self, slot: u32)
-        requires { slot < self.old.lent }
+        requires { IsAmong self.old slot }
         ensures { self.new ≡ record self.old { cells = detached self.old.cells slot } }
     {
-        let link = self.links[self.slot_place(slot) as usize];
-        self.set_next(link.prev, link.next);
-        self.set_prev(link.next, link.prev);
+        let node = &self.nodes[slot as usize];
+        let (prev, next, queue) = (node.prev, node.next, node.queue);
+        let past = self.past;
+        set_next(&mut self.nodes, &mut self.ends, past, prev, queue, next);
+        set_prev(&mut self.nodes, &mut self.ends, past, next, queue, prev);
     }
 
     /// Puts a slot at the end of a queue.
@@ -226,20 +178,44 @@ impl Block {
         requires queue_in { IsUsed self.old queue }
         ensures { self.new ≡ record self.old { cells = attached self.old.cells slot (self.old.slots + queue) queue } }
     {
-        let (here, head) = (self.slot_place(slot), self.head_place(queue));
-        let last = self.links[head as usize].prev;
-        self.set_next(last, here);
-        self.relink(slot, last, head, queue);
-        self.set_prev(head, here);
+        let here = pointer_to(&self.nodes, slot as usize);
+        let last = self.ends[queue as usize].last;
+        let past = self.past;
+        set_next(&mut self.nodes, &mut self.ends, past, last, queue, here);
+        relink(&mut self.nodes, slot, last, past, queue);
+        set_last(&mut self.ends, queue, here);
     }
 
-    /// Marks that a slot is in no queue.
+    /// Puts a slot before the free ones. It is in no queue.
     pub(crate) fn leave(&mut self, slot: u32)
-        requires { slot < self.old.lent }
-        ensures { self.new ≡ record self.old { cells = with_queue self.old.cells slot self.old.queues } }
+        requires slot_in { slot < self.old.lent }
+        requires fits { self.old.freed < self.old.lent }
+        ensures { HasLeft self.old self.new slot }
     {
-        let at = self.slot_place(slot) as usize;
-        self.links[at].tag = self.queues;
+        let here = pointer_to(&self.nodes, slot as usize);
+        let node = &mut self.nodes[slot as usize];
+        node.next = self.free;
+        node.queue = self.queues;
+        self.free = here;
+        self.freed += 1;
+    }
+
+    /// Gives the slot that became free last an order. It is no longer free, and in no queue.
+    pub(crate) fn take(&mut self, order: &Order) -> u32
+        requires { HasFree self.old }
+        ensures slot { result ≡ self.old.free }
+        ensures block { self.new ≡ record self.old {
+          cells = with_order self.old.cells self.old.free order.now;
+          free = (cell_at self.old.cells self.old.free).next;
+          freed = self.old.freed - 1;
+        } }
+    {
+        let node = follow_mut(&mut self.nodes, self.free);
+        node.order = *order;
+        let slot = node.slot;
+        self.free = node.next;
+        self.freed -= 1;
+        slot
     }
 
     /// Sets the order of a slot.
@@ -247,7 +223,7 @@ impl Block {
         requires { slot < self.old.lent }
         ensures { self.new ≡ record self.old { cells = with_order self.old.cells slot order.now } }
     {
-        self.orders[slot as usize] = *order;
+        self.nodes[slot as usize].order = *order;
     }
 
     /// Sets what is filled, open and shown of the order of a slot, where it is.
@@ -255,7 +231,7 @@ impl Block {
         requires { slot < self.old.lent }
         ensures { self.new ≡ record self.old { cells = with_order self.old.cells slot (opened filled leaves shown (cell_at self.old.cells slot).order) } }
     {
-        let order = &mut self.orders[slot as usize];
+        let order = &mut self.nodes[slot as usize].order;
         order.filled = filled;
         order.leaves = leaves;
         order.shown = shown;
@@ -266,7 +242,7 @@ impl Block {
         requires { slot < self.old.lent }
         ensures { self.new ≡ record self.old { cells = with_order self.old.cells slot (rested shown (cell_at self.old.cells slot).order) } }
     {
-        let order = &mut self.orders[slot as usize];
+        let order = &mut self.nodes[slot as usize].order;
         order.kind = Kind::Limit;
         order.min = 0;
         order.shown = shown;
@@ -277,7 +253,7 @@ impl Block {
         requires { slot < self.old.lent }
         ensures { self.new ≡ record self.old { cells = with_order self.old.cells slot (with_share share (cell_at self.old.cells slot).order) } }
     {
-        self.orders[slot as usize].prorated = share;
+        self.nodes[slot as usize].order.prorated = share;
     }
 
     /// One order more in a queue.
@@ -286,8 +262,7 @@ impl Block {
         requires fits { slice_index self.old.counts queue + 1 < 2 ^ 32 }
         ensures { self.new ≡ record self.old { counts = slice_set self.old.counts queue (slice_index self.old.counts queue + 1) } }
     {
-        let at = self.head_place(queue) as usize;
-        self.links[at].tag += 1;
+        self.ends[queue as usize].count += 1;
     }
 
     /// One order less in a queue.
@@ -296,31 +271,35 @@ impl Block {
         requires some { 0 < slice_index self.old.counts queue }
         ensures { self.new ≡ record self.old { counts = slice_set self.old.counts queue (slice_index self.old.counts queue - 1) } }
     {
-        let at = self.head_place(queue) as usize;
-        self.links[at].tag -= 1;
+        self.ends[queue as usize].count -= 1;
     }
 
-    /// Sees to it that the links of a slot and of the head beside it are written.
+    /// Sees to it that the ends of a queue are written.
     #[inline(always)]
-    pub(crate) fn open(&mut self, pair: u32)
-        requires { pair < max self.old.slots self.old.queues }
-        ensures { HasOpened self.old self.new pair }
+    pub(crate) fn open(&mut self, queue: u32)
+        requires { queue < self.old.queues }
+        ensures { HasOpened self.old self.new queue }
     {
-        if self.links.len() <= 2 * pair as usize + 1 {
-            let pairs = pairs_past(pair, max(self.slots, self.queues));
-            write_links(&mut self.links, self.queues, 2 * pairs);
+        if self.ends.len() <= queue as usize {
+            let end = ends_past(queue, self.queues);
+            write_ends(&mut self.ends, self.past, end);
         }
     }
 
     /// Gives the next slot that was never lent an order. It is in no queue.
     pub(crate) fn lend(&mut self, order: &Order) -> u32
-        requires some { self.old.lent < self.old.slots }
-        requires written { 2 * self.old.lent + 1 < self.old.used }
+        requires { self.old.lent < self.old.slots }
         ensures slot { result ≡ self.old.lent }
         ensures block { self.new ≡ record self.old { lent = self.old.lent + 1; cells = with_order self.old.cells self.old.lent order.now } }
     {
         let slot = self.lent();
-        self.orders.push_reserved(*order);
+        self.nodes.push_reserved(Node {
+            order: *order,
+            prev: self.past,
+            next: self.past,
+            slot,
+            queue: self.queues,
+        });
         slot
     }
 }

@@ -1,9 +1,10 @@
-//! Queues of orders in one block of memory, whose links are numbers. Any order leaves, or goes to the end of its queue,
+//! Queues of orders in one block of memory, whose links are raw pointers. Any order leaves, or goes to the end of its queue,
 //! in constant time.
 #![tactic(auto)]
 
 mod block;
-mod link;
+mod node;
+mod pointer;
 mod pool;
 
 pub use pool::Pool;

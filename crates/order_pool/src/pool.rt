@@ -1,7 +1,7 @@
-//! The pool: queues of orders, as rings in one block.
-ghost use Rattle.std.specs.Prelude.{◌≡◌, ℕ, ◌+◌, ◌*◌, ◌<◌, length, option_map, vec_capacity, IfSome, IfOk, IsTrue, ◌↔◌, map};
+//! The pool: queues of orders in one block.
+ghost use Rattle.std.specs.Prelude.{◌≡◌, ℕ, ◌+◌, ◌*◌, ◌<◌, List, length, option_map, IfSome, IfOk, IsTrue, ◌↔◌, map};
 ghost use Rattle.order_pool.specs.Queues.{slot_number, empty_queues, order_of, first_slot, next_slot, IsIn, IsLive, entries_at, removed, appended, live_of, with_entry, opened, rested, coming, with_share, SlotsDiffer};
-ghost use Rattle.order_pool.specs.Inner.Rings.{AreWholeRings, IsPool, rings_of, HasTaken, HasPut, IsNewest};
+ghost use Rattle.order_pool.specs.Inner.Rings.{IsPool, HasTaken, HasPut};
 
 use crate::block::Block;
 use gx_base::{Order, Slot};
@@ -10,17 +10,15 @@ use std::marker::Model;
 
 /// A number of queues, with room for a number of orders in all of them together; both are fixed at the start. Contracts see
 /// each queue as a list of slots with their orders. A slot is the name of an order from its `push_back` to its `unlink`.
-/// Each call takes constant time, but for a `push_back` to a queue above all that ever had an order, which writes the links between.
-/// No call changes how much its block and its list of free slots have room for.
+/// Each call takes constant time, but for a `push_back` to a queue above all that ever had an order, which writes the ends between.
+/// No call changes how much its block has room for.
 #[derive(Drop)]
 pub struct Pool {
     block: Block,
-    /// The slots that had an order and have none now, the one that became free last at the end.
-    free: Vec<u32>,
 }
 
 impl Model for Pool {
-    ghost use Rattle.std.specs.Prelude.{◌≡◌, vec_capacity};
+    ghost use Rattle.std.specs.Prelude.{ℕ, List};
     ghost use Rattle.order_pool.specs.Queues.{Queues};
     ghost use Rattle.order_pool.specs.Inner.Rings.{queues_in, IsPool};
 
@@ -28,13 +26,13 @@ impl Model for Pool {
 
     ghost view = { λ p. queues_in p.block };
 
-    ghost invariant = { λ p. IsPool p.block p.free.items × (vec_capacity p.free ≡ p.block.slots) };
+    ghost invariant = { λ p. (free : List ℕ) × IsPool p.block free };
 }
 
 impl Pool {
     /// Empty queues, so many, with room for so many orders. An `Err` is want of memory, also where there are 2 to the power of 31
-    /// nodes or queues, or more. It takes all the memory, and writes none of it: for each order the bytes of an `Order` and 4 more,
-    /// and 24 for each order or each queue, whichever are more. It is written as orders come and as queues have their first.
+    /// nodes or queues, or more. It takes all the memory, and writes none of it: for each order the bytes of an `Order` and 24 more,
+    /// and 24 for each queue. It is written as orders come and as queues have their first.
     pub fn new(alloc: Global, nodes: u32, queues: u32) -> Result<Pool, AllocError>
         ensures { IfOk result (λ p. p ≡ empty_queues nodes queues) }
     {
@@ -43,7 +41,6 @@ impl Pool {
         }
         Ok(Pool {
             block: Block::new(alloc, nodes, queues)?,
-            free: Vec::with_capacity(alloc, nodes as usize)?,
         })
     }
 
@@ -126,7 +123,7 @@ impl Pool {
     pub fn live(&self) -> u32
         ensures { result ≡ live_of self.now }
     {
-        self.block.lent() - self.free.len() as u32
+        self.block.lent() - self.block.freed()
     }
 
     /// Whether the slot is in a queue.
@@ -173,7 +170,7 @@ impl Pool {
         ensures live { live_of self.new ≡ live_of self.old + 1 }
         ensures placed { IsIn self.new (slot_number result) queue }
     {
-        Slot(put_at_end(&mut self.block, &mut self.free, queue, order, shown))
+        Slot(put_at_end(&mut self.block, queue, order, shown))
     }
 
     /// Takes an order out of its queue. From then on its slot is in none.
@@ -187,7 +184,6 @@ impl Pool {
         self.block.detach(slot.0);
         self.block.leave(slot.0);
         self.block.lower(queue);
-        self.free.push_reserved(slot.0);
     }
 
     /// Puts an order at the end of its queue. It keeps its slot.
@@ -241,31 +237,27 @@ impl Pool {
 
 /// Gives an order the free slot that became free last, or else one that was never lent. One of these there has to be.
 #[inline(always)]
-fn take_slot(block: &mut Block, free: &mut Vec<u32>, order: &Order) -> u32
-    requires whole { AreWholeRings block.old.cells block.old.slots block.old.queues block.old.lent free.old.items (rings_of block.old.cells block.old.slots block.old.queues) }
-    requires some { block.old.lent < block.old.slots + length free.old.items }
-    ensures taken { HasTaken block.old block.new free.new.items result order.now }
-    ensures newest { IsNewest result free.old.items free.new.items }
-    ensures room { vec_capacity free.new ≡ vec_capacity free.old }
+fn take_slot(block: &mut Block, order: &Order) -> u32
+    requires pool { (free : List ℕ) × IsPool block.old free }
+    requires some { block.old.lent < block.old.slots + block.old.freed }
+    ensures taken { (free : List ℕ) × HasTaken block.old block.new free result order.now }
+    ensures newest { 0 < block.old.freed → result ≡ block.old.free }
 {
-    if let Some(slot) = free.pop() {
-        block.set_order(slot, order);
-        slot
+    if block.freed() > 0 {
+        block.take(order)
     } else {
-        block.open(block.lent());
         block.lend(order)
     }
 }
 
 /// The same of an order that comes as it is, or to rest.
 #[inline(always)]
-fn take_slot_for(block: &mut Block, free: &mut Vec<u32>, order: &Order, shown: Option<u32>) -> u32
-    requires whole { AreWholeRings block.old.cells block.old.slots block.old.queues block.old.lent free.old.items (rings_of block.old.cells block.old.slots block.old.queues) }
-    requires some { block.old.lent < block.old.slots + length free.old.items }
-    ensures taken { HasTaken block.old block.new free.new.items result (coming shown order.now) }
-    ensures room { vec_capacity free.new ≡ vec_capacity free.old }
+fn take_slot_for(block: &mut Block, order: &Order, shown: Option<u32>) -> u32
+    requires pool { (free : List ℕ) × IsPool block.old free }
+    requires some { block.old.lent < block.old.slots + block.old.freed }
+    ensures { (free : List ℕ) × HasTaken block.old block.new free result (coming shown order.now) }
 {
-    let slot = take_slot(block, free, order);
+    let slot = take_slot(block, order);
     if let Some(shown) = shown {
         block.set_rested(slot, shown);
     }
@@ -274,24 +266,23 @@ fn take_slot_for(block: &mut Block, free: &mut Vec<u32>, order: &Order, shown: O
 
 /// Whether an order can come to a queue without more memory than was ever used.
 #[inline(always)]
-fn is_ready(block: &Block, free: &Vec<u32>, queue: u32) -> bool
+fn is_ready(block: &Block, queue: u32) -> bool
     requires { queue < block.now.queues }
-    ensures { IsTrue result → 2 * queue + 1 < block.now.used }
+    ensures { IsTrue result → queue < block.now.used }
 {
-    !free.is_empty() && block.is_open(queue)
+    block.freed() > 0 && block.is_open(queue)
 }
 
 /// Puts an order at the end of a queue whose head is written.
 #[inline(always)]
-fn put(block: &mut Block, free: &mut Vec<u32>, queue: u32, order: &Order, shown: Option<u32>) -> u32
-    requires pool { IsPool block.old free.old.items }
-    requires some { block.old.lent < block.old.slots + length free.old.items }
+fn put(block: &mut Block, queue: u32, order: &Order, shown: Option<u32>) -> u32
+    requires pool { (free : List ℕ) × IsPool block.old free }
+    requires some { block.old.lent < block.old.slots + block.old.freed }
     requires queue_in { queue < block.old.queues }
-    requires opened { 2 * queue + 1 < block.old.used }
-    ensures put { HasPut block.old block.new free.new.items queue (coming shown order.now) result }
-    ensures room { vec_capacity free.new ≡ vec_capacity free.old }
+    requires opened { queue < block.old.used }
+    ensures { (free : List ℕ) × HasPut block.old block.new free queue (coming shown order.now) result }
 {
-    let slot = take_slot_for(block, free, order, shown);
+    let slot = take_slot_for(block, order, shown);
     block.attach(slot, queue);
     block.raise(queue);
     slot
@@ -300,41 +291,27 @@ fn put(block: &mut Block, free: &mut Vec<u32>, queue: u32, order: &Order, shown:
 /// Writes the head of a queue, and puts an order at its end. A function of its own, so that `push` has to keep nothing across a call.
 #[cold]
 #[inline(never)]
-fn open_and_put(
-    block: &mut Block,
-    free: &mut Vec<u32>,
-    queue: u32,
-    order: &Order,
-    shown: Option<u32>,
-) -> u32
-    requires pool { IsPool block.old free.old.items }
-    requires some { block.old.lent < block.old.slots + length free.old.items }
+fn open_and_put(block: &mut Block, queue: u32, order: &Order, shown: Option<u32>) -> u32
+    requires pool { (free : List ℕ) × IsPool block.old free }
+    requires some { block.old.lent < block.old.slots + block.old.freed }
     requires queue_in { queue < block.old.queues }
-    ensures put { HasPut block.old block.new free.new.items queue (coming shown order.now) result }
-    ensures room { vec_capacity free.new ≡ vec_capacity free.old }
+    ensures { (free : List ℕ) × HasPut block.old block.new free queue (coming shown order.now) result }
 {
     block.open(queue);
-    put(block, free, queue, order, shown)
+    put(block, queue, order, shown)
 }
 
 /// Puts an order at the end of a queue, whose head is written first if it never was.
 #[inline(always)]
-fn put_at_end(
-    block: &mut Block,
-    free: &mut Vec<u32>,
-    queue: u32,
-    order: &Order,
-    shown: Option<u32>,
-) -> u32
-    requires pool { IsPool block.old free.old.items }
-    requires some { block.old.lent < block.old.slots + length free.old.items }
+fn put_at_end(block: &mut Block, queue: u32, order: &Order, shown: Option<u32>) -> u32
+    requires pool { (free : List ℕ) × IsPool block.old free }
+    requires some { block.old.lent < block.old.slots + block.old.freed }
     requires queue_in { queue < block.old.queues }
-    ensures put { HasPut block.old block.new free.new.items queue (coming shown order.now) result }
-    ensures room { vec_capacity free.new ≡ vec_capacity free.old }
+    ensures { (free : List ℕ) × HasPut block.old block.new free queue (coming shown order.now) result }
 {
-    if is_ready(block, free, queue) {
-        put(block, free, queue, order, shown)
+    if is_ready(block, queue) {
+        put(block, queue, order, shown)
     } else {
-        open_and_put(block, free, queue, order, shown)
+        open_and_put(block, queue, order, shown)
     }
 }

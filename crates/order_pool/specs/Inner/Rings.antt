@@ -1,5 +1,5 @@
 -- The queues of a pool, as rings of cells. Cell slots + q is where ring q begins and ends.
-use Rattle.std.specs.Prelude.{◌≡◌, ◌≢◌, ℕ, ◌+◌, ◌^◌, ◌<◌, ◌≤◌, ◌==◌, not, if◌then◌else◌, List, [], ◌∷◌, ◌++◌, length, map, filter, sum_by, slice_index_or, slice_set, ◌⊎◌}
+use Rattle.std.specs.Prelude.{◌≡◌, ◌≢◌, ℕ, ◌+◌, ◌^◌, ◌<◌, ◌≤◌, ◌==◌, not, if◌then◌else◌, List, [], ◌∷◌, length, map, filter, sum_by, slice_index_or, slice_set, ◌⊎◌}
 use Rattle.std.specs.List.{range_with_len}
 use Prim.Native.Nat.{zero, suc}
 use Rattle.gx_base.specs.declared.order.Order.{Order}
@@ -107,31 +107,42 @@ pub record AreCounts (queues : ℕ) (counts : List ℕ) (rings : List (List ℕ)
   pub many : length counts ≡ queues
   pub each : (q : ℕ) → q < queues → slice_index_or counts q 0 ≡ length (ring_at rings q)
 
+-- next leads from one of these to the next one, the first of which is a
+abbrev pub IsChain : (ℕ → ℕ) → ℕ → List ℕ → Type 0
+IsChain next a [] = Unit {0}
+IsChain next a (k ∷ ks) = (a ≡ k) × IsChain next (next k) ks
+
+-- the free slots of a block are these, the one that became free last at the front
+pub record AreFree (b : Cells) (free : List ℕ) : Type 0 where
+  pub chain : IsChain (next_at b.cells) b.free free
+  pub many : length free ≡ b.freed
+
 -- what is true of a pool's fields, if its rings are these
 pub record IsPoolWith (cs : List Cell) (slots queues lent : ℕ) (free counts : List ℕ) (rings : List (List ℕ)) : Type 0 where
   pub whole : AreWholeRings cs slots queues lent free rings
   pub fits : slots + queues < 2 ^ 32
   pub counted : AreCounts queues counts rings
 
-abbrev pub IsPool : Cells → List ℕ → Type 0
-IsPool b free = IsPoolWith b.cells b.slots b.queues b.lent free b.counts (rings_of b.cells b.slots b.queues)
+-- what is true of a pool's block, if its free slots are these
+pub record IsPool (b : Cells) (free : List ℕ) : Type 0 where
+  pub whole : AreWholeRings b.cells b.slots b.queues b.lent free (rings_of b.cells b.slots b.queues)
+  pub fits : b.slots + b.queues < 2 ^ 32
+  pub counted : AreCounts b.queues b.counts (rings_of b.cells b.slots b.queues)
+  pub chained : AreFree b free
 
 abbrev pub queues_in : Cells → Queues
 queues_in b = queues_of b.cells b.slots b.queues
 
--- slot i was taken for a new order: it was free, or was never lent. No queue changed
+-- slot i was taken for a new order: it was free, or was never lent, and these are free still. No queue changed
 pub record HasTaken (old new : Cells) (free : List ℕ) (i : ℕ) (o : Order) : Type 0 where
   pub slots : new.slots ≡ old.slots
   pub queues : new.queues ≡ old.queues
   pub more : old.used ≤ new.used
   pub counts : new.counts ≡ old.counts
   pub out : IsOut new.cells old.slots old.queues new.lent free (rings_of old.cells old.slots old.queues) i
+  pub chained : AreFree new free
   pub order : order_at new.cells i ≡ o
   pub others : (k : ℕ) → k ≢ i → order_at new.cells k ≡ order_at old.cells k
-
--- slot i was the last of the free ones, if there were any
-abbrev pub IsNewest : ℕ → List ℕ → List ℕ → Type 0
-IsNewest i free rest = 0 < length free → free ≡ rest ++ i ∷ []
 
 -- an order has come to the end of queue q, in slot i
 abbrev pub HasPut : Cells → Cells → List ℕ → ℕ → Order → ℕ → Type 0

@@ -1,32 +1,31 @@
-use Rattle.std.proofs.Common.{◌≡◌, ℕ, sym, ap, subst, ◌∙◌}
-use Rattle.order_pool.specs.Inner.Block.{Cell, Cells, cell_at, number, with_next, with_prev, IsPlace}
-use Rattle.order_pool.proofs.Cells.{slot_is_place, links-is, slot-now}
+use Rattle.std.proofs.Common.{◌<◌, length, subst, sym, arith}
+use Rattle.std.specs.declared.vec.Vec.{Vec}
+use Rattle.order_pool.proofs.Cells.{queue_in, queue_in_still, IsBlock-detached, detached-is}
 use Rattle.order_pool.proofs.block.Block.detach.Goals as goal
 
-pub set_next-requires : goal.set_next-requires
-set_next-requires c =
+pub set_next-requires-clause-queue_in : goal.set_next-requires-clause-queue_in
+set_next-requires-clause-queue_in c =
     let b = c.self.inside in
-    let at : IsPlace c.args.self.now c.slot_place.result = subst (IsPlace c.args.self.now) (sym c.slot_place.ensures) (slot_is_place b.slots b.queues b.orders b.links c.self.invariant c.self.view_is c.args.slot c.requires) in
-    let links = links-is b.slots b.queues b.orders b.links c.self.invariant c.self.view_is c.slot_place.result c.index-link.result.now at c.index-link.ensures in
-    record { at_in = links.0; next_in = links.1 }
+    let h = queue_in b.slots b.queues b.past b.free b.freed b.nodes b.ends c.self.invariant c.self.view_is c.args.slot c.index-node.result.now c.requires.slot c.index-node.ensures c.requires in
+    omega (arith, h, b.ends.ok.0)
 
-pub set_prev-requires : goal.set_prev-requires
-set_prev-requires c =
+pub set_prev-requires-clause-queue_in : goal.set_prev-requires-clause-queue_in
+set_prev-requires-clause-queue_in c =
     let b = c.self.inside in
-    let l = c.index-link.result.now in
-    let at : IsPlace c.args.self.now c.slot_place.result = subst (IsPlace c.args.self.now) (sym c.slot_place.ensures) (slot_is_place b.slots b.queues b.orders b.links c.self.invariant c.self.view_is c.args.slot c.requires) in
-    let links = links-is b.slots b.queues b.orders b.links c.self.invariant c.self.view_is c.slot_place.result l at c.index-link.ensures in
-    let e = sym c.set_next.ensures in
-    record { at_in = subst (λ (x : Cells). IsPlace x l.next) e links.1; prev_in = subst (λ (x : Cells). IsPlace x l.prev) e links.0 }
+    let x = c.set_next.new.ends in
+    let n = c.index-node.result.now in
+    let h = queue_in_still b.slots b.queues b.past b.free b.freed b.nodes b.ends c.self.invariant c.self.view_is c.args.slot n c.requires.slot c.index-node.ensures c.requires in
+    let e : n.queue < length x.items = subst (λ (u : Vec _ _). n.queue < length u.items) (sym c.set_next.ensures.ends) h in
+    omega (arith, e, x.ok.0)
+
+pub invariant_of-self : goal.invariant_of-self
+invariant_of-self c =
+    let b = c.self.inside in
+    IsBlock-detached b.slots b.queues b.past b.free b.freed b.nodes b.ends c.self.invariant c.self.view_is c.args.slot c.index-node.result.now c.requires.slot c.index-node.ensures c.requires
+    c.set_next.new.nodes c.set_prev.new.nodes c.set_next.new.ends c.set_prev.new.ends c.set_next.ensures.nodes c.set_next.ensures.ends c.set_prev.ensures.nodes c.set_prev.ensures.ends
 
 pub returns : goal.returns
 returns c =
     let b = c.self.inside in
-    let now = c.args.self.now in
-    let l = c.index-link.result.now in
-    let was = slot-now b.slots b.queues b.orders b.links c.self.invariant c.self.view_is c.args.slot c.slot_place.result l c.requires c.slot_place.ensures c.index-link.ensures in
-    let s : b.slots ≡ now.slots = ap (λ (x : Cells). x.slots) c.self.view_is in
-    let prev : number now.slots l.prev ≡ (cell_at now.cells c.args.slot).prev = ap (λ (n : ℕ). number n l.prev) (sym s) ∙ sym (ap (λ (x : Cell). x.prev) was) in
-    let next : number now.slots l.next ≡ (cell_at now.cells c.args.slot).next = ap (λ (n : ℕ). number n l.next) (sym s) ∙ sym (ap (λ (x : Cell). x.next) was) in
-    c.set_prev.ensures ∙ ap (λ (x : Cells). record x { cells = with_prev x.cells (number x.slots l.next) (number x.slots l.prev) }) c.set_next.ensures
-    ∙ (λ j. record now { cells = with_prev (with_next now.cells (prev j) (next j)) (next j) (prev j) })
+    detached-is b.slots b.queues b.past b.free b.freed b.nodes b.ends c.self.invariant c.self.view_is c.args.slot c.index-node.result.now c.requires.slot c.index-node.ensures c.requires
+    c.set_next.new.nodes c.set_prev.new.nodes c.set_next.new.ends c.set_prev.new.ends c.set_next.ensures.nodes c.set_next.ensures.ends c.set_prev.ensures.nodes c.set_prev.ensures.ends

@@ -1,15 +1,13 @@
-use Rattle.std.proofs.Common.{◌≡◌, sym, ap, subst, ◌∙◌}
-use Rattle.order_pool.specs.Inner.Block.{Cell, Cells, cell_at, number, IsPlace, IsLead}
-use Rattle.order_pool.proofs.Cells.{slot_is_place, links-is, slot-now, lead}
+use Rattle.std.proofs.Common.{◌+◌, ℕ, sym, ap, subst, arith}
+use Rattle.order_pool.specs.Inner.Block.{Cell, cell_at, IsLead}
+use Rattle.order_pool.proofs.Cells.{node-now, links-node, lead-is, slots-now}
 use Rattle.order_pool.proofs.block.Block.next.Goals as goal
 
 pub returns : goal.returns
 returns c =
     let b = c.self.inside in
-    let now = c.args.self.now in
-    let l = c.index.result.now in
-    let at : IsPlace now c.slot_place.result = subst (IsPlace now) (sym c.slot_place.ensures) (slot_is_place b.slots b.queues b.orders b.links c.self.invariant c.self.view_is c.args.slot c.requires) in
-    let links = links-is b.slots b.queues b.orders b.links c.self.invariant c.self.view_is c.slot_place.result l at c.index.ensures in
-    let is : number now.slots l.next ≡ (cell_at now.cells c.args.slot).next =
-    ap (λ (x : Cells). number x.slots l.next) (sym c.self.view_is) ∙ sym (ap (λ (x : Cell). x.next) (slot-now b.slots b.queues b.orders b.links c.self.invariant c.self.view_is c.args.slot c.slot_place.result l c.requires c.slot_place.ensures c.index.ensures)) in
-    subst (IsLead now.slots c.slot_at.result) is (lead now.slots now.queues now.used l.next c.slot_at.result links.1 c.slot_at.ensures)
+    let n = c.index.result.now in
+    let links = links-node b.slots b.queues b.past b.free b.freed b.nodes b.ends c.self.invariant c.self.view_is c.args.slot n c.requires c.index.ensures in
+    let is = lead-is b.slots b.queues b.past b.free b.freed b.nodes b.ends c.self.invariant c.self.view_is (b.slots + n.queue) n.next c.number_of.result (omega arith) links.1 c.number_of.ensures in
+    subst (λ (s : ℕ). IsLead s c.number_of.result (cell_at c.args.self.now.cells c.args.slot).next) (slots-now b.slots b.queues b.past b.free b.freed b.nodes b.ends c.self.invariant c.self.view_is)
+    (subst (IsLead b.slots c.number_of.result) (sym (ap (λ (x : Cell). x.next) (node-now b.slots b.queues b.past b.free b.freed b.nodes b.ends c.self.invariant c.self.view_is c.args.slot n c.requires c.index.ensures))) is)

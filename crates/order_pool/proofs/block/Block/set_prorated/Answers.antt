@@ -1,15 +1,21 @@
-use Rattle.std.proofs.Common.{ap, ◌∙◌}
+use Rattle.std.proofs.Common.{refl, ap, ◌∙◌}
 use Rattle.gx_base.specs.declared.order.Order.{Order}
 use Rattle.order_pool.specs.Inner.Block.{with_order}
 use Rattle.order_pool.specs.Queues.{with_share}
-use Rattle.order_pool.proofs.Cells.{order-now, order-changed}
+use Rattle.order_pool.proofs.Cells.{order-now, order-changed, IsBlock-kept}
 use Rattle.order_pool.proofs.block.Block.set_prorated.Goals as goal
+
+pub invariant_of-self : goal.invariant_of-self
+invariant_of-self c =
+    let b = c.self.inside in
+    let a = c.args in
+    let n = c.index_mut.result.now in
+    IsBlock-kept b.slots b.queues b.past b.free b.freed b.nodes b.ends c.self.invariant c.self.view_is a.slot n (record n { order = with_share a.share n.order }) c.requires c.index_mut.ensures.value refl refl refl
 
 pub returns : goal.returns
 returns c =
     let b = c.self.inside in
     let a = c.args in
-    let was = c.index_mut.result.now in
-    let is = order-now b.slots b.queues b.orders b.links c.self.invariant c.self.view_is a.slot was c.requires c.index_mut.ensures.value in
-    order-changed b.slots b.queues b.orders b.links c.self.invariant c.self.view_is a.slot (with_share a.share was) c.requires
-    ∙ ap (λ (o : Order). record a.self.now { cells = with_order a.self.now.cells a.slot (with_share a.share o) }) is
+    let n = c.index_mut.result.now in
+    order-changed b.slots b.queues b.past b.free b.freed b.nodes b.ends c.self.invariant c.self.view_is a.slot n (with_share a.share n.order) c.requires c.index_mut.ensures.value
+    ∙ ap (λ (o : Order). record a.self.now { cells = with_order a.self.now.cells a.slot (with_share a.share o) }) (order-now b.slots b.queues b.past b.free b.freed b.nodes b.ends c.self.invariant c.self.view_is a.slot n c.requires c.index_mut.ensures.value)
