@@ -334,9 +334,9 @@ pub fn amend<S: Station>(
     ensures none { OnErr result (station.new ≡ station.old) }
 {
     taken.product.limits();
-    let mut core = new_core(alloc, taken.product)?;
-    let mut scratch = Scratch::new(alloc, taken.product)?;
     let mut room = vec![in alloc; 0; MOST_TEXT]?;
+    let mut scratch = Scratch::new(alloc, taken.product)?;
+    let mut core = new_core(alloc, taken.product)?;
     let amended = amend_journal(
         alloc,
         taken,

@@ -2,6 +2,7 @@
 ghost use Rattle.std.specs.Prelude.{◌≡◌, ℕ, ◌^◌, ◌<◌, [], slice_index, vec_len, IfOk, OnOk, OnErr};
 ghost use Rattle.fix_frame.specs.declared.framer.TheConstants.{ROOM};
 ghost use Rattle.fix_session.specs.SessionOut.{session_out, sessions_after};
+ghost use Rattle.journal_print.specs.Readers.{IsNewReader};
 ghost use Rattle.globex_run.specs.Answering.{lines_again};
 ghost use Rattle.globex_run.specs.Outside.{source_at, streams_at};
 ghost use Rattle.globex_run.specs.Inner.Answers.{AnswersWithCauses};
@@ -19,7 +20,7 @@ use fix_frame::{Framer, ROOM};
 use fix_session::Sessions;
 use gx_base::Desk;
 use gx_station::{Failed, Source, Station};
-use journal_print::note_kept;
+use journal_print::{Reader, note_kept};
 use order_kinds::MOST_MESSAGES;
 use plain_book::Book;
 use product_file::Product;
@@ -177,6 +178,49 @@ impl<'p, B: Book> Answering<'p, B> {
     }
 }
 
+/// Notes the messages that the journal keeps, and answers those of the input, with the memory that was taken. It owns that memory, so that
+/// what takes it has no other path on which it is given back.
+fn answer_with<B: Book + Drop, I: Source, S: Station>(
+    alloc: Global,
+    taken: &Taken<'_>,
+    mut reader: Reader<B>,
+    framer: Framer,
+    chunk: Vec<u8>,
+    input: &mut I,
+    station: &mut S,
+) -> Outcome
+    requires new { IsNewReader taken.now.product.now reader }
+    requires framer { IsEmptyFramer framer }
+    requires chunk { vec_len chunk ≡ ROOM }
+    ensures { AnswersWithCauses S.meanings taken.now.product.now taken.now.text.now
+        (streams_at I.meanings S.meanings input.old station.old) (streams_at I.meanings S.meanings input.new station.new) result }
+{
+    let mut sessions = Sessions::new();
+    let noted = note_kept(
+        alloc,
+        &mut sessions,
+        taken.product,
+        taken.text,
+        &mut reader,
+        station,
+    );
+    let kept = match noted {
+        Ok(kept) => kept,
+        Err(why) => return outcome_printed(Err(why)),
+    };
+    let desk = *reader.core.desk();
+    let mut answering = Answering {
+        product: taken.product,
+        desk,
+        sessions,
+        resender: Resender { kept, reader },
+        framer,
+        chunk,
+    };
+    let answered = answering.answer_input(input, station);
+    answered.ending.outcome(answered.messages)
+}
+
 /// Takes memory, notes the messages that the journal keeps, and answers those of the input. An `Err` is want of memory, and nothing was
 /// touched then. The products of a journal with amendments are taken once their texts were read: want of memory for them is status 1, and
 /// the station was only read then.
@@ -191,31 +235,8 @@ pub fn answer_messages<I: Source, S: Station>(
     ensures no_input { OnErr result (input.new ≡ input.old) }
     ensures no_station { OnErr result (station.new ≡ station.old) }
 {
-    let mut reader = new_reader(alloc, taken.product)?;
     let framer = Framer::new(alloc)?;
     let chunk = vec![in alloc; 0; ROOM]?;
-    let mut sessions = Sessions::new();
-    let noted = note_kept(
-        alloc,
-        &mut sessions,
-        taken.product,
-        taken.text,
-        &mut reader,
-        station,
-    );
-    let kept = match noted {
-        Ok(kept) => kept,
-        Err(why) => return Ok(outcome_printed(Err(why))),
-    };
-    let desk = *reader.core.desk();
-    let mut answering = Answering {
-        product: taken.product,
-        desk,
-        sessions,
-        resender: Resender { kept, reader },
-        framer,
-        chunk,
-    };
-    let answered = answering.answer_input(input, station);
-    Ok(answered.ending.outcome(answered.messages))
+    let reader = new_reader(alloc, taken.product)?;
+    Ok(answer_with(alloc, taken, reader, framer, chunk, input, station))
 }

@@ -54,8 +54,8 @@ impl Engine<LinkedBook> {
     pub fn new(alloc: Global, product: &Product) -> Result<Engine<LinkedBook>, AllocError>
         ensures { IfOk result (IsNewEngine product.now) }
     {
-        let core = new_core(alloc, product)?;
         let reports = ReportBuffer::new(alloc)?;
+        let core = new_core(alloc, product)?;
         Ok(Engine { core, reports })
     }
 }
@@ -69,10 +69,10 @@ impl<'a> Session<'a, LinkedBook> {
         ensures product { IfOk result (λ session. session.product.now ≡ taken.now.product.now) }
         ensures text { IfOk result (λ session. session.text.now ≡ taken.now.text.now) }
     {
-        let engine = Engine::new(alloc, taken.product)?;
         let scratch = Scratch::new(alloc, taken.product)?;
         let framer = Framer::new(alloc)?;
         let chunk = vec![in alloc; 0; ROOM]?;
+        let engine = Engine::new(alloc, taken.product)?;
         Ok(Session {
             product: taken.product,
             text: taken.text,
