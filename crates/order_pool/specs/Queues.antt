@@ -88,11 +88,6 @@ with_share share o = record o { prorated = share }
 abbrev pub rested : ℕ → Order → Order
 rested shown o = record o { kind = Limit; min = 0; shown = shown }
 
--- an order as it comes to a queue: as it is, or to rest
-abbrev pub coming : Option ℕ → Order → Order
-coming None o = o
-coming (Some shown) o = rested shown o
-
 -- ---- what is true of them
 
 abbrev pub NoRepeat : List Entry → Type 0

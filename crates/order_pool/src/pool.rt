@@ -1,7 +1,7 @@
 //! The pool: queues of orders in one block.
 ghost use Rattle.std.specs.Prelude.{◌≡◌, ℕ, ◌+◌, ◌*◌, ◌<◌, List, length, option_map, IfSome, IfOk, IsTrue, ◌↔◌, map};
-ghost use Rattle.order_pool.specs.Queues.{slot_number, empty_queues, order_of, first_slot, next_slot, IsIn, IsLive, entries_at, removed, appended, live_of, with_entry, opened, rested, coming, with_share, SlotsDiffer};
-ghost use Rattle.order_pool.specs.Inner.Rings.{IsPool, HasTaken, HasPut};
+ghost use Rattle.order_pool.specs.Queues.{slot_number, empty_queues, order_of, first_slot, next_slot, IsIn, IsLive, entries_at, removed, appended, live_of, with_entry, opened, rested, with_share, SlotsDiffer};
+ghost use Rattle.order_pool.specs.Inner.Rings.{IsPool, HasTaken, HasPut, coming};
 
 use crate::block::Block;
 use gx_base::{Order, Slot};
@@ -273,7 +273,7 @@ fn is_ready(block: &Block, queue: u32) -> bool
     block.freed() > 0 && block.is_open(queue)
 }
 
-/// Puts an order at the end of a queue whose head is written.
+/// Puts an order at the end of a queue whose ends are written.
 #[inline(always)]
 fn put(block: &mut Block, queue: u32, order: &Order, shown: Option<u32>) -> u32
     requires pool { (free : List ℕ) × IsPool block.old free }
@@ -288,7 +288,7 @@ fn put(block: &mut Block, queue: u32, order: &Order, shown: Option<u32>) -> u32
     slot
 }
 
-/// Writes the head of a queue, and puts an order at its end. A function of its own, so that `push` has to keep nothing across a call.
+/// Writes the ends of a queue, and puts an order there. A function of its own, so that `push` has to keep nothing across a call.
 #[cold]
 #[inline(never)]
 fn open_and_put(block: &mut Block, queue: u32, order: &Order, shown: Option<u32>) -> u32
@@ -301,7 +301,7 @@ fn open_and_put(block: &mut Block, queue: u32, order: &Order, shown: Option<u32>
     put(block, queue, order, shown)
 }
 
-/// Puts an order at the end of a queue, whose head is written first if it never was.
+/// Puts an order at the end of a queue, whose ends are written first if they never were.
 #[inline(always)]
 fn put_at_end(block: &mut Block, queue: u32, order: &Order, shown: Option<u32>) -> u32
     requires pool { (free : List ℕ) × IsPool block.old free }

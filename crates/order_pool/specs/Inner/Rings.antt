@@ -1,9 +1,9 @@
 -- The queues of a pool, as rings of cells. Cell slots + q is where ring q begins and ends.
-use Rattle.std.specs.Prelude.{◌≡◌, ◌≢◌, ℕ, ◌+◌, ◌^◌, ◌<◌, ◌≤◌, ◌==◌, not, if◌then◌else◌, List, [], ◌∷◌, length, map, filter, sum_by, slice_index_or, slice_set, ◌⊎◌}
+use Rattle.std.specs.Prelude.{◌≡◌, ◌≢◌, ℕ, Option, None, Some, ◌+◌, ◌^◌, ◌<◌, ◌≤◌, ◌==◌, not, if◌then◌else◌, List, [], ◌∷◌, length, map, filter, sum_by, slice_index_or, slice_set, ◌⊎◌}
 use Rattle.std.specs.List.{range_with_len}
 use Prim.Native.Nat.{zero, suc}
 use Rattle.gx_base.specs.declared.order.Order.{Order}
-use Rattle.order_pool.specs.Queues.{Entry, Queues}
+use Rattle.order_pool.specs.Queues.{Entry, Queues, rested}
 use Rattle.order_pool.specs.Inner.Block.{Cell, Cells, cell_at, attached}
 
 abbrev pub order_at : List Cell → ℕ → Order
@@ -147,3 +147,8 @@ pub record HasTaken (old new : Cells) (free : List ℕ) (i : ℕ) (o : Order) : 
 -- an order has come to the end of queue q, in slot i
 abbrev pub HasPut : Cells → Cells → List ℕ → ℕ → Order → ℕ → Type 0
 HasPut old new free q o i = (mid : Cells) × HasTaken old mid free i o × (new ≡ record mid { cells = attached mid.cells i (mid.slots + q) q; counts = slice_set mid.counts q (slice_index_or mid.counts q 0 + 1) })
+
+-- an order as it comes to a queue: as it is, or to rest
+abbrev pub coming : Option ℕ → Order → Order
+coming None o = o
+coming (Some shown) o = rested shown o

@@ -1,7 +1,6 @@
 use Rattle.std.proofs.Common.{◌+◌, ◌<◌, ◌^◌, ℕ, List, get_or, refl, sym, ap, subst, ◌∙◌, arith, inl}
-use Rattle.order_pool.specs.Queues.{coming}
 use Rattle.order_pool.specs.Inner.Block.{Cells, IsUsed}
-use Rattle.order_pool.specs.Inner.Rings.{queues_in}
+use Rattle.order_pool.specs.Inner.Rings.{queues_in, coming}
 use Rattle.order_pool.proofs.Calls.{fits_count}
 use Rattle.order_pool.proofs.pool.put.Goals as goal
 

@@ -1,7 +1,7 @@
 use Rattle.std.proofs.Common.{ℕ, Option, subst, sym}
 use Rattle.gx_base.specs.declared.order.Order.{Order}
-use Rattle.order_pool.specs.Queues.{rested, coming}
-use Rattle.order_pool.specs.Inner.Rings.{order_at, HasTaken}
+use Rattle.order_pool.specs.Queues.{rested}
+use Rattle.order_pool.specs.Inner.Rings.{order_at, HasTaken, coming}
 use Rattle.order_pool.proofs.Starts.{taken_changed}
 use Rattle.order_pool.proofs.pool.take_slot_for.Goals as goal
 

@@ -1,5 +1,5 @@
 use Rattle.std.proofs.Common.{arith}
-use Rattle.order_pool.specs.Queues.{coming}
+use Rattle.order_pool.specs.Inner.Rings.{coming}
 use Rattle.order_pool.proofs.Calls.{live, capacity, put_pushed}
 use Rattle.order_pool.proofs.pool.Pool.push.Goals as goal
 
