@@ -3,7 +3,8 @@
 
 A round of `made`, `client` and `front` is four searches and the making of two ids: the oldest id is found and leaves, and a
 new one is found absent and comes. The table is full all the time. A round of `pool` is a `push_back`, an `unlink`, a
-`to_back` and two calls of `first`. Instructions are counted by valgrind's callgrind, and are the same in each run: those of
+`to_back` and two calls of `first`; one of `ends` takes the first order of a queue out and puts one at its end; and one of `any` takes one out
+wherever it is in a queue and puts one at the end of one. Instructions are counted by valgrind's callgrind, and are the same in each run: those of
 100,000 rounds, and then of a million more, on what the first ones left. Nanoseconds are the least of five runs of a million
 rounds. From each figure what no round takes is subtracted.
 
@@ -20,7 +21,7 @@ import time
 TOP = os.path.dirname(os.path.dirname(os.path.abspath(__file__)))
 PROGRAM = os.path.join(TOP, "crates", "container_bench", "out", "container_bench")
 
-WORKS = ["made", "client", "front", "pool"]
+WORKS = ["made", "client", "front", "pool", "ends", "any"]
 LIVE = [1_000, 10_000, 100_000]
 FEW = 100_000
 MANY = 1_000_000
