@@ -16,8 +16,8 @@ use Rattle.plain_book.proofs.Levels.{HasSlot-filter}
 use Rattle.order_kinds.specs.State.{State, state_numbered}
 use Rattle.order_kinds.specs.Cores.{AreNumbered}
 use Rattle.order_kinds.specs.Step.{with_message, request_step}
-use Rattle.level_laws.specs.Told.{tells_of, is_told, asks_at, IsSameLevel}
-use Rattle.level_laws.proofs.Cores.{levels-stay-in-cores}
+use Rattle.engine_laws.specs.LevelsTold.{tells_of, is_told, asks_at, IsSameLevel}
+use Rattle.engine_laws.proofs.Cores.{levels-stay-in-cores}
 use Rattle.level_feed.specs.Rows.{levels_of}
 use Rattle.level_feed.specs.Noted.{Noted, is_noted, noted_events, is_event_at, has_event_at, AreNoted}
 use Rattle.level_feed.proofs.Noting.{events-kept, events-note}

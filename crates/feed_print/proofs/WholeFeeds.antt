@@ -19,8 +19,8 @@ use Rattle.level_feed.specs.declared.row.Row.{Row}
 use Rattle.level_feed.specs.Blocks.{feed_blocks}
 use Rattle.level_feed.specs.FeedText.{text_of_blocks}
 use Rattle.level_feed.specs.Feeds.{levels_kept, feed_text}
-use Rattle.feed_laws.proofs.SameListings.{same-instruments}
-use Rattle.feed_laws.proofs.StatesAt.{length-levels-kept}
+use Rattle.stream_laws.proofs.SameListings.{same-instruments}
+use Rattle.stream_laws.proofs.StatesAt.{length-levels-kept}
 use Rattle.journal_print.specs.Works.{work_after, work_text, work_whole}
 use Rattle.journal_print.specs.Printed.{PrintsMessages, SentPart}
 use Rattle.journal_print.specs.declared.unprinted.Unprinted.{Unprinted}

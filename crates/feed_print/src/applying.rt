@@ -6,7 +6,7 @@ ghost use Rattle.order_kinds.specs.declared.core_state.TheConstants.{MOST_MESSAG
 ghost use Rattle.order_kinds.specs.Cores.{FitsProduct, AreNumbered};
 ghost use Rattle.order_kinds.specs.State.{state_numbered};
 ghost use Rattle.order_kinds.specs.Step.{with_message, request_step};
-ghost use Rattle.level_laws.specs.Told.{asks_at};
+ghost use Rattle.engine_laws.specs.LevelsTold.{asks_at};
 ghost use Rattle.level_feed.specs.Noted.{is_noted, AreNoted};
 ghost use Rattle.level_feed.specs.Feeds.{levels_of_state};
 

@@ -1,10 +1,10 @@
 -- Histories whose products are those of texts: what their reports add up to.
 use Rattle.product_file.proofs.RightTexts.{product_of_text_is_right}
 use Rattle.order_kinds.specs.Histories.{History, of_product, amended, AreRightProducts, AreOfTexts, IsBalanced}
-use Rattle.balance_laws.proofs.Histories.{histories-balance}
-use Rattle.report_laws.specs.Histories.{HaveNames}
-use Rattle.report_laws.specs.Sums.{IsReadBalanced}
-use Rattle.report_laws.proofs.Histories.{histories-have-names}
+use Rattle.engine_laws.proofs.BalancedHistories.{histories-balance}
+use Rattle.stream_laws.specs.Histories.{HaveNames}
+use Rattle.stream_laws.specs.Sums.{IsReadBalanced}
+use Rattle.stream_laws.proofs.Histories.{histories-have-names}
 
 right-products : (kept : History) → AreOfTexts kept → AreRightProducts kept
 right-products (of_product product messages) of_text = product_of_text_is_right of_text.0 product of_text.1

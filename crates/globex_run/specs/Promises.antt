@@ -6,8 +6,8 @@ use Rattle.match_journal.specs.Journal.{Header, Record}
 use Rattle.match_journal.specs.Texts.{HasLastText}
 use Rattle.match_journal.specs.Classes.{Keeps}
 use Rattle.order_kinds.specs.Histories.{History, AreOfTexts, IsBalanced}
-use Rattle.report_laws.specs.Sums.{IsReadBalanced}
-use Rattle.resend_laws.specs.Repeats.{RepeatsReports}
+use Rattle.stream_laws.specs.Sums.{IsReadBalanced}
+use Rattle.stream_laws.specs.Repeats.{RepeatsReports}
 use Rattle.command_words.specs.declared.command.Command.{Command}
 use Rattle.command_words.specs.declared.command.Command.TheVariants.{Run, Checkpoint, Amend, Session, Opening, Rebuild}
 use Rattle.globex_run.specs.Calls.{Call}

@@ -16,7 +16,7 @@ use Rattle.feed_reader.specs.WholeFeeds.{feed_end}
 use Rattle.feed_reader.specs.declared.feed.TheConstants.{MOST_FEED}
 use Rattle.feed_reader.specs.declared.unread.Unread.{Unread}
 use Rattle.feed_reader.specs.declared.unread.Unread.TheVariants as unread
-use Rattle.feed_laws.specs.Laws.{FoldsAtBlocks, FoldsBetweenBlocks, FoldsWhole}
+use Rattle.stream_laws.specs.FeedLaws.{FoldsAtBlocks, FoldsBetweenBlocks, FoldsWhole}
 use Rattle.globex_run.specs.Outside.{Outside, Streams}
 use Rattle.globex_run.specs.declared.outcome.Outcome.{Outcome}
 

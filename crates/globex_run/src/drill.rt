@@ -8,7 +8,7 @@ use crate::ending::Ending;
 use crate::outcome::Outcome;
 use crate::session::Session;
 use book_print::{Tally, print_tally};
-use generator_laws::names_are_right;
+use stream_laws::names_are_right;
 use gx_station::Station;
 use order_maker::MakerSource;
 use plain_book::Book;

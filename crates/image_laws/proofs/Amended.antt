@@ -9,7 +9,7 @@ use Rattle.plain_book.specs.Orders.{level_of, HasSlot}
 use Rattle.plain_book.specs.Book.{Book, IsRight, IsResting, AllDiffer, EachPair, AreNamedApart, AreInBookOrder, MayPrecedeTop}
 use Rattle.plain_book.proofs.Levels.{and-left, and-right}
 use Rattle.plain_book.proofs.Pairs.{all-with, all-map, pairs-map, all-from}
-use Rattle.match_laws.specs.Laws.{IsUncrossed, AreApart}
+use Rattle.engine_laws.specs.MatchLaws.{IsUncrossed, AreApart}
 use Rattle.order_kinds.specs.OrderRules.{last_of}
 use Rattle.order_kinds.specs.State.{State}
 use Rattle.order_kinds.specs.TradingSessions.{AreUntilCancelled}

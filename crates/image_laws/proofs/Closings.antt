@@ -13,12 +13,12 @@ use Rattle.plain_book.specs.Book.{Book, live_orders, IsRight, IsResting, IsWaiti
 use Rattle.plain_book.specs.Match.{report_counted}
 use Rattle.plain_book.proofs.Levels.{AllDiffer-filter}
 use Rattle.plain_book.proofs.Pairs.{all-filter, pairs-filter}
-use Rattle.match_laws.specs.Laws.{IsUncrossed}
-use Rattle.match_laws.proofs.Uncrossed.{uncrossed-moved}
+use Rattle.engine_laws.specs.MatchLaws.{IsUncrossed}
+use Rattle.engine_laws.proofs.Uncrossed.{uncrossed-moved}
 use Rattle.order_kinds.specs.State.{State}
 use Rattle.order_kinds.specs.TradingSessions.{stays, expires, expiring, book_closed, expiry_reports, market_closed, session_changed, session_step}
 use Rattle.order_kinds.proofs.Closings.{closed-stay, closed-among}
-use Rattle.balance_laws.proofs.Closings.{live-closed}
+use Rattle.engine_laws.proofs.BalancedClosings.{live-closed}
 use Rattle.image_laws.specs.Right.{IsRightEntry, IsTopAllowed, IsRightStop}
 use Rattle.image_laws.proofs.Held.{IsHeld}
 use Rattle.image_laws.proofs.Counted.{IsCounted, counted-within, counted-report}

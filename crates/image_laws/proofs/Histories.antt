@@ -4,7 +4,7 @@ use Rattle.order_kinds.specs.declared.core_state.TheConstants.{MOST_MESSAGES}
 use Rattle.order_kinds.specs.Step.{events_from, state_after}
 use Rattle.order_kinds.specs.Amendments.{amended_state}
 use Rattle.order_kinds.specs.Histories.{History, of_product, amended, AreRightProducts, IsHistory, last_product, length_kept, state_kept, events_kept}
-use Rattle.balance_laws.proofs.Bounds.{whole-history-within}
+use Rattle.engine_laws.proofs.Bounds.{whole-history-within}
 use Rattle.image_laws.specs.Right.{IsRightState}
 use Rattle.image_laws.proofs.Reached.{IsReached}
 use Rattle.image_laws.proofs.States.{reached-as, frames-reached, reached-right, messages-reached}

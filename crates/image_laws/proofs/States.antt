@@ -28,8 +28,8 @@ use Rattle.order_kinds.specs.TradingSessions.{is_until_cancelled, AreUntilCancel
 use Rattle.order_kinds.specs.Step.{with_message, open_step_as, closed_step_as, request_step, step_of, state_after, events_from, events_of}
 use Rattle.order_kinds.specs.Histories.{of_product}
 use Rattle.order_kinds.proofs.SessionSteps.{by-session}
-use Rattle.balance_laws.proofs.Bounds.{whole-history-within}
-use Rattle.balance_laws.proofs.Requests.{named-has}
+use Rattle.engine_laws.proofs.Bounds.{whole-history-within}
+use Rattle.engine_laws.proofs.BalancedRequests.{named-has}
 use Rattle.book_image.specs.Rules.{is_price_of}
 use Rattle.image_laws.specs.Right.{IsRightState}
 use Rattle.image_laws.proofs.Orders.{all-without}

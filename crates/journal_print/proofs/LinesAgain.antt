@@ -21,9 +21,9 @@ use Rattle.match_journal.proofs.Unique.{one_journal_header}
 use Rattle.order_kinds.specs.State.{State}
 use Rattle.order_kinds.specs.Histories.{History, of_product, last_product, state_kept, lines_kept}
 use Rattle.order_kinds.proofs.FurtherMessages.{state-further, lines-further}
-use Rattle.line_laws.specs.Lines.{count_at, is_firm, goes_to_range, WritesOnly}
-use Rattle.line_laws.proofs.Steps.{counts-never-fall}
-use Rattle.line_laws.proofs.Unwritten.{messages-written, amended-written}
+use Rattle.engine_laws.specs.Lines.{count_at, is_firm, goes_to_range, WritesOnly}
+use Rattle.engine_laws.proofs.NumberedSteps.{counts-never-fall}
+use Rattle.engine_laws.proofs.Unwritten.{messages-written, amended-written}
 use Rattle.book_recovery.specs.Histories.{AreGoodFrom, amended_by, history_as, history_behind}
 use Rattle.book_recovery.specs.Kept.{HasKept}
 use Rattle.book_recovery.specs.Products.{AreProducts}

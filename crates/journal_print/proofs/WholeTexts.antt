@@ -13,8 +13,8 @@ use Rattle.order_kinds.specs.Amendments.{amended_state}
 use Rattle.order_kinds.specs.Balance.{total_open}
 use Rattle.order_kinds.specs.Histories.{History, of_product, amended, AreRightProducts, length_kept, state_kept, events_kept, lines_kept, reports_kept}
 use Rattle.order_kinds.specs.Step.{events_from, events_of}
-use Rattle.balance_laws.specs.Bounds.{AreWithin, asked_in}
-use Rattle.balance_laws.proofs.Bounds.{history-within, total-below}
+use Rattle.engine_laws.specs.Bounds.{AreWithin, asked_in}
+use Rattle.engine_laws.proofs.Bounds.{history-within, total-below}
 use Rattle.book_recovery.specs.Kept.{HasKept}
 use Rattle.book_recovery.proofs.Histories.{good-amended, under-first, under-behind}
 use Rattle.exec_report.specs.Forms.{FormMeanings, LineText, behind}

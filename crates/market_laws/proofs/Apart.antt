@@ -20,7 +20,7 @@ use Rattle.plain_book.proofs.Right.{ordered-marked}
 use Rattle.order_kinds.specs.Entering.{as_limit, top_min_of, last_after}
 use Rattle.order_kinds.specs.OrderRules.{last_of}
 use Rattle.order_kinds.specs.Stops.{fill_range}
-use Rattle.balance_laws.proofs.Entered.{marked-stands}
+use Rattle.engine_laws.proofs.Entered.{marked-stands}
 use Rattle.image_laws.proofs.Arriving.{marked-on}
 use Rattle.image_laws.proofs.Reached.{set-reads}
 use Rattle.market_laws.specs.Acts.{Act, after, after_acts, EachAct}

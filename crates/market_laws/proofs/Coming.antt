@@ -26,18 +26,18 @@ use Rattle.plain_book.proofs.Live.{fit_of, orders-at}
 use Rattle.level_sweep.specs.Sweep.{within_limit, facing_best, sweep}
 use Rattle.level_sweep.proofs.Showing.{showing-right}
 use Rattle.level_sweep.proofs.Swept.{sweep-order}
-use Rattle.match_laws.proofs.Done.{sweep-done}
+use Rattle.engine_laws.proofs.Done.{sweep-done}
 use Rattle.order_kinds.specs.NewOrders.{may_rest}
 use Rattle.order_kinds.specs.Entering.{as_limit, top_min_of, taker_cancelled, taker_rested, finished, open_for, entered}
 use Rattle.order_kinds.specs.Stops.{Naming, fill_range, next_stop, stop_triggered, stop_entered, stop_rounds, entered_with_stops, taker_waiting, come_in_as, come_in}
-use Rattle.balance_laws.proofs.Entered.{marked-stands, NamesByNumber}
+use Rattle.engine_laws.proofs.Entered.{marked-stands, NamesByNumber}
 use Rattle.book_image.specs.Rules.{is_right_min}
 use Rattle.product_file.specs.Products.{has_top_by}
 use Rattle.image_laws.specs.Right.{IsRightStop}
 use Rattle.image_laws.proofs.Matching as matching
 use Rattle.image_laws.proofs.Matching.{IsMatching, IsEntering, IsAtRest, entered-kept}
 use Rattle.image_laws.proofs.Arriving.{IsIncoming, marked-on, triggered-kept}
-use Rattle.sweep_laws.proofs.KeptByTrades.{IsKeptByTrades, kept-swept}
+use Rattle.engine_laws.proofs.KeptByTrades.{IsKeptByTrades, kept-swept}
 use Rattle.market_laws.specs.Acts.{Act, after, after_acts, EachAct}
 use Rattle.market_laws.specs.Acts.Act.{trades, notes, rests, cancels, waits, triggers}
 use Rattle.market_laws.specs.Trades.{IsFair}

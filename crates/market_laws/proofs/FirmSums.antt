@@ -24,8 +24,8 @@ use Rattle.order_kinds.specs.Entering.{closed, cancel_event, taker_cancelled, as
 use Rattle.order_kinds.specs.Stops.{as_triggered, stop_triggered, taker_waiting}
 use Rattle.order_kinds.specs.TradingSessions.{stays, expiring, book_closed, expired, expiry_reports}
 use Rattle.order_kinds.specs.Amendments.{untopped}
-use Rattle.balance_laws.proofs.Entered.{StandsIn}
-use Rattle.balance_laws.proofs.Closings.{live-closed}
+use Rattle.engine_laws.proofs.Entered.{StandsIn}
+use Rattle.engine_laws.proofs.BalancedClosings.{live-closed}
 use Rattle.order_kinds.specs.Balance.{order_in, entered_with, entered_from, total_entered, filled_in, total_filled, cancelled_in, total_cancelled}
 use Rattle.market_laws.specs.Firms.{has_firm, reports_of_firm}
 use Rattle.market_laws.specs.Acts.{after}

@@ -29,7 +29,7 @@ use Rattle.order_kinds.specs.Stops.{by_number}
 use Rattle.order_kinds.specs.Step.{with_message, step_in, request_step, step_of}
 use Rattle.order_kinds.specs.Histories.{last_product, state_kept}
 use Rattle.order_kinds.proofs.Refusals.{replace-passes}
-use Rattle.balance_laws.proofs.Requests.{named-has}
+use Rattle.engine_laws.proofs.BalancedRequests.{named-has}
 use Rattle.market_laws.specs.Shares.{IsBlind, of_firm}
 use Rattle.market_laws.specs.Streams.{OfEachHistory}
 use Rattle.market_laws.specs.Firms.{book_of_firms, AreOfOtherFirms, AreServedAlike, cancel_of_firm, replace_of_firm, HasBlindSteps}

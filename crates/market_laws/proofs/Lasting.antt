@@ -29,9 +29,9 @@ use Rattle.order_kinds.specs.Balance.{last_open, total_filled, total_cancelled}
 use Rattle.order_kinds.proofs.SessionSteps.{by-session}
 use Rattle.order_kinds.proofs.LiveOrders.{named-own}
 use Rattle.order_kinds.proofs.FurtherMessages.{state-further, events-further}
-use Rattle.balance_laws.proofs.Requests.{named-has}
-use Rattle.balance_laws.proofs.Histories.{histories-balance}
-use Rattle.line_laws.specs.Lines.{with_pairs}
+use Rattle.engine_laws.proofs.BalancedRequests.{named-has}
+use Rattle.engine_laws.proofs.BalancedHistories.{histories-balance}
+use Rattle.engine_laws.specs.Lines.{with_pairs}
 use Rattle.image_laws.proofs.Held.{entry-at}
 use Rattle.image_laws.proofs.Amended.{has-cut}
 use Rattle.image_laws.proofs.Reached.{IsReached}

@@ -57,7 +57,7 @@ use Rattle.order_kinds.proofs.SessionSteps.{by-session}
 use Rattle.order_kinds.proofs.Amended.{follows}
 use Rattle.order_kinds.proofs.Terms.{no-trigger}
 use Rattle.order_kinds.proofs.Refusals.{PassesAsNew, new-passes, PassesAsReplace, replace-passes}
-use Rattle.balance_laws.proofs.Requests.{instrument-right, named-has}
+use Rattle.engine_laws.proofs.BalancedRequests.{instrument-right, named-has}
 use Rattle.image_laws.specs.Right.{IsRightEntry}
 use Rattle.image_laws.proofs.Orders.{named, IsWas, all-was, IsOther, others-lack, lacks-others, all-renewed, all-without, all-lined}
 use Rattle.image_laws.proofs.Prices.{either-right}
@@ -70,7 +70,7 @@ use Rattle.order_kinds.proofs.LiveOrders.{named-own}
 use Rattle.image_laws.proofs.States.{counted-message, step-reached, starts}
 use Rattle.image_laws.proofs.Histories.{history-reached}
 use Rattle.image_laws.proofs.Amended.{reached-follows}
-use Rattle.balance_laws.proofs.Closings.{live-closed}
+use Rattle.engine_laws.proofs.BalancedClosings.{live-closed}
 use Rattle.market_laws.specs.Streams.{OfEachReport}
 use Rattle.market_laws.specs.Acts.{Act, EachAct, IsNoFill, HasNoFill, IsAnnounced, BringsNoOrder, DoesActs}
 use Rattle.market_laws.specs.Trades.{IsProtected, IsProtectedMarket}

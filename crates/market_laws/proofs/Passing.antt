@@ -20,7 +20,7 @@ use Rattle.plain_book.proofs.Sorted.{book-order, put-in}
 use Rattle.plain_book.proofs.Walks.{slot-reordered}
 use Rattle.order_kinds.specs.Entering.{as_limit, top_min_of}
 use Rattle.order_kinds.specs.Stops.{fill_range}
-use Rattle.balance_laws.proofs.Entered.{marked-stands}
+use Rattle.engine_laws.proofs.Entered.{marked-stands}
 use Rattle.image_laws.proofs.Orders.{IsOther, others-lack, lacks-others}
 use Rattle.market_laws.specs.Acts.{Act, after, after_acts, EachAct}
 use Rattle.market_laws.specs.Acts.Act.{trades, notes, rests, cancels, waits, triggers}

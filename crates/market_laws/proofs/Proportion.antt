@@ -12,8 +12,8 @@ use Rattle.plain_book.specs.Match.{Share}
 use Rattle.plain_book.specs.Steps.{spent, split_shares, lmm_shares, prorata_share, top_shares, ones}
 use Rattle.gx_base.specs.declared.order.LmmShare.{LmmShare}
 use Rattle.std.specs.List.{AllByRecursion}
-use Rattle.sweep_laws.proofs.ShareLots.{spent-wanted, lots-append}
-use Rattle.match_laws.specs.Laws.{lots_shared}
+use Rattle.engine_laws.proofs.ShareLots.{spent-wanted, lots-append}
+use Rattle.engine_laws.specs.MatchLaws.{lots_shared}
 use Rattle.market_laws.specs.Shares.{IsInProportion, shares_of, of_firm, of_firms, IsBlind, hiding}
 
 -- ---- firms

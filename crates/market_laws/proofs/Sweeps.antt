@@ -26,9 +26,9 @@ use Rattle.plain_book.proofs.TradedShares.{share-leaves}
 use Rattle.level_sweep.specs.Sweep.{after_step, wanted_step, level_match, within_limit, facing_best, next_price, match_next, sweep_rounds, sweep}
 use Rattle.level_sweep.proofs.EachOrder.{StaysTrue, all-kept}
 use Rattle.level_sweep.proofs.StepShares.{AreApart, IsGiven, AreOf, AllShow, spent-of, top-of, lmm-of, prorata-of, leveling-of}
-use Rattle.sweep_laws.proofs.ShareLots.{lots_of, lots-cons, spent-wanted, split-part, top-wanted, lmm-fits, prorata-wanted, ones-wanted}
-use Rattle.sweep_laws.proofs.SlotHolds.{HoldsAt, holds-order, holds-marked, holds-share}
-use Rattle.sweep_laws.proofs.KeptByTrades.{IsKeptByTrades}
+use Rattle.engine_laws.proofs.ShareLots.{lots_of, lots-cons, spent-wanted, split-part, top-wanted, lmm-fits, prorata-wanted, ones-wanted}
+use Rattle.engine_laws.proofs.SlotHolds.{HoldsAt, holds-order, holds-marked, holds-share}
+use Rattle.engine_laws.proofs.KeptByTrades.{IsKeptByTrades}
 use Rattle.market_laws.specs.Acts.{Act}
 use Rattle.market_laws.specs.Acts.Act.{trades, notes}
 use Rattle.market_laws.specs.Trades.{IsNoBetter, IsFair}

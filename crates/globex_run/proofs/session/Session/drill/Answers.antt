@@ -1,6 +1,6 @@
 use Rattle.std.proofs.Common.{subst}
 use Rattle.order_maker.specs.Stream.{MadeStream}
-use Rattle.generator_laws.proofs.Streams.{made-rest}
+use Rattle.stream_laws.proofs.MadeStreams.{made-rest}
 use Rattle.globex_run.specs.Inner.Drilling.{DrillResult}
 use Rattle.globex_run.proofs.session.Session.drill.Goals as goal
 

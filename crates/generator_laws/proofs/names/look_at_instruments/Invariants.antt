@@ -1,7 +1,0 @@
-use Rattle.std.proofs.Common.{take}
-use Rattle.std.specs.List.{All}
-use Rattle.generator_laws.specs.Names.{IsListed}
-use Rattle.generator_laws.proofs.names.look_at_instruments.Given as goal
-
-abbrev pub invariant-loop-number : goal.invariant-loop-number
-invariant-loop-number l = All IsListed (take l.number l.names.instruments)

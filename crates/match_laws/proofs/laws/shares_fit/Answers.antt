@@ -1,6 +1,0 @@
-use Rattle.level_sweep.proofs.Showing.{showing-right}
-use Rattle.match_laws.proofs.Lots.{trades-fit}
-use Rattle.match_laws.proofs.laws.shares_fit.Goals as goal
-
-pub returns : goal.returns
-returns c step price m right book = trades-fit price m (showing-right m.book book) step right

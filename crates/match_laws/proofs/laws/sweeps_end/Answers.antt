@@ -1,6 +1,0 @@
-use Rattle.level_sweep.proofs.Showing.{showing-right}
-use Rattle.match_laws.proofs.Done.{sweep-done}
-use Rattle.match_laws.proofs.laws.sweeps_end.Goals as goal
-
-pub returns : goal.returns
-returns c steps limit m right book = sweep-done steps limit right.fifo_last m (showing-right m.book book)

@@ -1,5 +1,0 @@
-use Rattle.report_laws.proofs.Reports.{refused-ends}
-use Rattle.report_laws.proofs.laws.orders_refused_end_whole.Goals as goal
-
-pub returns : goal.returns
-returns c names head order fault are texts = refused-ends names head order fault are texts

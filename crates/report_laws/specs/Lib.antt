@@ -1,5 +1,0 @@
-pub mod Reading
-pub mod Texts
-pub mod Told
-pub mod Sums
-pub mod Histories

@@ -1,0 +1,5 @@
+use Rattle.stream_laws.proofs.Reports.{refused-ends}
+use Rattle.stream_laws.proofs.reports.orders_refused_end_whole.Goals as goal
+
+pub returns : goal.returns
+returns c names head order fault are texts = refused-ends names head order fault are texts
