@@ -30,7 +30,7 @@ mod Books
 mod Trades
 mod Replaces
 mod Counted
-mod Matches
+mod NumberedMatches
 mod Sums
 mod Singles
 mod LevelSums

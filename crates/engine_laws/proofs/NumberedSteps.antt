@@ -33,7 +33,7 @@ use Rattle.order_kinds.specs.Step.{with_message, open_step_as, closed_step_as, r
 use Rattle.order_kinds.proofs.SessionSteps.{by-session}
 use Rattle.engine_laws.specs.Lines.{place_in, line_in, count_at, lines_to, numbers_between, AreAbove, AreUpTo}
 use Rattle.engine_laws.proofs.Counted.{line-counts, AreCounted, counted-append, counted-one, counted-rise, counted-above, counted-up-to, counted-lines}
-use Rattle.engine_laws.proofs.Matches.{InMatch, report-kept, come-in-kept}
+use Rattle.engine_laws.proofs.NumberedMatches.{InMatch, report-kept, come-in-kept}
 
 module _ (place long : ℕ) where
   -- From this count on the events of a step are counted, in a list of so many counts.

@@ -22,6 +22,6 @@ mod Said
 mod Frames
 mod Engine
 mod Requests
-mod Reports
+mod WrittenReports
 mod Streams
 mod Whole

@@ -23,7 +23,7 @@ use Rattle.stream_laws.specs.Told.{ledger_line_read}
 use Rattle.stream_laws.specs.Sums.{IsReadRight, AreReadBalanced}
 use Rattle.stream_laws.proofs.Engine.{IsTextEvent, AllTextEvents}
 use Rattle.stream_laws.proofs.Frames.{line-frame}
-use Rattle.stream_laws.proofs.Reports.{read-lots-of, read-filled, read-open, read-right, read-lots, read-cancelled, writes-line}
+use Rattle.stream_laws.proofs.WrittenReports.{read-lots-of, read-filled, read-open, read-right, read-lots, read-cancelled, writes-line}
 
 -- ---- no trade has ten digits
 

@@ -1,4 +1,4 @@
-use Rattle.stream_laws.proofs.Reports.{refused-ends}
+use Rattle.stream_laws.proofs.WrittenReports.{refused-ends}
 use Rattle.stream_laws.proofs.reports.orders_refused_end_whole.Goals as goal
 
 pub returns : goal.returns

@@ -1,5 +1,5 @@
 use Rattle.stream_laws.proofs.Frames.{line-frame}
-use Rattle.stream_laws.proofs.Reports.{writes-kind, writes-told, writes-lots}
+use Rattle.stream_laws.proofs.WrittenReports.{writes-kind, writes-told, writes-lots}
 use Rattle.stream_laws.proofs.reports.reports_write_what_is_told.Goals as goal
 
 pub returns-clause-frame : goal.returns-clause-frame
