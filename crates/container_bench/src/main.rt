@@ -188,7 +188,10 @@ fn run_any(alloc: Global, live: u32, rounds: u32) -> Result<u32, AllocError> {
         push_back(&mut pool, number % QUEUES, u64::from(number));
     }
     for round in 0..rounds {
-        leave(&mut pool, Slot((round & 0xffff).wrapping_mul(7919) & 0x7fff));
+        leave(
+            &mut pool,
+            Slot((round & 0xffff).wrapping_mul(7919) & 0x7fff),
+        );
         push_back(&mut pool, round % QUEUES, u64::from(round));
     }
     Ok(pool.live())

@@ -23,7 +23,7 @@ use crate::taken::Taken;
 use crate::unamended::{Unamended, outcome_amended};
 use book_recovery::{RecoverFault, Scratch, check_heads, recover};
 use gx_station::Station;
-use match_journal::{AppendFault, EntryKind, Journal, MOST_LIMIT, MOST_TEXT, StartFault};
+use match_journal::{Access, AppendFault, EntryKind, Journal, MOST_LIMIT, MOST_TEXT, StartFault};
 use order_kinds::Core;
 use plain_book::Book;
 use product_file::{Product, ProductFault, may_follow, read_product};
@@ -63,7 +63,7 @@ fn begin<S: Station>(taken: &Taken<'_>, station: &mut S) -> Result<u64, Unamende
     requires right { IsRightProduct taken.now.product.now }
     ensures did { AmendsJournal S.meanings taken.now.product.now taken.now.text.now station.old station.new result }
 {
-    match Journal::look(station, taken.text, MOST_LIMIT) {
+    match Journal::look(station, taken.text, MOST_LIMIT, Access::Exclusive) {
         Ok(_) => create(taken, station),
         Err(fault) => Err(Unamended::of_unopened(unopened(fault))),
     }
@@ -301,7 +301,7 @@ fn amend_journal<B: Book, S: Station>(
     ensures did { AmendsJournal S.meanings taken.now.product.now taken.now.text.now station.old station.new result }
 {
     taken.product.limits();
-    match Journal::look_any(station, MOST_LIMIT) {
+    match Journal::look_any(station, MOST_LIMIT, Access::Exclusive) {
         Ok(Some(mut journal)) => {
             let length = journal.text_len() as usize;
             amend_looked(

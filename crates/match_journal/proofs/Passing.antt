@@ -1,5 +1,5 @@
 -- Going over the heads of all records, for the last amendment.
-use Rattle.std.proofs.Common.{◌≡◌, ◌≢◌, ◌⊎◌, inl, inr, ℕ, ◌+◌, ◌*◌, List, [], ◌∷◌, ◌++◌, length, get_or, take, drop, Option, Some, None, IfSome, false, Result, Ok, Err, refl, sym, subst, ◌∙◌, ap, arith, length-append}
+use Rattle.std.proofs.Common.{◌≡◌, ◌≢◌, ◌⊎◌, inl, inr, ℕ, ◌+◌, ◌*◌, ◌≤◌, List, [], ◌∷◌, ◌++◌, length, get_or, take, drop, Option, Some, None, IfSome, false, Result, Ok, Err, refl, sym, subst, ◌∙◌, ap, arith, length-append}
 use Rattle.gx_station.specs.Stations.{StationMeanings}
 use Rattle.match_journal.specs.Causes.{ReadsAtMost, LooksOnly}
 use Rattle.match_journal.specs.LookLaws.{reads_then, reads_more, looks_by}
@@ -153,3 +153,14 @@ fits_at s size len limit found entry same is fits =
 
 pub moved_on : (s : Standing) (size len limit next : ℕ) → s ≡ at_gate size len limit s.gate → record s { gate = next } ≡ at_gate size len limit next
 moved_on s size len limit next same = ap (λ (s : Standing). record s { gate = next }) same
+
+-- and so it does in a longer image
+pub fits_longer : (found : Option Entry) (a b limit : ℕ) → a ≤ b → IfSome found (λ (e : Entry). Fits a limit e) → IfSome found (λ (e : Entry). Fits b limit e)
+fits_longer None a b limit more fits = tt
+fits_longer (Some entry) a b limit more fits = record { some = fits.some; few = fits.few; inside = omega (arith, fits.inside, more); in_limit = fits.in_limit }
+
+-- what is answered in an image of the length that is known, where this is that of the opening
+pub walks_same : {S : Type 0} (m : StationMeanings S) (new : S) (len known limit gate : ℕ) (r : Result (Option Entry) WalkFault) → known ≡ len
+    → ((image : List ℕ) → m.holds new ≡ Some image → length image ≡ known → version_of image ≡ Second → Walks image limit gate r)
+    → (image : List ℕ) → m.holds new ≡ Some image → length image ≡ len → version_of image ≡ Second → Walks image limit gate r
+walks_same m new len known limit gate r is walks image read long second = walks image read (long ∙ sym is) second

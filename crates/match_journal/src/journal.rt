@@ -1,8 +1,9 @@
 //! A journal, and its places.
-ghost use Rattle.std.specs.Prelude.{◌≡◌, ◌+◌, ◌-◌, ◌<◌, ◌≤◌, length, false};
+ghost use Rattle.std.specs.Prelude.{◌≡◌, ◌+◌, ◌-◌, ◌<◌, ◌≤◌, length, not, false};
 ghost use Rattle.match_journal.specs.Standing.{IsStanding, moved, at_first, version_number};
 ghost use Rattle.match_journal.specs.declared.limits.TheConstants.{MOST_LIMIT, MOST_TEXT};
 
+use crate::access::Access;
 use crate::class::TEXT_AT;
 use crate::entry::{AROUND, Entry, HEAD};
 use crate::limits::MOST_PAYLOAD;
@@ -19,6 +20,7 @@ pub(crate) const RECORD: usize = MOST_PAYLOAD + HEAD;
 #[derive(Drop)]
 pub struct Journal {
     pub(crate) standing: Standing,
+    access: Access,
     /// A record on its way out, from its kind to the gate after it.
     pub(crate) record: [u8; RECORD],
 }
@@ -43,6 +45,7 @@ impl Journal {
         text: TextPlace,
         known: u64,
         limit: u64,
+        access: Access,
     ) -> Journal
         requires known { 13 + size < known }
         requires short { size ≤ MOST_TEXT }
@@ -64,8 +67,15 @@ impl Journal {
                 text_at: text.at,
                 text_len: text.len,
             },
+            access,
             record: [0; RECORD],
         }
+    }
+
+    /// Whether another process may append while this journal is read, as its opening was told. One that was opened for writing is never
+    /// shared.
+    pub fn is_shared(&self) -> bool {
+        matches!(self.access, Access::Shared)
     }
 
     /// The version of the journal: 1 or 2.
@@ -96,9 +106,18 @@ impl Journal {
         self.standing.is_at_end = false;
     }
 
-    /// Whether the journal stands at the closed gate after all records: from a `next_entry` that answers `None`, or an
-    /// `append` that is Ok, until the next `rewind`, `go_behind`, or `next_entry` that answers an entry. Never again once an
-    /// `append` has failed.
+    /// Ends a walk at a gate: a reader does not meet a record there that another process has added.
+    pub fn stop_at(&mut self, gate: u64)
+        requires inside { gate < self.old.known }
+        ensures { self.new ≡ moved self.old gate (not self.old.is_lost) }
+    {
+        self.standing.gate = gate;
+        self.standing.is_at_end = !self.standing.is_lost;
+    }
+
+    /// Whether the journal stands at the closed gate after all records: from a `next_entry` that answers `None`, an `append`
+    /// that is Ok, or a `stop_at`, until the next `rewind`, `go_behind`, or `next_entry` that answers an entry. Never again once
+    /// an `append` has failed.
     pub fn at_end(&self) -> bool
         ensures value { result ≡ self.now.is_at_end }
         ensures stands { IsStanding self.now }

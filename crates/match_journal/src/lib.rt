@@ -2,6 +2,7 @@
 //! the append is answered.
 #![tactic(auto)]
 
+mod access;
 mod append;
 mod class;
 mod entry;
@@ -10,6 +11,7 @@ mod journal;
 mod laws;
 mod limits;
 mod look;
+mod measure;
 mod parts;
 mod read_text;
 mod standing;
@@ -18,6 +20,7 @@ mod text;
 mod version;
 mod walk;
 
+pub use access::Access;
 pub use entry::{Entry, EntryKind, HEAD};
 pub use faults::{AppendFault, StartFault, StoreFault, WalkFault};
 pub use journal::Journal;

@@ -10,11 +10,13 @@ ghost use Rattle.match_journal.specs.Inner.Fronts.{IsFront, FrontAnswers, EndAns
 ghost use Rattle.match_journal.specs.declared.limits.TheConstants.{MOST_TEXT, MOST_LIMIT, LEAST_LIMIT, MOST_UNFINISHED, MOST_OPENING};
 ghost use Rattle.match_journal.specs.declared.version.Version.TheVariants.{Second};
 
+use crate::access::Access;
 use crate::class::{Class, TEXT_AT, class_of};
 use crate::entry::{Entry, EntryKind, HEAD};
 use crate::faults::{StartFault, WalkFault};
 use crate::journal::Journal;
 use crate::limits::MOST_TEXT;
+use crate::measure::measured_again;
 use crate::standing::Standing;
 use crate::text::{TextPlace, difference};
 use crate::version::Version;
@@ -81,28 +83,87 @@ fn read_end<S: Station>(station: &mut S, class: Class) -> Result<(), StartFault>
     }
 }
 
-/// Goes over the heads of all records of a journal of the second version, whose header has a text of `size` bytes. The entry is that of
-/// the last amendment, if there is one.
-fn last_amendment<S: Station>(
-    station: &mut S,
-    size: u32,
-    len: u64,
-    limit: u64,
-) -> Result<Option<Entry>, StartFault>
-    requires few { size ≤ MOST_TEXT }
-    requires inside { 13 + size < len }
-    requires least { LEAST_LIMIT ≤ limit }
-    requires most { limit ≤ MOST_LIMIT }
+/// Reads the front of an image of `len` bytes: what it is, and the gate after the text of a sealed one.
+fn front_at<S: Station>(station: &mut S, len: u64) -> Result<Class, StartFault>
     requires reach { len ≤ S.meanings.reach station.old }
-    ensures reads { ReadsOnly S.meanings station.old station.new }
+    ensures looks { LooksOnly S.meanings station.old station.new 14 }
     ensures reach { S.meanings.reach station.new ≡ S.meanings.reach station.old }
     ensures store { IsErrOf result StartFault.Store → Rose (S.meanings.store_faults station.old) (S.meanings.store_faults station.new) }
     ensures none { (IsErrOf result StartFault.Store → ⊥) → S.meanings.store_faults station.new ≡ S.meanings.store_faults station.old }
-    ensures entry { IfOk result (λ found. IfSome found (λ entry. Fits len limit entry)) }
-    ensures few_bytes { (head : Header) (image : List ℕ) (records : List Record) → S.meanings.holds station.old ≡ Some image → length image ≡ len
+    ensures least { IfOk result (λ class. (least_length class ≤ len) × (least_length class ≤ MOST_UNFINISHED)) }
+    ensures front { (image : List ℕ) → S.meanings.holds station.old ≡ Some image → length image ≡ len → FrontAnswers image result }
+    ensures end { (image : List ℕ) → S.meanings.holds station.old ≡ Some image → length image ≡ len → IfOk result (λ class. has_closed_end image class) }
+{
+    let class = match read_front(station, len) {
+        Ok(class) => class,
+        Err(fault) => return Err(fault),
+    };
+    match read_end(station, class) {
+        Ok(()) => Ok(class),
+        Err(fault) => Err(fault),
+    }
+}
+
+/// Reads the front of the image as `front_at` does. If it is refused, the image is measured again. If it is longer now, another process
+/// has created the journal meanwhile, and the front is read once more. `len` is the last length that was measured.
+fn front_of<S: Station>(station: &mut S, len: &mut u64, access: Access) -> Result<Class, StartFault>
+    requires reach { len.old ≤ S.meanings.reach station.old }
+    ensures reads { ReadsOnly S.meanings station.old station.new }
+    ensures reach { len.new ≤ S.meanings.reach station.new }
+    ensures grows { len.old ≤ len.new }
+    ensures stays { (image : List ℕ) → S.meanings.holds station.old ≡ Some image → length image ≡ len.old → len.new ≡ len.old }
+    ensures store { IsErrOf result StartFault.Store → Rose (S.meanings.store_faults station.old) (S.meanings.store_faults station.new) }
+    ensures none { (IsErrOf result StartFault.Store → ⊥) → S.meanings.store_faults station.new ≡ S.meanings.store_faults station.old }
+    ensures least { IfOk result (λ class. (least_length class ≤ len.new) × (least_length class ≤ MOST_UNFINISHED)) }
+    ensures few_bytes { (image : List ℕ) → S.meanings.holds station.old ≡ Some image → length image ≡ len.old
+        → ReadsAtMost 14 (S.meanings.bytes_read station.old) (S.meanings.bytes_read station.new) }
+    ensures front { (image : List ℕ) → S.meanings.holds station.old ≡ Some image → length image ≡ len.old → FrontAnswers image result }
+    ensures end { (image : List ℕ) → S.meanings.holds station.old ≡ Some image → length image ≡ len.old → IfOk result (λ class. has_closed_end image class) }
+{
+    let fault = match front_at(station, *len) {
+        Ok(class) => return Ok(class),
+        Err(fault) => fault,
+    };
+    if fault == StartFault::Store {
+        return Err(fault);
+    }
+    let known = match measured_again(station, *len, access) {
+        Ok(known) => known,
+        Err(_) => return Err(StartFault::Store),
+    };
+    if known == *len {
+        return Err(fault);
+    }
+    *len = known;
+    front_at(station, known)
+}
+
+/// Goes over the heads of all records of a journal of the second version, whose header has a text of `size` bytes. The entry is that of
+/// the last amendment, if there is one. At a bad head the image is measured again. If another process has added records meanwhile, the
+/// image is longer, and the walk goes on at that gate. `len` is the last length that was measured.
+fn last_amendment<S: Station>(
+    station: &mut S,
+    size: u32,
+    len: &mut u64,
+    limit: u64,
+    access: Access,
+) -> Result<Option<Entry>, StartFault>
+    requires few { size ≤ MOST_TEXT }
+    requires inside { 13 + size < len.old }
+    requires least { LEAST_LIMIT ≤ limit }
+    requires most { limit ≤ MOST_LIMIT }
+    requires reach { len.old ≤ S.meanings.reach station.old }
+    ensures reads { ReadsOnly S.meanings station.old station.new }
+    ensures reach { len.new ≤ S.meanings.reach station.new }
+    ensures grows { len.old ≤ len.new }
+    ensures stays { (image : List ℕ) → S.meanings.holds station.old ≡ Some image → length image ≡ len.old → len.new ≡ len.old }
+    ensures store { IsErrOf result StartFault.Store → Rose (S.meanings.store_faults station.old) (S.meanings.store_faults station.new) }
+    ensures none { (IsErrOf result StartFault.Store → ⊥) → S.meanings.store_faults station.new ≡ S.meanings.store_faults station.old }
+    ensures entry { IfOk result (λ found. IfSome found (λ entry. Fits len.new limit entry)) }
+    ensures few_bytes { (head : Header) (image : List ℕ) (records : List Record) → S.meanings.holds station.old ≡ Some image → length image ≡ len.old
         → head.version ≡ Second → length head.text ≡ size → IsJournal head limit records image
         → ReadsAtMost (6 * (length records + 1)) (S.meanings.bytes_read station.old) (S.meanings.bytes_read station.new) }
-    ensures heads { (head : Header) (image : List ℕ) → S.meanings.holds station.old ≡ Some image → length image ≡ len → HasOpenGate image
+    ensures heads { (head : Header) (image : List ℕ) → S.meanings.holds station.old ≡ Some image → length image ≡ len.old → HasOpenGate image
         → HasHeader head image → head.version ≡ Second → length head.text ≡ size → HeadsAnswers head limit image result }
 {
     let first = TEXT_AT as u64 + size as u64;
@@ -110,7 +171,7 @@ fn last_amendment<S: Station>(
         version: Version::Second,
         first,
         gate: first,
-        known: len,
+        known: *len,
         limit,
         is_at_end: false,
         is_lost: false,
@@ -127,9 +188,21 @@ fn last_amendment<S: Station>(
                     EntryKind::Frames | EntryKind::OldImage | EntryKind::Image => last,
                 };
             }
-            Ok(None) => return Ok(last),
+            Ok(None) => {
+                *len = standing.known;
+                return Ok(last);
+            }
             Err(WalkFault::Store) => return Err(StartFault::Store),
-            Err(WalkFault::Bad(at)) => return Err(StartFault::Bad(at)),
+            Err(WalkFault::Bad(at)) => {
+                let known = match measured_again(station, standing.known, access) {
+                    Ok(known) => known,
+                    Err(_) => return Err(StartFault::Store),
+                };
+                if known == standing.known {
+                    return Err(StartFault::Bad(at));
+                }
+                standing.known = known;
+            }
         }
     }
 }
@@ -177,26 +250,29 @@ pub(crate) fn header_text(size: u32) -> TextPlace
 fn last_text<S: Station>(
     station: &mut S,
     size: u32,
-    len: u64,
+    len: &mut u64,
     limit: u64,
+    access: Access,
 ) -> Result<TextPlace, StartFault>
     requires few { size ≤ MOST_TEXT }
-    requires inside { 13 + size < len }
+    requires inside { 13 + size < len.old }
     requires least { LEAST_LIMIT ≤ limit }
     requires most { limit ≤ MOST_LIMIT }
-    requires reach { len ≤ S.meanings.reach station.old }
+    requires reach { len.old ≤ S.meanings.reach station.old }
     ensures reads { ReadsOnly S.meanings station.old station.new }
-    ensures reach { S.meanings.reach station.new ≡ S.meanings.reach station.old }
+    ensures reach { len.new ≤ S.meanings.reach station.new }
+    ensures grows { len.old ≤ len.new }
+    ensures stays { (image : List ℕ) → S.meanings.holds station.old ≡ Some image → length image ≡ len.old → len.new ≡ len.old }
     ensures store { IsErrOf result StartFault.Store → Rose (S.meanings.store_faults station.old) (S.meanings.store_faults station.new) }
     ensures none { (IsErrOf result StartFault.Store → ⊥) → S.meanings.store_faults station.new ≡ S.meanings.store_faults station.old }
-    ensures inside { IfOk result (λ place. (place.at + place.len < len) × (place.len ≤ MOST_TEXT)) }
-    ensures few_bytes { (head : Header) (image : List ℕ) (records : List Record) → S.meanings.holds station.old ≡ Some image → length image ≡ len
+    ensures inside { IfOk result (λ place. (place.at + place.len < len.new) × (place.len ≤ MOST_TEXT)) }
+    ensures few_bytes { (head : Header) (image : List ℕ) (records : List Record) → S.meanings.holds station.old ≡ Some image → length image ≡ len.old
         → head.version ≡ Second → length head.text ≡ size → IsJournal head limit records image
         → ReadsAtMost (4 + 6 * (length records + 1)) (S.meanings.bytes_read station.old) (S.meanings.bytes_read station.new) }
-    ensures text { (head : Header) (image : List ℕ) → S.meanings.holds station.old ≡ Some image → length image ≡ len → HasOpenGate image
+    ensures text { (head : Header) (image : List ℕ) → S.meanings.holds station.old ≡ Some image → length image ≡ len.old → HasOpenGate image
         → HasHeader head image → head.version ≡ Second → length head.text ≡ size → LastTextAnswers head limit image result }
 {
-    match last_amendment(station, size, len, limit) {
+    match last_amendment(station, size, len, limit, access) {
         Ok(None) => Ok(header_text(size)),
         Ok(Some(entry)) => amended_text(station, &entry),
         Err(fault) => Err(fault),
@@ -207,31 +283,34 @@ fn last_text<S: Station>(
 fn text_of<S: Station>(
     station: &mut S,
     class: Class,
-    len: u64,
+    len: &mut u64,
     limit: u64,
+    access: Access,
 ) -> Result<TextPlace, StartFault>
     requires few { least_length class ≤ MOST_UNFINISHED }
-    requires inside { least_length class ≤ len }
+    requires inside { least_length class ≤ len.old }
     requires least { LEAST_LIMIT ≤ limit }
     requires most { limit ≤ MOST_LIMIT }
-    requires reach { len ≤ S.meanings.reach station.old }
+    requires reach { len.old ≤ S.meanings.reach station.old }
     ensures reads { ReadsOnly S.meanings station.old station.new }
-    ensures reach { S.meanings.reach station.new ≡ S.meanings.reach station.old }
+    ensures reach { len.new ≤ S.meanings.reach station.new }
+    ensures grows { len.old ≤ len.new }
+    ensures stays { (image : List ℕ) → S.meanings.holds station.old ≡ Some image → length image ≡ len.old → len.new ≡ len.old }
     ensures store { IsErrOf result StartFault.Store → Rose (S.meanings.store_faults station.old) (S.meanings.store_faults station.new) }
     ensures none { (IsErrOf result StartFault.Store → ⊥) → S.meanings.store_faults station.new ≡ S.meanings.store_faults station.old }
-    ensures inside { IfOk result (λ place. IsInside class place len) }
+    ensures inside { IfOk result (λ place. IsInside class place len.new) }
     ensures front_bytes { (image : List ℕ) → S.meanings.holds station.old ≡ Some image → IsFront image class → (IsOfSecondVersion image → ⊥)
         → station.new ≡ station.old }
-    ensures few_bytes { (head : Header) (image : List ℕ) (records : List Record) → S.meanings.holds station.old ≡ Some image → length image ≡ len
+    ensures few_bytes { (head : Header) (image : List ℕ) (records : List Record) → S.meanings.holds station.old ≡ Some image → length image ≡ len.old
         → IsFront image class → IsJournal head limit records image
         → ReadsAtMost (4 + 6 * (length records + 1)) (S.meanings.bytes_read station.old) (S.meanings.bytes_read station.new) }
-    ensures found { (image : List ℕ) → S.meanings.holds station.old ≡ Some image → length image ≡ len → IsFront image class → has_closed_end image class
+    ensures found { (image : List ℕ) → S.meanings.holds station.old ≡ Some image → length image ≡ len.old → IsFront image class → has_closed_end image class
         → PlaceAnswers limit image class result }
 {
     match class {
         Class::Open(version, size) => match version {
             Version::First => Ok(header_text(size)),
-            Version::Second => last_text(station, size, len, limit),
+            Version::Second => last_text(station, size, len, limit, access),
         },
         Class::Sealed(_, size) => Ok(header_text(size)),
         Class::Empty | Class::Blank => Ok(header_text(0)),
@@ -288,7 +367,11 @@ pub(crate) fn hold_text<S: Station>(
 }
 
 /// Looks at the image, and adds nothing. The heads of a journal of the second version are gone over.
-pub(crate) fn look_at<S: Station>(station: &mut S, limit: u64) -> Result<Found, StartFault>
+pub(crate) fn look_at<S: Station>(
+    station: &mut S,
+    limit: u64,
+    access: Access,
+) -> Result<Found, StartFault>
     requires least { LEAST_LIMIT ≤ limit }
     requires most { limit ≤ MOST_LIMIT }
     ensures reads { ReadsOnly S.meanings station.old station.new }
@@ -302,32 +385,28 @@ pub(crate) fn look_at<S: Station>(station: &mut S, limit: u64) -> Result<Found, 
         → ReadsAtMost (18 + 6 * (length records + 1)) (S.meanings.bytes_read station.old) (S.meanings.bytes_read station.new) }
     ensures found { (image : List ℕ) → S.meanings.holds station.old ≡ Some image → FoundAnswers limit image result }
 {
-    let Ok(len) = station.length() else {
+    let Ok(mut len) = station.length() else {
         return Err(StartFault::Store);
     };
-    let class = match read_front(station, len) {
+    let class = match front_of(station, &mut len, access) {
         Ok(class) => class,
         Err(fault) => return Err(fault),
     };
-    match read_end(station, class) {
-        Ok(()) => {}
-        Err(fault) => return Err(fault),
-    }
-    match text_of(station, class, len, limit) {
+    match text_of(station, class, &mut len, limit, access) {
         Ok(text) => Ok(Found { class, len, text }),
         Err(fault) => Err(fault),
     }
 }
 
 /// The journal that was found, just opened; `None` exactly if there is none yet.
-fn journal_of(found: &Found, limit: u64) -> Option<Journal>
+fn journal_of(found: &Found, limit: u64, access: Access) -> Option<Journal>
     requires inside { IsInside found.now.class found.now.text found.now.len }
     requires most { limit ≤ MOST_LIMIT }
     ensures { JournalAnswers found.now limit result }
 {
     match found.class {
         Class::Open(version, size) => Some(Journal::opened(
-            version, size, found.text, found.len, limit,
+            version, size, found.text, found.len, limit, access,
         )),
         Class::Empty | Class::Blank | Class::Sealed(_, _) => None,
     }
@@ -338,11 +417,13 @@ impl Journal {
     /// does not sync. Of a journal of the second version it goes over the heads of all records, so `Bad` comes first: with 9 if the
     /// header is bad, else with the gate of the first record with a bad head, and if there is none, with the gate of the last amendment if its
     /// text is longer than a product text may be, or does not end in its payload. `ProductDiffers` comes if the last text is another
-    /// one, with the first place at which it differs from this, or one of both ends.
+    /// one, with the first place at which it differs from this, or one of both ends. Where the access is shared and another process adds
+    /// records meanwhile, the journal is that of some moment in this call.
     pub fn look<S: Station>(
         station: &mut S,
         product: &[u8],
         limit: u64,
+        access: Access,
     ) -> Result<Option<Journal>, StartFault>
         requires short { length product.now ≤ MOST_TEXT }
         requires least { LEAST_LIMIT ≤ limit }
@@ -361,19 +442,23 @@ impl Journal {
         ensures reach { IfOk result (λ found. IfSome found (λ journal. journal.known ≤ S.meanings.reach station.new)) }
         ensures answers { (image : List ℕ) → S.meanings.holds station.old ≡ Some image → Looks product.now limit image result }
     {
-        let found = match look_at(station, limit) {
+        let found = match look_at(station, limit, access) {
             Ok(found) => found,
             Err(fault) => return Err(fault),
         };
         match hold_text(station, &found, product) {
-            Ok(()) => Ok(journal_of(&found, limit)),
+            Ok(()) => Ok(journal_of(&found, limit, access)),
             Err(fault) => Err(fault),
         }
     }
 
     /// Opens for reading a journal of whatever product: `None` exactly for an unfinished creation. All else is as `look` does it, but
     /// no text is compared, so `ProductDiffers` never comes.
-    pub fn look_any<S: Station>(station: &mut S, limit: u64) -> Result<Option<Journal>, StartFault>
+    pub fn look_any<S: Station>(
+        station: &mut S,
+        limit: u64,
+        access: Access,
+    ) -> Result<Option<Journal>, StartFault>
         requires least { LEAST_LIMIT ≤ limit }
         requires most { limit ≤ MOST_LIMIT }
         ensures reads { ReadsOnly S.meanings station.old station.new }
@@ -389,8 +474,8 @@ impl Journal {
         ensures reach { IfOk result (λ found. IfSome found (λ journal. journal.known ≤ S.meanings.reach station.new)) }
         ensures answers { (image : List ℕ) → S.meanings.holds station.old ≡ Some image → LooksAny limit image result }
     {
-        match look_at(station, limit) {
-            Ok(found) => Ok(journal_of(&found, limit)),
+        match look_at(station, limit, access) {
+            Ok(found) => Ok(journal_of(&found, limit, access)),
             Err(fault) => Err(fault),
         }
     }

@@ -15,7 +15,7 @@ pub struct Standing {
     pub known: u64,
     /// Where the last record has to end.
     pub limit: u64,
-    /// That gate was found closed, or made by an append.
+    /// That gate was found closed, or made by an append, or a walk was ended there.
     pub is_at_end: bool,
     /// An append has failed.
     pub is_lost: bool,

@@ -16,6 +16,7 @@ ghost use Rattle.match_journal.specs.Inner.Fronts.{IsHeld, IsInside, HasSizeOf, 
 ghost use Rattle.match_journal.specs.declared.limits.TheConstants.{MOST_TEXT, MOST_LIMIT, LEAST_LIMIT, MOST_UNFINISHED};
 ghost use Rattle.match_journal.specs.declared.version.Version.TheVariants.{Second};
 
+use crate::access::Access;
 use crate::class::{Class, magic_of};
 use crate::faults::StartFault;
 use crate::journal::Journal;
@@ -107,7 +108,14 @@ fn journal_then(found: &Found, version: Version, product: &[u8], limit: u64) -> 
     ensures { result ≡ journal_then found.now version (length product.now) limit }
 {
     match found.class {
-        Class::Open(version, size) => Journal::opened(version, size, found.text, found.len, limit),
+        Class::Open(version, size) => Journal::opened(
+            version,
+            size,
+            found.text,
+            found.len,
+            limit,
+            Access::Exclusive,
+        ),
         Class::Empty | Class::Blank | Class::Sealed(_, _) => {
             let size = product.len() as u32;
             Journal::opened(
@@ -116,6 +124,7 @@ fn journal_then(found: &Found, version: Version, product: &[u8], limit: u64) -> 
                 header_text(size),
                 length_then(found, product),
                 limit,
+                Access::Exclusive,
             )
         }
     }
@@ -168,7 +177,7 @@ impl Journal {
         if station.sync().is_err() {
             return Err(StartFault::Store);
         }
-        let found = match look_at(station, limit) {
+        let found = match look_at(station, limit, Access::Exclusive) {
             Ok(found) => found,
             Err(fault) => return Err(fault),
         };

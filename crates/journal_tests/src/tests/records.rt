@@ -6,7 +6,7 @@ ghost use Rattle.match_journal.specs.declared.version.Version.{Version};
 
 use super::{ORDERS, journal_of};
 use gx_station::Station;
-use match_journal::{AppendFault, Entry, EntryKind, Journal, StartFault};
+use match_journal::{Access, AppendFault, Entry, EntryKind, Journal, StartFault};
 use run_fixtures::{PRODUCT, failing_station, join, must, station_of};
 use std::process::Abort;
 
@@ -35,7 +35,7 @@ fn records_are_read_in_their_order(rt: HostRuntime) {
         &[b"\x01M\x00\x00\x00\x03one", b"\x01M\x00\x00\x00\x012"],
     );
     let mut station = must!(&rt; station_of(image.as_slice()));
-    let looked = Journal::look(&mut station, PRODUCT.as_bytes(), LIMIT);
+    let looked = Journal::look(&mut station, PRODUCT.as_bytes(), LIMIT, Access::Shared);
     let looked = looked.expect(&rt, "an image that is opened");
     let mut journal = looked.expect(&rt, "a journal");
     let kind = EntryKind::Frames;
@@ -165,7 +165,7 @@ const IMAGES: [(&[u8], Result<bool, StartFault>); 22] = [
 /// Whether one who looks at this image finds a journal, or why not; the image stays as it is.
 fn expect_looked(rt: &(impl Abort + AllocGlobal), image: &[u8], want: Result<bool, StartFault>) {
     let mut station = must!(rt; station_of(image));
-    let looked = Journal::look(&mut station, b"text", LIMIT);
+    let looked = Journal::look(&mut station, b"text", LIMIT, Access::Shared);
     assert_eq!(rt; looked.map(|found| found.is_some()), want);
     assert_eq!(rt; station.image(), image);
 }
@@ -225,7 +225,7 @@ fn a_look_does_not_sync(rt: HostRuntime) {
     let mut station = must!(&rt; station_of(image));
     assert_eq!(rt; station.length(), Ok(18));
     assert_eq!(rt; station.write(17, b"\x00"), Ok(()));
-    let looked = Journal::look(&mut station, b"text", LIMIT);
+    let looked = Journal::look(&mut station, b"text", LIMIT, Access::Shared);
     assert!(rt; matches!(looked, Ok(Some(_))));
     // A length, the head, and the text.
     assert_eq!(rt; station.calls(), 5);

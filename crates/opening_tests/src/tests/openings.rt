@@ -1,6 +1,6 @@
 //! Openings of journals with amendments: by their last text, over every cut of one, and what is bad before texts are compared.
 use super::{image_of, station_of};
-use match_journal::{EntryKind, Journal, StartFault};
+use match_journal::{Access, EntryKind, Journal, StartFault};
 use std::process::Abort;
 
 const LIMIT: u64 = 131_072;
@@ -13,7 +13,7 @@ const AMENDED: &[u8] =
 fn looked(rt: &(impl Abort + AllocGlobal), image: &[u8], text: &[u8]) -> Result<bool, StartFault> {
     assert!(rt; text.len() <= 16);
     let mut station = station_of(rt, image);
-    let looked = Journal::look(&mut station, text, LIMIT);
+    let looked = Journal::look(&mut station, text, LIMIT, Access::Exclusive);
     assert_eq!(rt; station.image(), image);
     looked.map(|found| found.is_some())
 }
@@ -30,7 +30,7 @@ fn started(rt: &(impl Abort + AllocGlobal), image: &[u8], text: &[u8]) -> Result
 /// The same for one who looks without a text.
 fn looked_any(rt: &(impl Abort + AllocGlobal), image: &[u8]) -> Result<bool, StartFault> {
     let mut station = station_of(rt, image);
-    let looked = Journal::look_any(&mut station, LIMIT);
+    let looked = Journal::look_any(&mut station, LIMIT, Access::Exclusive);
     assert_eq!(rt; station.image(), image);
     looked.map(|found| found.is_some())
 }
@@ -204,7 +204,7 @@ fn expect_texts_of(
     amended_at: Option<u64>,
 ) {
     let mut station = station_of(rt, image);
-    let looked = Journal::look_any(&mut station, LIMIT);
+    let looked = Journal::look_any(&mut station, LIMIT, Access::Exclusive);
     let looked = looked.expect(rt, "an image that is opened");
     let mut journal = looked.expect(rt, "a journal");
     assert_eq!(rt; journal.amended_at(), amended_at);
@@ -229,7 +229,7 @@ fn texts_are_read(rt: HostRuntime) {
 #[test]
 fn amendment_added(rt: HostRuntime) {
     let mut station = station_of(&rt, b"\x01GXJOURN2\x00\x00\x00\x04text\x00");
-    let looked = Journal::look_any(&mut station, LIMIT);
+    let looked = Journal::look_any(&mut station, LIMIT, Access::Exclusive);
     let looked = looked.expect(&rt, "an image that is opened");
     let mut journal = looked.expect(&rt, "a journal");
     assert_eq!(rt; journal.next_entry(&mut station), Ok(None));
