@@ -2,12 +2,24 @@
 # Builds the program. Runs the stored example in a folder of its own, and shows its reports, its book and, after a checkpoint,
 # its ledger; then runs the example of each algorithm, and shows the reports. `|` stands for SOH, and each report has a line.
 # Ends with a status other than 0 where anything differs from what is stored.
+#
+#     ./run-example.sh [--unproved]
+#
+# With --unproved it proves nothing and leaves no program: it compiles and runs the stored example alone, in a minute or two, and
+# shows and compares its reports.
 set -u
 
 fail() {
     echo "run-example: $1" >&2
     exit 1
 }
+
+unproved=no
+case $#:${1:-} in
+0:) ;;
+1:--unproved) unproved=yes ;;
+*) fail 'the only word is --unproved' ;;
+esac
 
 top=$(CDPATH='' cd -- "$(dirname -- "$0")" && pwd) || exit 1
 crate=$top/crates/globex_cli
@@ -27,17 +39,30 @@ tidy() {
 trap tidy EXIT
 trap 'exit 1' HUP INT TERM
 
-# Proves what has changed since the last build, and builds and runs the program. Only a proved program is built. This first
-# run may lack a product, so its status tells nothing.
-rm -f -- "$program"
-(cd "$crate" && rt run -- run </dev/null)
-[ -x "$program" ] || fail 'the program was not built'
-
 # Bytes as text: a line for each frame.
 shown() {
     tr '\001' '|' | sed 's/|8=FIX\.4\.2|/|\
 8=FIX.4.2|/g'
 }
+
+# A first look: `rt try` compiles and runs in a folder of its own, and proves nothing.
+if [ "$unproved" = yes ]; then
+    echo 'run-example: nothing is proved here. The program is only compiled and run, which takes a minute or two.'
+    (cd "$crate" && rt try --data product.toml=data/product.toml -- run <stdin >"$folder/reports" 2>"$folder/log")
+    status=$?
+    [ "$status" -eq 0 ] || { tail -n 5 -- "$folder/log" >&2 && fail "it ended with status $status, and nothing was proved"; }
+    shown <"$folder/reports"
+    echo
+    cmp -- "$folder/reports" "$crate/stdout" || fail 'these are not the stored reports, and nothing was proved'
+    echo 'run-example: the stored reports, byte for byte; nothing was proved. ./run-example.sh proves the program and builds it.'
+    exit 0
+fi
+
+# Proves what has changed since the last build, and builds and runs the program. Only a proved program is built. This first
+# run may lack a product, so its status tells nothing.
+rm -f -- "$program"
+(cd "$crate" && rt run -- run </dev/null)
+[ -x "$program" ] || fail 'the program was not built'
 
 # Runs over the product and the orders in the folder, from a new journal on.
 serve() {

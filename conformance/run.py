@@ -134,14 +134,20 @@ def try_call(program, work, call):
     if status != call.status:
         faults.append(f"exit status: expected {call.status}, got {status}")
     line = f"globex: status {call.status} at {call.at} after {call.after} messages\n" if call.status else ""
-    if errors != line.encode():
-        faults.append(f"standard error:\n  expected {line.strip() or 'nothing'}\n"
-                      f"  got      {shown(errors.strip()) or 'nothing'}")
+    last = last_line(errors)
+    if last != line.encode():
+        faults.append(f"the last line of standard error:\n  expected {line.strip() or 'nothing'}\n"
+                      f"  got      {shown(last.strip()) or 'nothing'}")
     if call.status in UNCHANGED_AT or not WRITING & set(call.words):
         if content_of(work / JOURNAL) != before:
             faults.append("the journal has changed")
     if faults:
         raise Difference("\n".join(faults))
+
+
+def last_line(errors):
+    """The line of the status. What comes before it is words for people, and free."""
+    return errors[errors.rfind(b"\n", 0, -1) + 1:]
 
 
 def parts_of(output):

@@ -12,8 +12,8 @@ set -u
 top=$(CDPATH='' cd -- "$(dirname -- "$0")/.." && pwd) || exit 1
 tools=$top/tools
 page=$top/docs/OPERATING.md
-checks=(two-runs closed-streams wrong-words no-blocking size-limit read-only strange-journals removed-journal socket-endings
-    session-endings)
+checks=(two-runs closed-streams wrong-words reasons lower-limit no-blocking size-limit read-only strange-journals removed-journal
+    socket-endings session-endings readers)
 
 if [ $# -lt 1 ] || [ ! -x "$1" ]; then
     echo "check-recipes: usage: docs/check-recipes.sh PROGRAM [ID].." >&2
@@ -159,6 +159,28 @@ look_live() {
     nothing_lost_or_doubled orders
 }
 
+prepare_market() {
+    take_example F
+    "$tools/frames" make --product product.toml >orders <<'END'
+35=D|49=AAA|56=GX|34=1|52=20240102-09:30:00|11=a1|55=ESZ4|54=2|38=10|40=2|44=100.00|59=0|
+35=D|49=BBB|56=GX|34=1|52=20240102-09:30:01|11=b1|55=ESZ4|54=1|38=4|40=2|44=100.00|59=0|
+END
+    mkfifo in
+    "$globex" run <in >sent 2>errors &
+    run=$!
+    exec 3>in
+    cat orders >&3
+    wait_for sent 500
+    cp journal.gxj was
+}
+look_market() {
+    same journal.gxj was
+    exec 3>&-
+    wait $run
+    expect $? 0 'the status of the run'
+    nothing_lost_or_doubled orders
+}
+
 prepare_locked() {
     take_example F
     mkfifo in
@@ -235,7 +257,7 @@ look_amend() {
     done
     (cd former && "$globex" amend 2>err)
     expect $? 13 'the status of amend with the former file'
-    expect "$(cat former/err)" 'globex: status 13 at 3 after 0 messages' 'the line of amend with the former file'
+    expect "$(tail -n 1 former/err)" 'globex: status 13 at 3 after 0 messages' 'the line of amend with the former file'
     same former/journal.gxj was
     # The firm that came later trades.
     echo "35=D|49=EEE|56=GX|34=1|52=20240108-12:00:00|11=e1|55=ESZ4|54=1|38=1|40=2|44=100.00|59=0|" |
@@ -341,7 +363,7 @@ END
 end_opening() {
     "$globex" opening >text 2>err
     expect $? "$1" 'the status of an opening'
-    expect "$(cat err)" "$2" 'the line of an opening'
+    expect "$(tail -n 1 err)" "$2" 'the line of an opening'
     [ "$1" = 0 ] || expect "$(in_bytes text)" 0 'bytes sent by an opening that did not end well'
     same journal.gxj was
 }
@@ -383,7 +405,7 @@ look_levels() {
 end_rebuild() {
     "$globex" rebuild >text 2>err
     expect $? "$1" 'the status of a rebuild'
-    expect "$(cat err)" "$2" 'the line of a rebuild'
+    expect "$(tail -n 1 err)" "$2" 'the line of a rebuild'
     expect "$(in_bytes text)" 0 'bytes sent by a rebuild'
 }
 
@@ -638,12 +660,7 @@ prepare_bad-end() {
     expect $? 10 'the status over a bad end'
 }
 look_bad-end() {
-    local place
     "$tools/journal" messages journal.gxj | cmp - first >&2 || fail 'the journal does not keep the messages before the bad end'
-    mkdir by-hand && cp product.toml by-hand/ && cp damaged.gxj by-hand/journal.gxj
-    place=$(cd by-hand && "$globex" replay 2>&1 >/dev/null | cut -d ' ' -f 5)
-    head -c "$place" damaged.gxj >cut.gxj && printf '\000' >>cut.gxj
-    same cut.gxj journal.gxj
     "$globex" book >/dev/null || fail 'book does not read the journal'
 }
 
@@ -857,7 +874,7 @@ try_closed() {
     esac
     [ "$wanted" = 0 ] || case $closed in
     *2*) ;;
-    *) grep -q "^globex: status $wanted " ../err || fail "$what: no status line" ;;
+    *) tail -n 1 ../err | grep -q "^globex: status $wanted " || fail "$what: no status line" ;;
     esac
     expect "$(ls | grep -vx -e product.toml -e orders -e journal.gxj)" '' "$what: other files"
     [ $said = 0 ] || touch ../failed
@@ -874,6 +891,79 @@ wrong-words() {
     take_example F
     "$globex" steps >/dev/null || fail 'steps does not read the product'
     [ ! -e journal.gxj ] || fail 'steps makes a journal'
+}
+
+# What comes before the status line: the line that is said of a status, by its words.
+says() {
+    local status
+    "$globex" $3 </dev/null >out 2>err
+    status=$?
+    expect $status "$1" "the status of $3"
+    grep -qF -- "$2" err || fail "'$2' is not said of status $1 by $3: $(head -n 1 err)"
+    tail -n 1 err | grep -q "^globex: status $1 at [0-9]* after [0-9]* messages$" || fail "the last line of $3 is no status line"
+}
+
+reasons() {
+    take_example F
+    says 2 'globex checkpoint' nothing
+    says 2 "globex $(sed -n 's/^## \([0-9.]*\),.*/\1/p' "$top/CHANGELOG.md" | head -n 1): " --help
+    mv product.toml right.toml
+    says 4 'product.toml cannot be opened: No such file' steps
+    mkdir product.toml
+    says 4 'a read of product.toml failed: Is a directory' steps
+    rmdir product.toml
+    sed '/^tick/d' right.toml >product.toml
+    says 3 'rule 3, Missing' steps
+    says 3 '`tick` is missing' steps
+    sed 's/^firms = .*/firms = ["AAA", "AAA"]/' right.toml >product.toml
+    says 3 'the name `AAA` stands twice' steps
+    cp right.toml product.toml
+    rm -f journal.gxj
+    mkdir journal.gxj
+    says 5 'journal.gxj cannot be opened: Is a directory' run
+    rmdir journal.gxj
+    ln -s /dev/full journal.gxj
+    says 5 'a sync of journal.gxj failed: Invalid argument' run
+    rm journal.gxj
+    serve
+    printf '\001' | dd of=journal.gxj bs=1 seek=$(($(in_bytes journal.gxj) - 1)) conv=notrunc status=none
+    says 10 'No other process has its lock now.' book
+    exec 4<journal.gxj
+    flock -x 4
+    says 10 'another process has the lock of journal.gxj' book
+    says 5 'another process has the lock of journal.gxj' run
+    exec 4<&-
+    "$globex" run <. >out 2>err
+    [ "$(wc -l <err)" -gt 1 ] || fail 'no reason of a standard input that is a folder'
+}
+
+# The file of before an amendment that raised the limit, put back over a journal that needs the higher one.
+lower-limit() {
+    cp "$top/crates/globex_cli/data/product.toml" product.toml
+    sed -i 's/^firms.*/&\njournal_limit = 131072/' product.toml
+    cp product.toml former.toml
+    sed -i 's/^journal_limit.*/journal_limit = 1000000/' product.toml
+    made 1 1500 >orders
+    cp product.toml next.toml
+    cp former.toml product.toml
+    "$globex" amend || fail 'no first journal'
+    cp next.toml product.toml
+    "$globex" amend || fail 'no amendment'
+    serve
+    "$tools/journal" check --product product.toml journal.gxj >/dev/null || fail 'the journal is not good'
+    cp former.toml product.toml
+    "$globex" book >out 2>err
+    expect $? 10 'the status with the former file'
+    "$tools/journal" check --product product.toml journal.gxj 2>told && fail 'check takes the former file'
+    grep -q '^place [0-9]*: no damage: journal_limit of product.toml is 131,072' told || fail "check says: $(cat told)"
+    expect "$(sed 's/^place \([0-9]*\):.*/\1/' told)" "$(tail -n 1 err | cut -d ' ' -f 5)" 'the place that check tells'
+    "$tools/journal" product journal.gxj >product.toml
+    "$globex" book >/dev/null || fail 'the right file does not help'
+}
+
+# Each command that only reads, 200 times beside a run on a disk, and as often beside one in memory.
+readers() {
+    "$top/docs/check-readers.py" "$globex" || fail 'a reader beside a writer'
 }
 
 # A run over `orders` whose input or output does not block. Prints its status. Of the input the first bytes are there.
@@ -1038,7 +1128,7 @@ session-endings() {
     # A bad record is told before anything is sent, at the place that replay tells.
     head -c $(($(in_bytes journal.gxj) - 20)) journal.gxj >part && mv part journal.gxj
     cp journal.gxj was
-    end_session 10 "$("$globex" replay 2>&1 >/dev/null)" <asked
+    end_session 10 "$("$globex" replay 2>&1 >/dev/null | tail -n 1)" <asked
     expect "$(in_bytes answers)" 0 'bytes sent over a bad record'
 }
 
@@ -1046,7 +1136,7 @@ session-endings() {
 end_session() {
     "$globex" session >answers 2>err
     expect $? "$1" 'the status of a session'
-    expect "$(cat err)" "$2" 'the line of a session'
+    expect "$(tail -n 1 err)" "$2" 'the line of a session'
     same journal.gxj was
 }
 

@@ -1,5 +1,6 @@
 """Tests of `journal`: bytes of docs/FORMATS.md, cuts at each message, images that are dropped, and files that are damaged."""
 
+import fcntl
 import os
 import unittest
 
@@ -409,6 +410,28 @@ class Damaged(InFolder):
             for data in (FULL, b"\x02" + EMPTY[1:]):
                 self.refused(data, place, f"the product text is not that of {other}", "--product", other)
             self.assertEqual(self.over(b"\x00", "check", "--product", other)[0], 0)
+
+    def test_a_product_with_a_lower_limit(self):
+        lower = self.folder / "product.toml"
+        lower.write_bytes(LEAST)
+        records = [messages_record(*[SELL] * 60) for _ in range(40)]
+        data = journal_of(*records)
+        ends = [149 + sum(map(len, records[: number + 1])) + 1 for number in range(len(records))]
+        gate = 149 + sum(map(len, records[: next(number for number, end in enumerate(ends) if end > 131_072)]))
+        why = (f"no damage: journal_limit of {lower} is 131,072, and that of the journal's last text is 16,777,216; put the file of"
+               " that text back")
+        self.refused(data, gate, why, "--product", lower)
+        place = 13 + TEXT.index(b"\n\n") + 1
+        self.refused(journal_of(*records[:10]), place, f"the product text is not that of {lower}", "--product", lower)
+
+    def test_a_bad_journal_that_somebody_writes(self):
+        self.path.write_bytes(FULL[:-5])
+        why = call("journal", "check", self.path)[2].rstrip()
+        with open(self.path, "rb") as file:
+            fcntl.flock(file, fcntl.LOCK_EX)
+            status, _, told = call("journal", "check", self.path)
+        self.assertEqual(status, 1)
+        self.assertEqual(told, f"{why}; another process has the lock of {self.path} and may be writing it, so try again\n")
 
     def test_a_text_that_gives_no_product(self):
         data = FULL.replace(b"exchange", b"exchangf")

@@ -2,63 +2,122 @@
 //! `journal.gxj`.
 #![tactic(auto)]
 
+mod reasons;
+mod rules;
 mod standard;
+mod told;
+mod usage;
 
 use command_words::read_command;
 use globex_run::{Outcome, globex, opens_journal, writes_journal};
 use gx_station::{FileStation, ReadSource, locked};
+use reasons::{Circumstances, Reason, tell};
 use standard::{ClosedStreams, is_standard};
 use std::fs::{File, OpenOptions};
 use std::process::ExitCode;
 use std::rt::{Env, Files};
 use std::{env, io};
+use told::{JournalFile, ToldReader};
+use usage::tell_usage;
+
+/// The status of words that are no command.
+const BAD_WORDS: u8 = 2;
 
 /// The words after the program's name. An `Err` is want of memory, or a word that is not UTF-8.
 fn words(rt: &(impl Env + AllocGlobal)) -> io::Result<Vec<String>> {
     Ok(env::args(rt)?.skip(1).collect(rt.alloc())?)
 }
 
-/// The product's file. None if it cannot be opened, or has the descriptor of a standard stream.
-fn open_product(rt: &HostRuntime) -> Option<File> {
-    let file = File::open(rt, "product.toml").ok()?;
-    if is_standard(&file) {
-        return None;
+/// A file that was opened, unless that failed, or it has the descriptor of a standard stream.
+fn usable(opened: io::Result<File>) -> Result<File, Reason> {
+    match opened {
+        Ok(file) if is_standard(&file) => Err(Reason::StandardStream),
+        Ok(file) => Ok(file),
+        Err(fault) => Err(Reason::System(fault)),
     }
-    Some(file)
 }
 
-/// The journal's file, made empty if it is absent. None if it cannot be opened, or has the descriptor of a standard stream.
-fn open_journal(rt: &HostRuntime) -> Option<File> {
-    let file = OpenOptions::new()
-        .read(true)
-        .write(true)
-        .create(true)
-        .open(rt, "journal.gxj")
-        .ok()?;
-    if is_standard(&file) {
-        return None;
-    }
-    Some(file)
+/// The product's file.
+fn open_product(rt: &HostRuntime) -> Result<File, Reason> {
+    usable(File::open(rt, "product.toml"))
 }
 
-/// The journal's file for the command of the words. A command that writes it has its exclusive lock until the program ends, or no
-/// file if another process has the lock. Words that open no journal make no file.
-fn journal_for(rt: &HostRuntime, words: &[String]) -> Option<File> {
-    let command = read_command(rt.alloc(), words).ok()?;
-    if writes_journal(command) {
-        return locked(open_journal(rt)?);
-    }
-    if opens_journal(command) {
-        return open_journal(rt);
-    }
-    None
+/// The journal's file, made empty if it is absent.
+fn open_journal(rt: &HostRuntime) -> Result<File, Reason> {
+    let mut options = OpenOptions::new();
+    options.read(true).write(true).create(true);
+    usable(options.open(rt, "journal.gxj"))
 }
 
-/// Runs the command of the words. A file that cannot be opened is answered by the first call that needs it.
+/// The journal's file with its exclusive lock, which it has until the program ends.
+fn open_locked(rt: &HostRuntime) -> Result<JournalFile<'_>, Reason> {
+    let file = JournalFile::new(rt, open_journal(rt)?);
+    locked(file).ok_or(Reason::NoLock)
+}
+
+/// What a command does with the journal's file.
+#[derive(Clone, Copy, PartialEq, Eq)]
+enum JournalUse {
+    /// It opens none.
+    Nothing,
+    Reads,
+    Writes,
+}
+
+/// What the command of the words does with the journal's file. Words that are no command open none.
+fn journal_use(rt: &HostRuntime, words: &[String]) -> JournalUse {
+    match read_command(rt.alloc(), words) {
+        Ok(command) if writes_journal(command) => JournalUse::Writes,
+        Ok(command) if opens_journal(command) => JournalUse::Reads,
+        _ => JournalUse::Nothing,
+    }
+}
+
+/// The journal's file for a command, and why it is not open. A command that opens none makes no file.
+fn journal_for(rt: &HostRuntime, command: JournalUse) -> (Option<JournalFile<'_>>, Option<Reason>) {
+    match command {
+        JournalUse::Nothing => (None, None),
+        JournalUse::Reads => apart(open_journal(rt).map(|file| JournalFile::new(rt, file))),
+        JournalUse::Writes => apart(open_locked(rt)),
+    }
+}
+
+/// The value, and the reason why there is none.
+fn apart<T>(answer: Result<T, Reason>) -> (Option<T>, Option<Reason>) {
+    match answer {
+        Ok(value) => (Some(value), None),
+        Err(reason) => (None, Some(reason)),
+    }
+}
+
+/// Runs the command of the words, and says why it ended early. A file that cannot be opened is answered by the first call that
+/// needs it.
 fn run(rt: &HostRuntime, words: &[String]) -> Outcome {
-    let mut product = ReadSource::new(open_product(rt));
-    let mut input = ReadSource::new(Some(rt.stdin()));
-    let mut station = FileStation::new(journal_for(rt, words), rt.stdout());
+    let command = journal_use(rt, words);
+    let (product_file, product) = apart(open_product(rt));
+    let (journal_file, journal) = journal_for(rt, command);
+    let known = Circumstances {
+        product,
+        journal,
+        had_lock: command == JournalUse::Writes,
+    };
+    let outcome = serve(rt, words, product_file, journal_file);
+    tell(rt, &outcome, &known);
+    outcome
+}
+
+/// Runs the command of the words over the product's file and the journal's.
+fn serve<'a>(
+    rt: &'a HostRuntime,
+    words: &[String],
+    product: Option<File>,
+    journal: Option<JournalFile<'a>>,
+) -> Outcome {
+    let product = product.map(|file| ToldReader::new(rt, "a read of product.toml failed", file));
+    let input = ToldReader::new(rt, "a read of standard input failed", rt.stdin());
+    let mut product = ReadSource::new(product);
+    let mut input = ReadSource::new(Some(input));
+    let mut station = FileStation::new(journal, rt.stdout());
     globex(rt.alloc(), words, &mut product, &mut input, &mut station)
 }
 
@@ -67,7 +126,7 @@ fn without_words(fault: &io::Error) -> Outcome {
     let status = if fault.kind() == io::ErrorKind::OutOfMemory {
         1
     } else {
-        2
+        BAD_WORDS
     };
     Outcome {
         status,
@@ -76,11 +135,20 @@ fn without_words(fault: &io::Error) -> Outcome {
     }
 }
 
+/// Says what the words may be, if they are at fault.
+fn end_without_words(rt: &HostRuntime, fault: &io::Error) -> Outcome {
+    let outcome = without_words(fault);
+    if outcome.status == BAD_WORDS {
+        tell_usage(rt);
+    }
+    outcome
+}
+
 fn main(rt: HostRuntime) -> ExitCode {
     let _closed = ClosedStreams::take(&rt);
     let outcome = match words(&rt) {
         Ok(words) => run(&rt, words.as_slice()),
-        Err(fault) => without_words(&fault),
+        Err(fault) => end_without_words(&rt, &fault),
     };
     let Outcome {
         status,
