@@ -17,7 +17,7 @@ use std::fs::{File, OpenOptions};
 use std::process::ExitCode;
 use std::rt::{Env, Files};
 use std::{env, io};
-use told::{JournalFile, ToldReader};
+use told::{ToldFile, ToldStream};
 use usage::tell_usage;
 
 /// The status of words that are no command.
@@ -50,8 +50,8 @@ fn open_journal(rt: &HostRuntime) -> Result<File, Reason> {
 }
 
 /// The journal's file with its exclusive lock, which it has until the program ends.
-fn open_locked(rt: &HostRuntime) -> Result<JournalFile<'_>, Reason> {
-    let file = JournalFile::new(rt, open_journal(rt)?);
+fn open_locked(rt: &HostRuntime) -> Result<ToldFile<'_, File>, Reason> {
+    let file = ToldFile::new(rt, open_journal(rt)?);
     locked(file).ok_or(Reason::NoLock)
 }
 
@@ -74,10 +74,13 @@ fn journal_use(rt: &HostRuntime, words: &[String]) -> JournalUse {
 }
 
 /// The journal's file for a command, and why it is not open. A command that opens none makes no file.
-fn journal_for(rt: &HostRuntime, command: JournalUse) -> (Option<JournalFile<'_>>, Option<Reason>) {
+fn journal_for(
+    rt: &HostRuntime,
+    command: JournalUse,
+) -> (Option<ToldFile<'_, File>>, Option<Reason>) {
     match command {
         JournalUse::Nothing => (None, None),
-        JournalUse::Reads => apart(open_journal(rt).map(|file| JournalFile::new(rt, file))),
+        JournalUse::Reads => apart(open_journal(rt).map(|file| ToldFile::new(rt, file))),
         JournalUse::Writes => apart(open_locked(rt)),
     }
 }
@@ -111,10 +114,10 @@ fn serve<'a>(
     rt: &'a HostRuntime,
     words: &[String],
     product: Option<File>,
-    journal: Option<JournalFile<'a>>,
+    journal: Option<ToldFile<'a, File>>,
 ) -> Outcome {
-    let product = product.map(|file| ToldReader::new(rt, "a read of product.toml failed", file));
-    let input = ToldReader::new(rt, "a read of standard input failed", rt.stdin());
+    let product = product.map(|file| ToldStream::new(rt, "a read of product.toml failed", file));
+    let input = ToldStream::new(rt, "a read of standard input failed", rt.stdin());
     let mut product = ReadSource::new(product);
     let mut input = ReadSource::new(Some(input));
     let mut station = FileStation::new(journal, rt.stdout());

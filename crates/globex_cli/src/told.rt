@@ -1,12 +1,11 @@
 //! Files and streams that say on standard error why a call of them failed.
-ghost use Rattle.std.specs.Prelude.{◌≡◌, None};
+ghost use Rattle.std.specs.Prelude.{◌≡◌};
 
 use gx_station::{ImageFile, InputStream};
-use std::fs::File;
 use std::io;
 use std::io::ErrorKind;
 
-/// Says why a call on a file or a stream failed, if it did.
+/// Says why a call failed, if it did. A call that was interrupted is made again, so nothing is said of it.
 fn told<T>(rt: &HostRuntime, what: &str, answer: io::Result<T>) -> io::Result<T>
     ensures { result ≡ answer }
 {
@@ -18,27 +17,27 @@ fn told<T>(rt: &HostRuntime, what: &str, answer: io::Result<T>) -> io::Result<T>
     answer
 }
 
-/// The journal's file.
+/// A file that says why a call of it failed.
 #[derive(Drop)]
-pub struct JournalFile<'a> {
+pub struct ToldFile<'a, F> {
     rt: &'a HostRuntime,
-    file: File,
+    file: F,
 }
 
-impl<'a> JournalFile<'a> {
-    pub fn new(rt: &'a HostRuntime, file: File) -> JournalFile<'a> {
-        JournalFile { rt, file }
+impl<'a, F> ToldFile<'a, F> {
+    pub fn new(rt: &'a HostRuntime, file: F) -> ToldFile<'a, F> {
+        ToldFile { rt, file }
     }
 }
 
-/// As the real file, by one call of it each. A failed call is told. A lock that is refused is told by who asked for it.
-impl<'a> ImageFile for JournalFile<'a> {
+/// As the file does. A lock that is refused is told by who asked for it.
+impl<'a, F: ImageFile> ImageFile for ToldFile<'a, F> {
     ghost meanings = { record {
-      measured = λ old new answer. new ≡ old;
-      read = λ old new at into ok. new ≡ old;
-      wrote = λ old new at bytes ok. new ≡ old;
-      synced = λ old new ok. new ≡ old;
-      locked = λ old new ok. new ≡ old;
+      measured = λ old new answer. F.meanings.measured old.file new.file answer;
+      read = λ old new at into ok. F.meanings.read old.file new.file at into ok;
+      wrote = λ old new at bytes ok. F.meanings.wrote old.file new.file at bytes ok;
+      synced = λ old new ok. F.meanings.synced old.file new.file ok;
+      locked = λ old new ok. F.meanings.locked old.file new.file ok;
     } };
 
     fn length(&mut self) -> io::Result<u64> {
@@ -70,25 +69,28 @@ impl<'a> ImageFile for JournalFile<'a> {
     }
 }
 
-/// A stream that is read, with what to say if that fails.
+/// A stream that says why a read of it failed.
 #[derive(Drop)]
-pub struct ToldReader<'a, R> {
+pub struct ToldStream<'a, I> {
     rt: &'a HostRuntime,
     what: &'static str,
-    reader: R,
+    stream: I,
 }
 
-impl<'a, R: InputStream> ToldReader<'a, R> {
-    pub fn new(rt: &'a HostRuntime, what: &'static str, reader: R) -> ToldReader<'a, R> {
-        ToldReader { rt, what, reader }
+impl<'a, I> ToldStream<'a, I> {
+    pub fn new(rt: &'a HostRuntime, what: &'static str, stream: I) -> ToldStream<'a, I> {
+        ToldStream { rt, what, stream }
     }
 }
 
-/// As the reader, by one read of it. A failed read is told.
-impl<'a, R: InputStream> InputStream for ToldReader<'a, R> {
-    ghost meanings = { record { left = λ _. None; read = λ _ _ _ _. Unit {0} } };
+/// As the stream does.
+impl<'a, I: InputStream> InputStream for ToldStream<'a, I> {
+    ghost meanings = { record {
+      left = λ s. I.meanings.left s.stream;
+      read = λ old new into answer. I.meanings.read old.stream new.stream into answer;
+    } };
 
     fn read_once(&mut self, into: &mut [u8]) -> io::Result<usize> {
-        told(self.rt, self.what, self.reader.read_once(into))
+        told(self.rt, self.what, self.stream.read_once(into))
     }
 }
