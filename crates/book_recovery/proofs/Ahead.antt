@@ -11,6 +11,7 @@ use Rattle.match_journal.specs.Causes.{LooksOnly}
 use Rattle.match_journal.specs.Journal.{Header, Record, journal_front, open_record}
 use Rattle.match_journal.specs.Walking.{IsNext}
 use Rattle.match_journal.specs.declared.entry.Entry.{Entry}
+use Rattle.match_journal.proofs.Records.{length-record}
 use Rattle.match_journal.proofs.Walked.{front-split}
 use Rattle.match_journal.specs.LookLaws.{keeps_itself, none_read, reads_more, looks_by, looks_more}
 use Rattle.book_recovery.specs.Inner.Ahead.{front, IsAhead, GoesAhead}
@@ -122,3 +123,16 @@ next_inside head image before after gate last entry next is =
 -- and where none is left, it is met
 pub none_inside : (head : Header) (before after : List Record) (last : ℕ) → after ≡ [] → last ≡ length (journal_front head (before ++ after)) → last ≡ length (journal_front head before)
 none_inside head before after last none is = is ∙ ap (λ (l : List Record). length (journal_front head (before ++ l))) none ∙ ap (λ (l : List Record). length (journal_front head l)) (append-nil before)
+
+-- none is left there
+pub none_more : (head : Header) (before after : List Record) → length (journal_front head before) ≡ length (journal_front head (before ++ after)) → after ≡ []
+none_more head before [] is = refl
+none_more head before (r ∷ more) is =
+    absurd (omega (
+      arith,
+      is,
+      ap length (front-split head before (r ∷ more)),
+      length-append (journal_front head before) (flat_map open_record (r ∷ more)),
+      length-append (open_record r) (flat_map open_record more),
+      length-record r,
+    ))

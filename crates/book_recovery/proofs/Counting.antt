@@ -1,8 +1,11 @@
 -- Going over the heads of all records.
-use Rattle.std.proofs.Common.{◌≡◌, ◌≢◌, ℕ, ◌+◌, List, [], ◌∷◌, ◌++◌, length, get_or, true, false, Option, Some, None, Ok, Err, refl, sym, subst, ◌∙◌, ap, arith, length-append}
+use Rattle.std.proofs.Common.{◌≡◌, ◌≢◌, ◌⊎◌, ⊎_elim, ℕ, ◌+◌, List, [], ◌∷◌, ◌++◌, length, get_or, Bool, true, false, Option, Some, None, Result, Ok, Err, refl, sym, subst, ◌∙◌, ap, arith, length-append}
 use Rattle.std.specs.Option.{option_or}
 use Rattle.match_journal.specs.Journal.{Record, journal_front, Header}
+use Rattle.match_journal.specs.Opening.{StandsIn}
+use Rattle.match_journal.specs.Standing.{moved}
 use Rattle.match_journal.specs.Walking.{IsHead, IsBadHead, Walks}
+use Rattle.match_journal.specs.declared.standing.Standing.{Standing}
 use Rattle.match_journal.specs.declared.entry.Entry.{Entry}
 use Rattle.match_journal.specs.declared.entry.EntryKind.{EntryKind}
 use Rattle.match_journal.specs.declared.entry.EntryKind.TheVariants.{Frames, OldImage, Image, Amendment}
@@ -11,8 +14,11 @@ use Rattle.match_journal.specs.declared.faults.WalkFault.TheVariants as walk
 use Rattle.book_recovery.specs.Records.{is_image_kind, is_image, before_last_image, image_gate}
 use Rattle.match_journal.specs.BadRecords.{BeginsWithRecords, HasBadHeadAt}
 use Rattle.match_journal.proofs.Heads.{length-first, length-push, record_there, payload_size, begins_more, begins_closed}
-use Rattle.book_recovery.specs.Inner.Counting.{with_head_of, with_head, AreRecords}
+use Rattle.book_recovery.specs.Inner.Counting.{with_head_of, with_head, AreRecords, Counts}
 use Rattle.book_recovery.specs.declared.recovery.Heads.{Heads}
+use Rattle.book_recovery.specs.declared.recovery.RecoverFault.{RecoverFault}
+use Rattle.book_recovery.specs.declared.recovery.RecoverFault.TheVariants as fault
+use Rattle.book_recovery.proofs.Standings.{stands_moved}
 use Rattle.book_recovery.proofs.LastImages.{before-image-more, gate-image-more, before-frames-more, gate-frames-more}
 
 -- The second pass begins with the head of the last image, or else with the first head; where there is none yet, no record was met.
@@ -131,3 +137,20 @@ gate_found image limit gate found is walks = subst (λ (o : Option Entry). Walks
 
 pub bad_found : (image : List ℕ) (limit gate : ℕ) (why : WalkFault) (place : ℕ) → why ≡ walk.Bad place → Walks image limit gate (Err why) → IsBadHead image limit gate place
 bad_found image limit gate why place is walks = subst (λ (e : WalkFault). Walks image limit gate (Err e)) is walks
+
+-- what is told of the gate after some records holds at the gate that was come to
+pub walks_there : (head : Header) (image : List ℕ) (s x : Standing) (gate : ℕ) (ends : Bool) (heads : Heads) (r : Result (Option Entry) WalkFault) → x ≡ moved s gate ends → StandsIn s image → s.first ≡ 13 + length head.text
+    → IsCounting head s.limit image x.gate heads
+    → ((before : List Record) → StandsIn x image → x.first ≡ 13 + length head.text → BeginsWithRecords head x.limit before image → x.gate ≡ length (journal_front head before) → Walks image x.limit x.gate r)
+    → Walks image x.limit x.gate r
+walks_there head image s x gate ends heads r same known first at walks =
+    walks at.before (stands_moved s x gate ends image same known) (ap (λ (t : Standing). t.first) same ∙ first)
+    (subst (λ (k : ℕ). BeginsWithRecords head k at.before image) (sym (ap (λ (t : Standing). t.limit) same)) at.begins) at.gate_is
+
+-- what a bad head is told as
+pub bad_counts : (head : Header) (limit : ℕ) (image : List ℕ) (gate at : ℕ) (why : RecoverFault) → (why ≡ fault.Store) ⊎ (why ≡ fault.Bad at) → HasBadHeadAt head limit image at → Counts head limit image gate (Err why)
+bad_counts head limit image gate at why told bad =
+    ⊎_elim
+    (λ store. subst (λ (e : RecoverFault). Counts head limit image gate (Err e)) (sym store) tt)
+    (λ is. subst (λ (e : RecoverFault). Counts head limit image gate (Err e)) (sym is) bad)
+    told

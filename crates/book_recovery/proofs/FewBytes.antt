@@ -2,9 +2,9 @@
 use Rattle.std.proofs.Common.{◌≡◌, ℕ, ◌+◌, ◌-◌, ◌*◌, ◌≤◌, List, length, Option, Some, None, Ok, subst, ◌∙◌, ap, arith, length-append}
 use Rattle.std.specs.List.{flat_map}
 use Rattle.gx_station.specs.Stations.{StationMeanings}
-use Rattle.match_journal.specs.Causes.{ReadsAtMost, LooksOnly}
+use Rattle.match_journal.specs.Causes.{ReadsAtMost, ReadsOnly, LooksOnly}
 use Rattle.match_journal.specs.Journal.{IsJournal, Record, journal_front, open_record, Header}
-use Rattle.match_journal.specs.LookLaws.{reads_then, reads_more}
+use Rattle.match_journal.specs.LookLaws.{looks_by, looks_then, reads_of, reads_then, reads_more}
 use Rattle.match_journal.specs.Walking.{Walks}
 use Rattle.match_journal.specs.declared.entry.Entry.{Entry}
 use Rattle.match_journal.specs.declared.standing.Standing.{Standing}
@@ -25,6 +25,22 @@ pub heads_read : {S : Type 0} (m : StationMeanings S) (head : Header) (image : L
 heads_read m head image limit gate records heads a b c journal at first second =
     reads_more (6 * heads.entries + 6) (6 * (length records + 1)) (m.bytes_read a) (m.bytes_read c) (omega (arith, at.count_is, no_more_heads head limit records at.before image journal at.begins))
     (reads_then (6 * heads.entries) 6 (m.bytes_read a) (m.bytes_read b) (m.bytes_read c) first.bytes_read second.bytes_read)
+
+-- and no more where the image is measured then
+pub ended_read : {S : Type 0} (m : StationMeanings S) (head : Header) (image : List ℕ) (limit gate : ℕ) (records : List Record) (heads : Heads) (a b c d : S) → IsJournal head limit records image → IsCounting head limit image gate heads
+    → LooksOnly m a b (6 * heads.entries) → LooksOnly m b c 6 → LooksOnly m c d 0 → ReadsAtMost (6 * (length records + 1)) (m.bytes_read a) (m.bytes_read d)
+ended_read m head image limit gate records heads a b c d journal at first second third =
+    reads_more (6 * (length records + 1) + 0) (6 * (length records + 1)) (m.bytes_read a) (m.bytes_read d) (omega arith)
+    (reads_then (6 * (length records + 1)) 0 (m.bytes_read a) (m.bytes_read c) (m.bytes_read d) (heads_read m head image limit gate records heads a b c journal at first second) third.bytes_read)
+
+pub ended_looks : {S : Type 0} (m : StationMeanings S) (entries : ℕ) (a b c d : S) → LooksOnly m a b (6 * entries) → LooksOnly m b c 6 → LooksOnly m c d 0 → LooksOnly m a d (6 * (entries + 1))
+ended_looks m entries a b c d first second third = looks_by m a c d (6 * entries + 6) 0 (6 * (entries + 1)) (looks_then m a b c (6 * entries) 6 first second) third (omega arith)
+
+pub ended_bytes : {S : Type 0} (m : StationMeanings S) (entries : ℕ) (a b c d : S) → LooksOnly m a b (6 * entries) → LooksOnly m b c 6 → LooksOnly m c d 0 → ReadsAtMost (6 * (entries + 1)) (m.bytes_read a) (m.bytes_read d)
+ended_bytes m entries a b c d first second third = (ended_looks m entries a b c d first second third).bytes_read
+
+pub ended_reads : {S : Type 0} (m : StationMeanings S) (most : ℕ) (a b c d : S) → LooksOnly m a b most → LooksOnly m b c 6 → LooksOnly m c d 0 → ReadsOnly m a d
+ended_reads m most a b c d first second third = reads_of m a c d (most + 6) 0 (looks_then m a b c most 6 first second) third
 
 -- ---- the second pass: between its first gate and the last one
 

@@ -33,3 +33,4 @@ mod LastAmendments
 mod AmendmentFronts
 mod KeepingAll
 mod EarlierProducts
+mod Added

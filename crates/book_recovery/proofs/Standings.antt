@@ -1,5 +1,5 @@
 -- A journal that has moved, and moves again.
-use Rattle.std.proofs.Common.{◌≡◌, ℕ, ◌+◌, List, length, Bool, false, Option, Some, None, Ok, not, sym, ◌∙◌, ap, ap₂, subst}
+use Rattle.std.proofs.Common.{◌≡◌, ℕ, ◌+◌, List, length, Bool, false, Option, Some, None, Ok, Err, not, sym, ◌∙◌, ap, ap₂, subst}
 use Rattle.std.specs.Prelude.{IfSome}
 use Rattle.match_journal.specs.Journal.{Header}
 use Rattle.match_journal.specs.HeaderLaws.{one_header}
@@ -8,6 +8,7 @@ use Rattle.match_journal.specs.Opening.{StandsIn}
 use Rattle.match_journal.specs.Standing.{moved}
 use Rattle.match_journal.specs.Walking.{stands_then}
 use Rattle.match_journal.specs.declared.entry.Entry.{Entry}
+use Rattle.match_journal.specs.declared.faults.WalkFault.{WalkFault}
 use Rattle.match_journal.specs.declared.standing.Standing.{Standing}
 
 pub moved_itself : (s x : Standing) (gate : ℕ) (ends : Bool) → x ≡ moved s gate ends → x ≡ moved s x.gate x.is_at_end
@@ -44,3 +45,7 @@ none_moved x y found is then = subst (λ (o : Option Entry). y ≡ stands_then x
 -- what holds of the entry that was found
 pub entry_found : (P : Entry → Type 0) (found : Option Entry) (entry : Entry) → found ≡ Some entry → IfSome found P → P entry
 entry_found P found entry is told = subst (λ (o : Option Entry). IfSome o P) is told
+
+-- a walk that was ended at the gate that was come to
+pub ended : (x y z : Standing) (ends : Bool) (why : WalkFault) → y ≡ stands_then x (Err why) → z ≡ moved y y.gate ends → z ≡ moved x x.gate ends
+ended x y z ends why stays is = is ∙ ap (λ (t : Standing). moved t t.gate ends) stays

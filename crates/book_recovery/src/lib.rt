@@ -4,6 +4,7 @@
 mod applying;
 mod contents;
 mod image;
+mod known;
 mod laws;
 mod next_ahead;
 mod products;

@@ -19,7 +19,8 @@ pub(crate) struct LastGate {
 }
 
 /// Passes the next record by as `Journal::next_entry` does, whose head is read ahead. A record that ends after the last gate is `Bad`,
-/// and so is a closed gate before it: only a store that gives other bytes than before has them.
+/// and so is a closed gate before it: only a store that gives other bytes than before has them. A walk of a shared journal ends at the last
+/// gate, also if it is open.
 pub(crate) fn next_ahead<S: Station>(
     station: &mut S,
     journal: &mut Journal,
@@ -45,6 +46,11 @@ pub(crate) fn next_ahead<S: Station>(
         → last.gate ≡ length (journal_front head (before ++ after)) → InOrder head image before after journal.new.gate result }
 {
     let gate = journal.end();
+    // The pass over the heads ended at the last gate. A record that another process adds there later is not met.
+    if gate == last.gate && journal.is_shared() {
+        journal.stop_at(gate);
+        return Ok(None);
+    }
     let count = journal.head_len();
     let mut head = [0; HEAD];
     if ahead

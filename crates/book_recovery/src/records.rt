@@ -17,6 +17,7 @@ ghost use Rattle.book_recovery.specs.Products.{all_products, IsReadTo, ReadsReco
 ghost use Rattle.book_recovery.specs.Recovering.{HasRoomFor};
 
 use crate::contents::{Met, read_record};
+use crate::known::next_known;
 use crate::products::Products;
 use crate::recovery::RecoverFault;
 use crate::scratch::Scratch;
@@ -73,7 +74,8 @@ fn clear_spare<B: Book>(spare: &mut Core<B>, _product: &Product, kind: EntryKind
 /// given: those of a book image are none, and an amendment has none. `Ok(None)` comes exactly at a closed gate. `Bad` comes exactly if the
 /// record is bad, with its gate: it is not whole frames, or brings the count to 2^24 or more; or it has an image that is not right under
 /// its product. `Store` comes only if the count of store faults rose. The spare core is new, and new again then. Nothing is written,
-/// synced or sent.
+/// synced or sent. In a shared journal `Ok(None)` comes also before a record that another process has added since the opening, if its
+/// head is bad by what the journal knows, or it is an amendment.
 pub fn next_record<S: Station, B: Book>(
     station: &mut S,
     journal: &mut Journal,
@@ -103,7 +105,7 @@ pub fn next_record<S: Station, B: Book>(
         → IsReadTo head journal.old.limit image (all_products products.now) records before passed → journal.old.gate ≡ length (journal_front head before)
         → ReadsRecord head journal.old.limit image (all_products products.now) records before passed.product journal.new.gate scratch.new.framer.given result }
 {
-    let entry = match journal.next_entry(station) {
+    let entry = match next_known(station, journal) {
         Ok(Some(entry)) => entry,
         Ok(None) => return Ok(None),
         Err(WalkFault::Store) => return Err(RecoverFault::Store),

@@ -16,6 +16,7 @@ ghost use Rattle.book_recovery.specs.Recovering.{ChecksHeads, HasRoomFor, first_
 ghost use Rattle.book_recovery.specs.Inner.Starting.{BeginsAt};
 ghost use Rattle.book_recovery.specs.Inner.Counting.{Counts};
 
+use crate::known::{end_at_bad, next_met};
 use crate::replay::replay_records;
 use crate::scratch::Scratch;
 use gx_station::Station;
@@ -73,7 +74,8 @@ impl Heads {
     }
 }
 
-/// Goes over the heads of all records, from the first on. `Ok` leaves the journal at its end.
+/// Goes over the heads of all records, from the first on. `Ok` leaves the journal at its end. A shared journal ends before a record that
+/// another process has added since the opening, if its head is bad and the image has grown, or it is an amendment.
 pub(crate) fn read_heads<S: Station>(
     station: &mut S,
     journal: &mut Journal,
@@ -86,7 +88,7 @@ pub(crate) fn read_heads<S: Station>(
     ensures few_bytes { (head : Header) (image : List ℕ) (records : List Record) → S.meanings.holds station.old ≡ Some image → StandsIn journal.old image
         → IsJournal head journal.old.limit records image → journal.old.first ≡ 13 + length head.text
         → ReadsAtMost (6 * (length records + 1)) (S.meanings.bytes_read station.old) (S.meanings.bytes_read station.new) }
-    ensures reach { S.meanings.reach station.new ≡ S.meanings.reach station.old }
+    ensures reach { S.meanings.reach station.old ≤ S.meanings.reach station.new }
     ensures store { IsErrOf result RecoverFault.Store → Rose (S.meanings.store_faults station.old) (S.meanings.store_faults station.new) }
     ensures none { (IsErrOf result RecoverFault.Store → ⊥) → S.meanings.store_faults station.new ≡ S.meanings.store_faults station.old }
     ensures stands { IsStanding journal.new }
@@ -104,24 +106,30 @@ pub(crate) fn read_heads<S: Station>(
         start: None,
     };
     'heads: loop {
-        match journal.next_entry(station) {
+        match next_met(station, journal) {
             Ok(Some(entry)) => heads.pass(entry),
             Ok(None) => return Ok(heads),
             Err(WalkFault::Store) => return Err(RecoverFault::Store),
-            Err(WalkFault::Bad(at)) => return Err(RecoverFault::Bad(at)),
+            Err(WalkFault::Bad(at)) => {
+                return match end_at_bad(station, journal, at) {
+                    Ok(()) => Ok(heads),
+                    Err(fault) => Err(fault),
+                };
+            }
         }
     }
 }
 
 /// Goes over the heads of all records, wherever the journal stands. `Bad` comes exactly if a head is bad, with the gate of the first record
 /// that has one, and `Store` only if the count of store faults rose. `Ok` leaves the journal at its end. Nothing is written, synced or
-/// sent.
+/// sent. A shared journal ends before a record that another process has added since the opening, if its head is bad by what the journal
+/// knows and the image has grown, or it is an amendment.
 pub fn check_heads<S: Station>(station: &mut S, journal: &mut Journal) -> Result<(), RecoverFault>
     requires reach { journal.old.known ≤ S.meanings.reach station.old }
     requires not_lost { journal.old.is_lost ≡ false }
     requires in_limit { journal.old.first < journal.old.limit }
     ensures reads { ReadsOnly S.meanings station.old station.new }
-    ensures reach { S.meanings.reach station.new ≡ S.meanings.reach station.old }
+    ensures reach { S.meanings.reach station.old ≤ S.meanings.reach station.new }
     ensures store { IsErrOf result RecoverFault.Store → Rose (S.meanings.store_faults station.old) (S.meanings.store_faults station.new) }
     ensures none { (IsErrOf result RecoverFault.Store → ⊥) → S.meanings.store_faults station.new ≡ S.meanings.store_faults station.old }
     ensures stands { IsStanding journal.new }
@@ -145,6 +153,8 @@ pub fn check_heads<S: Station>(station: &mut S, journal: &mut Journal) -> Result
 ///
 /// A right book image is believed, and no record before it is read. Where none of those is bad, and each image is that of the state
 /// there, as `checkpoint` writes it, the core is as if all messages had been applied, each under the product of its time.
+///
+/// A shared journal ends where `check_heads` ends it, and no record is applied that another process adds after that.
 pub fn recover<S: Station, B: Book>(
     station: &mut S,
     journal: &mut Journal,

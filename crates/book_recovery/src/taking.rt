@@ -15,6 +15,7 @@ ghost use Rattle.book_recovery.specs.Inner.Keeping.{IsSplit, KeepsProduct, Keeps
 ghost use Rattle.book_recovery.specs.Inner.Replays.{payload_at};
 
 use crate::contents::text_in;
+use crate::known::next_known;
 use crate::products::{NoProducts, Products};
 use crate::records::is_amendment;
 use crate::recovery::{RecoverFault, read_heads};
@@ -126,7 +127,8 @@ fn keep_amended<S: Station>(
     }
 }
 
-/// Keeps the products of the amendments from the first record on, but for the last one, whose gate is known.
+/// Keeps the products of the amendments from the first record on, but for the last one, whose gate is known. In a shared journal no
+/// record is met that another process has added since the opening, if its head is bad by what the journal knows, or it is an amendment.
 fn keep_all_amended<S: Station>(
     alloc: Global,
     station: &mut S,
@@ -151,7 +153,7 @@ fn keep_all_amended<S: Station>(
         → AreProducts head [] earlier.old.items → KeepsAll head journal.old.limit image split.front earlier.new.items result }
 {
     'records: loop {
-        match journal.next_entry(station) {
+        match next_known(station, journal) {
             Ok(Some(entry)) => {
                 if is_amendment(entry.kind) && entry.at != last_at {
                     keep_amended(alloc, station, journal, payload, earlier, &entry)?;
@@ -179,7 +181,7 @@ fn read_earlier<S: Station>(
     requires not_lost { journal.old.is_lost ≡ false }
     requires none_yet { earlier.old.items ≡ [] }
     ensures reads { ReadsOnly S.meanings station.old station.new }
-    ensures reach { S.meanings.reach station.new ≡ S.meanings.reach station.old }
+    ensures reach { S.meanings.reach station.old ≤ S.meanings.reach station.new }
     ensures store { IsErrOf result NoProducts.Store → Rose (S.meanings.store_faults station.old) (S.meanings.store_faults station.new) }
     ensures none { (IsErrOf result NoProducts.Store → ⊥) → S.meanings.store_faults station.new ≡ S.meanings.store_faults station.old }
     ensures stands { IsStanding journal.new }
@@ -217,7 +219,7 @@ fn read_earlier<S: Station>(
 /// `Store` comes only if the count of store faults rose, and `NoMemory` only if there is an amendment. `Bad` comes exactly if a head or a
 /// text is bad: at the gate of the first record with a bad head; else at 9 if the header's text gives no product; else at the gate of the
 /// first amendment whose text is longer than a product text may be, does not end in its payload, or gives no product, or one that may not
-/// follow the one before. Nothing is written, synced or sent.
+/// follow the one before. Nothing is written, synced or sent. A shared journal ends where `check_heads` ends it.
 pub fn read_products<'a, S: Station>(
     alloc: Global,
     station: &mut S,
@@ -230,7 +232,7 @@ pub fn read_products<'a, S: Station>(
     requires in_limit { journal.old.first < journal.old.limit }
     requires not_lost { journal.old.is_lost ≡ false }
     ensures reads { ReadsOnly S.meanings station.old station.new }
-    ensures reach { S.meanings.reach station.new ≡ S.meanings.reach station.old }
+    ensures reach { S.meanings.reach station.old ≤ S.meanings.reach station.new }
     ensures store { IsErrOf result NoProducts.Store → Rose (S.meanings.store_faults station.old) (S.meanings.store_faults station.new) }
     ensures none { (IsErrOf result NoProducts.Store → ⊥) → S.meanings.store_faults station.new ≡ S.meanings.store_faults station.old }
     ensures stands { IsStanding journal.new }

@@ -1,4 +1,5 @@
 //! Journals in memory, made byte by byte.
+mod growing;
 mod openings;
 
 use gx_station::MemStation;

@@ -69,16 +69,16 @@ returns-in-Err-clause-spare g c = c.in-Err.ensures.unread refl ∙ c.requires.sp
 pub returns-in-Ok-clause-reads : goal.returns-in-Ok-clause-reads
 returns-in-Ok-clause-reads g c =
     let m = g.S.Station.meanings in
-    reads_look m _ _ _ c.in-Ok-Some.entry.length (reads_look m _ _ _ 6 (reads_itself m c.args.station.now) c.next_entry.ensures.looks) c.read_record.ensures.looks
+    reads_look m _ _ _ c.in-Ok-Some.entry.length (reads_look m _ _ _ 6 (reads_itself m c.args.station.now) c.next_known.ensures.looks) c.read_record.ensures.looks
 
 pub returns-in-Err-clause-reads : goal.returns-in-Err-clause-reads
 returns-in-Err-clause-reads g c =
     let m = g.S.Station.meanings in
-    reads_look m _ _ _ c.in-Ok-Some.entry.length (reads_look m _ _ _ 6 (reads_itself m c.args.station.now) c.next_entry.ensures.looks) c.read_record.ensures.looks
+    reads_look m _ _ _ c.in-Ok-Some.entry.length (reads_look m _ _ _ 6 (reads_itself m c.args.station.now) c.next_known.ensures.looks) c.read_record.ensures.looks
 
 pub returns-in-Ok-clause-rises : goal.returns-in-Ok-clause-rises
 returns-in-Ok-clause-rises g c =
-    let step = c.read_record.ensures.stays ∙ some_moved c.args.journal.now c.next_entry.new.self c.in-Ok-Some.field-0 c.in-Ok-Some.entry c.in-Ok-Some.field-0-is c.in-Ok-Some.ensures.moves in
+    let step = c.read_record.ensures.stays ∙ some_moved c.args.journal.now c.next_known.new.journal c.in-Ok-Some.field-0 c.in-Ok-Some.entry c.in-Ok-Some.field-0-is c.in-Ok-Some.ensures.moves in
     omega (arith, ap (λ (s : Standing). s.gate) step, c.in-Ok.ensures.size)
 
 -- ---- the records
@@ -87,14 +87,14 @@ pub returns-in-Ok-None-clause-records : goal.returns-in-Ok-None-clause-records
 returns-in-Ok-None-clause-records g c = λ head image records before holds known read place.
     let all = all_products c.args.products.now in
     let limit = c.args.journal.now.limit in
-    none_left head limit image all records before c.args.passed read c.next_entry.new.self.gate c.in-Ok-None.field-0 c.in-Ok-None.field-0-is
+    none_left head limit image all records before c.args.passed read c.next_known.new.journal.gate c.in-Ok-None.field-0 c.in-Ok-None.field-0-is
     (c.in-Ok-None.ensures.in_order head image before read.rest holds known (journal_on head limit image all records before c.args.passed read) place)
 
 pub returns-in-Err-Bad-clause-records : goal.returns-in-Err-Bad-clause-records
 returns-in-Err-Bad-clause-records g c = λ head image records before holds known read place.
     let all = all_products c.args.products.now in
     let limit = c.args.journal.now.limit in
-    absurd (none_bad head limit image all records before c.args.passed read c.next_entry.new.self.gate c.in-Err-Bad.at c.in-Err-Bad.field-0 c.in-Err-Bad.field-0-is
+    absurd (none_bad head limit image all records before c.args.passed read c.next_known.new.journal.gate c.in-Err-Bad.at c.in-Err-Bad.field-0 c.in-Err-Bad.field-0-is
     (c.in-Err-Bad.ensures.in_order head image before read.rest holds known (journal_on head limit image all records before c.args.passed read) place))
 
 pub returns-in-Ok-clause-records : goal.returns-in-Ok-clause-records
@@ -103,17 +103,17 @@ returns-in-Ok-clause-records g c = λ head image records before holds known read
     let all = all_products products in
     let limit = c.args.journal.now.limit in
     let entry = c.in-Ok-Some.entry in
-    let gate = c.next_entry.new.self.gate in
+    let gate = c.next_known.new.journal.gate in
     let next = one_left head limit image all records before c.args.passed read gate c.in-Ok-Some.field-0 entry c.in-Ok-Some.field-0-is
     (c.in-Ok-Some.ensures.in_order head image before read.rest holds known (journal_on head limit image all records before c.args.passed read) place) in
     let number = c.number_behind-number.result in
     let number_is = number_there head limit image all records before c.args.passed read entry gate next products.earlier.items products.last.now refl number c.number_behind-number.ensures.amends c.number_behind-number.ensures.stays in
     let product = c.get-product.result.now in
     let same = product_there head limit image all records before c.args.passed read entry gate next number products.last.now product number_is c.get-product.ensures in
-    let met = some_moved c.args.journal.now c.next_entry.new.self c.in-Ok-Some.field-0 entry c.in-Ok-Some.field-0-is c.in-Ok-Some.ensures.moves in
+    let met = some_moved c.args.journal.now c.next_known.new.journal c.in-Ok-Some.field-0 entry c.in-Ok-Some.field-0-is c.in-Ok-Some.ensures.moves in
     content_more head limit image all records before c.args.passed read entry gate next product same c.read_record.new.scratch.framer.given c.read_record.new.core c.read_record.new.journal.gate
     (record { messages = c.in-Ok.messages; product = number }) (ap (λ (s : Standing). s.gate) c.read_record.ensures.stays) number_is
-    (c.in-Ok.ensures.reads image (c.next_entry.ensures.looks.keeps.holds ∙ holds) (stands_moved c.args.journal.now c.next_entry.new.self _ _ image met known)
+    (c.in-Ok.ensures.reads image (c.next_known.ensures.looks.keeps.holds ∙ holds) (stands_moved c.args.journal.now c.next_known.new.journal _ _ image met known)
     (gives_there head limit image all records before c.args.passed read entry gate next product same))
 
 pub returns-in-Err-clause-records : goal.returns-in-Err-clause-records
@@ -122,14 +122,14 @@ returns-in-Err-clause-records g c = λ head image records before holds known rea
     let all = all_products products in
     let limit = c.args.journal.now.limit in
     let entry = c.in-Ok-Some.entry in
-    let gate = c.next_entry.new.self.gate in
+    let gate = c.next_known.new.journal.gate in
     let next = one_left head limit image all records before c.args.passed read gate c.in-Ok-Some.field-0 entry c.in-Ok-Some.field-0-is
     (c.in-Ok-Some.ensures.in_order head image before read.rest holds known (journal_on head limit image all records before c.args.passed read) place) in
     let number = c.number_behind-number.result in
     let number_is = number_there head limit image all records before c.args.passed read entry gate next products.earlier.items products.last.now refl number c.number_behind-number.ensures.amends c.number_behind-number.ensures.stays in
     let product = c.get-product.result.now in
     let same = product_there head limit image all records before c.args.passed read entry gate next number products.last.now product number_is c.get-product.ensures in
-    let met = some_moved c.args.journal.now c.next_entry.new.self c.in-Ok-Some.field-0 entry c.in-Ok-Some.field-0-is c.in-Ok-Some.ensures.moves in
+    let met = some_moved c.args.journal.now c.next_known.new.journal c.in-Ok-Some.field-0 entry c.in-Ok-Some.field-0-is c.in-Ok-Some.ensures.moves in
     content_unread head limit image all records before c.args.passed read entry gate next product same c.read_record.new.scratch.framer.given c.read_record.new.core c.read_record.new.journal.gate c.in-Err.why
-    (c.in-Err.ensures.reads image (c.next_entry.ensures.looks.keeps.holds ∙ holds) (stands_moved c.args.journal.now c.next_entry.new.self _ _ image met known)
+    (c.in-Err.ensures.reads image (c.next_known.ensures.looks.keeps.holds ∙ holds) (stands_moved c.args.journal.now c.next_known.new.journal _ _ image met known)
     (gives_there head limit image all records before c.args.passed read entry gate next product same))
