@@ -8,10 +8,10 @@ use crate::ending::Ending;
 use crate::outcome::Outcome;
 use crate::session::Session;
 use book_print::{Tally, print_tally};
-use stream_laws::names_are_right;
 use gx_station::Station;
 use order_maker::MakerSource;
 use plain_book::Book;
+use stream_laws::names_are_right;
 
 impl<'a, B: Book> Session<'a, B> {
     ghost use Rattle.globex_run.specs.Inner.Working.{IsNewSession};

@@ -23,14 +23,12 @@ use crate::outcome::{Outcome, Status};
 use crate::product_text::{NoProduct, take_product};
 use crate::taken::Taken;
 use command_words::{WordsFault, read_command};
-use stream_laws::feeds_of_histories_fold_to_levels;
 use gx_station::{Source, Station};
 use open_auction::{
     candidates_are_the_prices, no_price_opens_more, pairs_add_up, ties_fall_by_the_rules,
 };
-use stream_laws::reports_balance;
-use stream_laws::resends_repeat_reports;
 use std::alloc::Global;
+use stream_laws::{feeds_of_histories_fold_to_levels, reports_balance, resends_repeat_reports};
 
 /// The outcome where the words give no command: nothing was touched.
 fn outcome_of_words(fault: WordsFault) -> Outcome
