@@ -28,7 +28,7 @@ PLACES = {"on a disk": None, "in memory": "/dev/shm"}
 PAUSE = 0.004      # seconds between two messages
 SEGMENT = 60       # messages of one run
 MESSAGES = 20_000
-FIRST_LIMIT = 33_554_432
+FIRST_LIMIT = 201_326_592
 LOGON = b"35=A|49=AAA|56=GX|34=999999999|52=20240103-08:00:00|98=0|108=30|\n"
 
 
