@@ -25,9 +25,9 @@ import gxj  # noqa: E402
 
 COMMANDS = ["replay", "fills", "ledger", "levels", "book", "opening", "session"]
 PLACES = {"on a disk": None, "in memory": "/dev/shm"}
-PAUSE = 0.004      # seconds between two messages
+PAUSE = 0.005      # seconds between two messages
 SEGMENT = 60       # messages of one run
-MESSAGES = 20_000
+MESSAGES = 60_000
 FIRST_LIMIT = 201_326_592
 LOGON = b"35=A|49=AAA|56=GX|34=999999999|52=20240103-08:00:00|98=0|108=30|\n"
 
