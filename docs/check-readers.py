@@ -3,10 +3,10 @@
 
     docs/check-readers.py PROGRAM [--calls N]
 
-A writer feeds made messages to runs, with a checkpoint or an amendment between two of them: once with a journal on a disk (in the
-folder for temporary files), and once with one in memory. Beside it each reading command is called 200 times. No call may end with
-10. It may end with 11 while an amendment is made, since the folder has the new product file then. The text of each other call has to be
-the one that the command gives, byte for byte, over the journal cut after some number of its messages.
+A writer feeds made messages to runs, with a checkpoint or an amendment between two of them: with journals on a disk (in the folder for
+temporary files), and with journals in memory. Beside it each reading command is called 200 times, 20 times for each journal. No call may
+end with 10. It may end with 11 while an amendment is made, since the folder has the new product file then. The text of each other call
+has to be the one that the command gives, byte for byte, over the journal cut after some number of its messages.
 """
 
 import argparse
@@ -25,10 +25,11 @@ import gxj  # noqa: E402
 
 COMMANDS = ["replay", "fills", "ledger", "levels", "book", "opening", "session"]
 PLACES = {"on a disk": None, "in memory": "/dev/shm"}
-PAUSE = 0.005      # seconds between two messages
-SEGMENT = 60       # messages of one run
-MESSAGES = 60_000
-FIRST_LIMIT = 201_326_592
+PAUSE = 0.002      # seconds between two messages
+SEGMENT = 40       # messages of one run
+MESSAGES = 20_000
+ROUND = 20         # calls of each command beside one journal, so that it stays short
+FIRST_LIMIT = 67_108_864
 LOGON = b"35=A|49=AAA|56=GX|34=999999999|52=20240103-08:00:00|98=0|108=30|\n"
 
 
@@ -131,8 +132,8 @@ class Texts:
         return any(self.of(call.command, count) == call.text for count in (*near, *range(near.start - 1, max(near.start - 40, -1), -1)))
 
 
-def try_place(program, what, parent, calls, messages, given):
-    """Calls the readers beside a writer, and answers how many calls were wrong."""
+def try_round(program, what, parent, calls, messages, given):
+    """Calls the readers beside a writer of a new journal. Answers the writer, the calls, and how many of them were wrong."""
     with tempfile.TemporaryDirectory(dir=parent) as room:
         folder = pathlib.Path(room)
         (folder / "product.toml").write_text(product_text(0))
@@ -145,8 +146,15 @@ def try_place(program, what, parent, calls, messages, given):
         writer.join()
         if ended or writer.fault:
             sys.exit(f"check-readers: the writer ended early {what}: {writer.fault or 'no more messages'}")
-        wrong = tell_wrong(done, what) + tell_other_texts(program, folder, done, given, what)
-    print(f"{what}: {len(done)} calls beside {writer.fed} messages, {writer.checkpoints} checkpoints and {writer.amended} amendments; "
+        return writer, done, tell_wrong(done, what) + tell_other_texts(program, folder, done, given, what)
+
+
+def try_place(program, what, parent, calls, messages, given):
+    """Calls the readers so often, some of them beside each of several journals, and answers how many calls were wrong."""
+    rounds = [try_round(program, what, parent, min(ROUND, calls - at), messages, given) for at in range(0, calls, ROUND)]
+    writers, done, wrong = [writer for writer, _, _ in rounds], [call for _, calls, _ in rounds for call in calls], sum(wrong for _, _, wrong in rounds)
+    print(f"{what}: {len(done)} calls beside {sum(writer.fed for writer in writers)} messages, "
+          f"{sum(writer.checkpoints for writer in writers)} checkpoints and {sum(writer.amended for writer in writers)} amendments; "
           f"{sum(call.status == 11 for call in done)} ended with 11 beside an amendment, {wrong} are wrong", flush=True)
     return wrong
 
