@@ -6,6 +6,7 @@ pub mod PricesAgain
 pub mod Tests
 pub mod Written
 pub mod Marks
+mod NameFronts
 mod Times
 mod ShortPrices
 mod Ends
