@@ -1,5 +1,5 @@
 -- One call more of a stream joins those before it, or ends them.
-use Rattle.std.proofs.Common.{◌≡◌, inl, inr, ℕ, ◌+◌, ◌≤◌, List, length, drop, Result, Ok, Err, refl, sym, subst, add-one}
+use Rattle.std.proofs.Common.{◌≡◌, inl, inr, ℕ, ◌+◌, ◌≤◌, Bool, true, OnOk, List, length, drop, Result, Ok, Err, refl, sym, subst, add-one}
 use Rattle.std.specs.Prelude.{is_ok, OnErr}
 use Rattle.std.specs.IoError.{error_kind}
 use Rattle.std.specs.declared.io.Error.{Error}
@@ -27,6 +27,11 @@ module _ {W : Type 0} (m : OutputMeanings W) where
   pub send_flushed : {T F : Type 0} (old mid new : W) (bytes : List ℕ) (r : Result T F) → AreTaken m old mid bytes → m.flushed mid new (is_ok r) → SendsOnce m old new bytes r
   send_flushed old mid new bytes (Ok x) first last = record { tries = first.0; mid = mid; count = length bytes; taken = first.1; ends = (refl, last) }
   send_flushed old mid new bytes (Err e) first last = record { tries = first.0; mid = mid; count = length bytes; taken = first.1; ends = inl (refl, last) }
+
+  -- a flush after a send that was written whole
+  pub send_written : {T F U G : Type 0} (old mid new : W) (bytes : List ℕ) (written : Result U G) (r : Result T F) (flushed : Bool) → is_ok written ≡ true → OnOk written (AreTaken m old mid bytes) → flushed ≡ is_ok r → m.flushed mid new flushed → SendsOnce m old new bytes r
+  send_written old mid new bytes (Ok x) r flushed ok all same last = send_flushed old mid new bytes r all (subst (λ b. m.flushed mid new b) same last)
+  send_written old mid new bytes (Err e) r flushed ok all same last = absurd (cc ok)
 
   pub send_refused : {T F : Type 0} (tries : ℕ) (old mid new : W) (bytes rest : List ℕ) (count : ℕ) (r : Result T F) → rest ≡ drop count bytes → IsTaken m tries old mid bytes count → IsLastWrite m mid new rest → OnErr r (SendsOnce m old new bytes r)
   send_refused tries old mid new bytes rest count (Ok x) is first last = tt
