@@ -1,4 +1,4 @@
-use Rattle.std.proofs.Common.{refl, sym, ◌∙◌, ap, subst, arith}
+use Rattle.std.proofs.Common.{refl, sym, ◌∙◌, ap, subst, arith, rules}
 use Rattle.match_journal.specs.Journal.{Record}
 use Rattle.match_journal.specs.declared.standing.Standing.{Standing}
 use Rattle.match_journal.proofs.Appended.{AppendsAt}
@@ -53,3 +53,12 @@ returns-clause-appends g c =
     let added : Record = record { kind = c.args.kind; payload = c.args.payload.now } in
     subst (AppendsAt g.S.Station.meanings c.args.station.now c.put_record.new.station added _) c.self.view_is (λ head image records kind journal.
     steps_ok g.S.Station.meanings _ _ image _ _ _ _ (sym c.is_err.ensures.value ∙ c.if-is_err.false) (c.put_record.ensures.appends head image _ records record { known = kind; some = c.requires.some; few = c.requires.few } (omega (arith, c.if-saturating_sub-count.false, c.saturating_sub.ensures)) journal))
+
+pub invariant_of-self-2 : goal.invariant_of-self-2
+invariant_of-self-2 g c = search rules
+
+pub returns-clause-grows : goal.returns-clause-grows
+returns-clause-grows g c = search rules
+
+pub returns-clause-stands : goal.returns-clause-stands
+returns-clause-stands g c = search rules
