@@ -1,8 +1,9 @@
 //! The words, read by one `clap` command.
 ghost use Rattle.std.specs.Prelude.{◌≡◌, IfErr, IfOk, None, Some, codes, false, map, string_bytes};
-ghost use Rattle.clap.specs.Words.{IsPlain, app_of, found_of, rows_of};
+ghost use Rattle.clap.specs.Words.{IsPlain, IsPlainArg, app_of, found_of, rows_of};
+ghost use Rattle.clap.specs.Walk.{rule_of};
 ghost use Rattle.clap.specs.declared.builder.command.Command.TheViews.{out-Command as fields_of};
-ghost use Rattle.command_words.specs.Commands.{command_of, found_command, named_command, number_in};
+ghost use Rattle.command_words.specs.Commands.{command_of, found_command, named_command, number_in, number_rule};
 ghost use Rattle.command_words.specs.Commands.{plain_command, words_app};
 ghost use Rattle.command_words.specs.Inner.{IsRead};
 
@@ -11,10 +12,21 @@ use clap::{Arg, ArgMatches, value_parser};
 use std::alloc::{AllocError, Global};
 
 /// The greatest number of `--first`.
-const MOST_FIRST: i64 = 2_147_483_647;
+const MOST_FIRST: u32 = 2_147_483_647;
 
 /// The greatest number of `--count`.
-const MOST_COUNT: i64 = 1_000_000;
+const MOST_COUNT: u32 = 1_000_000;
+
+/// An option with a value: a number from 0 to `most`.
+fn number_option<'a>(alloc: Global, name: &'a str, most: u32) -> Arg<'a>
+    ensures rule { rule_of result ≡ number_rule name.now most }
+    ensures plain { IsPlainArg result }
+    ensures local { result.global ≡ false }
+{
+    Arg::new(alloc, name)
+        .long(name)
+        .value_parser(value_parser!(u32).range(0..=i64::from(most)))
+}
 
 /// The `clap` command that reads the words.
 fn words_command<'a>(alloc: Global) -> Result<clap::Command<'a>, AllocError>
@@ -22,18 +34,11 @@ fn words_command<'a>(alloc: Global) -> Result<clap::Command<'a>, AllocError>
     ensures plain { IfOk result IsPlain }
     ensures local { IfOk result (λ c. (fields_of c).has_globals ≡ false) }
 {
-    let name = Arg::new(alloc, "command").required(true);
-    let first = Arg::new(alloc, "first")
-        .long("first")
-        .value_parser(value_parser!(u32).range(0..=MOST_FIRST));
-    let count = Arg::new(alloc, "count")
-        .long("count")
-        .value_parser(value_parser!(u32).range(0..=MOST_COUNT));
     clap::Command::new(alloc, "globex")
         .no_binary_name(true)
-        .arg(name)?
-        .arg(first)?
-        .arg(count)
+        .arg(Arg::new(alloc, "command").required(true))?
+        .arg(number_option(alloc, "first", MOST_FIRST))?
+        .arg(number_option(alloc, "count", MOST_COUNT))
 }
 
 /// The command of this name, where it is one that has no options.
