@@ -338,10 +338,6 @@ pub if-ok : {T E : Type 0} (r : Result T E) (P W : T → Type 0) → ((t : T) �
 if-ok (Ok t) P W f p = f t p
 if-ok (Err e) P W f p = tt
 
-pub if-ok-three : {T E : Type 0} (r : Result T E) (P Q R W : T → Type 0) → ((t : T) → P t → Q t → R t → W t) → IfOk r P → IfOk r Q → IfOk r R → IfOk r W
-if-ok-three (Ok t) P Q R W f p q r = f t p q r
-if-ok-three (Err e) P Q R W f p q r = tt
-
 module _ {I S : Type 0} (m : StationMeanings S) (product : ProductLists) (text : List ℕ) (before after : Streams I S) (outcome : Outcome) where
   abbrev pub StaysRefused : Type 0
   StaysRefused = (image : List ℕ) → before.station.image ≡ Some image → IsRefusal outcome.status → KeepsImage m before.station.object after.station.object
@@ -489,3 +485,11 @@ module _ {I S : Type 0} (m : StationMeanings S) (product : ProductLists) (text :
   session-executed (inr answered) =
       only-printed m product text at-entry (at-exit j) outcome Session (λ never. never) (record { form = inr answered.did; reads = answered.reads })
       (input-causes m product text at-entry (at-exit j) outcome Session tt right answered.did.ending answered.did.is answered.cause)
+
+-- what was done over the product and the text of a session was done over those that it was taken for
+pub over-taken : {I S : Type 0} (m : StationMeanings S) (product now : ProductLists) (text bytes : List ℕ) (before after : Streams I S) (outcome : Outcome) (command given : Command)
+    → product ≡ now → text ≡ bytes → given ≡ command → IsExecuted m product text before after outcome command → IsExecuted m now bytes before after outcome given
+over-taken m product now text bytes before after outcome command given same_product same_text same_command did =
+    subst (λ (x : ProductLists). IsExecuted m x bytes before after outcome given) same_product
+    (subst (λ (x : List ℕ). IsExecuted m product x before after outcome given) same_text
+    (subst (λ (x : Command). IsExecuted m product text before after outcome x) (sym same_command) did))

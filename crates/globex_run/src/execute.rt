@@ -1,14 +1,10 @@
 //! Executing a command over a product that was taken.
 ghost use Rattle.std.specs.Prelude.{◌≡◌, ◌≢◌, ◌⊎◌, ℕ, List, Some, IfOk, OnErr};
 ghost use Rattle.gx_station.specs.Honest.{KeepsImage};
-ghost use Rattle.command_words.specs.declared.command.Command.TheVariants as command;
 ghost use Rattle.globex_run.specs.Outside.{streams_at};
 ghost use Rattle.globex_run.specs.Words.{IsWriting};
 ghost use Rattle.globex_run.specs.Refusals.{IsRefusal};
-ghost use Rattle.globex_run.specs.Inner.Checkpointing.{CheckpointResult};
-ghost use Rattle.globex_run.specs.Inner.Collecting.{ShowsWithCause};
-ghost use Rattle.globex_run.specs.Inner.Drilling.{DrillsMade};
-ghost use Rattle.globex_run.specs.Inner.Executing.{Executes, HasCauses, IsExecuted};
+ghost use Rattle.globex_run.specs.Inner.Executing.{Executes, HasCauses, IsExecuted, command_of};
 ghost use Rattle.globex_run.specs.Inner.Printing.{PrintsKept};
 ghost use Rattle.match_journal.specs.Causes.{ReadsOnly};
 ghost use Rattle.journal_print.specs.Printed.{PrintsMessages};
@@ -72,12 +68,18 @@ fn executed<I: Source, S: Station>(
 {
     taken.product.limits();
     match command {
-        Command::Run => run(alloc, taken, input, station),
-        Command::Drill { first, count } => drill(alloc, taken, first, count, station),
-        Command::Checkpoint => checkpoint(alloc, taken, station),
+        Command::Run => in_session(alloc, taken, SessionWork::Run, input, station),
+        Command::Drill { first, count } => in_session(
+            alloc,
+            taken,
+            SessionWork::Drill { first, count },
+            input,
+            station,
+        ),
+        Command::Checkpoint => in_session(alloc, taken, SessionWork::Checkpoint, input, station),
         Command::Amend => amend(alloc, taken, station),
         Command::Session => answer_messages(alloc, taken, input, station),
-        Command::Opening => opening(alloc, taken, input, station),
+        Command::Opening => in_session(alloc, taken, SessionWork::Opening, input, station),
         Command::Rebuild => rebuild(alloc, taken, input, station),
         Command::Replay => print_each_record(
             alloc,
@@ -100,70 +102,37 @@ fn executed<I: Source, S: Station>(
     }
 }
 
-/// Takes the memory of a session, and serves the input. An `Err` is want of memory, and nothing was touched then.
-fn run<I: Source, S: Station>(
+/// What a session is taken for.
+#[derive(Clone, Copy)]
+enum SessionWork {
+    Run,
+    Drill { first: u32, count: u32 },
+    Checkpoint,
+    Opening,
+}
+
+/// Takes the memory of a session, and does its work. `Run` and `Opening` alone read the input. An `Err` is want of memory, and nothing
+/// was touched then.
+fn in_session<I: Source, S: Station>(
     alloc: Global,
     taken: &Taken<'_>,
+    work: SessionWork,
     input: &mut I,
     station: &mut S,
 ) -> Result<Outcome, AllocError>
     ensures did { IfOk result (λ outcome. IsExecuted S.meanings taken.now.product.now taken.now.text.now
-        (streams_at I.meanings S.meanings input.old station.old) (streams_at I.meanings S.meanings input.new station.new) outcome command.Run) }
+        (streams_at I.meanings S.meanings input.old station.old) (streams_at I.meanings S.meanings input.new station.new) outcome (command_of work)) }
     ensures no_input { OnErr result (input.new ≡ input.old) }
     ensures no_station { OnErr result (station.new ≡ station.old) }
 {
+    taken.product.limits();
     let mut session = Session::new(alloc, taken)?;
-    Ok(session.serve(&mut ReportForm, input, station))
-}
-
-/// Takes the memory of a session, and serves made messages. An `Err` is want of memory, and nothing was touched then.
-fn drill<S: Station>(
-    alloc: Global,
-    taken: &Taken<'_>,
-    first: u32,
-    count: u32,
-    station: &mut S,
-) -> Result<Outcome, AllocError>
-    ensures drills { IfOk result (DrillsMade S.meanings taken.now.product.now taken.now.text.now first count station.old station.new) }
-    ensures stays { IfOk result (λ outcome. (image : List ℕ) → S.meanings.holds station.old ≡ Some image → IsRefusal outcome.status
-        → KeepsImage S.meanings station.old station.new) }
-    ensures refused { IfOk result (λ outcome. IsRefusal outcome.status → S.meanings.sent station.new ≡ S.meanings.sent station.old) }
-    ensures no_station { OnErr result (station.new ≡ station.old) }
-{
-    let mut session = Session::new(alloc, taken)?;
-    Ok(session.drill(first, count, station))
-}
-
-/// Takes the memory of a session, and adds the image of its state to the journal. An `Err` is want of memory, and nothing was
-/// touched then.
-fn checkpoint<S: Station>(
-    alloc: Global,
-    taken: &Taken<'_>,
-    station: &mut S,
-) -> Result<Outcome, AllocError>
-    ensures did { IfOk result (CheckpointResult S.meanings taken.now.product.now taken.now.text.now station.old station.new) }
-    ensures stays { IfOk result (λ outcome. (image : List ℕ) → S.meanings.holds station.old ≡ Some image → IsRefusal outcome.status
-        → KeepsImage S.meanings station.old station.new) }
-    ensures no_station { OnErr result (station.new ≡ station.old) }
-{
-    let mut session = Session::new(alloc, taken)?;
-    Ok(session.checkpoint(station))
-}
-
-/// Takes the memory of a session, and shows the openings. An `Err` is want of memory, and nothing was touched then.
-fn opening<I: Source, S: Station>(
-    alloc: Global,
-    taken: &Taken<'_>,
-    input: &mut I,
-    station: &mut S,
-) -> Result<Outcome, AllocError>
-    ensures shows { IfOk result (ShowsWithCause S.meanings taken.now.product.now taken.now.text.now
-        (streams_at I.meanings S.meanings input.old station.old) (streams_at I.meanings S.meanings input.new station.new)) }
-    ensures no_input { OnErr result (input.new ≡ input.old) }
-    ensures no_station { OnErr result (station.new ≡ station.old) }
-{
-    let mut session = Session::new(alloc, taken)?;
-    Ok(session.show_openings(input, station))
+    Ok(match work {
+        SessionWork::Run => session.serve(&mut ReportForm, input, station),
+        SessionWork::Drill { first, count } => session.drill(first, count, station),
+        SessionWork::Checkpoint => session.checkpoint(station),
+        SessionWork::Opening => session.show_openings(input, station),
+    })
 }
 
 /// Takes the memory of a feed, and sends the level feed of the messages that the journal keeps. An `Err` is want of memory, and nothing

@@ -9,26 +9,33 @@ use Rattle.globex_run.specs.Outside.{source_at, streams_at}
 use Rattle.globex_run.specs.Inner.Executing.{IsExecuted}
 use Rattle.globex_run.specs.declared.outcome.Outcome.{Outcome}
 use Rattle.globex_run.proofs.AmendExecuted.{amend-executed}
-use Rattle.globex_run.proofs.Executed.{if-ok, if-ok-three, drill-executed, checkpoint-executed, steps-executed, book-executed, each-executed, session-executed}
-use Rattle.globex_run.proofs.OpeningHeadlines.{opening-executed}
+use Rattle.globex_run.proofs.Executed.{if-ok, steps-executed, book-executed, each-executed, session-executed}
 use Rattle.globex_run.proofs.Rebuilt.{rebuild-executed}
 use Rattle.globex_run.proofs.execute.executed.Goals as goal
+
+pub returns-in-Run-clause-did : goal.returns-in-Run-clause-did
+returns-in-Run-clause-did g c =
+    let m = g.S.Station.meanings in
+    let before = streams_at g.I.Source.meanings m c.args.input.now c.args.station.now in
+    let after = streams_at g.I.Source.meanings m c.in_session.new.input c.in_session.new.station in
+    subst (λ (x : Command). IfOk c.in_session.result (λ (outcome : Outcome). IsExecuted m c.args.taken.now.product.now c.args.taken.now.text.now before after outcome x)) (sym c.in-Run.is)
+    c.in_session.ensures.did
 
 pub returns-in-Drill-clause-did : goal.returns-in-Drill-clause-did
 returns-in-Drill-clause-did g c =
     let m = g.S.Station.meanings in
     let before = streams_at g.I.Source.meanings m c.args.input.now c.args.station.now in
-    let after = streams_at g.I.Source.meanings m c.args.input.now c.drill.new.station in
-    subst (λ (x : Command). IfOk c.drill.result (λ (outcome : Outcome). IsExecuted m c.args.taken.now.product.now c.args.taken.now.text.now before after outcome x)) (sym c.in-Drill.is)
-    (if-ok-three c.drill.result _ _ _ _ (λ outcome did stays refused. drill-executed m c.args.taken.now.product.now c.args.taken.now.text.now (source_at g.I.Source.meanings c.args.input.now) c.args.station.now c.drill.new.station outcome c.in-Drill.first c.in-Drill.count did stays refused) c.drill.ensures.drills c.drill.ensures.stays c.drill.ensures.refused)
+    let after = streams_at g.I.Source.meanings m c.in_session-in-Drill.new.input c.in_session-in-Drill.new.station in
+    subst (λ (x : Command). IfOk c.in_session-in-Drill.result (λ (outcome : Outcome). IsExecuted m c.args.taken.now.product.now c.args.taken.now.text.now before after outcome x)) (sym c.in-Drill.is)
+    c.in_session-in-Drill.ensures.did
 
 pub returns-in-Checkpoint-clause-did : goal.returns-in-Checkpoint-clause-did
 returns-in-Checkpoint-clause-did g c =
     let m = g.S.Station.meanings in
     let before = streams_at g.I.Source.meanings m c.args.input.now c.args.station.now in
-    let after = streams_at g.I.Source.meanings m c.args.input.now c.checkpoint.new.station in
-    subst (λ (x : Command). IfOk c.checkpoint.result (λ (outcome : Outcome). IsExecuted m c.args.taken.now.product.now c.args.taken.now.text.now before after outcome x)) (sym c.in-Checkpoint.is)
-    (if-ok-three c.checkpoint.result _ _ _ _ (λ outcome did stays again. checkpoint-executed m c.args.taken.now.product.now c.args.taken.now.text.now (source_at g.I.Source.meanings c.args.input.now) c.args.station.now c.checkpoint.new.station outcome did stays) c.checkpoint.ensures.did c.checkpoint.ensures.stays c.checkpoint.ensures.did)
+    let after = streams_at g.I.Source.meanings m c.in_session-in-Checkpoint.new.input c.in_session-in-Checkpoint.new.station in
+    subst (λ (x : Command). IfOk c.in_session-in-Checkpoint.result (λ (outcome : Outcome). IsExecuted m c.args.taken.now.product.now c.args.taken.now.text.now before after outcome x)) (sym c.in-Checkpoint.is)
+    c.in_session-in-Checkpoint.ensures.did
 
 pub returns-in-Steps-clause-did : goal.returns-in-Steps-clause-did
 returns-in-Steps-clause-did g c =
@@ -93,9 +100,9 @@ pub returns-in-Opening-clause-did : goal.returns-in-Opening-clause-did
 returns-in-Opening-clause-did g c =
     let m = g.S.Station.meanings in
     let before = streams_at g.I.Source.meanings m c.args.input.now c.args.station.now in
-    let after = streams_at g.I.Source.meanings m c.opening.new.input c.opening.new.station in
-    subst (λ (x : Command). IfOk c.opening.result (λ (outcome : Outcome). IsExecuted m c.args.taken.now.product.now c.args.taken.now.text.now before after outcome x)) (sym c.in-Opening.is)
-    (if-ok c.opening.result _ _ (λ outcome did. opening-executed m c.args.taken.now.product.now c.args.taken.now.text.now before after outcome c.limits.ensures did) c.opening.ensures.shows)
+    let after = streams_at g.I.Source.meanings m c.in_session-in-Opening.new.input c.in_session-in-Opening.new.station in
+    subst (λ (x : Command). IfOk c.in_session-in-Opening.result (λ (outcome : Outcome). IsExecuted m c.args.taken.now.product.now c.args.taken.now.text.now before after outcome x)) (sym c.in-Opening.is)
+    c.in_session-in-Opening.ensures.did
 
 pub returns-in-Rebuild-clause-did : goal.returns-in-Rebuild-clause-did
 returns-in-Rebuild-clause-did g c =
