@@ -55,8 +55,7 @@ fn outcome_without(reason: NoProduct) -> Outcome
 /// print: `replay`, `book`, `fills`, `ledger`, `levels`, `steps`.
 ///
 /// `run` takes the product, opens its journal and recovers the state of the messages kept there, and serves the input: all whole
-/// messages at hand are kept in one record of the journal, then applied, and then their reports are sent, before more is read.
-/// However the input is cut into reads, what is sent are exactly the reports of the first messages of the bytes taken, after
+/// messages at hand are kept in one record of the journal, then applied, and then their reports are sent. However the input is cut into reads, what is sent are exactly the reports of the first messages of the bytes taken, after
 /// those that the journal kept, of as many as `messages` says: all of these, or at a send fault a part from their front. And at
 /// every moment, inside a write or a send too, a crash leaves a journal that keeps the earlier messages and then a prefix of
 /// those read, with every message of whose reports a byte was sent. `drill` serves messages that are made by rule in the same
