@@ -30,7 +30,7 @@ use Rattle.globex_run.specs.Outside.{SourceAt, Outside, Streams, IsQuiet, source
 use Rattle.globex_run.specs.Outcomes.{outcome_of}
 use Rattle.globex_run.specs.Words.{IsPrinting, OnlyReads, ReadsInput, OpensByText, NeverEndsWith}
 use Rattle.globex_run.specs.ProductTexts.{IsProductText, ProductPremises}
-use Rattle.globex_run.specs.Memory.{StopsAtProducts}
+use Rattle.globex_run.specs.Memory.{HasKeptProducts}
 use Rattle.globex_run.specs.FullJournals.{IsFullJournal}
 use Rattle.globex_run.specs.Refusals.{IsRefusal, RefusesExactly, CanStart}
 use Rattle.globex_run.specs.RunResult.{CommandResult, CommandEnded, RunEnded, EndedUnread, TakesInput}
@@ -789,7 +789,7 @@ module _ {P I S : Type 0} (m : StationMeanings S) (p q : SourceAt P) (i j : Sour
       few-of-product p q text product took gives,
       ⊎_elim
           (λ untouched. inl untouched)
-          (λ stopped. inr (command, is, stopped.0, λ told lists known are. told-product p q text lent same product took gives (λ (l : ProductLists) (bytes : List ℕ). StopsAtProducts m entry.streams exit.streams command l bytes) told lists known are stopped.1))
+          (λ stopped. inr (command, is, stopped.0, stopped.1.input, stopped.1.reads, λ told lists known are image held. told-product p q text lent same product took gives (λ (l : ProductLists) (bytes : List ℕ). HasKeptProducts command l bytes image) told lists known are (stopped.1.has image held)))
           (causes.memory one).0,
     )
 

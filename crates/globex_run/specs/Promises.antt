@@ -4,6 +4,7 @@ use Rattle.gx_station.specs.Counts.{Rose}
 use Rattle.gx_station.specs.Honest.{KeepsImage}
 use Rattle.match_journal.specs.Journal.{Header, Record}
 use Rattle.match_journal.specs.Texts.{HasLastText}
+use Rattle.match_journal.specs.Causes.{ReadsOnly}
 use Rattle.match_journal.specs.Classes.{Keeps}
 use Rattle.order_kinds.specs.Histories.{History, AreOfTexts, IsBalanced}
 use Rattle.stream_laws.specs.Sums.{IsReadBalanced}
@@ -22,7 +23,7 @@ use Rattle.globex_run.specs.Steps.{LeavesFronts, LeavesEntryOrFronts, KeepsEvery
 use Rattle.globex_run.specs.Headline.{AddsMessages, KeepsARecordPerRead, ReadsFew}
 use Rattle.globex_run.specs.Checkpoints.{HasNoRoomForImage}
 use Rattle.globex_run.specs.Amends.{HasNoRoomForAmendment, RefusesToAmend}
-use Rattle.globex_run.specs.Memory.{StopsAtProducts}
+use Rattle.globex_run.specs.Memory.{HasKeptProducts}
 use Rattle.globex_run.specs.Prints.{PrintsAs}
 use Rattle.globex_run.specs.Answering.{AnswersSession}
 use Rattle.globex_run.specs.OpeningPrices.{ShowsOpenings}
@@ -135,12 +136,14 @@ module _ {P I S : Type 0} (c : Call P I S) where
   BalancesAsRead = (kept : History) → AreOfTexts kept → IsReadBalanced kept
 
   -- Want of memory leaves the input and the station untouched, and no more was taken of the product than its text may have. Only commands
-  -- that take products of the journal may have read it then, and nothing else was touched.
+  -- that take products of the journal may have read it then, and nothing else was touched, whatever the product's text is. By that text the
+  -- journal has such products.
   abbrev pub LeavesAllAtNoMemory : Type 0
   LeavesAllAtNoMemory = c.outcome.status ≡ 1 → TakesAtMost LONGEST_TEXT c.before.product c.after.product
       × ((c.after.streams ≡ c.before.streams) ⊎ ((asked : Command) × (c.asked ≡ Some asked) × TakesKeptProducts asked
+      × (c.after.streams.input ≡ c.before.streams.input) × ReadsOnly c.station c.before.streams.station.object c.after.streams.station.object
       × ((text : List ℕ) (product : ProductLists) → c.before.product.left ≡ Some text → product_of text ≡ Ok product
-      → StopsAtProducts c.station c.before.streams c.after.streams asked product text)))
+      → (image : List ℕ) → c.before.streams.station.image ≡ Some image → HasKeptProducts asked product text image)))
 
   -- What was taken from the product's source and the input, and why it ended there, for all statuses but 1.
   abbrev pub EndsWhereTold : Type 0
