@@ -6,14 +6,14 @@
 # A recipe is a heading with an ID. Its blocks marked `sh` are run in their order, in one shell, in a new folder that a function
 # here prepares. A block without a mark after one of these is what that one prints. A function here then looks at what is left. The
 # IDs that are no recipe try what the page says of the program. Without an ID all are tried. Ends with 1 and names them if some
-# differ. Needs the GNU tools, Python 3.11 and tools/; as root it also mounts a small file system in memory.
+# differ. Needs the GNU tools, Python 3.11, strace and tools/; as root it also mounts a small file system in memory.
 set -u
 
 top=$(CDPATH='' cd -- "$(dirname -- "$0")/.." && pwd) || exit 1
 tools=$top/tools
 page=$top/docs/OPERATING.md
 checks=(two-runs closed-streams wrong-words reasons lower-limit no-blocking size-limit read-only strange-journals removed-journal
-    socket-endings session-endings readers)
+    socket-endings session-endings readers folder-synced)
 
 if [ $# -lt 1 ] || [ ! -x "$1" ]; then
     echo "check-recipes: usage: docs/check-recipes.sh PROGRAM [ID].." >&2
@@ -964,6 +964,32 @@ lower-limit() {
 # Each command that only reads, 200 times beside a run on a disk, and as often beside one in memory.
 readers() {
     "$top/docs/check-readers.py" "$globex" || fail 'a reader beside a writer'
+}
+
+# The names of the calls on files that a command makes after it has opened the journal. `calls` has the lines of strace.
+calls_after_the_open() {
+    strace -e trace=openat,flock,fsync,pwrite64 -o calls "$globex" "$@" <orders >/dev/null 2>err || fail "$1 under strace"
+    awk -F '[(,) ]' '/"journal.gxj"/ { opened = 1; next } opened && /\(/ { print $1 }' calls
+}
+
+# A command that writes locks the journal and syncs its folder before it writes. A command that only reads syncs nothing. If the folder
+# cannot be synced the status is 5, and the journal is as it was.
+folder-synced() {
+    local words
+    take_example F
+    for words in run checkpoint amend 'drill --first 1 --count 1'; do
+        # shellcheck disable=SC2086
+        expect "$(calls_after_the_open $words | head -n 3 | tr '\n' ' ')" 'flock openat fsync ' "the first calls of $words"
+        expect "$(awk '/"\."/ { print "fsync(" $NF ")" }' calls)" "$(grep -m 1 -o 'fsync([0-9]*)' calls)" "what $words syncs first"
+    done
+    for words in replay fills ledger levels book session opening; do
+        expect "$(calls_after_the_open $words)" '' "the calls of $words on files"
+    done
+    cp journal.gxj before
+    strace -e trace=fsync -e inject=fsync:error=EIO:when=1 -o calls "$globex" run <orders >out 2>err
+    expect $? 5 'the status of a folder that cannot be synced'
+    grep -q 'the folder of journal.gxj cannot be synced: ' err || fail "of a folder that cannot be synced it says: $(cat err)"
+    cmp journal.gxj before || fail 'the journal has changed though its folder was not synced'
 }
 
 # A run over `orders` whose input or output does not block. Prints its status. Of the input the first bytes are there.

@@ -49,10 +49,20 @@ fn open_journal(rt: &HostRuntime) -> Result<File, Reason> {
     usable(options.open(rt, "journal.gxj"))
 }
 
-/// The journal's file with its exclusive lock, which it has until the program ends.
+/// The journal's file with its exclusive lock, which it has until the program ends. The folder is synced, so that a crash of the
+/// machine keeps the name of a new file.
 fn open_locked(rt: &HostRuntime) -> Result<ToldFile<'_, File>, Reason> {
     let file = ToldFile::new(rt, open_journal(rt)?);
-    locked(file).ok_or(Reason::NoLock)
+    let file = locked(file).ok_or(Reason::NoLock)?;
+    match sync_folder(rt) {
+        Ok(()) => Ok(file),
+        Err(fault) => Err(Reason::FolderNotSynced(fault)),
+    }
+}
+
+/// Syncs the folder in which the program runs.
+fn sync_folder(rt: &HostRuntime) -> io::Result<()> {
+    File::open(rt, ".")?.sync_all()
 }
 
 /// What a command does with the journal's file.

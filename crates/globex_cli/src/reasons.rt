@@ -16,6 +16,8 @@ pub enum Reason {
     StandardStream,
     /// Its exclusive lock was refused.
     NoLock,
+    /// Its folder could not be synced.
+    FolderNotSynced(io::Error),
 }
 
 /// What `main` knows of a call beside its outcome.
@@ -39,6 +41,9 @@ fn tell_closed(rt: &HostRuntime, name: &str, reason: &Reason) {
             )
         }
         Reason::NoLock => return tell_lock(rt),
+        Reason::FolderNotSynced(fault) => {
+            eprintln!(rt; "globex: the folder of {name} cannot be synced: {fault}")
+        }
     };
 }
 
