@@ -68,8 +68,3 @@ pub fn with_byte(alloc: Global, bytes: &[u8], at: usize, byte: u8) -> Result<Vec
     bytes[at] = byte;
     Ok(bytes)
 }
-
-/// A text with another one in the place of a part.
-pub fn text_with(alloc: Global, text: &str, old: &str, new: &str) -> Result<String, AllocError> {
-    text.replace(alloc, old, new)
-}

@@ -1,5 +1,5 @@
 //! Runs over sources and stations in memory.
-ghost use Rattle.std.specs.Prelude.{◌≤◌, length};
+ghost use Rattle.std.specs.Prelude.{◌≤◌};
 ghost use Rattle.std.specs.List.{AllByRecursion};
 
 use crate::frames::{frames_of, words_of};
@@ -150,27 +150,6 @@ pub fn image_then(
 ) -> Result<Vec<u8>, Unmet> {
     let station = station_then(alloc, text, line, bodies, image)?;
     Ok(station.image().to_vec(alloc)?)
-}
-
-/// A crash just after this call leaves this image, whatever the disk gives for the bytes that no sync has followed.
-fn crash_leaves(alloc: Global, station: &MemStation, call: usize, image: &[u8]) -> Result<(), Unmet>
-    requires { call ≤ length station.now.done }
-{
-    for fill in [0, 1, 200] {
-        let left = station.crash_image(alloc, call, fill)?;
-        if left.as_slice() != image {
-            return Err(Unmet::Crash(call, fill));
-        }
-    }
-    Ok(())
-}
-
-/// So does a crash just after any call, or the error names the call.
-pub fn crashes_leave(alloc: Global, station: &MemStation, image: &[u8]) -> Result<(), Unmet> {
-    for call in 0..=station.calls() {
-        crash_leaves(alloc, station, call, image)?;
-    }
-    Ok(())
 }
 
 /// Runs the command of a word over this product and this input, read in these pieces, and an empty image. No call fails.

@@ -11,8 +11,6 @@ pub enum Unmet {
     Place,
     /// A command that should do all ended otherwise.
     Ended(Outcome),
-    /// A crash just after the call of this number leaves another image if the disk gives this byte for what was not synced.
-    Crash(usize, u8),
 }
 
 impl From<AllocError> for Unmet {
