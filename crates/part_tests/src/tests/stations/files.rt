@@ -1,8 +1,8 @@
 //! The adapters over a file and a writer that fail at will, and over files that are locked.
 ghost use Rattle.std.specs.Prelude.{◌≡◌, ◌+◌, ◌≤◌, IfOk};
 
+use super::adapters::{gives, write_within};
 use super::expects::{expect, expect_answer, expect_bytes};
-use super::stations::{gives, write_within};
 use gx_station::{Failed, FileStation, ImageFile, Station, locked};
 use std::fs::{File, OpenOptions};
 use std::io::{ErrorKind, Write};

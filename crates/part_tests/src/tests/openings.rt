@@ -1,6 +1,6 @@
 //! Journals in memory, made byte by byte.
+mod amended;
 mod growing;
-mod openings;
 
 use gx_station::MemStation;
 use std::process::Abort;

@@ -1,0 +1,4 @@
+//! Each module has a subject.
+mod containers;
+mod openings;
+mod stations;
