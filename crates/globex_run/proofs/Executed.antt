@@ -486,10 +486,14 @@ module _ {I S : Type 0} (m : StationMeanings S) (product : ProductLists) (text :
       only-printed m product text at-entry (at-exit j) outcome Session (λ never. never) (record { form = inr answered.did; reads = answered.reads })
       (input-causes m product text at-entry (at-exit j) outcome Session tt right answered.did.ending answered.did.is answered.cause)
 
+-- what was done as a command of this name was done as the one that it is
+pub of-command : {I S : Type 0} (m : StationMeanings S) (product : ProductLists) (text : List ℕ) (before after : Streams I S) (outcome : Outcome) (command given : Command)
+    → given ≡ command → IsExecuted m product text before after outcome command → IsExecuted m product text before after outcome given
+of-command m product text before after outcome command given same did = subst (λ (x : Command). IsExecuted m product text before after outcome x) (sym same) did
+
 -- what was done over the product and the text of a session was done over those that it was taken for
-pub over-taken : {I S : Type 0} (m : StationMeanings S) (product now : ProductLists) (text bytes : List ℕ) (before after : Streams I S) (outcome : Outcome) (command given : Command)
-    → product ≡ now → text ≡ bytes → given ≡ command → IsExecuted m product text before after outcome command → IsExecuted m now bytes before after outcome given
-over-taken m product now text bytes before after outcome command given same_product same_text same_command did =
-    subst (λ (x : ProductLists). IsExecuted m x bytes before after outcome given) same_product
-    (subst (λ (x : List ℕ). IsExecuted m product x before after outcome given) same_text
-    (subst (λ (x : Command). IsExecuted m product text before after outcome x) (sym same_command) did))
+pub over-taken : {I S : Type 0} (m : StationMeanings S) (product other : ProductLists) (text bytes : List ℕ) (before after : Streams I S) (outcome : Outcome) (command : Command)
+    → product ≡ other → text ≡ bytes → IsExecuted m product text before after outcome command → IsExecuted m other bytes before after outcome command
+over-taken m product other text bytes before after outcome command same_product same_text did =
+    subst (λ (x : ProductLists). IsExecuted m x bytes before after outcome command) same_product
+    (subst (λ (x : List ℕ). IsExecuted m product x before after outcome command) same_text did)

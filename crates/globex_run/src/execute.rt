@@ -6,6 +6,7 @@ ghost use Rattle.globex_run.specs.Words.{IsWriting};
 ghost use Rattle.globex_run.specs.Refusals.{IsRefusal};
 ghost use Rattle.globex_run.specs.Inner.Executing.{Executes, HasCauses, IsExecuted, command_of};
 ghost use Rattle.globex_run.specs.Inner.Printing.{PrintsKept};
+ghost use Rattle.globex_run.specs.Inner.Working.{IsNewSession};
 ghost use Rattle.match_journal.specs.Causes.{ReadsOnly};
 ghost use Rattle.journal_print.specs.Printed.{PrintsMessages};
 ghost use Rattle.journal_print.specs.Works.{work_text, work_whole};
@@ -25,6 +26,7 @@ use exec_report::ReportForm;
 use feed_print::FeedWork;
 use gx_station::{Source, Station};
 use journal_print::Lines;
+use plain_book::Book;
 use std::alloc::{AllocError, Global};
 
 /// Takes the memory of a command, and executes it over a product and its text. Want of memory is status 1, and nothing is touched
@@ -111,8 +113,27 @@ enum SessionWork {
     Opening,
 }
 
-/// Takes the memory of a session, and does its work. `Run` and `Opening` alone read the input. An `Err` is want of memory, and nothing
-/// was touched then.
+/// Does the work of a session. `Run` and `Opening` alone read the input.
+fn do_work<B: Book, I: Source, S: Station>(
+    session: &mut Session<'_, B>,
+    work: SessionWork,
+    input: &mut I,
+    station: &mut S,
+) -> Outcome
+    requires new { IsNewSession session.old }
+    ensures did { IsExecuted S.meanings session.old.product.now session.old.text.now
+        (streams_at I.meanings S.meanings input.old station.old) (streams_at I.meanings S.meanings input.new station.new) result (command_of work) }
+{
+    session.product.limits();
+    match work {
+        SessionWork::Run => session.serve(&mut ReportForm, input, station),
+        SessionWork::Drill { first, count } => session.drill(first, count, station),
+        SessionWork::Checkpoint => session.checkpoint(station),
+        SessionWork::Opening => session.show_openings(input, station),
+    }
+}
+
+/// Takes the memory of a session, and does its work. An `Err` is want of memory, and nothing was touched then.
 fn in_session<I: Source, S: Station>(
     alloc: Global,
     taken: &Taken<'_>,
@@ -125,14 +146,8 @@ fn in_session<I: Source, S: Station>(
     ensures no_input { OnErr result (input.new ≡ input.old) }
     ensures no_station { OnErr result (station.new ≡ station.old) }
 {
-    taken.product.limits();
     let mut session = Session::new(alloc, taken)?;
-    Ok(match work {
-        SessionWork::Run => session.serve(&mut ReportForm, input, station),
-        SessionWork::Drill { first, count } => session.drill(first, count, station),
-        SessionWork::Checkpoint => session.checkpoint(station),
-        SessionWork::Opening => session.show_openings(input, station),
-    })
+    Ok(do_work(&mut session, work, input, station))
 }
 
 /// Takes the memory of a feed, and sends the level feed of the messages that the journal keeps. An `Err` is want of memory, and nothing
