@@ -8,11 +8,12 @@ mod standard;
 mod told;
 mod usage;
 
-use command_words::read_command;
+use command_words::{WordsFault, read_command};
 use globex_run::{Outcome, globex, opens_journal, writes_journal};
 use gx_station::{FileStation, ReadSource, locked};
 use reasons::{Circumstances, Reason, tell};
 use standard::{ClosedStreams, is_standard};
+use std::alloc::AllocError;
 use std::fs::{File, OpenOptions};
 use std::process::ExitCode;
 use std::rt::{Env, Files};
@@ -20,8 +21,20 @@ use std::{env, io};
 use told::{ToldFile, ToldStream};
 use usage::tell_usage;
 
+/// The status of want of memory.
+const NO_MEMORY: u8 = 1;
+
 /// The status of words that are no command.
 const BAD_WORDS: u8 = 2;
+
+/// The outcome of a call that has touched nothing.
+fn ended(status: u8) -> Outcome {
+    Outcome {
+        status,
+        at: 0,
+        messages: 0,
+    }
+}
 
 /// The words after the program's name. An `Err` is want of memory, or a word that is not UTF-8.
 fn words(rt: &(impl Env + AllocGlobal)) -> io::Result<Vec<String>> {
@@ -74,12 +87,13 @@ enum JournalUse {
     Writes,
 }
 
-/// What the command of the words does with the journal's file. Words that are no command open none.
-fn journal_use(rt: &HostRuntime, words: &[String]) -> JournalUse {
+/// What the command of the words does with the journal's file. Words that are no command open none. An `Err` is want of memory.
+fn journal_use(rt: &HostRuntime, words: &[String]) -> Result<JournalUse, AllocError> {
     match read_command(rt.alloc(), words) {
-        Ok(command) if writes_journal(command) => JournalUse::Writes,
-        Ok(command) if opens_journal(command) => JournalUse::Reads,
-        _ => JournalUse::Nothing,
+        Ok(command) if writes_journal(command) => Ok(JournalUse::Writes),
+        Ok(command) if opens_journal(command) => Ok(JournalUse::Reads),
+        Err(WordsFault::NoMemory) => Err(AllocError),
+        _ => Ok(JournalUse::Nothing),
     }
 }
 
@@ -103,10 +117,12 @@ fn apart<T>(answer: Result<T, Reason>) -> (Option<T>, Option<Reason>) {
     }
 }
 
-/// Runs the command of the words, and says why it ended early. A file that cannot be opened is answered by the first call that
-/// needs it.
+/// Runs the command of the words, and says why it ended early. If there is no memory to read the words, no file is opened. A file that
+/// cannot be opened is answered by the first call that needs it.
 fn run(rt: &HostRuntime, words: &[String]) -> Outcome {
-    let command = journal_use(rt, words);
+    let Ok(command) = journal_use(rt, words) else {
+        return ended(NO_MEMORY);
+    };
     let (product_file, product) = apart(open_product(rt));
     let (journal_file, journal) = journal_for(rt, command);
     let known = Circumstances {
@@ -136,16 +152,10 @@ fn serve<'a>(
 
 /// How the program ends where it has no words to run.
 fn without_words(fault: &io::Error) -> Outcome {
-    let status = if fault.kind() == io::ErrorKind::OutOfMemory {
-        1
-    } else {
-        BAD_WORDS
-    };
-    Outcome {
-        status,
-        at: 0,
-        messages: 0,
-    }
+    ended(match fault.kind() {
+        io::ErrorKind::OutOfMemory => NO_MEMORY,
+        _ => BAD_WORDS,
+    })
 }
 
 /// Says what the words may be, if they are at fault.

@@ -1,7 +1,7 @@
 //! What the program says to words that are no command.
 
 /// The version of the program, as CHANGELOG.md has it.
-const VERSION: &str = "0.18.0";
+const VERSION: &str = "0.19.0";
 
 /// The commands, a line each.
 const COMMANDS: [&str; 13] = [
