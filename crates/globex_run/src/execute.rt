@@ -120,8 +120,8 @@ fn do_work<B: Book, I: Source, S: Station>(
     input: &mut I,
     station: &mut S,
 ) -> Outcome
-    requires new { IsNewSession session.old }
-    ensures did { IsExecuted S.meanings session.old.product.now session.old.text.now
+    requires { IsNewSession session.old }
+    ensures { IsExecuted S.meanings session.old.product.now session.old.text.now
         (streams_at I.meanings S.meanings input.old station.old) (streams_at I.meanings S.meanings input.new station.new) result (command_of work) }
 {
     session.product.limits();

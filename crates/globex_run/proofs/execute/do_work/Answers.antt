@@ -7,21 +7,21 @@ use Rattle.globex_run.proofs.Executed.{any-published, run-executed, drill-execut
 use Rattle.globex_run.proofs.OpeningHeadlines.{opening-executed}
 use Rattle.globex_run.proofs.execute.do_work.Goals as goal
 
-pub returns-in-Run-clause-did : goal.returns-in-Run-clause-did
-returns-in-Run-clause-did g c =
+pub returns-in-Run : goal.returns-in-Run
+returns-in-Run g c =
     let m = g.S.Station.meanings in
     let product = c.args.session.now.product.now in
     let text = c.args.session.now.text.now in
     let before = streams_at g.I.Source.meanings m c.args.input.now c.args.station.now in
     let after = streams_at g.I.Source.meanings m c.serve.new.input c.serve.new.station in
-    let then = state_numbered c.serve.new.session.engine.core in
+    let then = state_numbered c.serve.new.self.engine.core in
     of-command m product text before after c.serve.result _ _ (ap command_of c.in-Run.is)
     (run-executed m product text before after c.serve.result
     (record { then = then; session = any-published m line_of product text before after _ then c.serve.result c.serve.ensures.session })
     c.serve.ensures.stays c.serve.ensures.refused)
 
-pub returns-in-Drill-clause-did : goal.returns-in-Drill-clause-did
-returns-in-Drill-clause-did g c =
+pub returns-in-Drill : goal.returns-in-Drill
+returns-in-Drill g c =
     let m = g.S.Station.meanings in
     let product = c.args.session.now.product.now in
     let text = c.args.session.now.text.now in
@@ -31,8 +31,8 @@ returns-in-Drill-clause-did g c =
     (drill-executed m product text (source_at g.I.Source.meanings c.args.input.now) c.args.station.now c.drill.new.station c.drill.result c.in-Drill.first c.in-Drill.count
     c.drill.ensures.drills c.drill.ensures.stays c.drill.ensures.refused)
 
-pub returns-in-Checkpoint-clause-did : goal.returns-in-Checkpoint-clause-did
-returns-in-Checkpoint-clause-did g c =
+pub returns-in-Checkpoint : goal.returns-in-Checkpoint
+returns-in-Checkpoint g c =
     let m = g.S.Station.meanings in
     let product = c.args.session.now.product.now in
     let text = c.args.session.now.text.now in
@@ -42,8 +42,8 @@ returns-in-Checkpoint-clause-did g c =
     (checkpoint-executed m product text (source_at g.I.Source.meanings c.args.input.now) c.args.station.now c.checkpoint.new.station c.checkpoint.result
     c.checkpoint.ensures.did c.checkpoint.ensures.stays)
 
-pub returns-in-Opening-clause-did : goal.returns-in-Opening-clause-did
-returns-in-Opening-clause-did g c =
+pub returns-in-Opening : goal.returns-in-Opening
+returns-in-Opening g c =
     let m = g.S.Station.meanings in
     let product = c.args.session.now.product.now in
     let text = c.args.session.now.text.now in
