@@ -1,17 +1,17 @@
 #!/bin/bash
-# Runs each recipe of docs/OPERATING.md with a built program, and compares what it prints with the page.
+# Runs each recipe of docs/OPERATING.md and docs/CLIENTS.md with a built program, and compares what it prints with the page.
 #
 #     docs/check-recipes.sh PROGRAM [ID]..
 #
 # A recipe is a heading with an ID. Its blocks marked `sh` are run in their order, in one shell, in a new folder that a function
 # here prepares. A block without a mark after one of these is what that one prints. A function here then looks at what is left. The
-# IDs that are no recipe try what the page says of the program. Without an ID all are tried. Ends with 1 and names them if some
+# IDs that are no recipe try what docs/OPERATING.md says of the program. Without an ID all are tried. Ends with 1 and names them if some
 # differ. Needs the GNU tools, Python 3.11, strace and tools/; as root it also mounts a small file system in memory.
 set -u
 
 top=$(CDPATH='' cd -- "$(dirname -- "$0")/.." && pwd) || exit 1
 tools=$top/tools
-page=$top/docs/OPERATING.md
+pages=("$top/docs/OPERATING.md" "$top/docs/CLIENTS.md")
 checks=(two-runs closed-streams wrong-words reasons lower-limit no-blocking size-limit read-only strange-journals removed-journal
     socket-endings session-endings readers folder-synced)
 
@@ -31,15 +31,16 @@ trap tidy EXIT
 trap 'exit 1' HUP INT TERM
 export top tools globex LC_ALL=C
 
-# ---- taking recipes out of the page
+# ---- taking recipes out of the pages
 
 recipes() {
-    sed -n 's/^### `\([a-z-]*\)`.*/\1/p' "$page"
+    sed -n 's/^### `\([a-z-]*\)`.*/\1/p' "${pages[@]}"
 }
 
 # A recipe as a shell script. What block number N prints goes to LOG/N.out, and what the page says of it is LOG/N.want.
 script_of() {
     awk -v id="$1" -v logs="$2" '
+        FNR == 1 { inside = 0 }
         /^##/ { inside = index($0, "### `" id "`") == 1 }
         !inside { next }
         /^ *```sh$/ { number++; indent = index($0, "`") - 1; kind = "run"; print "{"; next }
@@ -48,7 +49,7 @@ script_of() {
         /^ *```$/ && kind == "want" { print "END OF BLOCK"; kind = ""; next }
         kind == "run" || kind == "want" { print substr($0, indent + 1); next }
         kind == "ran" && /[^ ]/ { kind = "" }
-    ' "$page"
+    ' "${pages[@]}"
 }
 
 # ---- what the functions share
@@ -265,6 +266,14 @@ look_amend() {
     serve
     expect "$("$globex" fills | wc -l)" 2 'fills after the amendment'
     "$globex" replay | cmp - sent >&2 || fail 'sent is not what replay sends after the amendment'
+}
+
+prepare_day() {
+    cp "$top/examples/F/product.toml" product.toml
+}
+look_day() {
+    nothing_lost_or_doubled orders
+    expect "$("$tools/frames" show orders | grep -c '|49=AAA|')" 9 'messages of AAA'
 }
 
 # A journal of the stored orders, and a copy of it, which no session changes.
@@ -1248,4 +1257,4 @@ if [ ${#differs[@]} -gt 0 ]; then
     printf 'check-recipes: %s differs\n' "${differs[@]}" >&2
     exit 1
 fi
-echo "check-recipes: $# recipes and checks, all as docs/OPERATING.md says"
+echo "check-recipes: $# recipes and checks, all as docs/OPERATING.md and docs/CLIENTS.md say"
