@@ -1,6 +1,7 @@
 """Frames of FIX 4.2 and their fields, by docs/FORMATS.md ("Frames", "Fields"): the grammar, and bytes as text and back."""
 
 import re
+import zlib
 
 SOH = b"\x01"
 BEGIN = b"8=FIX.4.2\x019="
@@ -196,6 +197,65 @@ def whole_frames(payload):
         frames.append(payload[at:end])
         at = end
     return frames
+
+
+# ---- counts of frames
+
+# the most bytes whose sum is less than the modulus of Adler-32
+SUMMED = 256
+
+
+def heads_by_length():
+    """By the length of what follows BEGIN in a frame: the digits of its BodyLength without leading zeros, and SOH. Where no frame has
+    such a length there is a tuple with nothing, with which no bytes start."""
+    heads = [()]
+    for length in range(1, LONGEST_BODY + 1):
+        head = b"%d" % length + SOH
+        whole = len(head) + length + TRAILER_LENGTH
+        heads += [()] * (whole - len(heads)) + [head]
+    return heads
+
+
+def trailers_by_sum():
+    """By the last byte of `sum_of` of what follows BEGIN in a frame: the trailers, with the SOH before them, that are right then."""
+    trailers = [()] * 256
+    for number in range(256):
+        trailer = SOH + b"10=%03d" % number + SOH
+        trailers[(1 + number - sum(BEGIN) + sum(trailer[1:])) & 255] += (trailer,)
+    return trailers
+
+
+HEADS = heads_by_length()
+TRAILERS = trailers_by_sum()
+
+
+def sum_of(data):
+    """A number whose last byte is that of 1 + the sum of the bytes. That of Adler-32 is, for no more than SUMMED bytes."""
+    return 1 + sum(zlib.adler32(data[at : at + SUMMED]) - 1 for at in range(0, len(data), SUMMED))
+
+
+def are_frames(rests):
+    """Whether each of these with BEGIN before it is one whole frame, and none has leading zeros in its BodyLength. One that has is a
+    frame, too, but it is not known here."""
+    longest = max(map(len, rests), default=0)
+    if longest >= len(HEADS):
+        return False
+    sums = map(zlib.adler32 if longest <= SUMMED else sum_of, rests)
+    for rest, length, total in zip(rests, map(len, rests), sums):
+        if not rest.endswith(TRAILERS[total & 255]) or not rest.startswith(HEADS[length]):
+            return False
+    return True
+
+
+def count_frames(payload):
+    """How many frames some bytes are, one after the other. Raises Stopped if there is a rest.
+
+    They are parted wherever BEGIN is. If all parts are frames, these are the frames. Else, as where a field has BEGIN in it, the frames
+    are taken one by one."""
+    first, *rests = payload.split(BEGIN)
+    if not first and are_frames(rests):
+        return len(rests)
+    return len(whole_frames(payload))
 
 
 # ---- text

@@ -1,6 +1,7 @@
 """Journals, by docs/FORMATS.md ("The journal", "Book images"): what a file is, its records, and copies with fewer of them."""
 
 import dataclasses
+import mmap
 
 import fix42
 import session_rules
@@ -18,6 +19,8 @@ TEXT_AT = 13
 # of the length of a text, at the front of an amendment
 SIZE_BYTES = 4
 MOST_LIMIT = session_rules.JOURNAL_LIMITS[2]
+# how many bytes of a mapped file are looked at before their memory is given back
+LET_GO = 1 << 22
 
 MESSAGES, OLD_IMAGE, IMAGE, AMENDMENT = b"M", b"C", b"D", b"P"
 # of each version; an amendment has an image too
@@ -95,6 +98,21 @@ class Record:
         return self.kind == AMENDMENT
 
 
+def mapped(file):
+    """The bytes of a file, which are not read before they are looked at. What cannot be mapped is read: an empty file, or a pipe."""
+    try:
+        return mmap.mmap(file.fileno(), 0, access=mmap.ACCESS_READ)
+    except (OSError, ValueError):
+        return file.read()
+
+
+def let_go(data, place):
+    """Gives the memory of a mapped file before a place back, which is read again if it is looked at again. Answers the place."""
+    if isinstance(data, mmap.mmap):
+        data.madvise(mmap.MADV_DONTNEED, 0, place - place % mmap.PAGESIZE)
+    return place
+
+
 def number_at(data, place, width):
     return int.from_bytes(data[place : place + width], "big")
 
@@ -133,18 +151,16 @@ def foreign_place(data):
     return 0 if data[:1] != OPEN else 1 + max(fix42.first_difference(data[1:9], magic) for magic in MAGICS)
 
 
-class Journal:
-    """A journal file: its class, its version, the text of its header, its last text, and its records up to the first closed gate or
-    the first bad head."""
+class Opened:
+    """A journal file as far as it can be told without its records: its class, its version, the text of its header, and its last
+    text. `records_in_turn` reads its records, up to the first closed gate or the first bad head."""
 
     def __init__(self, data):
         self.data = data
         self.kind = class_of(data)
-        self.records = []
         self.version = None
         self.header_text = None
         self.last_text = None
-        self.bad_head = None
         self.gate = None
         if self.kind == "foreign":
             raise Bad(foreign_place(data), "it is no journal")
@@ -156,7 +172,6 @@ class Journal:
         self.header_text = self.last_text = ProductText(TEXT_AT, data[TEXT_AT : first_gate(data)])
         if self.kind == "journal":
             self.find_last_text()
-            self.walk()
 
     @property
     def limit(self):
@@ -173,10 +188,12 @@ class Journal:
     def gates(self, limit):
         """The gates of the records, up to a closed gate, or to a bad head, which is refused. Heads are held to this limit. `gate` is
         the one that is at hand."""
-        self.gate = first_gate(self.data)
+        self.gate, gone = first_gate(self.data), 0
         while self.data[self.gate : self.gate + 1] == OPEN:
             self.hold_head(self.gate, limit)
             yield self.gate
+            if self.gate - gone >= LET_GO:
+                gone = let_go(self.data, self.gate)
             self.gate += HEAD + number_at(self.data, self.gate + 2, 4)
 
     def find_last_text(self):
@@ -191,16 +208,15 @@ class Journal:
         if last is not None:
             self.last_text = amended_text(last, self.payload_at(last))
 
-    def walk(self):
-        """Reads the records."""
+    def records_in_turn(self):
+        """The records, each as it is read. Refuses a bad head."""
+        if self.kind != "journal":
+            return
         before, counted, text = 0, 0, self.header_text
-        try:
-            for gate in self.gates(self.limit):
-                record = self.record_at(gate, before, counted, text)
-                self.records.append(record)
-                before, counted, text = before + record.count, record.counted, record.text
-        except Bad as fault:
-            self.bad_head = fault
+        for gate in self.gates(self.limit):
+            record = self.record_at(gate, before, counted, text)
+            yield record
+            before, counted, text = before + record.count, record.counted, record.text
 
     def hold_head(self, gate, limit):
         """Refuses a bad head at a gate."""
@@ -236,6 +252,20 @@ class Journal:
         if fault is None and counted >= MOST_MESSAGES:
             fault = f"{counted:,} messages are counted with it, and not fewer than {MOST_MESSAGES:,}"
         return Record(gate, kind, len(payload), count, before, counted, fault, None, text)
+
+
+class Journal(Opened):
+    """A journal file with its records."""
+
+    def __init__(self, data):
+        super().__init__(data)
+        self.records = []
+        self.bad_head = None
+        try:
+            for record in self.records_in_turn():
+                self.records.append(record)
+        except Bad as fault:
+            self.bad_head = fault
 
     def frames(self, record):
         """The messages of a good record."""
@@ -319,10 +349,23 @@ class Journal:
         return None
 
 
+def count_messages(data):
+    """How many messages are before the first bad record, and what is bad, or nothing. No record is held."""
+    opened, kept = Opened(data), 0
+    try:
+        for record in opened.records_in_turn():
+            if record.wrong is not None:
+                return kept, Bad(record.gate, record.wrong)
+            kept += record.count
+    except Bad as fault:
+        return kept, fault
+    return kept, None
+
+
 def count_of(payload):
     """How many frames are at the front of a payload, and what is wrong with its rest or nothing."""
     try:
-        return len(fix42.whole_frames(payload)), None
+        return fix42.count_frames(payload), None
     except fix42.Stopped as stopped:
         return stopped.count, f"its payload is not whole frames: at its byte {stopped.offset} {stopped.why}"
 

@@ -2,7 +2,9 @@
 
 import fcntl
 import os
+import threading
 import unittest
+from unittest import mock
 
 import fix42
 import gxj
@@ -19,6 +21,7 @@ from made_journals import (
     LEAST,
     MARKET_CLOSED,
     MARKET_OPEN,
+    MORE,
     OLD_IMAGE,
     RECORDS,
     ROW,
@@ -437,6 +440,107 @@ class Damaged(InFolder):
         data = FULL.replace(b"exchange", b"exchangf")
         self.refused(data, 13, "the product text gives no product: exchange is missing")
         self.assertEqual(self.over(data, "count"), (0, b"4\n", ""))
+
+
+def count_one_by_one(payload):
+    """What `count_of` says, by frames that are taken one by one."""
+    try:
+        return len(fix42.whole_frames(payload)), None
+    except fix42.Stopped as stopped:
+        return stopped.count, f"its payload is not whole frames: at its byte {stopped.offset} {stopped.why}"
+
+
+class Counts(InFolder):
+    """Messages are counted a record at a time. So this tries what might be counted in another way than one by one."""
+
+    def held(self, payload):
+        self.assertEqual(gxj.count_of(payload), count_one_by_one(payload))
+
+    def test_each_length_of_a_frame(self):
+        for length in range(1, fix42.LONGEST_BODY + 1):
+            for fill in (b"\x00", b"x", b"\xff"):
+                frame = fix42.frame_of(fill * (length - 1) + b"\x01")
+                self.assertTrue(fix42.are_frames([frame[len(fix42.BEGIN) :]]))
+                self.assertEqual(gxj.count_of(frame), (1, None))
+        self.held(fix42.frame_of(b"x" * fix42.LONGEST_BODY + b"\x01"))
+        self.held(b"8=FIX.4.2\x019=0\x0110=000\x01")
+        self.held(fix42.frame_of(b"x" * 20_000 + b"\x01"))
+
+    def test_each_checksum(self):
+        fronts = [fix42.BEGIN + b"4\x0158=" + bytes([byte]) + b"\x01" for byte in range(256)]
+        fronts += [fix42.BEGIN + b"5\x0158=" + bytes([byte]) + b"\x01" for byte in range(256)]
+        for front in fronts:
+            for number in range(256):
+                self.held(front + b"10=%03d\x01" % number)
+        for wrong in (b"256", b"999", b"00", b"0000", b"+12", b" 12", b"1_2", b"abc"):
+            self.held(SELL[:-4] + wrong + b"\x01")
+
+    def test_each_changed_byte(self):
+        payload = SELL + BUY + CANCEL
+        for place in range(len(payload)):
+            self.held(payload[:place])
+            self.held(payload[place:])
+            self.held(payload[:place] + payload[place + 1 :])
+            for byte in (0, 1, 48, 49, 56, 61, 255):
+                self.held(payload[:place] + bytes([byte]) + payload[place + 1 :])
+                self.held(payload[:place] + bytes([byte]) + payload[place:])
+
+    def test_begins_of_frames_in_fields(self):
+        inside = [fix42.BEGIN, fix42.BEGIN + b"5", b"58=" + fix42.BEGIN + b"7\x0135=D", SELL[:-1], SELL + SELL[:-1], b"x" + fix42.BEGIN * 3]
+        for body in inside:
+            frame = fix42.frame_of(body + b"\x01")
+            self.assertEqual(gxj.count_of(SELL + frame + BUY), (3, None))
+            self.held(SELL + frame[:-2] + BUY)
+            self.held(frame + b"x")
+
+    def test_lengths_with_leading_zeros(self):
+        body = fix42.body_of(SELL)
+        for digits in range(1, 9):
+            front = fix42.BEGIN + b"%0*d" % (digits, len(body)) + b"\x01" + body
+            frame = front + b"10=" + fix42.check_sum(front) + b"\x01"
+            self.held(frame)
+            self.held(BUY + frame + BUY)
+        self.assertEqual(gxj.count_of(BUY + frame)[0], 1)
+
+    def test_count_of_each_cut_and_each_changed_byte(self):
+        amended = journal_of(messages_record(SELL), amendment_record(MORE, image_after(1)), messages_record(BUY, CANCEL))
+        for data in (FULL, amended, first_version(journal_of(*RECORDS))):
+            for place in range(len(data)):
+                self.counted(data[:place])
+                self.counted(data[:place] + bytes([data[place] ^ 1]) + data[place + 1 :])
+
+    def counted(self, data):
+        """Holds the count, and what is bad, to those of the records."""
+        try:
+            journal = gxj.Journal(data)
+        except gxj.Bad as bad:
+            with self.assertRaises(gxj.Bad) as told:
+                gxj.count_messages(data)
+            self.assertEqual((told.exception.place, told.exception.why), (bad.place, bad.why))
+            return
+        kept, bad, wanted = *gxj.count_messages(data), journal.first_not_good()
+        self.assertEqual(kept, journal.count())
+        self.assertEqual(bad and (bad.place, bad.why), wanted and (wanted.place, wanted.why))
+
+    def test_a_mapped_file(self):
+        records = [messages_record(*[SELL] * 70), image_record(image_after(70))] * 2
+        wrong = messages_record(*[SELL] * 69, SELL[:-2] + b"9\x01")
+        data = journal_of(messages_record(*[SELL] * 70), *records, messages_record(*[BUY] * 60), wrong)
+        with mock.patch.object(gxj, "LET_GO", 1 << 12):
+            gate = len(data) - len(wrong) - 1
+            status, out, error = self.over(data, "count")
+            self.assertEqual((status, out), (1, b"270\n"))
+            self.assertTrue(error.startswith(f"place {gate}: its payload is not whole frames: at its byte {69 * len(SELL)} "), error)
+            self.assertEqual(self.over(data[: gate] + b"\x00", "count"), (0, b"270\n", ""))
+
+    def test_what_cannot_be_mapped(self):
+        pipe = self.folder / "pipe"
+        os.mkfifo(pipe)
+        writer = threading.Thread(target=pipe.write_bytes, args=[FULL])
+        writer.start()
+        self.assertEqual(call("journal", "count", pipe), (0, b"4\n", ""))
+        writer.join()
+        self.assertEqual(self.over(b"", "count"), (0, b"0\n", ""))
 
 
 class Classes(unittest.TestCase):
