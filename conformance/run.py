@@ -7,13 +7,18 @@ The exit status is 1 if anything differs.
 """
 
 import argparse
+import contextlib
 import hashlib
+import math
+import os
 import re
 import shlex
 import shutil
+import signal
 import subprocess
 import sys
 import tempfile
+import threading
 import time
 from dataclasses import dataclass
 from pathlib import Path
@@ -24,7 +29,7 @@ HERE = Path(__file__).resolve().parent
 PRODUCT, JOURNAL = "product.toml", "journal.gxj"
 WRITING = {"run", "drill", "checkpoint", "amend"}       # the commands that may change the journal
 UNCHANGED_AT = {2, 3, 9, 10, 11, 13}                    # statuses at which the journal stays, whatever the command
-TIME_LIMIT = 60                                         # seconds for one call
+TIME_LIMIT = 60                                         # seconds for one call, if --limit does not say it
 PAUSE = 0.05                                            # seconds between two pieces of an input
 REPORT = re.compile(rb"8=FIX\.4\.2\x01.*?\x0110=\d{3}\x01", re.DOTALL)
 
@@ -95,41 +100,71 @@ def first_difference(one, two):
 
 # ---- calls of the program ----
 
-def answer_of(program, work, call):
-    """Calls the program, and hands it its input from a file, or in pieces through a pipe."""
+def answer_of(program, work, call, limit):
+    """Calls the program, and hands it its input from a file, or in pieces through a pipe. The status is nothing if it was stopped."""
     command = [*program, *call.words]
     with tempfile.TemporaryFile() as output, tempfile.TemporaryFile() as errors, tempfile.TemporaryFile() as file:
         file.write(call.pieces[0])
         file.seek(0)
         source = file if len(call.pieces) == 1 else subprocess.PIPE
-        started = subprocess.Popen(command, cwd=work, stdin=source, stdout=output, stderr=errors)
+        started = subprocess.Popen(command, cwd=work, stdin=source, stdout=output, stderr=errors, start_new_session=True)
         if len(call.pieces) > 1:
-            hand_over(started.stdin, call.pieces)
-        try:
-            status = started.wait(TIME_LIMIT)
-        except subprocess.TimeoutExpired:
-            started.kill()
-            started.wait()
-            raise Difference(f"no end within {TIME_LIMIT} seconds") from None
+            threading.Thread(target=hand_over, args=[started.stdin, call.pieces], daemon=True).start()
+        status = status_of(started, limit)
         output.seek(0)
         errors.seek(0)
         return status, output.read(), errors.read()
 
 
-def hand_over(pipe, pieces):
+def status_of(started, limit):
+    """Waits for a program, and answers its status. If it does not end in time, it is stopped with all that it started."""
     try:
+        return started.wait(limit)
+    except subprocess.TimeoutExpired:
+        return None
+    finally:
+        if started.returncode is None:
+            os.killpg(started.pid, signal.SIGKILL)
+            started.wait()
+
+
+def hand_over(pipe, pieces):
+    with contextlib.suppress(BrokenPipeError), pipe:
         for piece in pieces:
             pipe.write(piece)
             pipe.flush()
             time.sleep(PAUSE)
-        pipe.close()
-    except BrokenPipeError:
-        pass
 
 
-def try_call(program, work, call):
+def copy_if_there(path, copy):
+    if path.exists():
+        shutil.copyfile(path, copy)
+
+
+def keep_given(kept, work, call):
+    """Keeps what a call is given: its input, the product file, and the journal before it."""
+    kept.mkdir(parents=True)
+    (kept / "input").write_bytes(b"".join(call.pieces))
+    copy_if_there(work / PRODUCT, kept / PRODUCT)
+    copy_if_there(work / JOURNAL, kept / "before.gxj")
+
+
+def keep_left(kept, work, output, errors):
+    """Keeps what a call sent, and the journal after it."""
+    (kept / "sent").write_bytes(output)
+    (kept / "errors").write_bytes(errors)
+    copy_if_there(work / JOURNAL, kept / JOURNAL)
+
+
+def try_call(program, work, call, limit, kept):
     before = content_of(work / JOURNAL)
-    status, output, errors = answer_of(program, work, call)
+    if kept:
+        keep_given(kept, work, call)
+    status, output, errors = answer_of(program, work, call, limit)
+    if kept:
+        keep_left(kept, work, output, errors)
+    if status is None:
+        raise Difference(f"no end within {limit:g} seconds")
     faults = output_faults(call.output, output)
     if status != call.status:
         faults.append(f"exit status: expected {call.status}, got {status}")
@@ -177,14 +212,15 @@ def name_of(action):
     return f"call {action.number}: {' '.join(action.words)}" if isinstance(action, Call) else "journal"
 
 
-def try_session(program, session):
-    """Nothing, or what differs in the first step that differs, with its rule."""
+def try_session(program, session, limit=TIME_LIMIT, keep=None):
+    """Nothing, or what differs in the first step that differs, with its rule. Files are kept in a folder, if there is one."""
     with tempfile.TemporaryDirectory(prefix="conformance-") as folder:
         work = Path(folder)
         for step in session.steps:
             try:
                 if isinstance(step.action, Call):
-                    try_call(program, work, step.action)
+                    kept = keep and keep / session.chapter / session.name / f"call-{step.action.number}"
+                    try_call(program, work, step.action, limit, kept)
                 elif isinstance(step.action, Claim):
                     hold(content_of(work / JOURNAL), step.action)
                 else:
@@ -203,15 +239,17 @@ def chosen_sessions(chapters, names, without):
             and not session.needs() & set(without)]
 
 
-def try_sessions(program, sessions, headings):
+def try_sessions(program, sessions, headings, arguments):
     """Tries sessions one after the other, and prints each that differs."""
     results = []
     for session in sessions:
-        result = Result(session.chapter, session.name, try_session(program, session))
+        result = Result(session.chapter, session.name, try_session(program, session, arguments.limit, arguments.keep))
+        results.append(result)
         if result.difference:
             lines = f"{result.chapter}/{result.session} differs ({headings[result.chapter]})\n{result.difference}"
             print(lines.replace("\n", "\n  "), flush=True)
-        results.append(result)
+            if arguments.first:
+                break
     return results
 
 
@@ -234,14 +272,38 @@ def program_of(text):
     return found
 
 
-def main():
+def seconds(text):
+    number = float(text)
+    if not 0 < number < math.inf:
+        raise ValueError
+    return number
+
+
+def new_folder(text):
+    """A folder that is not there yet, or is empty, so that no files of other runs are among those that are kept."""
+    folder = Path(text).resolve()
+    if folder.exists() and (not folder.is_dir() or any(folder.iterdir())):
+        raise argparse.ArgumentTypeError(f"{text} is there, and is no empty folder")
+    return folder
+
+
+def read_arguments():
     parser = argparse.ArgumentParser(description=__doc__, formatter_class=argparse.RawDescriptionHelpFormatter)
     parser.add_argument("program", metavar="PROGRAM")
     parser.add_argument("chapters", metavar="CHAPTER", nargs="*")
     parser.add_argument("--without", metavar="WORD", action="append", default=[],
                         help="leave out the sessions that call this command, or send a message of this type (as 35=G)")
     parser.add_argument("--list", action="store_true", help="print the sessions and the rules that they try, and run none")
-    arguments = parser.parse_args()
+    parser.add_argument("--keep", metavar="FOLDER", type=new_folder,
+                        help="keep the files of each call in FOLDER/CHAPTER/SESSION/call-N; FOLDER is new or empty")
+    parser.add_argument("--limit", metavar="SECONDS", type=seconds, default=TIME_LIMIT,
+                        help=f"stop a call that does not end in this time; its session differs ({TIME_LIMIT} if absent)")
+    parser.add_argument("--first", action="store_true", help="end at the first session that differs")
+    return parser, parser.parse_args()
+
+
+def main():
+    parser, arguments = read_arguments()
     headings = read_chapters(HERE)
     unknown = [name for name in arguments.chapters if name.partition("/")[0] not in headings]
     sessions = chosen_sessions(headings, arguments.chapters, arguments.without)
@@ -252,7 +314,7 @@ def main():
             print(f"{session.chapter}/{session.name}")
             print("".join(f"  {rule}\n" for rule in dict.fromkeys(step.rule for step in session.steps)), end="")
         return 0
-    results = try_sessions(program_of(arguments.program), sessions, headings)
+    results = try_sessions(program_of(arguments.program), sessions, headings, arguments)
     print_summary(results)
     return 1 if any(result.difference for result in results) else 0
 
