@@ -2,6 +2,7 @@
 
 import dataclasses
 import mmap
+import os
 
 import fix42
 import session_rules
@@ -44,6 +45,14 @@ class Bad(Exception):
         super().__init__(why)
         self.place = place
         self.why = why
+
+
+class PastEnd(Bad):
+    """A record that is not there whole. The file has to have `end` bytes, and more if that is in its head."""
+
+    def __init__(self, place, why, end):
+        super().__init__(place, why)
+        self.end = end
 
 
 class ProductText:
@@ -222,16 +231,17 @@ class Opened:
         """Refuses a bad head at a gate."""
         data = self.data
         if len(data) < gate + HEAD:
-            raise Bad(gate, "the file ends inside the head of a record")
+            raise PastEnd(gate, "the file ends inside the head of a record", gate + HEAD)
         kind, length = self.kind_at(gate), number_at(data, gate + 2, 4)
         if kind not in KINDS[self.version]:
             *first, last = (known.decode() for known in KINDS[self.version])
             raise Bad(gate, f"the kind of the record is the byte {data[gate + 1]}, and none of {', '.join(first)} and {last}")
         if kind == MESSAGES and not 1 <= length <= MOST_PAYLOAD:
             raise Bad(gate, f"a record of messages has {length:,} bytes, and not 1 to {MOST_PAYLOAD:,}")
-        if gate + HEAD + 1 + length > len(data):
-            raise Bad(gate, f"a record of {length:,} bytes goes past the end of the file")
-        if gate + HEAD + 1 + length > limit:
+        end = gate + HEAD + 1 + length
+        if end > len(data):
+            raise PastEnd(gate, f"a record of {length:,} bytes goes past the end of the file", end)
+        if end > limit:
             raise Bad(gate, f"a record of {length:,} bytes goes past journal_limit, {limit:,}")
 
     def record_at(self, gate, before, counted, text):
@@ -349,17 +359,59 @@ class Journal(Opened):
         return None
 
 
-def count_messages(data):
-    """How many messages are before the first bad record, and what is bad, or nothing. No record is held."""
-    opened, kept = Opened(data), 0
+@dataclasses.dataclass
+class Totals:
+    """What a journal has before its first bad record: how many messages and records, the last record of messages or nothing, and
+    what is bad or nothing. The gate of `opened` is the last one, or that of the bad record."""
+
+    opened: Opened
+    messages: int = 0
+    records: int = 0
+    last: Record | None = None
+    bad: Bad | None = None
+
+    def last_message(self):
+        """The last message, or nothing."""
+        return fix42.whole_frames(self.opened.payload_at(self.last.gate))[-1] if self.last else None
+
+
+def totals_of(data):
+    """The totals of a journal, of which no record is held."""
+    totals = Totals(Opened(data))
     try:
-        for record in opened.records_in_turn():
+        for record in totals.opened.records_in_turn():
             if record.wrong is not None:
-                return kept, Bad(record.gate, record.wrong)
-            kept += record.count
+                totals.bad = Bad(record.gate, record.wrong)
+                break
+            totals.messages += record.count
+            totals.records += 1
+            totals.last = record if record.count else totals.last
     except Bad as fault:
-        return kept, fault
-    return kept, None
+        totals.bad = fault
+    return totals
+
+
+def state_of(file):
+    """What another one has after somebody wrote the file."""
+    state = os.fstat(file.fileno())
+    return state.st_size, state.st_mtime_ns
+
+
+def totals_at(path):
+    """The totals of a file, which somebody may be writing. A record that reaches past what was mapped here, and is in the file by now,
+    has been written since: it is not counted, and not bad. If something else is bad and the file has changed, it is read again, up to
+    where the same place is bad again: an amendment may have come, with a higher limit."""
+    place = None
+    with open(path, "rb") as file:
+        while True:
+            before, data = state_of(file), mapped(file)
+            totals, after = totals_of(data), state_of(file)
+            if isinstance(totals.bad, PastEnd) and totals.bad.end <= after[0]:
+                totals.bad = None
+            is_same = before == after or not isinstance(data, mmap.mmap)
+            if totals.bad is None or is_same or totals.bad.place == place:
+                return totals
+            place = totals.bad.place
 
 
 def count_of(payload):

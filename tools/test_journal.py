@@ -515,11 +515,14 @@ class Counts(InFolder):
             journal = gxj.Journal(data)
         except gxj.Bad as bad:
             with self.assertRaises(gxj.Bad) as told:
-                gxj.count_messages(data)
+                gxj.totals_of(data)
             self.assertEqual((told.exception.place, told.exception.why), (bad.place, bad.why))
             return
-        kept, bad, wanted = *gxj.count_messages(data), journal.first_not_good()
-        self.assertEqual(kept, journal.count())
+        totals, wanted = gxj.totals_of(data), journal.first_not_good()
+        bad, good = totals.bad, list(journal.good_records())
+        self.assertEqual((totals.messages, totals.records), (journal.count(), len(good)))
+        last = next((record.gate for record in reversed(good) if record.count), None)
+        self.assertEqual(totals.last and totals.last.gate, last)
         self.assertEqual(bad and (bad.place, bad.why), wanted and (wanted.place, wanted.why))
 
     def test_a_mapped_file(self):
