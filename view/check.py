@@ -22,6 +22,10 @@ import tempfile
 import time
 
 TOP = pathlib.Path(__file__).resolve().parent.parent
+sys.path.insert(0, str(TOP / "docs/pictures"))
+import drawing  # noqa: E402
+import letters  # noqa: E402
+
 KINDS = ("levels", "fills", "ledger", "steps")
 WAIT_SECONDS = 60
 
@@ -385,6 +389,23 @@ def check_unreadable(checks, browser, page):
     checks.same("after a bad line", "Line 5" in browser.tell("document.getElementById('doubt').textContent"), True)
 
 
+def check_colours(checks, browser, page):
+    """The steps have the strong colours of docs/pictures, in light and in dark."""
+    for scheme, place, theme in (("light", 2, drawing.LIGHT), ("dark", 5, drawing.DARK)):
+        browser.open(page)
+        browser.ask("Emulation.setEmulatedMedia", features=[{"name": "prefers-color-scheme", "value": scheme}])
+        for step, kind in letters.COLOURS.items():
+            chip = f"getComputedStyle(document.body.appendChild(stepChip('{step}')))"
+            shown = browser.tell(f"(style => [style.backgroundColor, style.color])({chip})")
+            wanted = [rgb_of(drawing.KINDS[kind][place]), rgb_of(theme["on"])]
+            checks.same(f"the colours of {step} in {scheme}", shown, wanted)
+
+
+def rgb_of(colour):
+    """A colour such as #8250df as a browser writes it."""
+    return "rgb({}, {}, {})".format(*bytes.fromhex(colour[1:]))
+
+
 def check_all(program, chromium, page):
     checks = Checks()
     with tempfile.TemporaryDirectory() as name:
@@ -397,6 +418,7 @@ def check_all(program, chromium, page):
         check_stream(checks, browser, page, "hidden lots too", session_stream(program, work / "hidden", show=0.2), 20)
         check_moving(checks, browser, page, example)
         check_unreadable(checks, browser, page)
+        check_colours(checks, browser, page)
         browser.close()
     print(f"view: {checks.done} comparisons, {checks.differences} differ; {checks.unsure} moments with trades that are not placed for sure")
     return 1 if checks.differences else 0
