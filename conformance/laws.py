@@ -197,10 +197,12 @@ class Checker:
             if not self.hold("limits", best is not None, "a market order is taken, and there is no price"):
                 return
             price = instrument.protected(best, side)
+        stop = instrument.units_of(message.get(99)) if kind == "4" else 0
+        if not self.hold("limits", None not in (price, stop), "an order without a price is taken"):
+            return
         quantity = number_of(message.get(38))
-        order = Order(number_of(self.report.get(37)), message.get(49), message.get(11), instrument, side, kind, life, price,
-                      instrument.units_of(message.get(99)) if kind == "4" else 0, quantity,
-                      quantity if life == "4" else number_of(message.get(110)), number_of(message.get(210)))
+        order = Order(number_of(self.report.get(37)), message.get(49), message.get(11), instrument, side, kind, life, price, stop,
+                      quantity, quantity if life == "4" else number_of(message.get(110)), number_of(message.get(210)))
         self.hold("out", order.number not in self.book.orders, "the number of an order comes back")
         self.book.add(order)
         self.order_of(self.report)
@@ -236,6 +238,8 @@ class Checker:
         self.hold("out", named is order, "the replace does not name the order of the report")
         instrument, quantity = order.instrument, number_of(message.get(38))
         prices = instrument.units_of(message.get(44)), instrument.units_of(message.get(99)) if order.kind == "4" else order.stop
+        if not self.hold("limits", None not in prices, "a replace without a price is taken"):
+            return
         keeps_place = prices == (order.price, order.stop) and quantity <= order.quantity
         if not keeps_place:
             self.book.take_out(order)
@@ -309,7 +313,8 @@ class Checker:
     def apply_fill(self, order):
         lots, price = number_of(self.report.get(32)), order.instrument.units_of(self.report.get(31))
         leaves = order.leaves - lots
-        self.prices.setdefault(order.instrument.name, []).append(price)
+        if price is not None:
+            self.prices.setdefault(order.instrument.name, []).append(price)
         order.filled += lots
         self.balance(order, leaves, 0)
         order.filled -= lots

@@ -69,7 +69,7 @@ class Instrument:
         """A price text in price units; nothing if it is none."""
         try:
             return int(Decimal(text).scaleb(self.decimals))
-        except InvalidOperation:
+        except (InvalidOperation, ValueError, OverflowError):
             return None
 
     def protected(self, best, side):
@@ -150,7 +150,7 @@ class Message:
         texts = self.body.split("\x01")[:-1]
         is_well_formed = all(re.fullmatch(r"[1-9]\d{0,4}=.+", text, re.ASCII | re.DOTALL) for text in texts)
         senders = [product.exchange] if self.get(35) == "h" else product.firms
-        return (texts[0].startswith("35=") and is_well_formed and self.get(49) in senders
+        return (self.body.startswith("35=") and is_well_formed and self.get(49) in senders
                 and self.get(56) == product.exchange and len(self.get(34)) <= 9
                 and NUMBER.fullmatch(self.get(34)) is not None and TIME.fullmatch(self.get(52)) is not None)
 
@@ -173,7 +173,7 @@ class Message:
 
 # ---- orders ----
 
-@dataclass
+@dataclass(eq=False)
 class Order:
     number: int
     firm: str
@@ -198,6 +198,8 @@ class Order:
         return self.quantity - self.filled
 
     def allows(self, price):
+        if price is None:
+            return False
         return price <= self.price if self.side == BUY else price >= self.price
 
     def is_reached(self, prices):
